@@ -100,7 +100,7 @@ row_leaves process.Kill is s w a = kill_leaves w s (slice_index a 0)
 row_leaves call is s w a = plain_leaves s w _ (plain_row call tt s w a)
 
 left_so : (old new : Procs) (fs : FileSystem) (texts : List (Option Text)) {r : Result Answer PanicKind} {start end : Taken} (c : Comes) → Leaves texts c
-    → HasDone old new fs r start end c → texts_in new.images ≡ texts
+    → HasDone old new fs r start end c → texts_in new.images.kept ≡ texts
 left_so old new fs texts c leaves done = ap (λ (x : World). x.texts) done.state ∙ by (came old c).stop refl
   where
     by : (o : Option (Stop World)) → (came old c).stop ≡ o → (left_by o c.state).texts ≡ texts
@@ -112,4 +112,4 @@ pub marks_stay : (call : ProcessCall) → IsNotExec call → (old new : Procs) (
     {r : Result Answer PanicKind} {start end : Taken} → HasDone old new now r start end (process_row call (handed old was) s args)
     → IsMarked old before → after ≡ before → IsMarked new after
 marks_stay call is old new was now s args before after done marked same =
-    same ∙ marked ∙ ap marks_of (sym (left_so old new now (texts_in old.images) _ (row_leaves call is s (handed old was) args) done))
+    same ∙ marked ∙ ap marks_of (sym (left_so old new now (texts_in old.images.kept) _ (row_leaves call is s (handed old was) args) done))

@@ -19,9 +19,9 @@ const PSWP: i8 = -100;
 
 /// The swapper sleeps.
 fn sleep<T: Trace>(table: &mut Table, images: &Images, chan: Chan, trace: &mut T)
-    requires matches { Matches table.old images.now }
-    requires comes { swap_move (board_of table.old images.now) ≡ Waits chan }
-    ensures does { MakesMove table.old images.now (T.taken trace.old) (Ok tt) table.new images.now (T.taken trace.new) }
+    requires matches { Matches table.old images.now.kept }
+    requires comes { swap_move (board_of table.old images.now.kept) ≡ Waits chan }
+    ensures does { MakesMove table.old images.now.kept (T.taken trace.old) (Ok tt) table.new images.now.kept (T.taken trace.new) }
     ensures frame { T.leads_to trace.old trace.new }
 {
     trace.entry(Entry::Sleep {
@@ -43,10 +43,10 @@ fn go_out<T: Trace>(
     s: Slot,
     trace: &mut T,
 ) -> Result<(), PanicKind>
-    requires matches { Matches table.old images.old }
+    requires matches { Matches table.old images.old.kept }
     requires slot { s < 50 }
-    requires comes { swap_move (board_of table.old images.old) ≡ Out s }
-    ensures does { MakesMove table.old images.old (T.taken trace.old) result table.new images.new (T.taken trace.new) }
+    requires comes { swap_move (board_of table.old images.old.kept) ≡ Out s }
+    ensures does { MakesMove table.old images.old.kept (T.taken trace.old) result table.new images.new.kept (T.taken trace.new) }
     ensures frame { T.leads_to trace.old trace.new }
 {
     let _ = images.place(s);
@@ -74,10 +74,10 @@ fn make_room<T: Trace>(
     s: Slot,
     trace: &mut T,
 ) -> Result<(), PanicKind>
-    requires matches { Matches table.old images.old }
+    requires matches { Matches table.old images.old.kept }
     requires slot { s < 50 }
-    requires comes { swap_move (board_of table.old images.old) ≡ makes_room table.old s (loaded_waiter table.old) }
-    ensures does { MakesMove table.old images.old (T.taken trace.old) result table.new images.new (T.taken trace.new) }
+    requires comes { swap_move (board_of table.old images.old.kept) ≡ makes_room table.old s (loaded_waiter table.old) }
+    ensures does { MakesMove table.old images.old.kept (T.taken trace.old) result table.new images.new.kept (T.taken trace.new) }
     ensures frame { T.leads_to trace.old trace.new }
 {
     match who_goes(table, s) {
@@ -95,7 +95,7 @@ fn enter<T: Trace>(table: &mut Table, images: &Images, s: Slot, at: u16, trace: 
     requires table { IsTable table.old }
     requires slot { s < 50 }
     ensures table { table.new ≡ with_row table.old s (record (row_at table.old s) {
-      place = place_of images.now s;
+      place = place_of images.now.kept s;
       time = 0;
     }) }
     ensures good { IsTable table.new }
@@ -117,10 +117,10 @@ fn serve<T: Trace>(
     s: Slot,
     trace: &mut T,
 ) -> Result<(), PanicKind>
-    requires matches { Matches table.old images.old }
+    requires matches { Matches table.old images.old.kept }
     requires slot { s < 50 }
     requires next { candidate table.old ≡ Some s }
-    ensures does { MakesMove table.old images.old (T.taken trace.old) result table.new images.new (T.taken trace.new) }
+    ensures does { MakesMove table.old images.old.kept (T.taken trace.old) result table.new images.new.kept (T.taken trace.new) }
     ensures frame { T.leads_to trace.old trace.new }
 {
     let _ = images.place(s);
@@ -143,8 +143,8 @@ pub(crate) fn make_move<T: Trace>(
     images: &mut Images,
     trace: &mut T,
 ) -> Result<(), PanicKind>
-    requires { Matches table.old images.old }
-    ensures does { MakesMove table.old images.old (T.taken trace.old) result table.new images.new (T.taken trace.new) }
+    requires { Matches table.old images.old.kept }
+    ensures does { MakesMove table.old images.old.kept (T.taken trace.old) result table.new images.new.kept (T.taken trace.new) }
     ensures frame { T.leads_to trace.old trace.new }
 {
     match candidate(table) {

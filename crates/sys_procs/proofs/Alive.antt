@@ -42,24 +42,24 @@ pub record IsHere (p : Procs) (s : ℕ) : Type 0 where
   pub member : Member
   pub held : Held
   pub member_is : member_at p.rows.slots s ≡ Some member
-  pub image_is : keeping p.images s ≡ Alive held
+  pub image_is : keeping p.images.kept s ≡ Alive held
   pub is_living : member.is_dead ≡ false
-  pub process_is : process_here p s ≡ process_by member (Alive held) (text_of p.images s)
+  pub process_is : process_here p s ≡ process_by member (Alive held) (text_of p.images.kept s)
 
 pub is_here : (p : Procs) (s : ℕ) → IsAlive p s → IsHere p s
 is_here p s alive =
     let has = alive.image in
-    let there = is_there (member_at p.rows.slots s) (row_at p.table s) (keeping p.images s) has.0 (alive.agree.each s alive.above alive.below) has.1 in
+    let there = is_there (member_at p.rows.slots s) (row_at p.table s) (keeping p.images.kept s) has.0 (alive.agree.each s alive.above alive.below) has.1 in
     record {
       member = there.0;
       held = has.0;
       member_is = there.1;
       image_is = has.1;
       is_living = there.2;
-      process_is = own_alive p.rows.slots p.images s there.0 has.0 alive.below there.1 has.1;
+      process_is = own_alive p.rows.slots p.images.kept s there.0 has.0 alive.below there.1 has.1;
     }
 
-pub area_here : (p : Procs) (s : ℕ) → IsAlive p s → area_in (keeping p.images s) ≡ (process_here p s).u
+pub area_here : (p : Procs) (s : ℕ) → IsAlive p s → area_in (keeping p.images.kept s) ≡ (process_here p s).u
 area_here p s alive = let here = is_here p s alive in ap area_in here.image_is ∙ sym (ap (λ q. q.u) here.process_is)
 
 -- what is read of a slot into which somebody is put
@@ -82,19 +82,19 @@ sizes_stay u v image same h = record {
 same_clicks : (u v : UArea) → SameSizes u v → clicks_of u ≡ clicks_of v
 same_clicks u v same = ap (λ n. 16 + n + u.stack_size) same.data ∙ ap (λ n. 16 + v.data_size + n) same.stack
 
-pub area_put : (p : Procs) (s : ℕ) (u : UArea) → IsAlive p s → length p.images.slots ≡ 50
-    → processes_in p.rows.slots (with_area p.images s u) ≡ set (processes_in p.rows.slots p.images) s (Some (record (process_here p s) { u = u }))
+pub area_put : (p : Procs) (s : ℕ) (u : UArea) → IsAlive p s → length p.images.kept.slots ≡ 50
+    → processes_in p.rows.slots (with_area p.images.kept s u) ≡ set (processes_in p.rows.slots p.images.kept) s (Some (record (process_here p s) { u = u }))
 area_put p s u alive long =
     let here = is_here p s alive in
-    area_changed p.rows.slots p.images s here.member here.held alive.below here.member_is here.image_is u (omega (arith, alive.below, long))
+    area_changed p.rows.slots p.images.kept s here.member here.held alive.below here.member_is here.image_is u (omega (arith, alive.below, long))
 
 -- nothing else changes in what the call is handed, and nothing on the board
 pub area_state : (p : Procs) (s : ℕ) (u : UArea) (fs : FileSystem)
-    → handed (record p { images = with_area p.images s u }) fs ≡ record (handed p fs) { processes = processes_in p.rows.slots (with_area p.images s u) }
+    → handed (record p { images = with_area p.images.kept s u }) fs ≡ record (handed p fs) { processes = processes_in p.rows.slots (with_area p.images.kept s u) }
 unfolding with_area
 area_state p s u fs = refl
 
-pub area_board : (p : Procs) (s : ℕ) (u : UArea) → board (record p { images = with_area p.images s u }) ≡ board p
+pub area_board : (p : Procs) (s : ℕ) (u : UArea) → board (record p { images = with_area p.images.kept s u }) ≡ board p
 unfolding with_area
 area_board p s u = refl
 
@@ -116,18 +116,18 @@ area_agrees m row held u same a = record {
   textless = a.textless;
 }
 
-pub area_alive : (p : Procs) (s : ℕ) (u : UArea) → IsAlive p s → length p.images.slots ≡ 50 → SameSizes u (process_here p s).u → IsAlive (record p { images = with_area p.images s u }) s
+pub area_alive : (p : Procs) (s : ℕ) (u : UArea) → IsAlive p s → length p.images.kept.slots ≡ 50 → SameSizes u (process_here p s).u → IsAlive (record p { images = with_area p.images.kept s u }) s
 area_alive p s u alive long same =
     let here = is_here p s alive in
-    let low : s < length p.images.slots = omega (arith, alive.below, long) in
+    let low : s < length p.images.kept.slots = omega (arith, alive.below, long) in
     let clicks : clicks_of u ≡ clicks_of here.held.u = same_clicks u (process_here p s).u same ∙ ap (λ (q : Process). clicks_of q.u) here.process_is in
-    let now : keeping (with_area p.images s u) s ≡ Alive (record here.held { u = u }) = area_kept p.images s u here.held low here.image_is in
+    let now : keeping (with_area p.images.kept s u) s ≡ Alive (record here.held { u = u }) = area_kept p.images.kept s u here.held low here.image_is in
     let old : Agrees (member_at p.rows.slots s) (row_at p.table s) (Alive here.held) = subst (λ x. Agrees (member_at p.rows.slots s) (row_at p.table s) x) here.image_is (alive.agree.each s alive.above alive.below) in
     record {
-      agree = agree_but p.rows p.rows p.table p.table p.images (with_area p.images s u) s alive.agree alive.above alive.agree.table refl
+      agree = agree_but p.rows p.rows p.table p.table p.images.kept (with_area p.images.kept s u) s alive.agree alive.above alive.agree.table refl
           (subst (λ x. Agrees (member_at p.rows.slots s) (row_at p.table s) x) (sym now) (area_agrees (member_at p.rows.slots s) (row_at p.table s) here.held u clicks old))
-          (alive.agree.text s alive.above alive.below) (with_area_texts p.images s u)
-          (λ r other. refl) (λ r other. refl) (area_others p.images s u);
+          (alive.agree.text s alive.above alive.below) (with_area_texts p.images.kept s u)
+          (λ r other. refl) (λ r other. refl) (area_others p.images.kept s u);
       above = alive.above;
       below = alive.below;
       image = (record here.held { u = u }, now);
@@ -141,10 +141,10 @@ is_within slots s m here = elim (cases_lt s (length slots)) [
 ]
 
 pub row_put : (p : Procs) (s : ℕ) (row : Row) → IsAlive p s
-    → processes_in (with_change p.rows s (with_row row)).slots p.images ≡ set (processes_in p.rows.slots p.images) s (Some (record (process_here p s) { row = row }))
+    → processes_in (with_change p.rows s (with_row row)).slots p.images.kept ≡ set (processes_in p.rows.slots p.images.kept) s (Some (record (process_here p s) { row = row }))
 row_put p s row alive =
     let here = is_here p s alive in
-    row_changed p.rows.slots p.images s here.member here.held alive.below here.member_is here.image_is row (is_within p.rows.slots s here.member here.member_is)
+    row_changed p.rows.slots p.images.kept s here.member here.held alive.below here.member_is here.image_is row (is_within p.rows.slots s here.member here.member_is)
 
 row_agrees : (m : Member) (new : Row) (row : TableRow) (x : Keeping) → Agrees (Some m) row x → Agrees (Some (with_row new m)) row x
 row_agrees m new row x a = record { stat = a.stat; image = a.image; place = a.place; size = a.size; quiet = a.quiet; textless = a.textless }
@@ -155,11 +155,11 @@ row_alive p s row alive =
     let new : Option Member = changed (with_row row) (member_at p.rows.slots s) in
     let now : member_at (set p.rows.slots s new) s ≡ Some (with_row row here.member) =
     get_or-set_same p.rows.slots s new None (is_within p.rows.slots s here.member here.member_is) ∙ ap (changed (with_row row)) here.member_is in
-    let old : Agrees (Some here.member) (row_at p.table s) (keeping p.images s) =
-    subst (λ m. Agrees m (row_at p.table s) (keeping p.images s)) here.member_is (alive.agree.each s alive.above alive.below) in
+    let old : Agrees (Some here.member) (row_at p.table s) (keeping p.images.kept s) =
+    subst (λ m. Agrees m (row_at p.table s) (keeping p.images.kept s)) here.member_is (alive.agree.each s alive.above alive.below) in
     record {
-      agree = agree_but p.rows (with_change p.rows s (with_row row)) p.table p.table p.images p.images s alive.agree alive.above alive.agree.table refl
-          (subst (λ m. Agrees m (row_at p.table s) (keeping p.images s)) (sym now) (row_agrees here.member row (row_at p.table s) (keeping p.images s) old))
+      agree = agree_but p.rows (with_change p.rows s (with_row row)) p.table p.table p.images.kept p.images.kept s alive.agree alive.above alive.agree.table refl
+          (subst (λ m. Agrees m (row_at p.table s) (keeping p.images.kept s)) (sym now) (row_agrees here.member row (row_at p.table s) (keeping p.images.kept s) old))
           (alive.agree.text s alive.above alive.below) (record { texts = refl; users = refl })
           (λ r other. get_or-set_other p.rows.slots s r new None other) (λ r other. refl) (λ r other. refl);
       above = alive.above;
@@ -170,7 +170,7 @@ row_alive p s row alive =
 -- Another table, whose rows are like the old ones.
 pub table_alive : (p : Procs) (t : Table) (s : ℕ) → IsAlive p s → IsTable t → AreLike p.table t → IsAlive (record p { table = t }) s
 table_alive p t s alive good like = record {
-  agree = agree_like p.rows p.table t p.images alive.agree good like;
+  agree = agree_like p.rows p.table t p.images.kept alive.agree good like;
   above = alive.above;
   below = alive.below;
   image = alive.image;

@@ -75,7 +75,7 @@ image_before b s n w stop is = stop_before b w (places.placed b s n) _ stop is
 -- The texts stay as an image is placed, or is not.
 pub texts_still : {p q : Procs} {fs : FileSystem} {result : Result (Unit {0}) PanicKind} {start end : Taken} (w : World)
     (s t d : ℕ)
-    → HasEnded p q fs result start end (takes_image w s t d) → texts_in q.images ≡ w.texts
+    → HasEnded p q fs result start end (takes_image w s t d) → texts_in q.images.kept ≡ w.texts
 texts_still {p} {q} {fs} {result} {start} {end} w s t d ended =
     ap (λ (v : World). v.texts) ended.left.state ∙ by (came p (takes_image w s t d)).stop refl
   where
@@ -104,7 +104,7 @@ module _ (p q : Procs) (fs gs : FileSystem) (s : ℕ) (program : Program) (bare 
   entry = new_entry w.texts ino size
 
   low : s < length w.processes
-  low = let below = bare.below in omega (arith, below, fifty_processes p.rows.slots p.images)
+  low = let below = bare.below in omega (arith, below, fifty_processes p.rows.slots p.images.kept)
 
   abbrev second : Comes
   second = takes_image first.state s size d
@@ -136,18 +136,18 @@ module _ (p q : Procs) (fs gs : FileSystem) (s : ℕ) (program : Program) (bare 
     referenced_still some =
         subst (λ (v : World). 0 < slice_index v.inodes.references ino) (sym after_is) (taken_references w s ino size ino some)
 
-    pub most_still : min q.images.core 2048 ≡ w.limit
+    pub most_still : min q.images.kept.core 2048 ≡ w.limit
     most_still = ap (λ (v : World). v.limit) after_is ∙ taken_limit w s ino size
 
-    pub clicks_are : AreLong q.images → IsBare q s → text_of p.images s ≡ None → (0 < size → AreSized w.texts ino size)
-        → IfSome new (λ t. text_of q.images s ≡ Some t)
-        → IfSome new (λ t. (x : Shared) × (shared q.images t ≡ Some x) × (x.row.loaded ≡ 0) × (x.row.clicks ≡ size))
-        → size ≡ text_clicks q.images (text_of q.images s)
+    pub clicks_are : AreLong q.images.kept → IsBare q s → text_of p.images.kept s ≡ None → (0 < size → AreSized w.texts ino size)
+        → IfSome new (λ t. text_of q.images.kept s ≡ Some t)
+        → IfSome new (λ t. (x : Shared) × (shared q.images.kept t ≡ Some x) × (x.row.loaded ≡ 0) × (x.row.clicks ≡ size))
+        → size ≡ text_clicks q.images.kept (text_of q.images.kept s)
     clicks_are long now none sized text out =
-        taken_clicks w s ino size low q.images long sized (sym (bare_text p s bare) ∙ none) (ap (λ (v : World). v.texts) after_is)
+        taken_clicks w s ino size low q.images.kept long sized (sym (bare_text p s bare) ∙ none) (ap (λ (v : World). v.texts) after_is)
         (bare_text q s now ∙ ap (λ (v : World). (process_of v s).text) after_is)
-        (subst (λ o. IfSome o (λ t. (text_of q.images s ≡ Some t) × (size ≡ shared_clicks (shared q.images t)))) new_is
-        (fresh_by q.images s size new text out))
+        (subst (λ o. IfSome o (λ t. (text_of q.images.kept s ≡ Some t) × (size ≡ shared_clicks (shared q.images.kept t)))) new_is
+        (fresh_by q.images.kept s size new text out))
 
     module _ (r : Procs) where
       -- An image that finds no place.

@@ -100,7 +100,7 @@ pub answer_stays : (p : Procs) (fs : FileSystem) (s : ℕ) (rule : Process → P
     → Ret (get_or u.r 0 0) (get_or u.r 1 0) ≡ (returns (change (handed p fs) s rule) s).answer
 answer_stays p fs s rule u alive is stays =
     let w : World = handed p fs in
-    let low : s < length w.processes = let below = alive.below in omega (arith, below, fifty_processes p.rows.slots p.images) in
+    let low : s < length w.processes = let below = alive.below in omega (arith, below, fifty_processes p.rows.slots p.images.kept) in
     let r : u.r ≡ (process_of (change w s rule) s).u.r =
     ap (λ (v : UArea). v.r) is ∙ sym (stays (process_of w s))
     ∙ sym (ap (λ (q : Process). q.u.r) (put_here w.processes s (rule (process_of w s)) low)) in

@@ -293,40 +293,40 @@ rows_left p s parent =
 pub record DidEnd (old new : Procs) (s block : ℕ) (parent : Option ℕ) : Type 0 where
   pub table : new.table ≡ ended_table old.table s block (unwrap_or parent 1)
   pub rows : new.rows ≡ rows_left old s parent
-  pub images : new.images ≡ with_grave_at old.images s (area_of old.images s) (Some block)
+  pub images : new.images.kept ≡ with_grave_at old.images.kept s (area_of old.images.kept s) (Some block)
   pub switches : new.switches ≡ old.switches
 
 pub world_same : (v w : Processes) (t u : Table) (k l : Kept) (a b : ℕ) (n : Inodes) → v ≡ w → t ≡ u → k ≡ l → a ≡ b → world_in v t k a n ≡ world_in w u l b n
 world_same v w t u k l a b n e f g h = λ i. world_in (e i) (f i) (g i) (h i) n
 
-module _ (old new : Procs) (s block : ℕ) (parent : Option ℕ) (alive : IsAlive old s) (slots : length old.rows.slots ≡ 50) (images : length old.images.slots ≡ 50)
+module _ (old new : Procs) (s block : ℕ) (parent : Option ℕ) (alive : IsAlive old s) (slots : length old.rows.slots ≡ 50) (images : length old.images.kept.slots ≡ 50)
     (did : DidEnd old new s block parent) where
   here : IsHere old s
   here = is_here old s alive
 
-  images_are : new.images ≡ with_keeping old.images s (Grave here.held.u block)
-  images_are = did.images ∙ ap (λ x. with_keeping old.images s (Grave (area_in x) block)) here.image_is
+  images_are : new.images.kept ≡ with_keeping old.images.kept s (Grave here.held.u block)
+  images_are = did.images ∙ ap (λ x. with_keeping old.images.kept s (Grave (area_in x) block)) here.image_is
 
   pub end_state : (fs : FileSystem) → parent ≡ exit.slot_of (handed old fs) (process_here old s).row.ppid
       → handed new fs ≡ exit.dead (handed old fs) s
   end_state fs found =
       world_same new.rows (rows_left old s parent)
-      new.table (ended_table old.table s block (unwrap_or parent 1)) new.images (with_keeping old.images s (Grave here.held.u block))
+      new.table (ended_table old.table s block (unwrap_or parent 1)) new.images.kept (with_keeping old.images.kept s (Grave here.held.u block))
       new.switches old.switches (inodes_of fs) did.rows did.table images_are did.switches
-      ∙ world_ended old.rows old.table old.images s here.member here.held block alive.below slots images here.member_is here.image_is
-      parent (rows.row_at old.rows s) old.switches (inodes_of fs) (sym (own_row old.rows.slots old.images s alive.below)) found
+      ∙ world_ended old.rows old.table old.images.kept s here.member here.held block alive.below slots images here.member_is here.image_is
+      parent (rows.row_at old.rows s) old.switches (inodes_of fs) (sym (own_row old.rows.slots old.images.kept s alive.below)) found
 
   pub end_board : board new ≡ applied (applied (applied (board old) (line.Exit s block)) (line.Wake (Wait 1))) (line.Wake (Wait (unwrap_or parent 1)))
   end_board =
-      ap (λ t. board_of t new.images) did.table
-      ∙ (ap (λ k. board_of (ended_table old.table s block (unwrap_or parent 1)) k) images_are ∙ board_ended old.table old.images s block (unwrap_or parent 1))
+      ap (λ t. board_of t new.images.kept) did.table
+      ∙ (ap (λ k. board_of (ended_table old.table s block (unwrap_or parent 1)) k) images_are ∙ board_ended old.table old.images.kept s block (unwrap_or parent 1))
 
-  pub end_agree : text_of old.images s ≡ None → AreProcs new
+  pub end_agree : text_of old.images.kept s ≡ None → AreProcs new
   end_agree none =
-      subst (λ v. Agree v new.table new.images) (sym did.rows)
-      (subst (λ t. Agree (rows_left old s parent) t new.images) (sym did.table)
+      subst (λ v. Agree v new.table new.images.kept) (sym did.rows)
+      (subst (λ t. Agree (rows_left old s parent) t new.images.kept) (sym did.table)
       (subst (λ k. Agree (rows_left old s parent) (ended_table old.table s block (unwrap_or parent 1)) k) (sym images_are)
-      (agree_ended old.rows old.table old.images s here.member here.held block alive.below slots images here.member_is here.image_is
+      (agree_ended old.rows old.table old.images.kept s here.member here.held block alive.below slots images here.member_is here.image_is
       (is_none parent) (rows.row_at old.rows s) (unwrap_or parent 1) (alive.agree.text s alive.above alive.below ∙ none) alive.above alive.agree)))
 
 -- the parent's slot, by the rows
@@ -336,14 +336,14 @@ pub parent_is : (p : Procs) (s : ℕ) (parent : Option ℕ) (row : Row) (fs : Fi
 parent_is p s parent row fs long is e =
     e ∙ (ap (λ (r : Row). cond (nat_eq r.ppid 0) (Some 0) (lowest (passes (has_pid r.ppid)) p.rows.slots)) is
     ∙ ap (λ (slots : List (Option Member)). cond (nat_eq (process_here p s).row.ppid 0) (Some 0) (lowest (passes (has_pid (process_here p s).row.ppid)) slots))
-    (sym (members_are p.rows.slots p.images long)))
+    (sym (members_are p.rows.slots p.images.kept long)))
 
 abbrev lines_of_end : Board → ℕ → World → ℕ → Logged World
 lines_of_end b s w parent = logged b (Exit s w ∷ Show (Log (line.Wake (Wait 1))) ∷ Show (Log (line.Wake (Wait parent))) ∷ [])
 
-module _ (p : Procs) (s : ℕ) (parent : Option ℕ) (fs : FileSystem) (a : AreProcs p) (images : length p.images.slots ≡ 50)
+module _ (p : Procs) (s : ℕ) (parent : Option ℕ) (fs : FileSystem) (a : AreProcs p) (images : length p.images.kept.slots ≡ 50)
     (is : parent ≡ exit.slot_of (handed p fs) (process_here p s).row.ppid) where
-  pub logged_end : (block : ℕ) → images_of.swap_fit p.images 1 ≡ Some block
+  pub logged_end : (block : ℕ) → images_of.swap_fit p.images.kept 1 ≡ Some block
       → came p (exit.dies (handed p fs) s) ≡ record {
         items = Log (line.Exit s block) ∷ Log (line.Wake (Wait 1)) ∷ Log (line.Wake (Wait (unwrap_or parent 1))) ∷ [];
         board = applied (applied (applied (board p) (line.Exit s block)) (line.Wake (Wait 1))) (line.Wake (Wait (unwrap_or parent 1)));
@@ -351,9 +351,9 @@ module _ (p : Procs) (s : ℕ) (parent : Option ℕ) (fs : FileSystem) (a : AreP
       }
   logged_end block fit =
       ap (λ (o : Option ℕ). lines_of_end (board p) s (handed p fs) (unwrap_or o 1)) (sym is)
-      ∙ logged_exit (board p) s block (handed p fs) (line.Wake (Wait 1)) (line.Wake (Wait (unwrap_or parent 1))) (same_swap_fit p.rows p.table p.images a images 1 ∙ fit)
+      ∙ logged_exit (board p) s block (handed p fs) (line.Wake (Wait 1)) (line.Wake (Wait (unwrap_or parent 1))) (same_swap_fit p.rows p.table p.images.kept a images 1 ∙ fit)
 
-  pub logged_no_end : images_of.swap_fit p.images 1 ≡ None
+  pub logged_no_end : images_of.swap_fit p.images.kept 1 ≡ None
       → came p (exit.dies (handed p fs) s) ≡ record {
         items = Log (line.Panic panic.Zombie) ∷ [];
         board = board p;
@@ -361,7 +361,7 @@ module _ (p : Procs) (s : ℕ) (parent : Option ℕ) (fs : FileSystem) (a : AreP
       }
   logged_no_end fit =
       ap (λ (o : Option ℕ). lines_of_end (board p) s (handed p fs) (unwrap_or o 1)) (sym is)
-      ∙ logged_panic (board p) s (handed p fs) (line.Wake (Wait 1)) (line.Wake (Wait (unwrap_or parent 1))) (same_swap_fit p.rows p.table p.images a images 1 ∙ fit)
+      ∙ logged_panic (board p) s (handed p fs) (line.Wake (Wait 1)) (line.Wake (Wait (unwrap_or parent 1))) (same_swap_fit p.rows p.table p.images.kept a images 1 ∙ fit)
 
 -- What exit(II) answers, and its row.
 area_adopted : (pid : ℕ) (o : Option Process) → (unwrap_or (adopted pid o) no_process).u ≡ (unwrap_or o no_process).u
@@ -451,7 +451,7 @@ exit_answer p fs s u alive e =
     let status : ℕ = 256 * (get_or (process_here p s).u.r 0 0 % 256) in
     let text : Option ℕ = (process_here p s).text in
     let left : u.r ≡ (process_of (exit.dead (xfree (exit.leaves w s status) s text nothing).state s) s).u.r =
-    ap (λ (v : UArea). v.r) e ∙ sym (registers_left w s status text (omega (arith, low, fifty_processes p.rows.slots p.images))) in
+    ap (λ (v : UArea). v.r) e ∙ sym (registers_left w s status text (omega (arith, low, fifty_processes p.rows.slots p.images.kept))) in
     ap (λ (r : List ℕ). Ret (get_or r 0 0) (get_or r 1 0)) left
     ∙ sym (left_answer (exit.leaves w s status) s (λ left. exit.dies left s) text)
     ∙ ap (λ (c : Comes). c.answer) (end_row w s status text refl)

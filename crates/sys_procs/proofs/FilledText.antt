@@ -80,13 +80,13 @@ place_filled : (bytes : List ℕ) (o : Option Shared) → text_place (filled 0 b
 place_filled bytes None = refl
 place_filled bytes (Some x) = refl
 
-module _ (p : Procs) (l : Kept) (t : ℕ) (bytes : List ℕ) (x : Shared) (there : shared p.images t ≡ Some x)
-    (texts : l.texts ≡ set p.images.texts t (filled 0 bytes (shared p.images t)))
-    (slots : (s : ℕ) → keeping l s ≡ retexted t (bytes_in (filled 0 bytes (shared p.images t))) (text_of p.images s)
-    (keeping p.images s))
-    (users : l.users ≡ p.images.users) where
+module _ (p : Procs) (l : Kept) (t : ℕ) (bytes : List ℕ) (x : Shared) (there : shared p.images.kept t ≡ Some x)
+    (texts : l.texts ≡ set p.images.kept.texts t (filled 0 bytes (shared p.images.kept t)))
+    (slots : (s : ℕ) → keeping l s ≡ retexted t (bytes_in (filled 0 bytes (shared p.images.kept t))) (text_of p.images.kept s)
+    (keeping p.images.kept s))
+    (users : l.users ≡ p.images.kept.users) where
   abbrev k : Kept
-  k = p.images
+  k = p.images.kept
 
   same_text : (s : ℕ) → text_of l s ≡ text_of k s
   same_text s = ap (λ us. get_or us s None) users

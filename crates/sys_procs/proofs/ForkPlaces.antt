@@ -9,8 +9,8 @@ use Rattle.sys_procs.specs.Handed.{IsAlive, board}
 use Rattle.sys_procs.proofs.Places.{same_placed}
 use Rattle.sys_procs.proofs.PlacingRows.{size_is}
 
-pub fork_place : (p : Procs) (s : ℕ) → IsAlive p s → length p.images.slots ≡ 50
-    → placed (board p) s (row_at p.table s).size ≡ images_of.placed p.images s (clicks_of (area_of p.images s))
+pub fork_place : (p : Procs) (s : ℕ) → IsAlive p s → length p.images.kept.slots ≡ 50
+    → placed (board p) s (row_at p.table s).size ≡ images_of.placed p.images.kept s (clicks_of (area_of p.images.kept s))
 fork_place p s alive long =
-    same_placed p.rows p.table p.images alive.agree long s (row_at p.table s).size alive.above alive.below
-    ∙ ap (images_of.placed p.images s) (size_is p s alive)
+    same_placed p.rows p.table p.images.kept alive.agree long s (row_at p.table s).size alive.above alive.below
+    ∙ ap (images_of.placed p.images.kept s) (size_is p s alive)

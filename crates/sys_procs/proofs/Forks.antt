@@ -72,8 +72,8 @@ pub record IsFreeSlot (p : Procs) (s child : ℕ) : Type 0 where
   pub above : 0 < child
   pub low : child < 50
   pub member : member_at p.rows.slots child ≡ None
-  pub image : keeping p.images child ≡ Nothing
-  pub text : text_of p.images child ≡ None
+  pub image : keeping p.images.kept child ≡ Nothing
+  pub text : text_of p.images.kept child ≡ None
   pub other : child ≢ s
   pub apart : s ≢ child
 
@@ -87,7 +87,7 @@ free_slot p s child alive e =
       above = found.above;
       low = found.low;
       member = none;
-      image = nothing_kept (keeping p.images child) ((alive.agree.each child found.above found.low).image ∙ ap kind_of_member none);
+      image = nothing_kept (keeping p.images.kept child) ((alive.agree.each child found.above found.low).image ∙ ap kind_of_member none);
       text = sym (alive.agree.text child found.above found.low)
           ∙ (alive.agree.each child found.above found.low).textless (λ l. let e : Free ≡ Lives = sym (ap kind_of_member none) ∙ l in cc e);
       other = other;
@@ -118,15 +118,15 @@ abbrev pub seated : Procs → ℕ → ℕ → Place → Procs
 seated p s child place = record p {
   rows = forked p.rows s (Some child);
   table = with_image_row p.table child (row_of_child p.table s place) place;
-  images = kept_forked p.images s child place;
+  images = kept_forked p.images.kept s child place;
 }
 
 -- what the child is before it goes on
 abbrev pub copy_of : Procs → ℕ → Process
 copy_of p s = record (process_here p s) { row = (child_of (process_here p s).row (child_pid p)).row }
 
-module _ (p : Procs) (s child : ℕ) (place : Place) (alive : IsAlive p s) (slots : length p.rows.slots ≡ 50) (images : length p.images.slots ≡ 50)
-    (seats : length p.images.users ≡ 50) (free : IsFreeSlot p s child) where
+module _ (p : Procs) (s child : ℕ) (place : Place) (alive : IsAlive p s) (slots : length p.rows.slots ≡ 50) (images : length p.images.kept.slots ≡ 50)
+    (seats : length p.images.kept.users ≡ 50) (free : IsFreeSlot p s child) where
   here : IsHere p s
   here = is_here p s alive
 
@@ -134,46 +134,46 @@ module _ (p : Procs) (s child : ℕ) (place : Place) (alive : IsAlive p s) (slot
   new_member = child_of (rows.row_at p.rows s) (child_pid p)
 
   abbrev new_images : Kept
-  new_images = kept_forked p.images s child place
+  new_images = kept_forked p.images.kept s child place
 
   member_new : member_at (set p.rows.slots child (Some new_member)) child ≡ Some new_member
   member_new = get_or-set_same p.rows.slots child (Some new_member) None (omega (arith, free.low, slots))
 
-  image_new : keeping new_images child ≡ Alive (child_held p.images s place)
-  image_new = get_or-set_same p.images.slots child (Alive (child_held p.images s place)) Nothing (omega (arith, free.low, images))
+  image_new : keeping new_images child ≡ Alive (child_held p.images.kept s place)
+  image_new = get_or-set_same p.images.kept.slots child (Alive (child_held p.images.kept s place)) Nothing (omega (arith, free.low, images))
 
   image_old : keeping new_images s ≡ Alive here.held
-  image_old = get_or-set_other p.images.slots child s (Alive (child_held p.images s place)) Nothing free.apart ∙ here.image_is
+  image_old = get_or-set_other p.images.kept.slots child s (Alive (child_held p.images.kept s place)) Nothing free.apart ∙ here.image_is
 
   -- it shares its parent's text, and who is in another slot what it shared
-  text_new : text_of new_images child ≡ text_of p.images s
-  text_new = get_or-set_same p.images.users child (text_of p.images s) None (omega (arith, free.low, seats))
+  text_new : text_of new_images child ≡ text_of p.images.kept s
+  text_new = get_or-set_same p.images.kept.users child (text_of p.images.kept s) None (omega (arith, free.low, seats))
 
-  text_old : (r : ℕ) → r ≢ child → text_of new_images r ≡ text_of p.images r
-  text_old r other = get_or-set_other p.images.users child r (text_of p.images s) None other
+  text_old : (r : ℕ) → r ≢ child → text_of new_images r ≡ text_of p.images.kept r
+  text_old r other = get_or-set_other p.images.kept.users child r (text_of p.images.kept s) None other
 
-  held_is : child_held p.images s place ≡ record { u = here.held.u; image = here.held.image; place = place }
+  held_is : child_held p.images.kept s place ≡ record { u = here.held.u; image = here.held.image; place = place }
   held_is = ap (λ (x : Keeping). record { u = area_in x; image = image_in x; place = place }) here.image_is
 
-  is_copy : process_by new_member (Alive (child_held p.images s place)) (text_of p.images s) ≡ copy_of p s
+  is_copy : process_by new_member (Alive (child_held p.images.kept s place)) (text_of p.images.kept s) ≡ copy_of p s
   is_copy =
       let row : rows.row_at p.rows s ≡ here.member.row = ap rows.row_of here.member_is in
-      ap (λ (h : Held). process_by new_member (Alive h) (text_of p.images s)) held_is
-      ∙ (ap (λ (r : Row). process_by (child_of r (child_pid p)) (Alive (record { u = here.held.u; image = here.held.image; place = place })) (text_of p.images s)) row
-      ∙ (ap (λ (dead : Bool). record (process_by here.member (Alive here.held) (text_of p.images s)) { row = (child_of here.member.row (child_pid p)).row; is_zombie = dead }) (sym here.is_living)
+      ap (λ (h : Held). process_by new_member (Alive h) (text_of p.images.kept s)) held_is
+      ∙ (ap (λ (r : Row). process_by (child_of r (child_pid p)) (Alive (record { u = here.held.u; image = here.held.image; place = place })) (text_of p.images.kept s)) row
+      ∙ (ap (λ (dead : Bool). record (process_by here.member (Alive here.held) (text_of p.images.kept s)) { row = (child_of here.member.row (child_pid p)).row; is_zombie = dead }) (sym here.is_living)
       ∙ ap (λ (q : Process). record q { row = (child_of q.row (child_pid p)).row }) (sym here.process_is)))
 
-  processes_seated : processes_in (set p.rows.slots child (Some new_member)) new_images ≡ set (processes_in p.rows.slots p.images) child (Some (copy_of p s))
-  processes_seated = one_changed p.rows.slots (set p.rows.slots child (Some new_member)) p.images new_images child (Some (copy_of p s)) free.low
+  processes_seated : processes_in (set p.rows.slots child (Some new_member)) new_images ≡ set (processes_in p.rows.slots p.images.kept) child (Some (copy_of p s))
+  processes_seated = one_changed p.rows.slots (set p.rows.slots child (Some new_member)) p.images.kept new_images child (Some (copy_of p s)) free.low
       (ap (λ o. process_in o (keeping new_images child) (text_of new_images child)) member_new
       ∙ (ap (λ x. process_in (Some new_member) x (text_of new_images child)) image_new
-      ∙ (ap (process_in (Some new_member) (Alive (child_held p.images s place))) text_new ∙ ap (λ (q : Process). Some q) is_copy)))
+      ∙ (ap (process_in (Some new_member) (Alive (child_held p.images.kept s place))) text_new ∙ ap (λ (q : Process). Some q) is_copy)))
       (λ r below other.
       ap (λ o. process_in o (keeping new_images r) (text_of new_images r)) (get_or-set_other p.rows.slots child r (Some new_member) None other)
       ∙ ap (process_in (member_at p.rows.slots r) (keeping new_images r)) (text_old r other)
-      ∙ ap (λ x. process_in (member_at p.rows.slots r) x (text_of p.images r)) (get_or-set_other p.images.slots child r (Alive (child_held p.images s place)) Nothing other))
+      ∙ ap (λ x. process_in (member_at p.rows.slots r) x (text_of p.images.kept r)) (get_or-set_other p.images.kept.slots child r (Alive (child_held p.images.kept s place)) Nothing other))
 
-  text_here : (process_here p s).text ≡ text_of p.images s
+  text_here : (process_here p s).text ≡ text_of p.images.kept s
   text_here = ap (λ (q : Process). q.text) here.process_is
 
   pub state_seated : (fs : FileSystem) → handed (seated p s child place) fs ≡ record (with_process (handed p fs) child (copy_of p s)) {
@@ -184,19 +184,19 @@ module _ (p : Procs) (s child : ℕ) (place : Place) (alive : IsAlive p s) (slot
     processes = processes_seated i;
     last_pid = child_pid p;
     clock = clock_told p.table child (row_of_child p.table s place) place i;
-    texts = (forked_handed p.images.texts (text_of p.images s) place ∙ ap (joined_by_child (handed p fs).texts) (sym text_here)) i;
+    texts = (forked_handed p.images.kept.texts (text_of p.images.kept s) place ∙ ap (joined_by_child (handed p fs).texts) (sym text_here)) i;
   }
 
-  pub board_seated : images_of.placed p.images s (clicks_of (area_of p.images s)) ≡ Some place → board (seated p s child place) ≡ applied (board p) (line.Fork s child place)
+  pub board_seated : images_of.placed p.images.kept s (clicks_of (area_of p.images.kept s)) ≡ Some place → board (seated p s child place) ≡ applied (board p) (line.Fork s child place)
   board_seated found =
       let low : child < length p.table.rows = omega (arith, free.low, alive.agree.rows) in
       sym (λ i. record {
         table = (forked_table (board p) s child low place ∙ sym (untimed_child p.table s child place)) i;
-        texts = forked_places (board p) p.images s child (clicks_of (area_of p.images s)) place low refl (text_row p s alive) found i;
+        texts = forked_places (board p) p.images.kept s child (clicks_of (area_of p.images.kept s)) place low refl (text_row p s alive) found i;
         core = forked_core (board p) s child low place i;
       })
 
-  child_agrees : Agrees (Some new_member) (row_of_child p.table s place) (Alive (child_held p.images s place))
+  child_agrees : Agrees (Some new_member) (row_of_child p.table s place) (Alive (child_held p.images.kept s place))
   child_agrees = record {
     stat = refl;
     image = refl;
@@ -211,7 +211,7 @@ module _ (p : Procs) (s child : ℕ) (place : Place) (alive : IsAlive p s) (slot
       let row : TableRow = row_of_child p.table s place in
       let a : AreProcs p = alive.agree in
       agree_told (forked p.rows s (Some child)) p.table new_images child row place good
-      (agree_with p.rows (forked p.rows s (Some child)) p.table (with_row p.table child row) p.images new_images child a free.above
+      (agree_with p.rows (forked p.rows s (Some child)) p.table (with_row p.table child row) p.images.kept new_images child a free.above
       (record { last = a.table.last; running = a.table.running; ticks = a.table.ticks })
       (length-set p.table.rows child row)
       (subst (λ o. Agrees o (row_at (with_row p.table child row) child) (keeping new_images child)) (sym member_new)
@@ -222,34 +222,34 @@ module _ (p : Procs) (s child : ℕ) (place : Place) (alive : IsAlive p s) (slot
       text_old
       (λ r other. get_or-set_other p.rows.slots child r (Some new_member) None other)
       (λ r other. get_or-set_other p.table.rows child r row empty_row other)
-      (λ r other. get_or-set_other p.images.slots child r (Alive (child_held p.images s place)) Nothing other))
+      (λ r other. get_or-set_other p.images.kept.slots child r (Alive (child_held p.images.kept s place)) Nothing other))
 
   pub parent_alive : IsTable (with_image_row p.table child (row_of_child p.table s place) place) → IsAlive (seated p s child place) s
   parent_alive good = record { agree = agree_forked good; above = alive.above; below = alive.below; image = (here.held, image_old) }
 
   pub child_alive : IsTable (with_image_row p.table child (row_of_child p.table s place) place) → IsAlive (seated p s child place) child
-  child_alive good = record { agree = agree_forked good; above = free.above; below = free.low; image = (child_held p.images s place, image_new) }
+  child_alive good = record { agree = agree_forked good; above = free.above; below = free.low; image = (child_held p.images.kept s place, image_new) }
 
   pub parent_stays : process_here (seated p s child place) s ≡ process_here p s
   parent_stays =
       ap (λ (ps : List (Option Process)). unwrap_or (get_or ps s None) no_process) processes_seated
-      ∙ ap (λ (o : Option Process). unwrap_or o no_process) (get_or-set_other (processes_in p.rows.slots p.images) child s (Some (copy_of p s)) None free.apart)
+      ∙ ap (λ (o : Option Process). unwrap_or o no_process) (get_or-set_other (processes_in p.rows.slots p.images.kept) child s (Some (copy_of p s)) None free.apart)
 
   pub child_is : process_here (seated p s child place) child ≡ copy_of p s
   child_is =
       ap (λ (ps : List (Option Process)). unwrap_or (get_or ps child None) no_process) processes_seated
       ∙ ap (λ (o : Option Process). unwrap_or o no_process)
-      (get_or-set_same (processes_in p.rows.slots p.images) child (Some (copy_of p s)) None (omega (arith, free.low, fifty_processes p.rows.slots p.images)))
+      (get_or-set_same (processes_in p.rows.slots p.images.kept) child (Some (copy_of p s)) None (omega (arith, free.low, fifty_processes p.rows.slots p.images.kept)))
 
 -- what the code makes of the three
 pub is_seated : (p : Procs) (s child : ℕ) (place : Place) (v : Processes) (t : Table) (k : Kept) → v ≡ forked p.rows s (Some child)
     → t ≡ with_image_row p.table child (row_of_child p.table s place) place
-    → {o : Option Place} → o ≡ Some place → k ≡ forked_at p.images s child o
+    → {o : Option Place} → o ≡ Some place → k ≡ forked_at p.images.kept s child o
     → ◌≡◌ {A = Procs} (record p { rows = v; table = t; images = k }) (seated p s child place)
 is_seated p s child place v t k e f {o} found g =
-    let now : k ≡ kept_forked p.images s child place =
-    g ∙ ap (forked_at p.images s child) found
-    ∙ slot_forked p.images (text_of p.images s) place child (Alive (child_held p.images s place)) (text_of p.images s) in
+    let now : k ≡ kept_forked p.images.kept s child place =
+    g ∙ ap (forked_at p.images.kept s child) found
+    ∙ slot_forked p.images.kept (text_of p.images.kept s) place child (Alive (child_held p.images.kept s place)) (text_of p.images.kept s) in
     λ i. record p { rows = e i; table = f i; images = now i }
 
 -- What becomes of a child and its parent as they go on.
@@ -294,24 +294,24 @@ module _ (w : World) (s child pid : ℕ) (apart : s ≢ child) (low : child < le
       ∙ get_or-set_other own.u.r 7 1 ((get_or own.u.r 7 0 + 2) % 65536) 0 (λ e. omega (arith, e)))
 
 pub next_is : (p : Procs) (fs : FileSystem) → length p.rows.slots ≡ 50 → child_pid p ≡ next_pid (handed p fs)
-next_is p fs long = ap (λ (slots : List (Option Member)). fresh_pid slots p.rows.last_pid) (sym (members_are p.rows.slots p.images long))
+next_is p fs long = ap (λ (slots : List (Option Member)). fresh_pid slots p.rows.last_pid) (sym (members_are p.rows.slots p.images.kept long))
 
 -- the row of fork(II) goes by the lowest free slot
 pub fork_row : (p : Procs) (s : ℕ) (fs : FileSystem) (o : Option ℕ) → length p.rows.slots ≡ 50 → lowest is_none p.rows.slots ≡ o
     → fork_into (handed p fs) s o ≡ fork_one (handed p fs) s
 unfolding fork_one
 fork_row p s fs o long e =
-    ap (fork_into (handed p fs) s) (sym e ∙ ap (λ (slots : List (Option Member)). lowest is_none slots) (sym (members_are p.rows.slots p.images long)))
+    ap (fork_into (handed p fs) s) (sym e ∙ ap (λ (slots : List (Option Member)). lowest is_none slots) (sym (members_are p.rows.slots p.images.kept long)))
 
 -- A child's area changes, and its parent stays.
-pub still_alive : (p q : Procs) (s child : ℕ) (u : UArea) → IsAlive p s → s ≢ child → q.images ≡ with_area p.images child u → AreProcs q → IsAlive q s
+pub still_alive : (p q : Procs) (s child : ℕ) (u : UArea) → IsAlive p s → s ≢ child → q.images.kept ≡ with_area p.images.kept child u → AreProcs q → IsAlive q s
 unfolding with_area
 still_alive p q s child u alive apart e a = record {
   agree = a;
   above = alive.above;
   below = alive.below;
   image = subst (λ k. HasImage k s) (sym e)
-      (alive.image.0, get_or-set_other p.images.slots child s (described u (keeping p.images child)) Nothing apart ∙ alive.image.1);
+      (alive.image.0, get_or-set_other p.images.kept.slots child s (described u (keeping p.images.kept child)) Nothing apart ∙ alive.image.1);
 }
 
 pub still_here : (w v : World) (s child : ℕ) (q : Process) → s ≢ child → v ≡ with_process w child q → process_of v s ≡ process_of w s

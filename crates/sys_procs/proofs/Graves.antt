@@ -118,23 +118,23 @@ buried o x t it u block e f =
     ap (λ (p : Option Member). (unwrap_or (process_in p x t) no_process).u) e
     ∙ (ap (λ (y : Keeping). (process_by it y t).u) f ∙ sym (ap area_in f))
 
-pub area_buried : (p : Procs) (s : ℕ) → AreProcs p → 0 < s → s < 50 → HasGrave p.images s → area_in (keeping p.images s) ≡ (process_here p s).u
+pub area_buried : (p : Procs) (s : ℕ) → AreProcs p → 0 < s → s < 50 → HasGrave p.images.kept s → area_in (keeping p.images.kept s) ≡ (process_here p s).u
 area_buried p s a above low grave =
-    let it = is_buried (member_at p.rows.slots s) (row_at p.table s) (keeping p.images s) grave.0 grave.1 (a.each s above low) grave.2 in
-    sym (ap (λ (q : Process). q.u) (own_is p.rows.slots p.images s low)
-    ∙ buried (member_at p.rows.slots s) (keeping p.images s) (text_of p.images s) it.0 grave.0 grave.1 it.1 grave.2)
+    let it = is_buried (member_at p.rows.slots s) (row_at p.table s) (keeping p.images.kept s) grave.0 grave.1 (a.each s above low) grave.2 in
+    sym (ap (λ (q : Process). q.u) (own_is p.rows.slots p.images.kept s low)
+    ∙ buried (member_at p.rows.slots s) (keeping p.images.kept s) (text_of p.images.kept s) it.0 grave.0 grave.1 it.1 grave.2)
 
 -- A slot that becomes free.
 abbrev pub cleared : Procs → ℕ → Procs
-cleared p s = record p { rows = without p.rows s; table = with_row p.table s empty_row; images = with_keeping p.images s Nothing }
+cleared p s = record p { rows = without p.rows s; table = with_row p.table s empty_row; images = with_keeping p.images.kept s Nothing }
 
-module _ (p : Procs) (s : ℕ) (low : s < 50) (slots : length p.rows.slots ≡ 50) (images : length p.images.slots ≡ 50) where
-  processes_cleared : processes_in (set p.rows.slots s None) (with_keeping p.images s Nothing) ≡ set (processes_in p.rows.slots p.images) s None
-  processes_cleared = one_changed p.rows.slots (set p.rows.slots s None) p.images (with_keeping p.images s Nothing) s None low
-      (ap (λ o. process_in o (keeping (with_keeping p.images s Nothing) s) (text_of p.images s)) (get_or-set_same p.rows.slots s None None (omega (arith, low, slots))))
+module _ (p : Procs) (s : ℕ) (low : s < 50) (slots : length p.rows.slots ≡ 50) (images : length p.images.kept.slots ≡ 50) where
+  processes_cleared : processes_in (set p.rows.slots s None) (with_keeping p.images.kept s Nothing) ≡ set (processes_in p.rows.slots p.images.kept) s None
+  processes_cleared = one_changed p.rows.slots (set p.rows.slots s None) p.images.kept (with_keeping p.images.kept s Nothing) s None low
+      (ap (λ o. process_in o (keeping (with_keeping p.images.kept s Nothing) s) (text_of p.images.kept s)) (get_or-set_same p.rows.slots s None None (omega (arith, low, slots))))
       (λ r below other.
-      ap (λ o. process_in o (keeping (with_keeping p.images s Nothing) r) (text_of p.images r)) (get_or-set_other p.rows.slots s r None None other)
-      ∙ ap (λ x. process_in (member_at p.rows.slots r) x (text_of p.images r)) (get_or-set_other p.images.slots s r Nothing Nothing other))
+      ap (λ o. process_in o (keeping (with_keeping p.images.kept s Nothing) r) (text_of p.images.kept r)) (get_or-set_other p.rows.slots s r None None other)
+      ∙ ap (λ x. process_in (member_at p.rows.slots r) x (text_of p.images.kept r)) (get_or-set_other p.images.kept.slots s r Nothing Nothing other))
 
   pub state_cleared : (fs : FileSystem) → handed (cleared p s) fs ≡ without_process (handed p fs) s
   state_cleared fs = ap (λ (ps : List (Option Process)). record (handed p fs) { processes = ps }) processes_cleared
@@ -144,13 +144,13 @@ module _ (p : Procs) (s : ℕ) (low : s < 50) (slots : length p.rows.slots ≡ 5
   board_cleared = refl
 
   -- who has ended shares no text
-  text_buried : 0 < s → AreProcs p → HasGrave p.images s → text_of p.images s ≡ None
+  text_buried : 0 < s → AreProcs p → HasGrave p.images.kept s → text_of p.images.kept s ≡ None
   text_buried above a grave =
       let one = a.each s above low in
       let died : Died ≡ kind_of_member (member_at p.rows.slots s) = sym (ap kind_of_keeping grave.2) ∙ one.image in
       sym (a.text s above low) ∙ one.textless (λ l. let e : Died ≡ Lives = died ∙ l in cc e)
 
-  pub agree_cleared : 0 < s → AreProcs p → HasGrave p.images s → AreProcs (cleared p s)
+  pub agree_cleared : 0 < s → AreProcs p → HasGrave p.images.kept s → AreProcs (cleared p s)
   agree_cleared above a grave =
       let free : Agrees None empty_row Nothing = record {
         stat = refl;
@@ -160,20 +160,20 @@ module _ (p : Procs) (s : ℕ) (low : s < 50) (slots : length p.rows.slots ≡ 5
         quiet = λ f. refl;
         textless = λ f. refl;
       } in
-      agree_but p.rows (without p.rows s) p.table (with_row p.table s empty_row) p.images (with_keeping p.images s Nothing) s a above
+      agree_but p.rows (without p.rows s) p.table (with_row p.table s empty_row) p.images.kept (with_keeping p.images.kept s Nothing) s a above
       (record { last = a.table.last; running = a.table.running; ticks = a.table.ticks })
       (length-set p.table.rows s empty_row)
-      (subst (λ o. Agrees o (row_at (with_row p.table s empty_row) s) (keeping (with_keeping p.images s Nothing) s))
+      (subst (λ o. Agrees o (row_at (with_row p.table s empty_row) s) (keeping (with_keeping p.images.kept s Nothing) s))
       (sym (get_or-set_same p.rows.slots s None None (omega (arith, low, slots))))
-      (subst (λ (row : TableRow). Agrees None row (keeping (with_keeping p.images s Nothing) s))
+      (subst (λ (row : TableRow). Agrees None row (keeping (with_keeping p.images.kept s Nothing) s))
       (sym (get_or-set_same p.table.rows s empty_row empty_row (omega (arith, low, a.rows))))
-      (subst (λ x. Agrees None empty_row x) (sym (get_or-set_same p.images.slots s Nothing Nothing (omega (arith, low, images)))) free)))
+      (subst (λ x. Agrees None empty_row x) (sym (get_or-set_same p.images.kept.slots s Nothing Nothing (omega (arith, low, images)))) free)))
       (ap (λ (r : TableRow). r.text) (get_or-set_same p.table.rows s empty_row empty_row (omega (arith, low, a.rows)))
       ∙ sym (text_buried above a grave))
-      (same_texts p.images s Nothing)
+      (same_texts p.images.kept s Nothing)
       (λ r other. get_or-set_other p.rows.slots s r None None other)
       (λ r other. get_or-set_other p.table.rows s r empty_row empty_row other)
-      (λ r other. get_or-set_other p.images.slots s r Nothing Nothing other)
+      (λ r other. get_or-set_other p.images.kept.slots s r Nothing Nothing other)
 
 -- another slot's image
 still_there : (k : Kept) (s dead : ℕ) (held : Held) (u : UArea) (block : ℕ) → keeping k s ≡ Alive held → keeping k dead ≡ Grave u block → keeping (with_keeping k dead Nothing) s ≡ Alive held
@@ -181,14 +181,14 @@ still_there k s dead held u block has grave =
     get_or-set_other k.slots dead s Nothing Nothing
     (λ e. let same : Alive held ≡ Grave u block = sym has ∙ (ap (keeping k) e ∙ grave) in cc same) ∙ has
 
-pub still_alive : (p q : Procs) (s dead : ℕ) → IsAlive p s → HasGrave p.images dead → q.images ≡ with_keeping p.images dead Nothing → AreProcs q → IsAlive q s
+pub still_alive : (p q : Procs) (s dead : ℕ) → IsAlive p s → HasGrave p.images.kept dead → q.images.kept ≡ with_keeping p.images.kept dead Nothing → AreProcs q → IsAlive q s
 still_alive p q s dead alive grave e a =
     let has = alive.image in
     record {
       agree = a;
       above = alive.above;
       below = alive.below;
-      image = subst (λ k. HasImage k s) (sym e) (has.0, still_there p.images s dead has.0 grave.0 grave.1 has.1 grave.2);
+      image = subst (λ k. HasImage k s) (sym e) (has.0, still_there p.images.kept s dead has.0 grave.0 grave.1 has.1 grave.2);
     }
 
 -- What is told of the children is what the row of wait(II) goes by.
@@ -197,7 +197,7 @@ pub wait_row : (p : Procs) (s : ℕ) (fs : FileSystem) (pid : ℕ) (told other :
 unfolding wait_child
 wait_row p s fs pid told other long is e f =
     ap (waits_for (handed p fs) s)
-    (sym f ∙ (e ∙ (ap (child p.rows.slots) is ∙ ap (λ (slots : List (Option Member)). child slots (process_here p s).row.pid) (sym (members_are p.rows.slots p.images long)))))
+    (sym f ∙ (e ∙ (ap (child p.rows.slots) is ∙ ap (λ (slots : List (Option Member)). child slots (process_here p s).row.pid) (sym (members_are p.rows.slots p.images.kept long)))))
 
 -- where no child has ended: a wait begins, or a signal that is due breaks it off
 pub wait_begins : (w : World) (s : ℕ) → is_due w s ≡ false → sleeps (change w s waiting) pwait (Wait s) ≡ waits_for w s Living

@@ -87,27 +87,27 @@ kept_grown k s d stack place = record (with_keeping k s (Alive (grown k s d stac
 abbrev resized_by : Bool → Procs → ℕ → ℕ → ℕ → Place → Procs
 resized_by keeps p s d stack place = record p {
   table = table_by keeps p.table s (16 + d + stack) place;
-  images = kept_grown p.images s d stack place;
+  images = kept_grown p.images.kept s d stack place;
 }
 
 abbrev pub resized : Procs → ℕ → ℕ → ℕ → Place → Procs
 resized p s d stack place = resized_by (nat_le (16 + d + stack) (row_at p.table s).size) p s d stack place
 
-module _ (p : Procs) (s : ℕ) (alive : IsAlive p s) (long : length p.images.slots ≡ 50) where
-  stands : is_some (place_of p.images s) ≡ true
+module _ (p : Procs) (s : ℕ) (alive : IsAlive p s) (long : length p.images.kept.slots ≡ 50) where
+  stands : is_some (place_of p.images.kept s) ≡ true
   stands = let here : IsHere p s = is_here p s alive in ap (λ x. is_some (place_in x)) here.image_is
 
   -- where it stands, by the row
-  expanded_is : (n : ℕ) → expanded p.images s n
-      ≡ cond (nat_le n (row_at p.table s).size) (place_of p.images s) (placed p.images s n)
+  expanded_is : (n : ℕ) → expanded p.images.kept s n
+      ≡ cond (nat_le n (row_at p.table s).size) (place_of p.images.kept s) (placed p.images.kept s n)
   unfolding expanded
-  expanded_is n = ap (λ m. cond (nat_le n m) (place_of p.images s) (placed p.images s n)) (sym (size_is p s alive))
+  expanded_is n = ap (λ m. cond (nat_le n m) (place_of p.images.kept s) (placed p.images.kept s n)) (sym (size_is p s alive))
 
-  fit_is : (n : ℕ) → board_of_log.placed (board p) s n ≡ placed p.images s n
-  fit_is n = same_placed p.rows p.table p.images alive.agree long s n alive.above alive.below
+  fit_is : (n : ℕ) → board_of_log.placed (board p) s n ≡ placed p.images.kept s n
+  fit_is n = same_placed p.rows p.table p.images.kept alive.agree long s n alive.above alive.below
 
   -- It finds no place.
-  pub log_stopped : (d stack : ℕ) (fs : FileSystem) → expanded p.images s (16 + d + stack) ≡ None
+  pub log_stopped : (d stack : ℕ) (fs : FileSystem) → expanded p.images.kept s (16 + d + stack) ≡ None
       → came p (expands (handed p fs) s d stack) ≡ record {
         items = Log (line.Panic panic.Swap) ∷ [];
         board = board p;
@@ -115,40 +115,40 @@ module _ (p : Procs) (s : ℕ) (alive : IsAlive p s) (long : length p.images.slo
       }
   log_stopped d stack fs e =
       let n : ℕ = 16 + d + stack in
-      let no : NoPlace (nat_le n (row_at p.table s).size) (placed p.images s n) =
-      no_place _ (place_of p.images s) _ stands (sym (expanded_is n) ∙ e) in
+      let no : NoPlace (nat_le n (row_at p.table s).size) (placed p.images.kept s n) =
+      no_place _ (place_of p.images.kept s) _ stands (sym (expanded_is n) ∙ e) in
       logged_stopped (board p) s n (handed p fs) no.grows (fit_is n ∙ no.none)
 
   module _ (d stack : ℕ) (place : Place) where
     abbrev n : ℕ
     n = 16 + d + stack
 
-    there : expanded p.images s n ≡ Some place → (keeps : Bool) → nat_le n (row_at p.table s).size ≡ keeps
-        → cond keeps (place_of p.images s) (placed p.images s n) ≡ Some place
-    there found keeps e = ap (λ b. cond b (place_of p.images s) (placed p.images s n)) (sym e) ∙ (sym (expanded_is n) ∙ found)
+    there : expanded p.images.kept s n ≡ Some place → (keeps : Bool) → nat_le n (row_at p.table s).size ≡ keeps
+        → cond keeps (place_of p.images.kept s) (placed p.images.kept s n) ≡ Some place
+    there found keeps e = ap (λ b. cond b (place_of p.images.kept s) (placed p.images.kept s n)) (sym e) ∙ (sym (expanded_is n) ∙ found)
 
     -- the texts, where it keeps its place
-    texts_kept : expanded p.images s n ≡ Some place → nat_le n (row_at p.table s).size ≡ true
-        → (kept_grown p.images s d stack place).texts ≡ p.images.texts
+    texts_kept : expanded p.images.kept s n ≡ Some place → nat_le n (row_at p.table s).size ≡ true
+        → (kept_grown p.images.kept s d stack place).texts ≡ p.images.kept.texts
     texts_kept found e =
-        ap (λ (o : Option Place). texts_moved p.images.texts (text_of p.images s) o place) (there found true e)
-        ∙ texts_stay p.images.texts (text_of p.images s) place
+        ap (λ (o : Option Place). texts_moved p.images.kept.texts (text_of p.images.kept s) o place) (there found true e)
+        ∙ texts_stay p.images.kept.texts (text_of p.images.kept s) place
 
     -- and where it takes another
     abbrev stood : Place
     stood = (is_here p s alive).held.place
 
-    stood_at : place_of p.images s ≡ Some stood
+    stood_at : place_of p.images.kept s ≡ Some stood
     stood_at = ap place_in (is_here p s alive).image_is
 
-    places : expanded p.images s n ≡ Some place → nat_le n (row_at p.table s).size ≡ false
-        → (applied (board p) (line.Size s n place)).texts ≡ map text_place (kept_grown p.images s d stack place).texts
+    places : expanded p.images.kept s n ≡ Some place → nat_le n (row_at p.table s).size ≡ false
+        → (applied (board p) (line.Size s n place)).texts ≡ map text_place (kept_grown p.images.kept s d stack place).texts
     places found e =
-        grown_places (board p) p.images s n stood place alive.above (row_low p s alive) refl
+        grown_places (board p) p.images.kept s n stood place alive.above (row_low p s alive) refl
         (place_is p s alive ∙ stood_at) (text_row p s alive) (there found false e)
-        ∙ ap (λ (o : Option Place). map text_place (texts_moved p.images.texts (text_of p.images s) o place)) (sym stood_at)
+        ∙ ap (λ (o : Option Place). map text_place (texts_moved p.images.kept.texts (text_of p.images.kept s) o place)) (sym stood_at)
 
-    pub log_sized : (fs : FileSystem) → expanded p.images s n ≡ Some place → came p (expands (handed p fs) s d stack) ≡ record {
+    pub log_sized : (fs : FileSystem) → expanded p.images.kept s n ≡ Some place → came p (expands (handed p fs) s d stack) ≡ record {
       items = Log (line_by (nat_le n (row_at p.table s).size) s n place) ∷ [];
       board = board (resized p s d stack place);
       stop = None;
@@ -170,17 +170,17 @@ module _ (p : Procs) (s : ℕ) (alive : IsAlive p s) (long : length p.images.slo
         by false e =
             logged_grown (board p) s n (handed p fs) place e (fit_is n ∙ there found false e)
             ∙ ap (λ (b : Board). record { items = Log (line.Size s n place) ∷ []; board = b; stop = None })
-            (board_at_size p s n (grown p.images s d stack place) (kept_grown p.images s d stack place).texts (row_low p s alive) (places found e))
+            (board_at_size p s n (grown p.images.kept s d stack place) (kept_grown p.images.kept s d stack place).texts (row_low p s alive) (places found e))
 
-    pub grown_alive : expanded p.images s n ≡ Some place
+    pub grown_alive : expanded p.images.kept s n ≡ Some place
         → IsTable (table_by (nat_le n (row_at p.table s).size) p.table s n place) → IsAlive (resized p s d stack place) s
     grown_alive found good = by (nat_le n (row_at p.table s).size) refl good
       where
         by : (keeps : Bool) → nat_le n (row_at p.table s).size ≡ keeps → IsTable (table_by keeps p.table s n place) → IsAlive (resized_by keeps p s d stack place) s
         by true e good =
-            kept_alive p s (grown p.images s d stack place) (kept_grown p.images s d stack place).texts alive long n refl
+            kept_alive p s (grown p.images.kept s d stack place) (kept_grown p.images.kept s d stack place).texts alive long n refl
             (place_is p s alive ∙ there found true e)
-        by false e good = put_alive p s (grown p.images s d stack place) (kept_grown p.images s d stack place).texts alive long n refl good
+        by false e good = put_alive p s (grown p.images.kept s d stack place) (kept_grown p.images.kept s d stack place).texts alive long n refl good
 
     clock_by : (keeps : Bool) → clock_of (table_by keeps p.table s n place) ≡ clock_of p.table
     clock_by true = refl
@@ -189,20 +189,20 @@ module _ (p : Procs) (s : ℕ) (alive : IsAlive p s) (long : length p.images.slo
     pub grown_state : (fs : FileSystem) → handed (resized p s d stack place) fs ≡ change (handed p fs) s (sized d stack)
     grown_state fs =
         let here : IsHere p s = is_here p s alive in
-        let is : process_by here.member (Alive (grown p.images s d stack place)) (text_of p.images s) ≡ sized d stack (process_here p s) =
+        let is : process_by here.member (Alive (grown p.images.kept s d stack place)) (text_of p.images.kept s) ≡ sized d stack (process_here p s) =
         ap (λ (x : Keeping). process_by here.member (Alive (record {
           u = area_resized (area_in x) d stack;
           image = image_resized (image_in x) d stack;
           place = place;
-        })) (text_of p.images s)) here.image_is
+        })) (text_of p.images.kept s)) here.image_is
         ∙ ap (sized d stack) (sym here.process_is) in
-        let texts : texts_in (kept_grown p.images s d stack place) ≡ texts_in p.images =
-        ap (λ (o : Option Place). map text_in (texts_moved p.images.texts (text_of p.images s) o place)) stood_at
-        ∙ texts_handed p.images.texts (text_of p.images s) stood place in
-        let processes : processes_in p.rows.slots (kept_grown p.images s d stack place) ≡ set (processes_in p.rows.slots p.images) s (Some (sized d stack (process_here p s))) =
-        processes_apart p.rows.slots (with_keeping p.images s (Alive (grown p.images s d stack place))) (kept_grown p.images s d stack place).texts
-        ∙ (processes_seated p s alive long (grown p.images s d stack place) here.member here.member_is
-        ∙ ap (λ (q : Process). set (processes_in p.rows.slots p.images) s (Some q)) is) in
+        let texts : texts_in (kept_grown p.images.kept s d stack place) ≡ texts_in p.images.kept =
+        ap (λ (o : Option Place). map text_in (texts_moved p.images.kept.texts (text_of p.images.kept s) o place)) stood_at
+        ∙ texts_handed p.images.kept.texts (text_of p.images.kept s) stood place in
+        let processes : processes_in p.rows.slots (kept_grown p.images.kept s d stack place) ≡ set (processes_in p.rows.slots p.images.kept) s (Some (sized d stack (process_here p s))) =
+        processes_apart p.rows.slots (with_keeping p.images.kept s (Alive (grown p.images.kept s d stack place))) (kept_grown p.images.kept s d stack place).texts
+        ∙ (processes_seated p s alive long (grown p.images.kept s d stack place) here.member here.member_is
+        ∙ ap (λ (q : Process). set (processes_in p.rows.slots p.images.kept) s (Some q)) is) in
         λ i. record (handed p fs) {
           processes = processes i;
           clock = clock_by (nat_le n (row_at p.table s).size) i;

@@ -62,20 +62,20 @@ module _ (p : Procs) (s t : ℕ) where
   abbrev pub joins : Procs
   joins = record p {
     table = change_row p.table s (with_its_text t);
-    images = record p.images { texts = more p.images t; users = set p.images.users s (Some t) };
+    images = record p.images.kept { texts = more p.images.kept t; users = set p.images.kept.users s (Some t) };
   }
 
   pub board_joined : board joins ≡ applied (board p) (line.Share s t)
   unfolding applied
   board_joined = λ i. record {
     table = record (change_row p.table s (with_its_text t)) { tout = 0 };
-    texts = places_joined p.images t i;
-    core = p.images.core;
+    texts = places_joined p.images.kept t i;
+    core = p.images.kept.core;
   }
 
-  pub images_joined : with_joined_text p.images s t ≡ record p.images {
-    texts = more p.images t;
-    users = set p.images.users s (Some t);
+  pub images_joined : with_joined_text p.images.kept s t ≡ record p.images.kept {
+    texts = more p.images.kept t;
+    users = set p.images.kept.users s (Some t);
   }
   unfolding with_joined_text
   images_joined = refl

@@ -216,11 +216,11 @@ in_core_is (Grave u block) = refl
 -- A process shares a text.
 pub record Shares (p : Procs) (s t : ℕ) : Type 0 where
   pub alive : IsAlive p s
-  pub text : text_of p.images s ≡ Some t
-  pub texts : AreShared p.images
-  pub images : IsKept p.images
+  pub text : text_of p.images.kept s ≡ Some t
+  pub texts : AreShared p.images.kept
+  pub images : IsKept p.images.kept
 
-pub shares : {p : Procs} {s t : ℕ} → IsAlive p s → text_of p.images s ≡ Some t → AreShared p.images → IsKept p.images
+pub shares : {p : Procs} {s t : ℕ} → IsAlive p s → text_of p.images.kept s ≡ Some t → AreShared p.images.kept → IsKept p.images.kept
     → Shares p s t
 shares {p} {s} {t} alive text texts images = record { alive = alive; text = text; texts = texts; images = images }
 
@@ -228,29 +228,29 @@ module _ {p : Procs} {s t : ℕ} (sticky : Bool) (h : Shares p s t) where
   abbrev x : Shared
   x = (h.texts.used s t h.text).text
 
-  there : shared p.images t ≡ Some x
+  there : shared p.images.kept t ≡ Some x
   there = (h.texts.used s t h.text).there
 
   some : 0 < x.row.users
   some = (h.texts.used s t h.text).users
 
-  pub is_there : IsSome (shared p.images t)
+  pub is_there : IsSome (shared p.images.kept t)
   is_there = subst IsSome (sym there) refl
 
   abbrev is_in : Bool
-  is_in = is_loaded (keeping p.images s)
+  is_in = is_loaded (keeping p.images.kept s)
 
   abbrev pub texts : List (Option Shared)
-  texts = set p.images.texts t (shared_left is_in sticky (shared p.images t))
+  texts = set p.images.kept.texts t (shared_left is_in sticky (shared p.images.kept t))
 
   abbrev pub images : kept.Kept
-  images = record p.images {
-    slots = set p.images.slots s (textless (keeping p.images s));
+  images = record p.images.kept {
+    slots = set p.images.kept.slots s (textless (keeping p.images.kept s));
     texts = texts;
-    users = set p.images.users s None;
+    users = set p.images.kept.users s None;
   }
 
-  images_left : with_left_text p.images s sticky (Some t) ≡ images
+  images_left : with_left_text p.images.kept s sticky (Some t) ≡ images
   unfolding with_left_text
   images_left = refl
 
@@ -258,91 +258,91 @@ module _ {p : Procs} {s t : ℕ} (sticky : Bool) (h : Shares p s t) where
   now = record p { table = change_row p.table s without_its_text; images = images }
 
   pub left_is : (rows : Table) (k : kept.Kept) → rows ≡ change_row p.table s without_its_text
-      → k ≡ with_left_text p.images s sticky (text_of p.images s) → record p { table = rows; images = k } ≡ now
+      → k ≡ with_left_text p.images.kept s sticky (text_of p.images.kept s) → record p { table = rows; images = k } ≡ now
   left_is rows k table_is is = λ i. record p {
     table = table_is i;
-    images = (is ∙ (ap (with_left_text p.images s sticky) h.text ∙ images_left)) i;
+    images = (is ∙ (ap (with_left_text p.images.kept s sticky) h.text ∙ images_left)) i;
   }
 
-  text_low : t < length p.images.texts
-  text_low = elim (cases_lt t (length p.images.texts)) [
+  text_low : t < length p.images.kept.texts
+  text_low = elim (cases_lt t (length p.images.kept.texts)) [
     | inl low ↦ low
-    | inr past ↦ absurd (let none : shared p.images t ≡ None = get_or_past p.images.texts t None past in cc (none, there))
+    | inr past ↦ absurd (let none : shared p.images.kept t ≡ None = get_or_past p.images.kept.texts t None past in cc (none, there))
   ]
 
   -- what a call is handed
-  text_is : get_or (texts_in p.images) t None ≡ Some (text_for x)
-  text_is = get_or-map text_in p.images.texts t None ∙ ap text_in there
+  text_is : get_or (texts_in p.images.kept) t None ≡ Some (text_for x)
+  text_is = get_or-map text_in p.images.kept.texts t None ∙ ap text_in there
 
-  texts_now : map text_in texts ≡ set (texts_in p.images) t (world_texts.remaining sticky (get_or (texts_in p.images) t None))
+  texts_now : map text_in texts ≡ set (texts_in p.images.kept) t (world_texts.remaining sticky (get_or (texts_in p.images.kept) t None))
   texts_now =
-      map-set text_in p.images.texts t (shared_left is_in sticky (shared p.images t))
-      ∙ ap (set (texts_in p.images) t) (ap (λ o. text_in (shared_left is_in sticky o)) there
+      map-set text_in p.images.kept.texts t (shared_left is_in sticky (shared p.images.kept t))
+      ∙ ap (set (texts_in p.images.kept) t) (ap (λ o. text_in (shared_left is_in sticky o)) there
       ∙ (text_remaining x is_in sticky some ∙ ap (world_texts.remaining sticky) (sym text_is)))
 
-  image_now : keeping images s ≡ textless (keeping p.images s)
-  image_now = get_or-set_same p.images.slots s (textless (keeping p.images s)) Nothing
+  image_now : keeping images s ≡ textless (keeping p.images.kept s)
+  image_now = get_or-set_same p.images.kept.slots s (textless (keeping p.images.kept s)) Nothing
       (omega (arith, h.alive.below, h.images.slots))
 
-  other_image : (r : ℕ) → r ≢ s → keeping images r ≡ keeping p.images r
-  other_image r other = get_or-set_other p.images.slots s r (textless (keeping p.images s)) Nothing other
+  other_image : (r : ℕ) → r ≢ s → keeping images r ≡ keeping p.images.kept r
+  other_image r other = get_or-set_other p.images.kept.slots s r (textless (keeping p.images.kept s)) Nothing other
 
   pub none_now : text_of images s ≡ None
-  none_now = get_or-set_same p.images.users s None None (omega (arith, h.alive.below, h.images.seats))
+  none_now = get_or-set_same p.images.kept.users s None None (omega (arith, h.alive.below, h.images.seats))
 
-  other_user : (r : ℕ) → r ≢ s → text_of images r ≡ text_of p.images r
-  other_user r other = get_or-set_other p.images.users s r None None other
+  other_user : (r : ℕ) → r ≢ s → text_of images r ≡ text_of p.images.kept r
+  other_user r other = get_or-set_other p.images.kept.users s r None None other
 
-  processes_now : processes_in p.rows.slots images ≡ set (processes_in p.rows.slots p.images) s
+  processes_now : processes_in p.rows.slots images ≡ set (processes_in p.rows.slots p.images.kept) s
       (Some (without_text (process_here p s)))
   processes_now =
       let here : IsHere p s = is_here p s h.alive in
-      one_changed p.rows.slots p.rows.slots p.images images s (Some (without_text (process_here p s))) h.alive.below
+      one_changed p.rows.slots p.rows.slots p.images.kept images s (Some (without_text (process_here p s))) h.alive.below
       (ap (λ y. process_in (member_at p.rows.slots s) y (text_of images s)) (image_now ∙ ap textless here.image_is)
       ∙ (ap (process_in (member_at p.rows.slots s) (textless (Alive here.held))) none_now
       ∙ (ap (λ o. process_in o (textless (Alive here.held)) None) here.member_is
       ∙ ap (λ (q : Process). Some (without_text q)) (sym here.process_is))))
       (λ r below other.
       ap (λ y. process_in (member_at p.rows.slots r) y (text_of images r)) (other_image r other)
-      ∙ ap (process_in (member_at p.rows.slots r) (keeping p.images r)) (other_user r other))
+      ∙ ap (process_in (member_at p.rows.slots r) (keeping p.images.kept r)) (other_user r other))
 
   abbrev left_state : FileSystem → World
   left_state fs =
       change (record (handed p fs) {
-        texts = set (texts_in p.images) t
-            (world_texts.remaining sticky (get_or (texts_in p.images) t None));
+        texts = set (texts_in p.images.kept) t
+            (world_texts.remaining sticky (get_or (texts_in p.images.kept) t None));
       }) s without_text
 
   state_left : (fs : FileSystem) → handed now fs ≡ left_state fs
   state_left fs = λ i. record (handed p fs) { processes = processes_now i; texts = texts_now i }
 
-  text_told : texts_of.text_of (texts_in p.images) t ≡ text_for x
+  text_told : texts_of.text_of (texts_in p.images.kept) t ≡ text_for x
   text_told = ap (λ o. unwrap_or o no_text) text_is
 
-  goes_told : (l : Left) → l ≡ left (row_of_text p.images (text_of p.images s)) sticky
-      → goes (texts_of.text_of (texts_in p.images) t) sticky ≡ is_gone l
+  goes_told : (l : Left) → l ≡ left (row_of_text p.images.kept (text_of p.images.kept s)) sticky
+      → goes (texts_of.text_of (texts_in p.images.kept) t) sticky ≡ is_gone l
   goes_told l e =
       ap (λ (y : Text). goes y sticky) text_told
-      ∙ (goes_is x sticky some ∙ ap is_gone (sym (e ∙ ap (λ o. left (row_of_text p.images o) sticky) h.text
+      ∙ (goes_is x sticky some ∙ ap is_gone (sym (e ∙ ap (λ o. left (row_of_text p.images.kept o) sticky) h.text
       ∙ ap (λ o. left (row_in o) sticky) there)))
 
-  pub state_stays : (fs : FileSystem) (l : Left) → l ≡ left (row_of_text p.images (text_of p.images s)) sticky → is_gone l ≡ false
+  pub state_stays : (fs : FileSystem) (l : Left) → l ≡ left (row_of_text p.images.kept (text_of p.images.kept s)) sticky → is_gone l ≡ false
       → handed now fs ≡ leaves_text (handed p fs) s t sticky
   state_stays fs l e stays =
       state_left fs
-      ∙ sym (ap (λ b. cond b (let_go (left_state fs) (texts_of.text_of (texts_in p.images) t).ino) (left_state fs))
+      ∙ sym (ap (λ b. cond b (let_go (left_state fs) (texts_of.text_of (texts_in p.images.kept) t).ino) (left_state fs))
       (goes_told l e ∙ stays))
 
-  ino_is : (ino : ℕ) → ino ≡ (row_in (shared p.images t)).ino → ino ≡ x.row.ino
+  ino_is : (ino : ℕ) → ino ≡ (row_in (shared p.images.kept t)).ino → ino ≡ x.row.ino
   ino_is ino is = is ∙ ap (λ o. (row_in o).ino) there
 
-  pub state_goes : (fs new : FileSystem) (ino : ℕ) → Gone ≡ left (row_of_text p.images (text_of p.images s)) sticky
-      → ino ≡ (row_in (shared p.images t)).ino
+  pub state_goes : (fs new : FileSystem) (ino : ℕ) → Gone ≡ left (row_of_text p.images.kept (text_of p.images.kept s)) sticky
+      → ino ≡ (row_in (shared p.images.kept t)).ino
       → inodes_of new ≡ put_back (inodes_of fs) ino → handed now new ≡ leaves_text (handed p fs) s t sticky
   state_goes fs new ino e is back =
-      let same : ino ≡ (texts_of.text_of (texts_in p.images) t).ino = ino_is ino is ∙ sym (ap (λ (y : Text). y.ino) text_told) in
+      let same : ino ≡ (texts_of.text_of (texts_in p.images.kept) t).ino = ino_is ino is ∙ sym (ap (λ (y : Text). y.ino) text_told) in
       (λ i. record (state_left fs i) { inodes = (back ∙ ap (put_back (inodes_of fs)) same) i })
-      ∙ sym (ap (λ b. cond b (let_go (left_state fs) (texts_of.text_of (texts_in p.images) t).ino) (left_state fs))
+      ∙ sym (ap (λ b. cond b (let_go (left_state fs) (texts_of.text_of (texts_in p.images.kept) t).ino) (left_state fs))
       (goes_told Gone e))
 
   -- the board
@@ -356,13 +356,13 @@ module _ {p : Procs} {s t : ℕ} (sticky : Bool) (h : Shares p s t) where
   loaded_is : table.is_loaded p.table s ≡ is_in
   loaded_is =
       ap (λ b. b || is_in_core (row_at p.table s).place) (ne_eqb s 0 (λ e. omega (arith, e, h.alive.above)))
-      ∙ (ap is_in_core (h.alive.agree.each s h.alive.above h.alive.below).place ∙ in_core_is (keeping p.images s))
+      ∙ (ap is_in_core (h.alive.agree.each s h.alive.above h.alive.below).place ∙ in_core_is (keeping p.images.kept s))
 
   board_texts : (loaded is_sticky : Bool) → ◌≡◌ {A = Board}
       (cond is_sticky (parted (board_out loaded (Some t)) t) (goes_if_unused (parted (board_out loaded (Some t)) t) t))
       (record (board p) {
         table = change_row (record p.table { tout = 0 }) s without_its_text;
-        texts = kept_if is_sticky (parted_in (out_of_core loaded (map text_place p.images.texts) t) t) t;
+        texts = kept_if is_sticky (parted_in (out_of_core loaded (map text_place p.images.kept.texts) t) t) t;
       })
   board_texts true true = refl
   board_texts true false = refl
@@ -376,35 +376,35 @@ module _ {p : Procs} {s t : ℕ} (sticky : Bool) (h : Shares p s t) where
       ∙ (ap (board_by is_in) (text_row p s h.alive ∙ h.text)
       ∙ (board_texts is_in sticky
       ∙ ap (λ l. record (board p) { table = change_row (record p.table { tout = 0 }) s without_its_text; texts = l })
-      (places_left p.images.texts t x is_in sticky there some))))
+      (places_left p.images.kept.texts t x is_in sticky there some))))
 
   -- the marks
-  low_in : t < length (texts_in p.images)
-  low_in = let long = length-map p.images.texts text_in in omega (arith, text_low, long)
+  low_in : t < length (texts_in p.images.kept)
+  low_in = let long = length-map p.images.kept.texts text_in in omega (arith, text_low, long)
 
-  alone : (r : ℕ) → is_text_of x.row.ino (get_or (texts_in p.images) r None) ≡ true → r ≡ t
-  alone r e = by (shared p.images r) refl (sym (ap (is_text_of x.row.ino) (get_or-map text_in p.images.texts r None)) ∙ e)
+  alone : (r : ℕ) → is_text_of x.row.ino (get_or (texts_in p.images.kept) r None) ≡ true → r ≡ t
+  alone r e = by (shared p.images.kept r) refl (sym (ap (is_text_of x.row.ino) (get_or-map text_in p.images.kept.texts r None)) ∙ e)
     where
-      by : (o : Option Shared) → shared p.images r ≡ o → is_text_of x.row.ino (text_in o) ≡ true → r ≡ t
+      by : (o : Option Shared) → shared p.images.kept r ≡ o → is_text_of x.row.ino (text_in o) ≡ true → r ≡ t
       by None f g = absurd (cc g)
       by (Some y) f g = h.texts.apart r t y x f there (eqb-true y.row.ino x.row.ino g)
 
-  pub is_marked : (marks : List Bool) (ino : ℕ) → marks ≡ marks_of (texts_in p.images) → ino ≡ (row_in (shared p.images t)).ino
+  pub is_marked : (marks : List Bool) (ino : ℕ) → marks ≡ marks_of (texts_in p.images.kept) → ino ≡ (row_in (shared p.images.kept t)).ino
       → ino < 65536
       → get_or marks ino false ≡ true
   is_marked marks ino are is number =
       (λ i. get_or (are i) (ino_is ino is i) false)
-      ∙ is_marked_there (texts_in p.images) t (text_for x) low_in text_is (subst (λ n. n < 65536) (ino_is ino is) number)
+      ∙ is_marked_there (texts_in p.images.kept) t (text_for x) low_in text_is (subst (λ n. n < 65536) (ino_is ino is) number)
 
   pub referenced : (references : List ℕ)
-      → ((ino : ℕ) → count_by (is_text_of ino) (texts_in p.images) ≤ slice_index references ino)
-      → 0 < slice_index references (row_in (shared p.images t)).ino
+      → ((ino : ℕ) → count_by (is_text_of ino) (texts_in p.images.kept) ≤ slice_index references ino)
+      → 0 < slice_index references (row_in (shared p.images.kept t)).ino
   referenced references referred =
       let most = referred x.row.ino in
-      let mine : is_text_of x.row.ino (get_or (texts_in p.images) t None) ≡ true = ap (is_text_of x.row.ino) text_is
+      let mine : is_text_of x.row.ino (get_or (texts_in p.images.kept) t None) ≡ true = ap (is_text_of x.row.ino) text_is
       ∙ eq-eqb x.row.ino x.row.ino refl in
-      let least = get_or-le-sum_by (λ o. cond (is_text_of x.row.ino o) 1 0) (texts_in p.images) t None low_in in
-      let one : ◌≡◌ {A = ℕ} (cond (is_text_of x.row.ino (get_or (texts_in p.images) t None)) 1 0) 1 = ap (λ b. cond b 1 0) mine in
+      let least = get_or-le-sum_by (λ o. cond (is_text_of x.row.ino o) 1 0) (texts_in p.images.kept) t None low_in in
+      let one : ◌≡◌ {A = ℕ} (cond (is_text_of x.row.ino (get_or (texts_in p.images.kept) t None)) 1 0) 1 = ap (λ b. cond b 1 0) mine in
       subst (λ n. 0 < slice_index references n) (sym (ap (λ o. (row_in o).ino) there)) (omega (arith, least, one, most))
 
   -- what agrees
@@ -462,7 +462,7 @@ module _ {p : Procs} {s t : ℕ} (sticky : Bool) (h : Shares p s t) where
             (sym here)
             (subst (λ (row : TableRow). Agrees (member_at p.rows.slots s) row (keeping images s)) (sym row_now)
             (subst (λ y. Agrees (member_at p.rows.slots s) (without_its_text (row_at p.table s)) y) (sym image_now)
-            (agrees_left (member_at p.rows.slots s) (row_at p.table s) (keeping p.images s)
+            (agrees_left (member_at p.rows.slots s) (row_at p.table s) (keeping p.images.kept s)
             (h.alive.agree.each s h.alive.above h.alive.below))))
         | inr other ↦
             subst (λ (row : TableRow). Agrees (member_at p.rows.slots r) row (keeping images r)) (sym (other_row r other))
@@ -487,36 +487,36 @@ module _ {p : Procs} {s t : ℕ} (sticky : Bool) (h : Shares p s t) where
   }
 
   -- the marks then
-  pub marks_stay : (l : Left) → l ≡ left (row_of_text p.images (text_of p.images s)) sticky → is_gone l ≡ false
-      → marks_of (map text_in texts) ≡ marks_of (texts_in p.images)
+  pub marks_stay : (l : Left) → l ≡ left (row_of_text p.images.kept (text_of p.images.kept s)) sticky → is_gone l ≡ false
+      → marks_of (map text_in texts) ≡ marks_of (texts_in p.images.kept)
   marks_stay l e stays =
       ap marks_of texts_now
-      ∙ marks_same (texts_in p.images) t (world_texts.remaining sticky (get_or (texts_in p.images) t None)) (λ ino.
+      ∙ marks_same (texts_in p.images.kept) t (world_texts.remaining sticky (get_or (texts_in p.images.kept) t None)) (λ ino.
       ap (λ o. is_text_of ino (world_texts.remaining sticky o)) text_is
       ∙ (ap (λ b. is_text_of ino (cond b None (Some (fewer_users (text_for x)))))
       (ap (λ (y : Text). goes y sticky) (sym text_told) ∙ (goes_told l e ∙ stays))
       ∙ sym (ap (is_text_of ino) text_is)))
 
-  pub marks_gone : (marks : List Bool) (ino : ℕ) → marks ≡ marks_of (texts_in p.images) → ino ≡ (row_in (shared p.images t)).ino
-      → Gone ≡ left (row_of_text p.images (text_of p.images s)) sticky → marks_of (map text_in texts) ≡ set marks ino false
+  pub marks_gone : (marks : List Bool) (ino : ℕ) → marks ≡ marks_of (texts_in p.images.kept) → ino ≡ (row_in (shared p.images.kept t)).ino
+      → Gone ≡ left (row_of_text p.images.kept (text_of p.images.kept s)) sticky → marks_of (map text_in texts) ≡ set marks ino false
   marks_gone marks ino are is e =
-      ap marks_of (texts_now ∙ ap (set (texts_in p.images) t)
+      ap marks_of (texts_now ∙ ap (set (texts_in p.images.kept) t)
       (ap (world_texts.remaining sticky) text_is
       ∙ ap (λ b. cond b None (Some (fewer_users (text_for x))))
       (ap (λ (y : Text). goes y sticky) (sym text_told) ∙ goes_told Gone e)))
-      ∙ (marks_go (texts_in p.images) t (text_for x) low_in text_is alone
+      ∙ (marks_go (texts_in p.images.kept) t (text_for x) low_in text_is alone
       ∙ sym (λ i. set (are i) (ino_is ino is i) false))
 
   -- so the call has done what its row says
   pub has_left : (old_fs new_fs : FileSystem) (new : Procs) (start end : Taken) (ino : ℕ) → new ≡ now
-      → ino ≡ (row_in (shared p.images t)).ino
+      → ino ≡ (row_in (shared p.images.kept t)).ino
       → handed now new_fs ≡ leaves_text (handed p old_fs) s t sticky
       → sticky ≡ not (bit_and (node_in old_fs.store ino).mode ISVTX == 0)
       → Took start (Log (line.Leave s t sticky) ∷ []) end
       → HasLeft p new new_fs start end (xfree (handed p old_fs) s (Some t) nothing)
   has_left old_fs new_fs new start end ino is ino_as state told took =
       let w : World = handed p old_fs in
-      let same : ino ≡ (texts_of.text_of (texts_in p.images) t).ino = ino_is ino ino_as
+      let same : ino ≡ (texts_of.text_of (texts_in p.images.kept) t).ino = ino_is ino ino_as
       ∙ sym (ap (λ (y : Text). y.ino) text_told) in
       subst (λ b. HasLeft p new new_fs start end (logs (line.Leave s t b) (nothing (leaves_text w s t b))))
       (told ∙ ap (λ n. not (bit_and (node_in old_fs.store n).mode ISVTX == 0)) same)

@@ -217,13 +217,13 @@ module _ (w : World) (s ino size : ℕ) (low : s < length w.processes)
   is_after there = after_by (process_of w s).text there
 
 -- The text of a process is there.
-pub text_there : (p : Procs) (fs : FileSystem) (s : ℕ) → IsAlive p s → AreShared p.images → (k : ℕ)
+pub text_there : (p : Procs) (fs : FileSystem) (s : ℕ) → IsAlive p s → AreShared p.images.kept → (k : ℕ)
     → (process_of (handed p fs) s).text ≡ Some k → (text : Text) × (get_or (handed p fs).texts k None ≡ Some text)
 text_there p fs s alive are k has =
-    let here : text_of p.images s ≡ Some k = sym (ap (λ (q : Process). q.text) (is_here p s alive).process_is) ∙ has in
+    let here : text_of p.images.kept s ≡ Some k = sym (ap (λ (q : Process). q.text) (is_here p s alive).process_is) ∙ has in
     let it = are.used s k here in (
       record { ino = it.text.row.ino; bytes = it.text.bytes; users = it.text.row.users },
-      get_or-map text_in p.images.texts k None ∙ ap text_in it.there,
+      get_or-map text_in p.images.kept.texts k None ∙ ap text_in it.there,
     )
 
 -- The log goes on.

@@ -134,35 +134,35 @@ entry_free k t e = sym (ap (λ o. unwrap_or o 40) (position_map text_in is_none 
 abbrev pub makes_for : Procs → ℕ → ℕ → ℕ → FileSystem → Comes
 makes_for p s ino n fs = xalloc_by (handed p fs) s ino n None (λ placed is_new. nothing placed)
 
-pub made_in : (p : Procs) (n t : ℕ) → Ok t ≡ making (free_text p.images) (swap_fit p.images (blocks n))
-    → IsMade (free_text p.images) (swap_fit p.images (blocks n)) t
-made_in p n t e = made_by (free_text p.images) (swap_fit p.images (blocks n)) t e
+pub made_in : (p : Procs) (n t : ℕ) → Ok t ≡ making (free_text p.images.kept) (swap_fit p.images.kept (blocks n))
+    → IsMade (free_text p.images.kept) (swap_fit p.images.kept (blocks n)) t
+made_in p n t e = made_by (free_text p.images.kept) (swap_fit p.images.kept (blocks n)) t e
 
 -- It isn't made: what is left then, and the panic.
 pub record Refused (p : Procs) (s ino n : ℕ) (fs : FileSystem) (kind : PanicKind) (k : Kept) (start end : Taken) : Type 0 where
   pub left : HasLeft p (record p { images = k }) fs start end (makes_for p s ino n fs)
   pub panic : taken_by (came p (makes_for p s ino n fs)).stop None ≡ Err kind
 
-module _ (p : Procs) (s ino n : ℕ) (bare : IsBare p s) (all : IsKept p.images) where
+module _ (p : Procs) (s ino n : ℕ) (bare : IsBare p s) (all : IsKept p.images.kept) where
   abbrev makes : FileSystem → Comes
   makes fs = makes_for p s ino n fs
 
   pub text_came : (fs : FileSystem)
-      → came p (makes fs) ≡ text_log (board p) s n (handed p fs) (free_text p.images) (swap_fit p.images (blocks n))
+      → came p (makes fs) ≡ text_log (board p) s n (handed p fs) (free_text p.images.kept) (swap_fit p.images.kept (blocks n))
   text_came fs =
-      logged_text (board p) s n (handed p fs) (free_text p.images) (swap_fit p.images (blocks n))
-      (same_free p.table p.images all.table) (swap_bare p.rows p.table p.images s bare.agree all.slots (blocks n))
+      logged_text (board p) s n (handed p fs) (free_text p.images.kept) (swap_fit p.images.kept (blocks n))
+      (same_free p.table p.images.kept all.table) (swap_bare p.rows p.table p.images.kept s bare.agree all.slots (blocks n))
 
   -- It isn't made.
   pub left_refused : (fs : FileSystem) (r : TextRefusal) (kind : PanicKind) (k : Kept) (start end : Taken)
-      → Err r ≡ making (free_text p.images) (swap_fit p.images (blocks n))
+      → Err r ≡ making (free_text p.images.kept) (swap_fit p.images.kept (blocks n))
       → (r ≡ refusal.Full → kind ≡ panic.Text) → (r ≡ refusal.NoSwap → kind ≡ panic.Swap)
-      → k ≡ with_made_text p.images s ino n (free_text p.images) (swap_fit p.images (blocks n))
+      → k ≡ with_made_text p.images.kept s ino n (free_text p.images.kept) (swap_fit p.images.kept (blocks n))
       → Took start (Log (line.Panic kind) ∷ []) end → Refused p s ino n fs kind k start end
   left_refused fs r kind k start end e full swap is took =
-      let free : Option ℕ = free_text p.images in
-      let fit : Option ℕ = swap_fit p.images (blocks n) in
-      let refuses = refused_by (board p) p.images s ino n (handed p fs) free fit r kind e full swap in
+      let free : Option ℕ = free_text p.images.kept in
+      let fit : Option ℕ = swap_fit p.images.kept (blocks n) in
+      let refuses = refused_by (board p) p.images.kept s ino n (handed p fs) free fit r kind e full swap in
       let it : ◌≡◌ {A = Procs} (record p { images = k }) p =
       ap (λ (j : Kept). record p { images = j }) (is ∙ refuses.same) in
       record {
@@ -172,25 +172,25 @@ module _ (p : Procs) (s ino n : ℕ) (bare : IsBare p s) (all : IsKept p.images)
       }
 
   -- It is.
-  module _ (t : ℕ) (made : IsMade (free_text p.images) (swap_fit p.images (blocks n)) t) where
+  module _ (t : ℕ) (made : IsMade (free_text p.images.kept) (swap_fit p.images.kept (blocks n)) t) where
     abbrev texts : List (Option Shared)
-    texts = set p.images.texts t (Some (zeros_text ino n made.block))
+    texts = set p.images.kept.texts t (Some (zeros_text ino n made.block))
 
     abbrev pub images : Kept
-    images = record p.images { texts = texts; users = set p.images.users s (Some t) }
+    images = record p.images.kept { texts = texts; users = set p.images.kept.users s (Some t) }
 
     abbrev pub now : Procs
     now = record p { table = change_row p.table s (with_its_text t); images = images }
 
-    made_is : with_new_text p.images s t ino n made.block ≡ images
+    made_is : with_new_text p.images.kept s t ino n made.block ≡ images
     unfolding with_new_text
     made_is = refl
 
-    pub images_made : with_made_text p.images s ino n (free_text p.images) (swap_fit p.images (blocks n)) ≡ images
-    images_made = (λ i. with_made_text p.images s ino n (made.entry i) (made.blocks i)) ∙ made_is
+    pub images_made : with_made_text p.images.kept s ino n (free_text p.images.kept) (swap_fit p.images.kept (blocks n)) ≡ images
+    images_made = (λ i. with_made_text p.images.kept s ino n (made.entry i) (made.blocks i)) ∙ made_is
 
     pub it_is : (rows : Table) (k : Kept) → rows ≡ change_row p.table s (with_its_text t)
-        → k ≡ with_made_text p.images s ino n (free_text p.images) (swap_fit p.images (blocks n))
+        → k ≡ with_made_text p.images.kept s ino n (free_text p.images.kept) (swap_fit p.images.kept (blocks n))
         → record p { table = rows; images = k } ≡ now
     it_is rows k table_is is = λ i. record p { table = table_is i; images = (is ∙ images_made) i }
 
@@ -198,20 +198,20 @@ module _ (p : Procs) (s ino n : ℕ) (bare : IsBare p s) (all : IsKept p.images)
     is_free None e = refl
     is_free (Some x) e = absurd (false≢true e)
 
-    low : t < length p.images.texts
-    low = let one = position-Some is_none p.images.texts t None made.entry in one.0
+    low : t < length p.images.kept.texts
+    low = let one = position-Some is_none p.images.kept.texts t None made.entry in one.0
 
-    free : shared p.images t ≡ None
-    free = let one = position-Some is_none p.images.texts t None made.entry in is_free (shared p.images t) one.1
+    free : shared p.images.kept t ≡ None
+    free = let one = position-Some is_none p.images.kept.texts t None made.entry in is_free (shared p.images.kept t) one.1
 
     pub text_now : shared images t ≡ Some (zeros_text ino n made.block)
-    text_now = get_or-set_same p.images.texts t (Some (zeros_text ino n made.block)) None low
+    text_now = get_or-set_same p.images.kept.texts t (Some (zeros_text ino n made.block)) None low
 
     pub user_now : text_of images s ≡ Some t
-    user_now = get_or-set_same p.images.users s (Some t) None (omega (arith, bare.below, all.seats))
+    user_now = get_or-set_same p.images.kept.users s (Some t) None (omega (arith, bare.below, all.seats))
 
-    texts_now : map text_in texts ≡ set (texts_in p.images) t (Some (texts_of.new_text ino n))
-    texts_now = map-set text_in p.images.texts t (Some (zeros_text ino n made.block))
+    texts_now : map text_in texts ≡ set (texts_in p.images.kept) t (Some (texts_of.new_text ino n))
+    texts_now = map-set text_in p.images.kept.texts t (Some (zeros_text ino n made.block))
 
     pub state_made : (fs new : FileSystem) → inodes_of new ≡ with_reference (inodes_of fs) ino
         → handed now new ≡ makes_text (handed p fs) s ino n
@@ -224,17 +224,17 @@ module _ (p : Procs) (s ino n : ℕ) (bare : IsBare p s) (all : IsKept p.images)
         })
         ∙ ap (λ k. record (handed p fs) {
           processes = set (handed p fs).processes s (Some (with_entry k (process_here p s)));
-          texts = set (texts_in p.images) k (Some (texts_of.new_text ino n));
+          texts = set (texts_in p.images.kept) k (Some (texts_of.new_text ino n));
           inodes = with_reference (inodes_of fs) ino;
-        }) (entry_free p.images t made.entry)
+        }) (entry_free p.images.kept t made.entry)
 
     pub board_made : board now ≡ applied (board p) (line.Text s t n made.block)
     unfolding applied
     board_made = ap (λ l. record {
       table = record (change_row p.table s (with_its_text t)) { tout = 0 };
       texts = l;
-      core = p.images.core;
-    }) (map-set text_place p.images.texts t (Some (zeros_text ino n made.block)))
+      core = p.images.kept.core;
+    }) (map-set text_place p.images.kept.texts t (Some (zeros_text ino n made.block)))
 
     log_made : (fs : FileSystem) → came p (makes fs) ≡ text_log (board p) s n (handed p fs) (Some t) (Some made.block)
     log_made fs = text_came fs ∙ (λ i. text_log (board p) s n (handed p fs) (made.entry i) (made.blocks i))
@@ -244,10 +244,10 @@ module _ (p : Procs) (s ino n : ℕ) (bare : IsBare p s) (all : IsKept p.images)
 
     pub left_made : (new : Procs) (fs after : FileSystem) (block : ℕ) (start end : Taken) → new ≡ now
         → inodes_of after ≡ with_reference (inodes_of fs) ino
-        → block ≡ (row_in (shared new.images t)).block → Took start (Log (line.Text s t n block) ∷ []) end
+        → block ≡ (row_in (shared new.images.kept t)).block → Took start (Log (line.Text s t n block) ∷ []) end
         → HasLeft p new after start end (makes fs)
     left_made new fs after block start end is referred block_is took =
-        let at : block ≡ made.block = block_is ∙ ap (λ (q : Procs). (row_in (shared q.images t)).block) is
+        let at : block ≡ made.block = block_is ∙ ap (λ (q : Procs). (row_in (shared q.images.kept t)).block) is
         ∙ ap (λ o. (row_in o).block) text_now in
         left_logged (log_made fs) (ap (λ (q : Procs). handed q after) is ∙ state_made fs after referred)
         (ap (λ (q : Procs). board q) is ∙ board_made) (subst (λ m. Took start (Log (line.Text s t n m) ∷ []) end) at took)
@@ -255,15 +255,15 @@ module _ (p : Procs) (s ino n : ℕ) (bare : IsBare p s) (all : IsKept p.images)
     pub bare_made : IsBare now s
     bare_made = is_bare p s t texts bare all.seats
 
-    low_in : t < length (texts_in p.images)
-    low_in = let long = length-map p.images.texts text_in in let below = low in omega (arith, below, long)
+    low_in : t < length (texts_in p.images.kept)
+    low_in = let long = length-map p.images.kept.texts text_in in let below = low in omega (arith, below, long)
 
-    pub marks_made : (marks : List Bool) → marks ≡ marks_of (texts_in p.images)
+    pub marks_made : (marks : List Bool) → marks ≡ marks_of (texts_in p.images.kept)
         → marks_of (map text_in texts) ≡ set marks ino true
     marks_made marks are =
         ap marks_of texts_now
-        ∙ (marks_come (texts_in p.images) t (texts_of.new_text ino n) low_in
-        (get_or-map text_in p.images.texts t None ∙ ap text_in free)
+        ∙ (marks_come (texts_in p.images.kept) t (texts_of.new_text ino n) low_in
+        (get_or-map text_in p.images.kept.texts t None ∙ ap text_in free)
         ∙ ap (λ l. set l ino true) (sym are))
 
 -- What a process takes that has no image: none, or the text of an entry or a new one.

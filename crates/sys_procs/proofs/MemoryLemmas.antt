@@ -33,22 +33,22 @@ bytes_same k None = refl
 bytes_same k (Some t) = bytes_at k.texts t
 
 -- the image of a process has the bytes of its text
-pub image_here : (p : Procs) (s : ℕ) → IsAlive p s → IsKept p.images → memory_here p s ≡ kept.image_of p.images s
+pub image_here : (p : Procs) (s : ℕ) → IsAlive p s → IsKept p.images.kept → memory_here p s ≡ kept.image_of p.images.kept s
 image_here p s alive holds =
     let here = is_here p s alive in
-    ap (image_of (texts_in p.images)) here.process_is
+    ap (image_of (texts_in p.images.kept)) here.process_is
     ∙ (ap (λ (text : List ℕ). record here.held.image { text = text })
-    (bytes_same p.images (text_of p.images s) ∙ (sym (holds.text s alive.image) ∙ ap (λ x. (image_in x).text) here.image_is))
+    (bytes_same p.images.kept (text_of p.images.kept s) ∙ (sym (holds.text s alive.image) ∙ ap (λ x. (image_in x).text) here.image_is))
     ∙ sym (ap image_in here.image_is))
 
 -- The slot has this image after the loan.
-module _ (p : Procs) (s : ℕ) (alive : IsAlive p s) (long : length p.images.slots ≡ 50) (m : Image) where
-  image_put : processes_in p.rows.slots (with_image p.images s m) ≡ set (processes_in p.rows.slots p.images) s (Some (record (process_here p s) { «data» = m.data; stack = m.stack }))
+module _ (p : Procs) (s : ℕ) (alive : IsAlive p s) (long : length p.images.kept.slots ≡ 50) (m : Image) where
+  image_put : processes_in p.rows.slots (with_image p.images.kept s m) ≡ set (processes_in p.rows.slots p.images.kept) s (Some (record (process_here p s) { «data» = m.data; stack = m.stack }))
   image_put =
       let here = is_here p s alive in
-      image_changed p.rows.slots p.images s here.member here.held alive.below here.member_is here.image_is m (omega (arith, alive.below, long))
+      image_changed p.rows.slots p.images.kept s here.member here.held alive.below here.member_is here.image_is m (omega (arith, alive.below, long))
 
-  state_with : (fs : FileSystem) → handed (record p { images = with_image p.images s m }) fs ≡ with_process (handed p fs) s (record (process_here p s) { «data» = m.data; stack = m.stack })
+  state_with : (fs : FileSystem) → handed (record p { images = with_image p.images.kept s m }) fs ≡ with_process (handed p fs) s (record (process_here p s) { «data» = m.data; stack = m.stack })
   unfolding with_image
   state_with fs = ap (λ (ps : List (Option Process)). record (handed p fs) { processes = ps }) image_put
 
@@ -62,38 +62,38 @@ module _ (p : Procs) (s : ℕ) (alive : IsAlive p s) (long : length p.images.slo
     textless = a.textless;
   }
 
-  slot_with : (held : Held) → keeping p.images s ≡ Alive held → keeping (with_image p.images s m) s ≡ Alive (record held { image = m })
+  slot_with : (held : Held) → keeping p.images.kept s ≡ Alive held → keeping (with_image p.images.kept s m) s ≡ Alive (record held { image = m })
   unfolding with_image
-  slot_with held has = keeping_same p.images s (imaged m (keeping p.images s)) (omega (arith, alive.below, long)) ∙ ap (imaged m) has
+  slot_with held has = keeping_same p.images.kept s (imaged m (keeping p.images.kept s)) (omega (arith, alive.below, long)) ∙ ap (imaged m) has
 
-  alive_with : IsAlive (record p { images = with_image p.images s m }) s
+  alive_with : IsAlive (record p { images = with_image p.images.kept s m }) s
   alive_with =
       let here = is_here p s alive in
-      let now : keeping (with_image p.images s m) s ≡ Alive (record here.held { image = m }) = slot_with here.held here.image_is in
+      let now : keeping (with_image p.images.kept s m) s ≡ Alive (record here.held { image = m }) = slot_with here.held here.image_is in
       let old : Agrees (member_at p.rows.slots s) (row_at p.table s) (Alive here.held) = subst (λ x. Agrees (member_at p.rows.slots s) (row_at p.table s) x) here.image_is (alive.agree.each s alive.above alive.below) in
       record {
-        agree = agree_but p.rows p.rows p.table p.table p.images (with_image p.images s m) s alive.agree alive.above alive.agree.table refl
+        agree = agree_but p.rows p.rows p.table p.table p.images.kept (with_image p.images.kept s m) s alive.agree alive.above alive.agree.table refl
             (subst (λ x. Agrees (member_at p.rows.slots s) (row_at p.table s) x) (sym now) (image_agrees (member_at p.rows.slots s) (row_at p.table s) here.held old))
-            (alive.agree.text s alive.above alive.below) (with_image_texts p.images s m)
-            (λ r other. refl) (λ r other. refl) (λ r other. with_image_other p.images s r m other);
+            (alive.agree.text s alive.above alive.below) (with_image_texts p.images.kept s m)
+            (λ r other. refl) (λ r other. refl) (λ r other. with_image_other p.images.kept s r m other);
         above = alive.above;
         below = alive.below;
         image = (record here.held { image = m }, now);
       }
 
 -- After a loan of the memory nothing else has changed.
-module _ (p : Procs) (s : ℕ) (alive : IsAlive p s) (long : length p.images.slots ≡ 50) (w : Kept) (left : left_of w s ≡ left_of p.images s) where
+module _ (p : Procs) (s : ℕ) (alive : IsAlive p s) (long : length p.images.kept.slots ≡ 50) (w : Kept) (left : left_of w s ≡ left_of p.images.kept s) where
   pub loan_state : (fs : FileSystem) → handed (record p { images = w }) fs
       ≡ with_process (handed p fs) s (record (process_here p s) { «data» = (kept.image_of w s).data; stack = (kept.image_of w s).stack })
-  loan_state fs = ap (λ (k : Kept). handed (record p { images = k }) fs) (after p.images w s left) ∙ state_with p s alive long (kept.image_of w s) fs
+  loan_state fs = ap (λ (k : Kept). handed (record p { images = k }) fs) (after p.images.kept w s left) ∙ state_with p s alive long (kept.image_of w s) fs
 
   pub loan_board : board_of p.table w ≡ board p
   unfolding with_image
-  loan_board = ap (λ (k : Kept). board_of p.table k) (after p.images w s left)
+  loan_board = ap (λ (k : Kept). board_of p.table k) (after p.images.kept w s left)
 
   pub loan_alive : IsAlive (record p { images = w }) s
-  loan_alive = subst (λ (k : Kept). IsAlive (record p { images = k }) s) (sym (after p.images w s left)) (alive_with p s alive long (kept.image_of w s))
+  loan_alive = subst (λ (k : Kept). IsAlive (record p { images = k }) s) (sym (after p.images.kept w s left)) (alive_with p s alive long (kept.image_of w s))
 
   -- where the image is the same, all is
-  pub loan_same : kept.image_of w s ≡ kept.image_of p.images s → w ≡ p.images
-  loan_same same = after p.images w s left ∙ (ap (λ m. with_image p.images s m) same ∙ image_back p.images s)
+  pub loan_same : kept.image_of w s ≡ kept.image_of p.images.kept s → w ≡ p.images.kept
+  loan_same same = after p.images.kept w s left ∙ (ap (λ m. with_image p.images.kept s m) same ∙ image_back p.images.kept s)

@@ -121,79 +121,79 @@ board_by b s n (Core c) o e = ap (λ x. in_table (enters_core b x) (λ t. change
 board_by b s n (Swap block) None e = refl
 board_by b s n (Swap block) (Some t) e = refl
 
-module _ (p : Procs) (s t d : ℕ) (bare : IsBare p s) (all : IsKept p.images) where
+module _ (p : Procs) (s t d : ℕ) (bare : IsBare p s) (all : IsKept p.images.kept) where
   pub image_came : (fs : FileSystem)
       → came p (takes_image (handed p fs) s t d) ≡ image_log (board p) s (16 + d + 20) (handed p fs)
-      (placed p.images s (16 + d + 20))
+      (placed p.images.kept s (16 + d + 20))
   image_came fs =
-      logged_image (board p) s (16 + d + 20) (handed p fs) (placed p.images s (16 + d + 20))
-      (placed_bare p.rows p.table p.images s bare.agree all.slots (16 + d + 20) bare.above bare.below)
+      logged_image (board p) s (16 + d + 20) (handed p fs) (placed p.images.kept s (16 + d + 20))
+      (placed_bare p.rows p.table p.images.kept s bare.agree all.slots (16 + d + 20) bare.above bare.below)
 
   abbrev u : UArea
   u = made_area t d 20
 
   -- There is no place.
-  pub unplaced : (fs : FileSystem) (image : Image) (k : Kept) (start end : Taken) → placed p.images s (16 + d + 20) ≡ None
-      → k ≡ with_image_moved p.images s u image (placed p.images s (16 + d + 20))
+  pub unplaced : (fs : FileSystem) (image : Image) (k : Kept) (start end : Taken) → placed p.images.kept s (16 + d + 20) ≡ None
+      → k ≡ with_image_moved p.images.kept s u image (placed p.images.kept s (16 + d + 20))
       → Took start (Log (line.Panic panic.Swap) ∷ []) end
       → HasEnded p (record p { images = k }) fs (Err panic.Swap) start end (takes_image (handed p fs) s t d)
   unplaced fs image k start end none is took =
       let it : ◌≡◌ {A = Procs} (record p { images = k }) p =
-      ap (λ (j : Kept). record p { images = j }) (is ∙ ap (with_image_moved p.images s u image) none) in
+      ap (λ (j : Kept). record p { images = j }) (is ∙ ap (with_image_moved p.images.kept s u image) none) in
       ended_logged (image_came fs ∙ ap (image_log (board p) s (16 + d + 20) (handed p fs)) none) refl
       (ap (λ (q : Procs). handed q fs) it) (ap (λ (q : Procs). board q) it) took
 
   -- There is one.
-  module _ (place : Place) (text : List ℕ) (fit : placed p.images s (16 + d + 20) ≡ Some place) where
+  module _ (place : Place) (text : List ℕ) (fit : placed p.images.kept s (16 + d + 20) ≡ Some place) where
     abbrev held : Held
     held = record { u = u; image = made_image text d 20; place = place }
 
     abbrev pub images : Kept
-    images = record p.images {
-      slots = set p.images.slots s (Alive held);
-      texts = texts_moved p.images.texts (text_of p.images s) place;
+    images = record p.images.kept {
+      slots = set p.images.kept.slots s (Alive held);
+      texts = texts_moved p.images.kept.texts (text_of p.images.kept s) place;
     }
 
     abbrev pub now : Procs
     now = record p { table = with_place p.table s (16 + d + 20) place; images = images }
 
-    images_now : with_image_moved p.images s u (made_image text d 20) (placed p.images s (16 + d + 20)) ≡ images
+    images_now : with_image_moved p.images.kept s u (made_image text d 20) (placed p.images.kept s (16 + d + 20)) ≡ images
     images_now =
-        ap (with_image_moved p.images s u (made_image text d 20)) fit
+        ap (with_image_moved p.images.kept s u (made_image text d 20)) fit
         ∙ (ap (λ o. with_image_moved_from o) (ap place_in bare.agree.bare.image)
-        ∙ ap (λ (k : Kept). record k { slots = set k.slots s (Alive held) }) (moved_is p.images (text_of p.images s) place))
+        ∙ ap (λ (k : Kept). record k { slots = set k.slots s (Alive held) }) (moved_is p.images.kept (text_of p.images.kept s) place))
       where
         with_image_moved_from : Option Place → Kept
-        with_image_moved_from from = let k : Kept = moved_texts p.images (text_of p.images s) from place in
+        with_image_moved_from from = let k : Kept = moved_texts p.images.kept (text_of p.images.kept s) from place in
             record k { slots = set k.slots s (Alive held) }
 
     pub it_is : (rows : Table) (k : Kept) → rows ≡ with_place p.table s (16 + d + 20) place
-        → k ≡ with_image_moved p.images s u (made_image text d 20) (placed p.images s (16 + d + 20))
+        → k ≡ with_image_moved p.images.kept s u (made_image text d 20) (placed p.images.kept s (16 + d + 20))
         → record p { table = rows; images = k } ≡ now
     it_is rows k table_is is = λ i. record p { table = table_is i; images = (is ∙ images_now) i }
 
     image_now : keeping images s ≡ Alive held
-    image_now = get_or-set_same p.images.slots s (Alive held) Nothing (omega (arith, bare.below, all.slots))
+    image_now = get_or-set_same p.images.kept.slots s (Alive held) Nothing (omega (arith, bare.below, all.slots))
 
-    other_image : (r : ℕ) → r ≢ s → keeping images r ≡ keeping p.images r
-    other_image r other = get_or-set_other p.images.slots s r (Alive held) Nothing other
+    other_image : (r : ℕ) → r ≢ s → keeping images r ≡ keeping p.images.kept r
+    other_image r other = get_or-set_other p.images.kept.slots s r (Alive held) Nothing other
 
     pub made_now : image_of images s ≡ made_image text d 20
     made_now = ap image_in image_now
 
-    alone : (m : Member) → process_by m (Alive held) (text_of p.images s) ≡ sized t d (process_by m Nothing (text_of p.images s))
+    alone : (m : Member) → process_by m (Alive held) (text_of p.images.kept s) ≡ sized t d (process_by m Nothing (text_of p.images.kept s))
     alone m = refl
 
-    processes_now : processes_in p.rows.slots images ≡ set (processes_in p.rows.slots p.images) s
+    processes_now : processes_in p.rows.slots images ≡ set (processes_in p.rows.slots p.images.kept) s
         (Some (sized t d (process_here p s)))
     processes_now =
         let member = there (member_at p.rows.slots s) bare.agree.bare.lives in
-        let here : process_here p s ≡ process_by member.0 Nothing (text_of p.images s) =
-        own_is p.rows.slots p.images s bare.below
-        ∙ (λ i. unwrap_or (process_in (member.1 i) (bare.agree.bare.image i) (text_of p.images s)) no_process) in
-        one_changed p.rows.slots p.rows.slots p.images images s (Some (sized t d (process_here p s))) bare.below
-        ((λ i. process_in (member.1 i) (image_now i) (text_of p.images s)) ∙ ap (λ q. Some (sized t d q)) (sym here))
-        (λ r below other. ap (λ x. process_in (member_at p.rows.slots r) x (text_of p.images r)) (other_image r other))
+        let here : process_here p s ≡ process_by member.0 Nothing (text_of p.images.kept s) =
+        own_is p.rows.slots p.images.kept s bare.below
+        ∙ (λ i. unwrap_or (process_in (member.1 i) (bare.agree.bare.image i) (text_of p.images.kept s)) no_process) in
+        one_changed p.rows.slots p.rows.slots p.images.kept images s (Some (sized t d (process_here p s))) bare.below
+        ((λ i. process_in (member.1 i) (image_now i) (text_of p.images.kept s)) ∙ ap (λ q. Some (sized t d q)) (sym here))
+        (λ r below other. ap (λ x. process_in (member_at p.rows.slots r) x (text_of p.images.kept r)) (other_image r other))
 
     state_now : (fs : FileSystem) → handed now fs ≡ change (handed p fs) s (sized t d)
     state_now fs =
@@ -201,17 +201,17 @@ module _ (p : Procs) (s t d : ℕ) (bare : IsBare p s) (all : IsKept p.images) w
         λ i. record (handed p fs) {
           processes = processes_now i;
           clock = clock i;
-          texts = texts_same p.images.texts (text_of p.images s) place i;
+          texts = texts_same p.images.kept.texts (text_of p.images.kept s) place i;
         }
 
     board_now : board now ≡ applied (board p) (line.Image s (16 + d + 20) place)
     unfolding applied
     board_now = sym (
-        board_by (board p) s (16 + d + 20) place (text_of p.images s) (bare.agree.text s bare.above bare.below)
+        board_by (board p) s (16 + d + 20) place (text_of p.images.kept s) (bare.agree.text s bare.above bare.below)
         ∙ (λ i. record (board p) {
           table = sym (untimed_placed p.table s (16 + d + 20) place) i;
-          texts = entered_is p.images.texts (text_of p.images s) place
-              (λ c k e f. text_loaded p.images s (16 + d + 20) c k (fit ∙ ap (λ x. Some x) e) f) i;
+          texts = entered_is p.images.kept.texts (text_of p.images.kept s) place
+              (λ c k e f. text_loaded p.images.kept s (16 + d + 20) c k (fit ∙ ap (λ x. Some x) e) f) i;
         }))
 
     pub has_placed : (fs : FileSystem) (new : Procs) (start end : Taken) → new ≡ now
@@ -225,24 +225,24 @@ module _ (p : Procs) (s t d : ℕ) (bare : IsBare p s) (all : IsKept p.images) w
     time_stays = ap (λ (c : Clock). c.time) (clock_told p.table s (placed_row (16 + d + 20) place (row_at p.table s)) place)
 
     -- a text that isn't in core stays as it is
-    pub out_stays : (k : ℕ) (x : Shared) → shared p.images k ≡ Some x → x.row.loaded ≡ 0 → shared images k ≡ Some x
-    out_stays k x is none = by (text_of p.images s) refl
+    pub out_stays : (k : ℕ) (x : Shared) → shared p.images.kept k ≡ Some x → x.row.loaded ≡ 0 → shared images k ≡ Some x
+    out_stays k x is none = by (text_of p.images.kept s) refl
       where
-        same : (to : Place) → place ≡ to → text_of p.images s ≡ Some k → texts_moved p.images.texts (Some k) to ≡ p.images.texts
+        same : (to : Place) → place ≡ to → text_of p.images.kept s ≡ Some k → texts_moved p.images.kept.texts (Some k) to ≡ p.images.kept.texts
         same (Core c) e mine = absurd (
             let loaded : is_text_loaded (Some x) ≡ true = ap is_text_loaded (sym is)
-            ∙ text_loaded p.images s (16 + d + 20) c k (fit ∙ ap (λ y. Some y) e) mine in
+            ∙ text_loaded p.images.kept s (16 + d + 20) c k (fit ∙ ap (λ y. Some y) e) mine in
             false≢true (sym (ap not (eq-eqb x.row.loaded 0 none)) ∙ loaded))
-        same (Swap block) e mine = same_texts p.images.texts k
+        same (Swap block) e mine = same_texts p.images.kept.texts k
 
-        by : (o : Option ℕ) → text_of p.images s ≡ o → get_or (texts_moved p.images.texts o place) k None ≡ Some x
+        by : (o : Option ℕ) → text_of p.images.kept s ≡ o → get_or (texts_moved p.images.kept.texts o place) k None ≡ Some x
         by None e = is
         by (Some j) e = elim (cases_eq k j) [
           | inl here ↦
-              ap (λ n. get_or (texts_moved p.images.texts (Some n) place) k None) (sym here)
+              ap (λ n. get_or (texts_moved p.images.kept.texts (Some n) place) k None) (sym here)
               ∙ (ap (λ l. get_or l k None) (same place refl (e ∙ ap (λ n. Some n) (sym here))) ∙ is)
-          | inr other ↦ get_or-set_other p.images.texts j k
-              (changed (moved_row None place) (get_or p.images.texts j None)) None other ∙ is
+          | inr other ↦ get_or-set_other p.images.kept.texts j k
+              (changed (moved_row None place) (get_or p.images.kept.texts j None)) None other ∙ is
         ]
 
     -- what agrees
@@ -306,7 +306,7 @@ module _ (p : Procs) (s t d : ℕ) (bare : IsBare p s) (all : IsKept p.images) w
             ap (λ n. (row_at (with_row p.table s row) n).text) here
             ∙ (ap (λ (one : TableRow). one.text) row_now
             ∙ (place_text (16 + d + 20) place (row_at p.table s)
-            ∙ (bare.agree.text s bare.above bare.below ∙ ap (text_of p.images) (sym here))))
+            ∙ (bare.agree.text s bare.above bare.below ∙ ap (text_of p.images.kept) (sym here))))
         | inr other ↦ ap (λ (one : TableRow). one.text) (other_row r other) ∙ bare.agree.text r up below
       ];
       textless = bare.agree.textless;

@@ -96,32 +96,32 @@ module _ (p : Procs) (s : ℕ) (alive : IsAlive p s) where
   pub row_low : s < length p.table.rows
   row_low = omega (arith, alive.below, alive.agree.rows)
 
-  pub text_row : (row_at p.table s).text ≡ text_of p.images s
+  pub text_row : (row_at p.table s).text ≡ text_of p.images.kept s
   text_row = alive.agree.text s alive.above alive.below
 
-  pub size_is : (row_at p.table s).size ≡ clicks_of (area_of p.images s)
+  pub size_is : (row_at p.table s).size ≡ clicks_of (area_of p.images.kept s)
   size_is =
       let here : IsHere p s = is_here p s alive in
       (alive.agree.each s alive.above alive.below).size here.held here.image_is
       ∙ ap (λ x. clicks_of (area_in x)) (sym here.image_is)
 
-  pub place_is : (row_at p.table s).place ≡ place_of p.images s
+  pub place_is : (row_at p.table s).place ≡ place_of p.images.kept s
   place_is = (alive.agree.each s alive.above alive.below).place
 
-  module _ (long : length p.images.slots ≡ 50) (held : Held) where
-    low : s < length p.images.slots
+  module _ (long : length p.images.kept.slots ≡ 50) (held : Held) where
+    low : s < length p.images.kept.slots
     low = omega (arith, alive.below, long)
 
-    pub image_now : keeping (with_keeping p.images s (Alive held)) s ≡ Alive held
-    image_now = keeping_same p.images s (Alive held) low
+    pub image_now : keeping (with_keeping p.images.kept s (Alive held)) s ≡ Alive held
+    image_now = keeping_same p.images.kept s (Alive held) low
 
     pub processes_seated : (m : Member) → member_at p.rows.slots s ≡ Some m
-        → processes_in p.rows.slots (with_keeping p.images s (Alive held))
-        ≡ set (processes_in p.rows.slots p.images) s (Some (process_by m (Alive held) (text_of p.images s)))
+        → processes_in p.rows.slots (with_keeping p.images.kept s (Alive held))
+        ≡ set (processes_in p.rows.slots p.images.kept) s (Some (process_by m (Alive held) (text_of p.images.kept s)))
     processes_seated m is =
-        let k : Kept = with_keeping p.images s (Alive held) in
-        one_changed p.rows.slots p.rows.slots p.images k s (Some (process_by m (Alive held) (text_of p.images s))) alive.below
-        (ap (λ x. process_in (member_at p.rows.slots s) x (text_of p.images s)) image_now
-        ∙ ap (λ o. process_in o (Alive held) (text_of p.images s)) is)
-        (λ r below other. ap (λ x. process_in (member_at p.rows.slots r) x (text_of p.images r))
-        (keeping_other p.images s r (Alive held) other))
+        let k : Kept = with_keeping p.images.kept s (Alive held) in
+        one_changed p.rows.slots p.rows.slots p.images.kept k s (Some (process_by m (Alive held) (text_of p.images.kept s))) alive.below
+        (ap (λ x. process_in (member_at p.rows.slots s) x (text_of p.images.kept s)) image_now
+        ∙ ap (λ o. process_in o (Alive held) (text_of p.images.kept s)) is)
+        (λ r below other. ap (λ x. process_in (member_at p.rows.slots r) x (text_of p.images.kept r))
+        (keeping_other p.images.kept s r (Alive held) other))

@@ -19,16 +19,16 @@ texts_among true n most h = omega (arith, h)
 texts_among false n most h = omega (arith, h)
 
 pub texts_referred : (p : Procs) (fs : FileSystem) (s : ℕ) → Calls p fs s → (ino : ℕ)
-    → count_by (is_text_of ino) (texts_in p.images) ≤ slice_index fs.references ino
+    → count_by (is_text_of ino) (texts_in p.images.kept) ≤ slice_index fs.references ino
 texts_referred p fs s calls ino =
-    texts_among ((area_of p.images s).dir == ino) (count_by (is_text_of ino) (texts_in p.images))
+    texts_among ((area_of p.images.kept s).dir == ino) (count_by (is_text_of ino) (texts_in p.images.kept))
     (slice_index fs.references ino) (calls.referred ino)
 
 here_referred : (p : Procs) (fs : FileSystem) (s : ℕ) → Calls p fs s
-    → 1 + count_by (is_text_of (area_of p.images s).dir) (texts_in p.images) ≤ slice_index fs.references (area_of p.images s).dir
+    → 1 + count_by (is_text_of (area_of p.images.kept s).dir) (texts_in p.images.kept) ≤ slice_index fs.references (area_of p.images.kept s).dir
 here_referred p fs s calls =
-    let dir : ℕ = (area_of p.images s).dir in
-    subst (λ b. cond b 1 0 + count_by (is_text_of dir) (texts_in p.images) ≤ slice_index fs.references dir)
+    let dir : ℕ = (area_of p.images.kept s).dir in
+    subst (λ b. cond b 1 0 + count_by (is_text_of dir) (texts_in p.images.kept) ≤ slice_index fs.references dir)
     (eq-eqb dir dir refl) (calls.referred dir)
 
 pub dir_referred : (p : Procs) (fs : FileSystem) (s : ℕ) → Calls p fs s → 0 < slice_index fs.references (process_here p s).u.dir
@@ -52,14 +52,14 @@ one_less refs dir ino n some most at = elim (cases_eq ino dir) [
 ]
 
 pub left_referred : (p : Procs) (fs : FileSystem) (s : ℕ) → Calls p fs s → (dir : ℕ) → dir ≡ (process_here p s).u.dir → (ino : ℕ)
-    → count_by (is_text_of ino) (texts_in p.images) ≤ get_or (set fs.references dir (slice_index fs.references dir - 1)) ino 0
+    → count_by (is_text_of ino) (texts_in p.images.kept) ≤ get_or (set fs.references dir (slice_index fs.references dir - 1)) ino 0
 left_referred p fs s calls dir is ino =
-    let same : dir ≡ (area_of p.images s).dir = is ∙ ap (λ (u : UArea). u.dir) (sym (area_here p s (calls_alive p fs s calls))) in
-    one_less fs.references dir ino (count_by (is_text_of ino) (texts_in p.images))
+    let same : dir ≡ (area_of p.images.kept s).dir = is ∙ ap (λ (u : UArea). u.dir) (sym (area_here p s (calls_alive p fs s calls))) in
+    one_less fs.references dir ino (count_by (is_text_of ino) (texts_in p.images.kept))
     (subst (λ d. 0 < slice_index fs.references d) (sym is) (dir_referred p fs s calls))
     (texts_referred p fs s calls ino)
-    (λ e. subst (λ i. 1 + count_by (is_text_of i) (texts_in p.images) ≤ slice_index fs.references dir) (sym e)
-    (subst (λ d. 1 + count_by (is_text_of d) (texts_in p.images) ≤ slice_index fs.references d) (sym same)
+    (λ e. subst (λ i. 1 + count_by (is_text_of i) (texts_in p.images.kept) ≤ slice_index fs.references dir) (sym e)
+    (subst (λ d. 1 + count_by (is_text_of d) (texts_in p.images.kept) ≤ slice_index fs.references d) (sym same)
     (here_referred p fs s calls)))
 
 -- They are the same where the directory and the texts are.

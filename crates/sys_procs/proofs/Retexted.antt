@@ -26,38 +26,38 @@ pub there : (o : Option Member) → kind_of_member o ≡ Lives → (m : Member) 
 there None e = absurd (cc e)
 there (Some m) e = (m, refl)
 
-module _ (p : Procs) (s t : ℕ) (texts : List (Option Shared)) (bare : IsBare p s) (seats : length p.images.users ≡ 50) where
+module _ (p : Procs) (s t : ℕ) (texts : List (Option Shared)) (bare : IsBare p s) (seats : length p.images.kept.users ≡ 50) where
   abbrev pub kept : Kept
-  kept = record p.images { texts = texts; users = set p.images.users s (Some t) }
+  kept = record p.images.kept { texts = texts; users = set p.images.kept.users s (Some t) }
 
   abbrev pub now : Procs
   now = record p { table = change_row p.table s (with_its_text t); images = kept }
 
   text_now : text_of kept s ≡ Some t
-  text_now = get_or-set_same p.images.users s (Some t) None (let below = bare.below in omega (arith, below, seats))
+  text_now = get_or-set_same p.images.kept.users s (Some t) None (let below = bare.below in omega (arith, below, seats))
 
-  other_text : (r : ℕ) → r ≢ s → text_of kept r ≡ text_of p.images r
-  other_text r other = get_or-set_other p.images.users s r (Some t) None other
+  other_text : (r : ℕ) → r ≢ s → text_of kept r ≡ text_of p.images.kept r
+  other_text r other = get_or-set_other p.images.kept.users s r (Some t) None other
 
   here_by : (o : Option Member) → (m : Member) → o ≡ Some m → (x : Option ℕ)
       → process_in o Nothing (Some t) ≡ Some (with_entry t (unwrap_or (process_in o Nothing x) no_process))
   here_by None m e x = absurd (cc e)
   here_by (Some n) m e x = refl
 
-  here : process_in (member_at p.rows.slots s) (keeping p.images s) (Some t) ≡ Some (with_entry t (process_here p s))
+  here : process_in (member_at p.rows.slots s) (keeping p.images.kept s) (Some t) ≡ Some (with_entry t (process_here p s))
   here =
       let member = there (member_at p.rows.slots s) bare.agree.bare.lives in
       ap (λ x. process_in (member_at p.rows.slots s) x (Some t)) bare.agree.bare.image
-      ∙ (here_by (member_at p.rows.slots s) member.0 member.1 (text_of p.images s)
+      ∙ (here_by (member_at p.rows.slots s) member.0 member.1 (text_of p.images.kept s)
       ∙ ap (λ (q : Process). Some (with_entry t q))
-      (ap (λ x. unwrap_or (process_in (member_at p.rows.slots s) x (text_of p.images s)) no_process) (sym bare.agree.bare.image)
-      ∙ sym (own_is p.rows.slots p.images s bare.below)))
+      (ap (λ x. unwrap_or (process_in (member_at p.rows.slots s) x (text_of p.images.kept s)) no_process) (sym bare.agree.bare.image)
+      ∙ sym (own_is p.rows.slots p.images.kept s bare.below)))
 
-  processes : processes_in p.rows.slots kept ≡ set (processes_in p.rows.slots p.images) s (Some (with_entry t (process_here p s)))
+  processes : processes_in p.rows.slots kept ≡ set (processes_in p.rows.slots p.images.kept) s (Some (with_entry t (process_here p s)))
   processes =
-      one_changed p.rows.slots p.rows.slots p.images kept s (Some (with_entry t (process_here p s))) bare.below
-      (ap (λ x. process_in (member_at p.rows.slots s) (keeping p.images s) x) text_now ∙ here)
-      (λ r below other. ap (λ x. process_in (member_at p.rows.slots r) (keeping p.images r) x) (other_text r other))
+      one_changed p.rows.slots p.rows.slots p.images.kept kept s (Some (with_entry t (process_here p s))) bare.below
+      (ap (λ x. process_in (member_at p.rows.slots s) (keeping p.images.kept s) x) text_now ∙ here)
+      (λ r below other. ap (λ x. process_in (member_at p.rows.slots r) (keeping p.images.kept r) x) (other_text r other))
 
   pub state : (fs : FileSystem) → handed now fs ≡ record (handed p fs) {
     processes = set (handed p fs).processes s (Some (with_entry t (process_here p s)));
@@ -100,7 +100,7 @@ module _ (p : Procs) (s t : ℕ) (texts : List (Option Shared)) (bare : IsBare p
         image = bare.agree.bare.image;
       };
       others = λ r up below other.
-          subst (λ (row : TableRow). Agrees (member_at p.rows.slots r) row (keeping p.images r)) (sym (other_row r other))
+          subst (λ (row : TableRow). Agrees (member_at p.rows.slots r) row (keeping p.images.kept r)) (sym (other_row r other))
           (bare.agree.others r up below other);
       text = texts_agree;
       textless = other_text 0 (λ e. omega (arith, e, bare.above)) ∙ bare.agree.textless;

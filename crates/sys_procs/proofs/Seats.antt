@@ -33,13 +33,13 @@ clock_placed t s n place = clock_told t s (placed_row n place (row_at t s)) plac
 abbrev pub grown_at : Procs → ℕ → ℕ → Held → List (Option Shared) → Procs
 grown_at p s n held texts = record p {
   table = with_place p.table s n held.place;
-  images = record (with_keeping p.images s (Alive held)) { texts = texts };
+  images = record (with_keeping p.images.kept s (Alive held)) { texts = texts };
 }
 
 abbrev pub kept_at : Procs → ℕ → ℕ → Held → List (Option Shared) → Procs
 kept_at p s n held texts = record p {
   table = change_row p.table s (sized_row n);
-  images = record (with_keeping p.images s (Alive held)) { texts = texts };
+  images = record (with_keeping p.images.kept s (Alive held)) { texts = texts };
 }
 
 -- Of the board.
@@ -73,9 +73,9 @@ agrees_at m row old n u image (Swap block) a size = record {
   textless = a.textless;
 }
 
-module _ (p : Procs) (s : ℕ) (held : Held) (texts : List (Option Shared)) (alive : IsAlive p s) (long : length p.images.slots ≡ 50) where
+module _ (p : Procs) (s : ℕ) (held : Held) (texts : List (Option Shared)) (alive : IsAlive p s) (long : length p.images.kept.slots ≡ 50) where
   abbrev now : Kept
-  now = record (with_keeping p.images s (Alive held)) { texts = texts }
+  now = record (with_keeping p.images.kept s (Alive held)) { texts = texts }
 
   -- the image that it had, and the row
   agreed : Agrees (member_at p.rows.slots s) (row_at p.table s) (Alive (is_here p s alive).held)
@@ -87,7 +87,7 @@ module _ (p : Procs) (s : ℕ) (held : Held) (texts : List (Option Shared)) (ali
   agree_row : (row : TableRow) → row.text ≡ (row_at p.table s).text → Agrees (member_at p.rows.slots s) row (Alive held)
       → Agree p.rows (with_row p.table s row) now
   agree_row row text new =
-      agree_with p.rows p.rows p.table (with_row p.table s row) p.images now s alive.agree alive.above
+      agree_with p.rows p.rows p.table (with_row p.table s row) p.images.kept now s alive.agree alive.above
       (record {
         last = alive.agree.table.last;
         running = alive.agree.table.running;
@@ -102,7 +102,7 @@ module _ (p : Procs) (s : ℕ) (held : Held) (texts : List (Option Shared)) (ali
       (λ r other. refl)
       (λ r other. refl)
       (λ r other. get_or-set_other p.table.rows s r row empty_row other)
-      (λ r other. keeping_other p.images s r (Alive held) other)
+      (λ r other. keeping_other p.images.kept s r (Alive held) other)
 
   pub put_alive : (n : ℕ) → clicks_of held.u ≡ n → IsTable (with_place p.table s n held.place) → IsAlive (grown_at p s n held texts) s
   put_alive n size good =

@@ -179,7 +179,7 @@ stays_there p fs s alive =
     let w : World = handed p fs in
     ap (λ (ps : List (Option Process)). record w { processes = ps })
     (sym (set-get_or w.processes s None)
-    ∙ ap (set w.processes s) (there p.rows.slots p.images s it.member alive.below it.member_is))
+    ∙ ap (set w.processes s) (there p.rows.slots p.images.kept s it.member alive.below it.member_is))
 
 pub set_answer : (p : Procs) (fs : FileSystem) (s n handler at : ℕ) (u : UArea) → IsAlive p s
     → u ≡ (process_of (handed p fs) s).u → at ≡ n
@@ -187,7 +187,7 @@ pub set_answer : (p : Procs) (fs : FileSystem) (s n handler at : ℕ) (u : UArea
     (gives (change (handed p fs) s (asking n handler)) s (handler_of (process_of (handed p fs) s).u n)).answer
 set_answer p fs s n handler at u alive is same =
     let w : World = handed p fs in
-    let low : s < length w.processes = let below = alive.below in omega (arith, below, fifty_processes p.rows.slots p.images) in
+    let low : s < length w.processes = let below = alive.below in omega (arith, below, fifty_processes p.rows.slots p.images.kept) in
     let r : u.r ≡ (process_of (change w s (asking n handler)) s).u.r =
     ap (λ (v : UArea). v.r) is
     ∙ sym (ap (λ (q : Process). q.u.r) (put_here w.processes s (asking n handler (process_of w s)) low)) in

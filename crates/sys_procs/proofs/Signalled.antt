@@ -256,11 +256,11 @@ sent p s sig row fs used low within is =
     let it = member_there (member_at p.rows.slots s) used in
     let w : World = handed p fs in
     let mine : row ≡ posted (process_of w s).row sig =
-    is ∙ ap (λ (r : Row). posted r sig) (sym (own_row p.rows.slots p.images s low)) in
+    is ∙ ap (λ (r : Row). posted r sig) (sym (own_row p.rows.slots p.images.kept s low)) in
     ap (λ clock. record (handed (record p { rows = with_change p.rows s (processes.with_row row) }) fs) { clock = clock })
     (clock_signalled p.table s)
     ∙ (ap (λ (ps : List (Option Process)). record w { processes = ps })
-    (used_row p.rows.slots p.images s it.0 low it.1 row within)
+    (used_row p.rows.slots p.images.kept s it.0 low it.1 row within)
     ∙ ap (λ (r : Row). record w { processes = set w.processes s (Some (record (process_of w s) { row = r })) }) mine)
 
 pub none_sent : (p : Procs) (s sig : ℕ) (fs : FileSystem) → IsUsed p.rows s → s < 50 → is_signal sig ≡ false
@@ -268,7 +268,7 @@ pub none_sent : (p : Procs) (s sig : ℕ) (fs : FileSystem) → IsUsed p.rows s 
 none_sent p s sig fs used low no_signal =
     let it = member_there (member_at p.rows.slots s) used in
     let w : World = handed p fs in
-    let here : get_or w.processes s None ≡ Some (process_of w s) = there p.rows.slots p.images s it.0 low it.1 in
+    let here : get_or w.processes s None ≡ Some (process_of w s) = there p.rows.slots p.images.kept s it.0 low it.1 in
     ap (λ (ps : List (Option Process)). record w { processes = ps })
     (sym (set-get_or w.processes s None) ∙ ap (set w.processes s) here)
     ∙ ap (λ (r : Row). record w { processes = set w.processes s (Some (record (process_of w s) { row = r })) })
@@ -289,18 +289,18 @@ none_there (Some m) e = absurd (cc e)
 module _ (p : Procs) (fs : FileSystem) (s : ℕ) (who : ℕ → Process → Bool) (low : s < 50) where
   pub meant_not : is_some (member_at p.rows.slots s) ≡ false → is_meant who s (process_at (handed p fs) s) ≡ false
   meant_not unused =
-      ap (is_meant who s) (process_in_slot p.rows.slots p.images s low
-      ∙ ap (λ o. process_in o (keeping p.images s) (text_of p.images s)) (none_there (member_at p.rows.slots s) unused))
+      ap (is_meant who s) (process_in_slot p.rows.slots p.images.kept s low
+      ∙ ap (λ o. process_in o (keeping p.images.kept s) (text_of p.images.kept s)) (none_there (member_at p.rows.slots s) unused))
 
   pub meant_there : is_some (member_at p.rows.slots s) ≡ true
       → is_meant who s (process_at (handed p fs) s) ≡ who s (process_of (handed p fs) s)
   meant_there used =
       let it = member_there (member_at p.rows.slots s) used in
-      ap (is_meant who s) (there p.rows.slots p.images s it.0 low it.1)
+      ap (is_meant who s) (there p.rows.slots p.images.kept s it.0 low it.1)
 
 -- nobody is in slot 0
 pub kernel_is_none : (p : Procs) (fs : FileSystem) → member_at p.rows.slots 0 ≡ None
     → get_or (handed p fs).processes 0 None ≡ None
 kernel_is_none p fs none =
-    process_in_slot p.rows.slots p.images 0 (omega arith)
-    ∙ ap (λ o. process_in o (keeping p.images 0) (text_of p.images 0)) none
+    process_in_slot p.rows.slots p.images.kept 0 (omega arith)
+    ∙ ap (λ o. process_in o (keeping p.images.kept 0) (text_of p.images.kept 0)) none

@@ -30,12 +30,12 @@ text_by : (m : Option Member) (text : Option ℕ) → kind_of_member m ≡ Lives
 text_by None text e = absurd (cc e)
 text_by (Some m) text e = refl
 
-pub bare_text : (p : Procs) (s : ℕ) → IsBare p s → text_of p.images s ≡ (process_here p s).text
+pub bare_text : (p : Procs) (s : ℕ) → IsBare p s → text_of p.images.kept s ≡ (process_here p s).text
 bare_text p s bare =
     let b = bare.agree.bare in
-    sym (ap (λ (q : Process). q.text) (own_is p.rows.slots p.images s bare.below)
-    ∙ (ap (λ x. (unwrap_or (process_in (member_at p.rows.slots s) x (text_of p.images s)) no_process).text) b.image
-    ∙ text_by (member_at p.rows.slots s) (text_of p.images s) b.lives))
+    sym (ap (λ (q : Process). q.text) (own_is p.rows.slots p.images.kept s bare.below)
+    ∙ (ap (λ x. (unwrap_or (process_in (member_at p.rows.slots s) x (text_of p.images.kept s)) no_process).text) b.image
+    ∙ text_by (member_at p.rows.slots s) (text_of p.images.kept s) b.lives))
 
 -- what is answered where a text is taken, and where it is not
 pub goes_on : (o : Option (Stop World)) (entry new : Option ℕ) → Ok new ≡ taken_by o entry → (o ≡ None) × (new ≡ entry)

@@ -14,24 +14,24 @@ use Rattle.sys_procs.specs.Comes.{Comes}
 use Rattle.sys_procs.specs.Agree.{board_of, Agree, AgreeBare, AreMarks, IsCalling}
 
 abbrev pub handed : Procs → FileSystem → World
-handed p fs = world_in p.rows p.table p.images p.switches (inodes_of fs)
+handed p fs = world_in p.rows p.table p.images.kept p.switches (inodes_of fs)
 
 abbrev pub board : Procs → Board
-board p = board_of p.table p.images
+board p = board_of p.table p.images.kept
 
 abbrev pub AreProcs : Procs → Type 0
-AreProcs p = Agree p.rows p.table p.images
+AreProcs p = Agree p.rows p.table p.images.kept
 
 -- A process has stopped between its old image and its new one.
 abbrev pub AreBare : Procs → ℕ → Type 0
-AreBare p s = AgreeBare p.rows p.table p.images s
+AreBare p s = AgreeBare p.rows p.table p.images.kept s
 
 -- A tree has the marks of the texts that are shared.
 abbrev pub IsMarked : Procs → List Bool → Type 0
-IsMarked p marks = AreMarks marks p.images
+IsMarked p marks = AreMarks marks p.images.kept
 
 abbrev pub Calls : Procs → FileSystem → ℕ → Type 0
-Calls p fs s = IsCalling p.rows p.table p.images (λ ino. slice_index fs.references ino) s
+Calls p fs s = IsCalling p.rows p.table p.images.kept (λ ino. slice_index fs.references ino) s
 
 -- the log that a call leaves, with the board then
 abbrev pub came : Procs → Comes → Logged World
@@ -39,17 +39,17 @@ came p c = logged (board p) c.effects
 
 -- The process in a slot; the inodes don't tell of it.
 abbrev pub process_here : Procs → ℕ → Process
-process_here p s = unwrap_or (slice_index_or (processes_in p.rows.slots p.images) s None) no_process
+process_here p s = unwrap_or (slice_index_or (processes_in p.rows.slots p.images.kept) s None) no_process
 
 abbrev pub memory_here : Procs → ℕ → Image
-memory_here p s = image_of (texts_in p.images) (process_here p s)
+memory_here p s = image_of (texts_in p.images.kept) (process_here p s)
 
 -- a process that has an image
 pub record IsAlive (p : Procs) (s : ℕ) : Type 0 where
   pub agree : AreProcs p
   pub above : 0 < s
   pub below : s < 50
-  pub image : HasImage p.images s
+  pub image : HasImage p.images.kept s
 
 -- a process between its old image and its new one
 pub record IsBare (p : Procs) (s : ℕ) : Type 0 where

@@ -119,9 +119,9 @@ fn read_list<S: Space>(space: &S, list: u16) -> Result<Arguments, Errno>
 ///
 /// `EFAULT`: a byte or a word can't be read. `E2BIG`: there are more than 510 bytes.
 pub(crate) fn read_arguments(images: &mut Images, s: Slot, list: u16) -> Result<Arguments, Errno>
-    requires { HasImage images.old s }
-    ensures arguments { result ≡ arguments (image_of images.old s) list }
-    ensures images { images.new ≡ images.old }
+    requires { HasImage images.old.kept s }
+    ensures arguments { result ≡ arguments (image_of images.old.kept s) list }
+    ensures images { images.new.kept ≡ images.old.kept }
 {
     let space = images.space(s);
     read_list(&space, list)

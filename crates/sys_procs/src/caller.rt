@@ -46,7 +46,7 @@ impl Procs {
         ensures state { (fs : FileSystem) → handed self.new fs
             ≡ with_process (handed self.old fs) s (record (process_here self.old s) { u = u.now }) }
         ensures here { process_here self.new s ≡ record (process_here self.old s) { u = u.now } }
-        ensures images { self.new.images ≡ with_area self.old.images s u.now }
+        ensures images { self.new.images.kept ≡ with_area self.old.images.kept s u.now }
         ensures rows { self.new.rows ≡ self.old.rows }
         ensures table { self.new.table ≡ self.old.table }
         ensures switches { self.new.switches ≡ self.old.switches }

@@ -148,8 +148,8 @@ fn read_bytes(nodes: &mut Nodes, program: &Program, part: &mut [u8], now: u32)
 #[inline(never)]
 fn read_text(p: &mut Procs, tree: &mut Tree, s: Slot, t: TextId, program: &Program)
     requires alive { IsAlive p.old s }
-    requires text { text_of p.old.images s ≡ Some t }
-    requires out { (x : Shared) × (shared p.old.images t ≡ Some x) × (x.row.loaded ≡ 0)
+    requires text { text_of p.old.images.kept s ≡ Some t }
+    requires out { (x : Shared) × (shared p.old.images.kept t ≡ Some x) × (x.row.loaded ≡ 0)
         × (x.row.clicks ≡ program.now.text_clicks) }
     requires referenced { 0 < slice_index tree.old.nodes.references program.now.ino }
     ensures state { handed p.new tree.new.nodes ≡ with_text_read (handed p.old tree.old.nodes) s program.now }
@@ -157,7 +157,7 @@ fn read_text(p: &mut Procs, tree: &mut Tree, s: Slot, t: TextId, program: &Progr
     ensures references { tree.new.nodes.references ≡ tree.old.nodes.references }
     ensures marks { tree.new.marks ≡ tree.old.marks }
     ensures blocks { SameRest tree.old.nodes.blocks tree.new.nodes.blocks }
-    ensures marked { marks_of (texts_in p.new.images) ≡ marks_of (texts_in p.old.images) }
+    ensures marked { marks_of (texts_in p.new.images.kept) ≡ marks_of (texts_in p.old.images.kept) }
     ensures alive { IsAlive p.new s }
 {
     let mut bytes = [0; LONGEST_TEXT];
@@ -170,8 +170,8 @@ fn read_text(p: &mut Procs, tree: &mut Tree, s: Slot, t: TextId, program: &Progr
 /// Reads the text of a program, if it is new.
 fn fill_text(p: &mut Procs, tree: &mut Tree, s: Slot, new: Option<TextId>, program: &Program)
     requires alive { IsAlive p.old s }
-    requires text { IfSome new (λ t. text_of p.old.images s ≡ Some t) }
-    requires out { IfSome new (λ t. (x : Shared) × (shared p.old.images t ≡ Some x) × (x.row.loaded ≡ 0)
+    requires text { IfSome new (λ t. text_of p.old.images.kept s ≡ Some t) }
+    requires out { IfSome new (λ t. (x : Shared) × (shared p.old.images.kept t ≡ Some x) × (x.row.loaded ≡ 0)
         × (x.row.clicks ≡ program.now.text_clicks)) }
     requires referenced { 0 < slice_index tree.old.nodes.references program.now.ino }
     ensures state { handed p.new tree.new.nodes ≡ reads_text (is_some new) (handed p.old tree.old.nodes) s program.now }
@@ -179,7 +179,7 @@ fn fill_text(p: &mut Procs, tree: &mut Tree, s: Slot, new: Option<TextId>, progr
     ensures references { tree.new.nodes.references ≡ tree.old.nodes.references }
     ensures marks { tree.new.marks ≡ tree.old.marks }
     ensures blocks { SameRest tree.old.nodes.blocks tree.new.nodes.blocks }
-    ensures marked { marks_of (texts_in p.new.images) ≡ marks_of (texts_in p.old.images) }
+    ensures marked { marks_of (texts_in p.new.images.kept) ≡ marks_of (texts_in p.old.images.kept) }
     ensures alive { IsAlive p.new s }
 {
     if let Some(t) = new {
@@ -274,8 +274,8 @@ fn fill_program(
     u: &UArea,
 )
     requires alive { IsAlive p.old s }
-    requires text { IfSome new (λ t. text_of p.old.images s ≡ Some t) }
-    requires out { IfSome new (λ t. (x : Shared) × (shared p.old.images t ≡ Some x) × (x.row.loaded ≡ 0)
+    requires text { IfSome new (λ t. text_of p.old.images.kept s ≡ Some t) }
+    requires out { IfSome new (λ t. (x : Shared) × (shared p.old.images.kept t ≡ Some x) × (x.row.loaded ≡ 0)
         × (x.row.clicks ≡ program.now.text_clicks)) }
     requires referenced { 0 < slice_index tree.old.nodes.references program.now.ino }
     requires fits { is_refused program.now.text_clicks (data_clicks program.now.plan) 20 2048 ≡ false }
@@ -292,7 +292,7 @@ fn fill_program(
         program.now.ino row u.now }
     ensures board { board p.new ≡ board p.old }
     ensures marks { tree.new.marks ≡ tree.old.marks }
-    ensures marked { marks_of (texts_in p.new.images) ≡ marks_of (texts_in p.old.images) }
+    ensures marked { marks_of (texts_in p.new.images.kept) ≡ marks_of (texts_in p.old.images.kept) }
     ensures blocks { SameRest tree.old.nodes.blocks tree.new.nodes.blocks }
     ensures alive { IsAlive p.new s }
 {
@@ -317,7 +317,7 @@ fn begin_program<T: Trace>(
     trace: &mut T,
 ) -> Result<Answer, PanicKind>
     requires bare { IsBare p.old s }
-    requires none { text_of p.old.images s ≡ None }
+    requires none { text_of p.old.images.kept s ≡ None }
     requires marks { IsMarked p.old tree.old.marks }
     requires tested { IsTested (handed p.old tree.old.nodes) program.now }
     requires few { (i : ℕ) → slice_index tree.old.nodes.references i ≤ 65530 }
@@ -358,7 +358,7 @@ fn load<T: Trace>(
 ) -> Result<Answer, PanicKind>
     requires alive { IsAlive p.old s }
     requires marks { IsMarked p.old tree.old.marks }
-    requires referred { (ino : ℕ) → count_by (is_text_of ino) (texts_in p.old.images) + (if ino == program.now.ino then 1 else 0)
+    requires referred { (ino : ℕ) → count_by (is_text_of ino) (texts_in p.old.images.kept) + (if ino == program.now.ino then 1 else 0)
         ≤ slice_index tree.old.nodes.references ino }
     requires tested { IsTested (handed p.old tree.old.nodes) program.now }
     requires few { (i : ℕ) → slice_index tree.old.nodes.references i ≤ 65530 }

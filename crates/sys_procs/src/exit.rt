@@ -49,8 +49,8 @@ fn leave(p: &mut Procs, tree: &mut Tree, s: Slot, status: u16)
     ensures state { handed p.new tree.new.nodes ≡ leaves (handed p.old tree.old.nodes) s status }
     ensures board { board p.new ≡ board p.old }
     ensures alive { IsAlive p.new s }
-    ensures texts { p.new.images.texts ≡ p.old.images.texts }
-    ensures referred { (ino : ℕ) → count_by (is_text_of ino) (texts_in p.new.images) ≤ slice_index tree.new.nodes.references ino }
+    ensures texts { p.new.images.kept.texts ≡ p.old.images.kept.texts }
+    ensures referred { (ino : ℕ) → count_by (is_text_of ino) (texts_in p.new.images.kept) ≤ slice_index tree.new.nodes.references ino }
     ensures marks { tree.new.marks ≡ tree.old.marks }
     ensures blocks { SameRest tree.old.nodes.blocks tree.new.nodes.blocks }
 {
@@ -124,7 +124,7 @@ fn end_row<T: Trace>(p: &mut Procs, s: Slot, block: u16, parent: Option<Slot>, t
     ensures rows { p.new.rows ≡ orphans_adopted
         (if is_none parent then orphans_adopted (with_change p.old.rows s dead) (row_at p.old.rows s).ppid
         else with_change p.old.rows s dead) (row_at p.old.rows s).pid }
-    ensures images { p.new.images ≡ p.old.images }
+    ensures images { p.new.images.kept ≡ p.old.images.kept }
     ensures switches { p.new.switches ≡ p.old.switches }
     ensures items { Took (T.taken trace.old) (Log (Entry.Exit s block) ∷ Log (Entry.Wake (Chan.Wait 1))
         ∷ Log (Entry.Wake (Chan.Wait (unwrap_or parent 1))) ∷ []) (T.taken trace.new) }
@@ -145,12 +145,12 @@ fn end_row<T: Trace>(p: &mut Procs, s: Slot, block: u16, parent: Option<Slot>, t
 #[tactic(auto, using(v6_base::proofs::Took::takes))]
 fn die<T: Trace>(p: &mut Procs, s: Slot, trace: &mut T) -> Result<(), PanicKind>
     requires alive { IsAlive p.old s }
-    requires no_text { text_of p.old.images s ≡ None }
+    requires no_text { text_of p.old.images.kept s ≡ None }
     ensures does { (fs : FileSystem) → HasEnded p.old p.new fs result (T.taken trace.old) (T.taken trace.new)
         (dies (handed p.old fs) s) }
     ensures frame { T.leads_to trace.old trace.new }
     ensures agree { AreProcs p.new }
-    ensures texts { p.new.images.texts ≡ p.old.images.texts }
+    ensures texts { p.new.images.kept.texts ≡ p.old.images.kept.texts }
 {
     see(p, s);
     let row = p.row(s);

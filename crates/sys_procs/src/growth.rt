@@ -64,7 +64,7 @@ fn expand<T: Trace>(
     trace: &mut T,
 ) -> Result<(), PanicKind>
     requires alive { IsAlive p.old s }
-    requires sizes { is_refused (process_here p.old s).u.text_size d stack (most_clicks p.old.images) ≡ false }
+    requires sizes { is_refused (process_here p.old s).u.text_size d stack (most_clicks p.old.images.kept) ≡ false }
     ensures does { (fs : FileSystem) → HasEnded p.old p.new fs result (T.taken trace.old) (T.taken trace.new)
         (expands (handed p.old fs) s d stack) }
     ensures frame { T.leads_to trace.old trace.new }

@@ -62,9 +62,9 @@ fn clear_place(table: &mut Table, s: Slot)
 /// Gives the image of a process without a text back, with its u area.
 pub(crate) fn leave_place<T: Trace>(p: &mut Procs, s: Slot, trace: &mut T)
     requires alive { IsAlive p.old s }
-    requires none { text_of p.old.images s ≡ None }
+    requires none { text_of p.old.images.kept s ≡ None }
     ensures state { (fs : FileSystem) → handed p.new fs ≡ change (handed p.old fs) s bared }
-    ensures images { p.new.images ≡ with_keeping p.old.images s Nothing }
+    ensures images { p.new.images.kept ≡ with_keeping p.old.images.kept s Nothing }
     ensures board { board p.new ≡ bare_board (board p.old) s }
     ensures items { Took (T.taken trace.old) (Log (Entry.Bare s) ∷ []) (T.taken trace.new) }
     ensures frame { T.leads_to trace.old trace.new }
@@ -89,15 +89,15 @@ fn new_image(
     text: Option<TextId>,
 ) -> Result<Place, NoSwap>
     requires slot { s < 50 }
-    requires nothing { keeping images.old s ≡ Nothing }
-    requires text { text ≡ text_of images.old s }
-    requires clicks { t ≡ text_clicks images.old text }
-    requires sizes { is_refused t d 20 (most_clicks images.old) ≡ false }
+    requires nothing { keeping images.old.kept s ≡ Nothing }
+    requires text { text ≡ text_of images.old.kept s }
+    requires clicks { t ≡ text_clicks images.old.kept text }
+    requires sizes { is_refused t d 20 (most_clicks images.old.kept) ≡ false }
     ensures place { MatchResult result
-        (λ place. images_of.placed images.old s (16 + d + 20) ≡ Some place)
-        (λ _. images_of.placed images.old s (16 + d + 20) ≡ None) }
-    ensures images { images.new ≡ with_image_moved images.old s (made_area t d 20)
-        (made_image (text_bytes images.old text) d 20) (images_of.placed images.old s (16 + d + 20)) }
+        (λ place. images_of.placed images.old.kept s (16 + d + 20) ≡ Some place)
+        (λ _. images_of.placed images.old.kept s (16 + d + 20) ≡ None) }
+    ensures images { images.new.kept ≡ with_image_moved images.old.kept s (made_area t d 20)
+        (made_image (text_bytes images.old.kept text) d 20) (images_of.placed images.old.kept s (16 + d + 20)) }
 {
     let Ok(proto) = Proto::make(t, d, STACK, images.limit()) else {
         unreachable!()
@@ -119,14 +119,14 @@ pub(crate) fn place_image<T: Trace>(
     trace: &mut T,
 ) -> Result<(), PanicKind>
     requires bare { IsBare p.old s }
-    requires clicks { t ≡ text_clicks p.old.images (text_of p.old.images s) }
-    requires sizes { is_refused t d 20 (most_clicks p.old.images) ≡ false }
+    requires clicks { t ≡ text_clicks p.old.images.kept (text_of p.old.images.kept s) }
+    requires sizes { is_refused t d 20 (most_clicks p.old.images.kept) ≡ false }
     ensures does { (fs : FileSystem) → HasEnded p.old p.new fs result (T.taken trace.old) (T.taken trace.new)
         (takes_image (handed p.old fs) s t d) }
-    ensures image { IfOk result (λ placed. image_of p.new.images s
-        ≡ made_image (text_bytes p.old.images (text_of p.old.images s)) d 20) }
-    ensures text { text_of p.new.images s ≡ text_of p.old.images s }
-    ensures stays { (t : ℕ) (x : Shared) → shared p.old.images t ≡ Some x → x.row.loaded ≡ 0 → shared p.new.images t ≡ Some x }
+    ensures image { IfOk result (λ placed. image_of p.new.images.kept s
+        ≡ made_image (text_bytes p.old.images.kept (text_of p.old.images.kept s)) d 20) }
+    ensures text { text_of p.new.images.kept s ≡ text_of p.old.images.kept s }
+    ensures stays { (t : ℕ) (x : Shared) → shared p.old.images.kept t ≡ Some x → x.row.loaded ≡ 0 → shared p.new.images.kept t ≡ Some x }
     ensures time { p.new.table.now ≡ p.old.table.now }
     ensures frame { T.leads_to trace.old trace.new }
     ensures alive { IfOk result (λ placed. IsAlive p.new s) }

@@ -12,7 +12,7 @@ use v6_base::Slot;
 pub(crate) fn see(p: &Procs, s: Slot)
     requires { IsAlive p.now s }
     ensures rows { AreProcesses p.now.rows }
-    ensures images { IsKept p.now.images }
+    ensures images { IsKept p.now.images.kept }
 {
     let _used = p.rows.in_use(s);
     let _place = p.images.place(s);
@@ -20,8 +20,8 @@ pub(crate) fn see(p: &Procs, s: Slot)
 
 /// Sees what holds of the texts.
 pub(crate) fn see_texts(images: &Images)
-    ensures shared { AreShared images.now }
-    ensures long { AreLong images.now }
+    ensures shared { AreShared images.now.kept }
+    ensures long { AreLong images.now.kept }
 {
     let _ = images.find_text(0);
 }

@@ -151,8 +151,8 @@ fn is_magic(planned: &Result<Plan, ExecFault>) -> bool
 
 /// The clicks of the text that a file has in the table of texts, if any.
 fn entry_clicks(images: &Images, ino: u16) -> Option<u16>
-    ensures clicks { result ≡ entry_clicks (texts_in images.now) ino }
-    ensures sized { (size : ℕ) → AreSized (texts_in images.now) ino (unwrap_or result size) }
+    ensures clicks { result ≡ entry_clicks (texts_in images.now.kept) ino }
+    ensures sized { (size : ℕ) → AreSized (texts_in images.now.kept) ino (unwrap_or result size) }
 {
     match images.find_text(ino) {
         Some(t) => Some(images.text_row(t).clicks),
@@ -236,23 +236,23 @@ fn judge_header(
 ) -> Result<Program, Errno>
     ensures answer { result ≡ then_do (unless_error read.error) (λ whole.
         then_do (must ENOEXEC ((read.done == 16) && is_magic (plan_of (header_of head.now)))) (λ program.
-        then_do (must ETXTBSY (not (is_busy_in (texts_in images.now) (slice_index nodes.now.references ino) ino
+        then_do (must ETXTBSY (not (is_busy_in (texts_in images.now.kept) (slice_index nodes.now.references ino) ino
         (header_of head.now)))) (λ free.
         then_do (or_no_memory (plan_of (header_of head.now))) (λ plan.
-        then_do (must ENOMEM (not (is_refused (text_clicks_in (texts_in images.now) ino plan) (data_clicks plan) stack_clicks
-        (most_clicks images.now)))) (λ fits.
+        then_do (must ENOMEM (not (is_refused (text_clicks_in (texts_in images.now.kept) ino plan) (data_clicks plan) stack_clicks
+        (most_clicks images.now.kept)))) (λ fits.
         Ok (record {
           ino = ino;
           plan = plan;
-          text_clicks = text_clicks_in (texts_in images.now) ino plan;
+          text_clicks = text_clicks_in (texts_in images.now.kept) ino plan;
           arguments = args;
         })))))) }
     ensures ino { IfOk result (λ program. program.ino ≡ ino) }
     ensures fits { IfOk result (λ program.
-        is_refused program.text_clicks (data_clicks program.plan) stack_clicks (most_clicks images.now) ≡ false) }
+        is_refused program.text_clicks (data_clicks program.plan) stack_clicks (most_clicks images.now.kept) ≡ false) }
     ensures most { IfOk result (λ program. program.plan.init ≤ 131070) }
     ensures shared { IfOk result (λ program. 0 < program.text_clicks
-        → AreSized (texts_in images.now) ino program.text_clicks) }
+        → AreSized (texts_in images.now.kept) ino program.text_clicks) }
 {
     if let Some(e) = read.error {
         return Err(e);

@@ -44,8 +44,8 @@ fn give_text(table: &mut Table, s: Slot, text: Option<TextId>)
 
 /// The inode of the file of a text.
 fn inode_of(images: &Images, t: TextId) -> u16
-    requires { IsSome (shared images.now t) }
-    ensures inode { result ≡ (row_in (shared images.now t)).ino }
+    requires { IsSome (shared images.now.kept t) }
+    ensures inode { result ≡ (row_in (shared images.now.kept t)).ino }
     ensures number { result < 65536 }
 {
     images.text_row(t).ino
@@ -55,15 +55,15 @@ fn inode_of(images: &Images, t: TextId) -> u16
 /// goes can be written again.
 fn leave_entry<T: Trace>(p: &mut Procs, tree: &mut Tree, s: Slot, t: TextId, trace: &mut T)
     requires alive { IsAlive p.old s }
-    requires text { text_of p.old.images s ≡ Some t }
+    requires text { text_of p.old.images.kept s ≡ Some t }
     requires marks { IsMarked p.old tree.old.marks }
-    requires referred { (ino : ℕ) → count_by (is_text_of ino) (texts_in p.old.images)
+    requires referred { (ino : ℕ) → count_by (is_text_of ino) (texts_in p.old.images.kept)
         ≤ slice_index tree.old.nodes.references ino }
     ensures left { HasLeft p.old p.new tree.new.nodes (T.taken trace.old) (T.taken trace.new)
         (xfree (handed p.old tree.old.nodes) s (Some t) nothing) }
     ensures frame { T.leads_to trace.old trace.new }
     ensures alive { IsAlive p.new s }
-    ensures none { text_of p.new.images s ≡ None }
+    ensures none { text_of p.new.images.kept s ≡ None }
     ensures marks { IsMarked p.new tree.new.marks }
     ensures blocks { SameRest tree.old.nodes.blocks tree.new.nodes.blocks }
 {
@@ -87,13 +87,13 @@ fn leave_entry<T: Trace>(p: &mut Procs, tree: &mut Tree, s: Slot, t: TextId, tra
 pub(crate) fn leave_text<T: Trace>(p: &mut Procs, tree: &mut Tree, s: Slot, trace: &mut T)
     requires alive { IsAlive p.old s }
     requires marks { IsMarked p.old tree.old.marks }
-    requires referred { (ino : ℕ) → count_by (is_text_of ino) (texts_in p.old.images)
+    requires referred { (ino : ℕ) → count_by (is_text_of ino) (texts_in p.old.images.kept)
         ≤ slice_index tree.old.nodes.references ino }
     ensures left { HasLeft p.old p.new tree.new.nodes (T.taken trace.old) (T.taken trace.new)
         (leaves (handed p.old tree.old.nodes) s) }
     ensures frame { T.leads_to trace.old trace.new }
     ensures alive { IsAlive p.new s }
-    ensures none { text_of p.new.images s ≡ None }
+    ensures none { text_of p.new.images.kept s ≡ None }
     ensures marks { IsMarked p.new tree.new.marks }
     ensures blocks { SameRest tree.old.nodes.blocks tree.new.nodes.blocks }
 {
@@ -105,8 +105,8 @@ pub(crate) fn leave_text<T: Trace>(p: &mut Procs, tree: &mut Tree, s: Slot, trac
 /// A process without an image shares a text that is there.
 fn join_text<T: Trace>(p: &mut Procs, tree: &Tree, s: Slot, t: TextId, trace: &mut T)
     requires bare { IsBare p.old s }
-    requires none { text_of p.old.images s ≡ None }
-    requires used { IsSome (shared p.old.images t) }
+    requires none { text_of p.old.images.kept s ≡ None }
+    requires used { IsSome (shared p.old.images.kept t) }
     requires marks { IsMarked p.old tree.now.marks }
     ensures left { (ino : ℕ) (size : ℕ) → HasLeft p.old p.new tree.now.nodes (T.taken trace.old) (T.taken trace.new)
         (xalloc_by (handed p.old tree.now.nodes) s ino size (Some t) (λ placed is_new. nothing placed)) }
@@ -147,8 +147,8 @@ fn make_text<T: Trace>(
     trace: &mut T,
 ) -> Result<TextId, PanicKind>
     requires bare { IsBare p.old s }
-    requires none { text_of p.old.images s ≡ None }
-    requires unknown { found_text p.old.images ino ≡ None }
+    requires none { text_of p.old.images.kept s ≡ None }
+    requires unknown { found_text p.old.images.kept ino ≡ None }
     requires some { 0 < clicks }
     requires referenced { 0 < slice_index tree.old.nodes.references ino }
     requires few { (i : ℕ) → slice_index tree.old.nodes.references i ≤ 65530 }
@@ -159,8 +159,8 @@ fn make_text<T: Trace>(
         (xalloc_by (handed p.old tree.old.nodes) s ino clicks None (λ placed is_new. nothing placed))).stop None ≡ Err kind) }
     ensures made { IfOk result (λ t. ((came p.old
         (xalloc_by (handed p.old tree.old.nodes) s ino clicks None (λ placed is_new. nothing placed))).stop ≡ None)
-        × (t ≡ free_entry (texts_in p.old.images)) × (text_of p.new.images s ≡ Some t)) }
-    ensures out { IfOk result (λ t. (x : Shared) × (shared p.new.images t ≡ Some x) × (x.row.loaded ≡ 0)
+        × (t ≡ free_entry (texts_in p.old.images.kept)) × (text_of p.new.images.kept s ≡ Some t)) }
+    ensures out { IfOk result (λ t. (x : Shared) × (shared p.new.images.kept t ≡ Some x) × (x.row.loaded ≡ 0)
         × (x.row.clicks ≡ clicks)) }
     ensures frame { T.leads_to trace.old trace.new }
     ensures bare { IsBare p.new s }
@@ -203,7 +203,7 @@ pub(crate) fn take_text<T: Trace>(
     trace: &mut T,
 ) -> Result<Option<TextId>, PanicKind>
     requires bare { IsBare p.old s }
-    requires none { text_of p.old.images s ≡ None }
+    requires none { text_of p.old.images.kept s ≡ None }
     requires referenced { 0 < slice_index tree.old.nodes.references program.now.ino }
     requires few { (i : ℕ) → slice_index tree.old.nodes.references i ≤ 65530 }
     requires marks { IsMarked p.old tree.old.marks }
@@ -211,10 +211,10 @@ pub(crate) fn take_text<T: Trace>(
         (takes (handed p.old tree.old.nodes) s program.now.ino program.now.text_clicks) }
     ensures answer { result ≡ taken_by
         (came p.old (takes (handed p.old tree.old.nodes) s program.now.ino program.now.text_clicks)).stop
-        (new_entry (texts_in p.old.images) program.now.ino program.now.text_clicks) }
-    ensures new { IfOk result (λ new. IfSome new (λ t. text_of p.new.images s ≡ Some t)) }
+        (new_entry (texts_in p.old.images.kept) program.now.ino program.now.text_clicks) }
+    ensures new { IfOk result (λ new. IfSome new (λ t. text_of p.new.images.kept s ≡ Some t)) }
     ensures out { IfOk result (λ new. IfSome new (λ t.
-        (x : Shared) × (shared p.new.images t ≡ Some x) × (x.row.loaded ≡ 0) × (x.row.clicks ≡ program.now.text_clicks))) }
+        (x : Shared) × (shared p.new.images.kept t ≡ Some x) × (x.row.loaded ≡ 0) × (x.row.clicks ≡ program.now.text_clicks))) }
     ensures frame { T.leads_to trace.old trace.new }
     ensures bare { IsBare p.new s }
     ensures marks { IsMarked p.new tree.new.marks }

@@ -95,14 +95,14 @@ fn clear(p: &mut Procs, dead: Slot) -> [u8; 512]
     requires agree { AreProcs p.old }
     requires above { 0 < dead }
     requires low { dead < 50 }
-    requires grave { HasGrave p.old.images dead }
+    requires grave { HasGrave p.old.images.kept dead }
     requires rows { AreProcesses p.old.rows }
-    requires images { IsKept p.old.images }
+    requires images { IsKept p.old.images.kept }
     ensures half { result ≡ half_of (process_here p.old dead).u }
     ensures sized { IsSized (process_here p.old dead).u }
     ensures state { (fs : FileSystem) → handed p.new fs ≡ without_process (handed p.old fs) dead }
     ensures board { board p.new ≡ applied (board p.old) (Entry.Reap dead) }
-    ensures images { p.new.images ≡ with_keeping p.old.images dead Nothing }
+    ensures images { p.new.images.kept ≡ with_keeping p.old.images.kept dead Nothing }
     ensures agree { AreProcs p.new }
 {
     let half = p.images.reap(dead);
@@ -117,7 +117,7 @@ fn bury<T: Trace>(p: &mut Procs, s: Slot, dead: Slot, trace: &mut T) -> Answer
     requires alive { IsAlive p.old s }
     requires above { 0 < dead }
     requires low { dead < 50 }
-    requires grave { HasGrave p.old.images dead }
+    requires grave { HasGrave p.old.images.kept dead }
     ensures answer { (fs : FileSystem) → result ≡ (buries (handed p.old fs) s dead).answer }
     ensures state { (fs : FileSystem) → handed p.new fs ≡ (buries (handed p.old fs) s dead).state }
     ensures board { board p.new ≡ applied (board p.old) (Entry.Reap dead) }

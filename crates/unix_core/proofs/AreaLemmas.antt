@@ -28,12 +28,12 @@ given_is u r =
     one_area (with_state u r u.cc) (record u { r = r }) refl same refl refl refl refl refl refl refl refl refl refl refl refl refl refl refl refl refl
 
 -- the u area of who runs
-pub own_area : (w : World) (s : ℕ) → IsReady w s → area_of w.procs.images s ≡ (process_of (unix_of w) s).u
+pub own_area : (w : World) (s : ℕ) → IsReady w s → area_of w.procs.images.kept s ≡ (process_of (unix_of w) s).u
 own_area w s ready = area_here w.procs s (ready_alive w s ready)
 
 module _ (w : World) (s : ℕ) (ready : IsReady w s) (u : UArea) where
   abbrev pub with_its_area : World
-  with_its_area = with_images w (with_area w.procs.images s u)
+  with_its_area = with_images w (with_area w.procs.images.kept s u)
 
   pub area_unix : unix_of with_its_area ≡ with_process (unix_of w) s (record (process_of (unix_of w) s) { u = u })
   area_unix = unix_put w s u (ready_alive w s ready)
@@ -53,12 +53,12 @@ pub own_put : (u : Unix) (s : ℕ) (p q : Process) → get_or u.processes s None
 own_put u s p q is = ap (λ o. unwrap_or o no_process) (get_or-set_same u.processes s (Some q) None (some_within u.processes s p is))
 
 -- The u area of who runs has become another one by a rule: the process comes out of a trap with it.
-module _ (w : World) (s : ℕ) (ready : IsReady w s) (rule : UArea → UArea) (k : Kept) (is : k ≡ with_area w.procs.images s (rule (area_of w.procs.images s))) where
+module _ (w : World) (s : ℕ) (ready : IsReady w s) (rule : UArea → UArea) (k : Kept) (is : k ≡ with_area w.procs.images.kept s (rule (area_of w.procs.images.kept s))) where
   abbrev ruled : World
   ruled = with_images w k
 
-  own_is : k ≡ with_area w.procs.images s (rule (process_of (unix_of w) s).u)
-  own_is = is ∙ ap (λ u. with_area w.procs.images s (rule u)) (own_area w s ready)
+  own_is : k ≡ with_area w.procs.images.kept s (rule (process_of (unix_of w) s).u)
+  own_is = is ∙ ap (λ u. with_area w.procs.images.kept s (rule u)) (own_area w s ready)
 
   pub ruled_unix : unix_of ruled ≡ calls.with_area (unix_of w) s rule
   ruled_unix = ap (λ x. unix_of (with_images w x)) own_is ∙ area_unix w s ready (rule (process_of (unix_of w) s).u)

@@ -237,7 +237,7 @@ nobody_out time = refl
 module _ (fs : FileSystem) (core : ℕ) (referred : (ino : ℕ) → slice_index fs.references ino ≡ (if ino == 1 then 2 else 0))
     (w : World) (nodes : w.files.tree.nodes ≡ fs) (marks : w.files.tree.marks ≡ no_marks) (table : w.files.table ≡ no_files) (pipes : w.files.pipes ≡ []) (line : w.files.line ≡ first_terminal)
     (rows : w.procs.rows ≡ first_processes) (slots : w.procs.table ≡ first_table fs.store.stamp) (good : IsTable w.procs.table)
-    (images : w.procs.images ≡ first_images core) (switches : w.procs.switches ≡ 0)
+    (images : w.procs.images.kept ≡ first_images core) (switches : w.procs.switches ≡ 0)
     (entries : w.tape.entry_room ≡ 64) (bytes : w.tape.byte_room ≡ 524288) (clicks : w.core ≡ core) where
   processes_are : (unix_of w).processes ≡ first_slots
   processes_are = (λ i. processes_in (rows i).slots (images i)) ∙ first_processes_are core
@@ -259,11 +259,11 @@ module _ (fs : FileSystem) (core : ℕ) (referred : (ino : ℕ) → slice_index 
     limit = min (images i).core 2048;
   }
 
-  begun_agree : Agree w.procs.rows w.procs.table w.procs.images
+  begun_agree : Agree w.procs.rows w.procs.table w.procs.images.kept
   begun_agree =
       let begun : Agree first_processes (first_table fs.store.stamp) (first_images core) = first_agree core fs.store.stamp (subst IsTable slots good) in
-      subst (λ v. Agree v w.procs.table w.procs.images) (sym rows)
-      (subst (λ t. Agree first_processes t w.procs.images) (sym slots) (subst (λ k. Agree first_processes (first_table fs.store.stamp) k) (sym images) begun))
+      subst (λ v. Agree v w.procs.table w.procs.images.kept) (sym rows)
+      (subst (λ t. Agree first_processes t w.procs.images.kept) (sym slots) (subst (λ k. Agree first_processes (first_table fs.store.stamp) k) (sym images) begun))
 
   first_good : IsGood w
   first_good = record {

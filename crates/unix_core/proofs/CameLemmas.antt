@@ -37,7 +37,7 @@ use Rattle.abstract_unix.proofs.Moved.{MovedBoard, AreTamed, Moves, tamed_moves,
 use Rattle.abstract_unix.proofs.Mild.{IsMild, IsNear}
 
 -- The process that runs can call.
-pub ready_calls : (w : World) (s : ℕ) → IsReady w s → length w.files.table ≡ 100 → IsKept w.procs.images → Calls w.procs w.files.tree.nodes s
+pub ready_calls : (w : World) (s : ℕ) → IsReady w s → length w.files.table ≡ 100 → IsKept w.procs.images.kept → Calls w.procs w.files.tree.nodes s
 ready_calls w s ready long holds =
     let alive = ready_alive w s ready in
     let u : Unix = unix_of w in
@@ -51,12 +51,12 @@ ready_calls w s ready long holds =
       image = alive.image;
       referred = λ ino.
           let dir = stands_within (told_in u.processes) s (record { files = held.u.files; dir = held.u.dir }) told ino in
-          let own : ◌≡◌ {A = ℕ} (if (area_of w.procs.images s).dir == ino then 1 else 0) (if held.u.dir == ino then 1 else 0) =
+          let own : ◌≡◌ {A = ℕ} (if (area_of w.procs.images.kept s).dir == ino then 1 else 0) (if held.u.dir == ino then 1 else 0) =
           ap (λ x. cond {A = ℕ} ((area_in x).dir == ino) 1 0) alive.image.1 in
           let all = ready.good.owed.referred ino in
           omega (arith, dir, own, all);
       few = λ ino.
-          let most = few_references refs w.files.table w.files.pipes u.texts (told_in u.processes) ready.good.owed (fifty_told w) ino long (forty w.procs.images holds) in
+          let most = few_references refs w.files.table w.files.pipes u.texts (told_in u.processes) ready.good.owed (fifty_told w) ino long (forty w.procs.images.kept holds) in
           omega (arith, most);
     }
 

@@ -87,9 +87,9 @@ module _ (u : UArea) (sig : ℕ) (m : Image) where
 pub told_sizes : (u : UArea) (sig : ℕ) (m : Image) → HasSizes u m → HasSizes (delivery u sig m).area (delivery u sig m).image
 told_sizes u sig m has = sizes_kept u (delivery u sig m).area m (delivery u sig m).image has (delivered_sizes u sig m) (delivered_lengths u sig m)
 
-module _ (w : World) (s : ℕ) (ready : IsReady w s) (holds : kept.IsKept w.procs.images) (sig : ℕ) (k : Kept)
-    (is : k ≡ with_area (with_image w.procs.images s (delivery (area_of w.procs.images s) sig (image_of w.procs.images s)).image) s
-    (delivery (area_of w.procs.images s) sig (image_of w.procs.images s)).area) where
+module _ (w : World) (s : ℕ) (ready : IsReady w s) (holds : kept.IsKept w.procs.images.kept) (sig : ℕ) (k : Kept)
+    (is : k ≡ with_area (with_image w.procs.images.kept s (delivery (area_of w.procs.images.kept s) sig (image_of w.procs.images.kept s)).image) s
+    (delivery (area_of w.procs.images.kept s) sig (image_of w.procs.images.kept s)).area) where
   abbrev told : World
   told = with_images w k
 
@@ -105,11 +105,11 @@ module _ (w : World) (s : ℕ) (ready : IsReady w s) (holds : kept.IsKept w.proc
   mem_ready : IsReady mem s
   mem_ready = memory_ready w s ready d.image
 
-  its : k ≡ with_area (with_image w.procs.images s d.image) s d.area
+  its : k ≡ with_area (with_image w.procs.images.kept s d.image) s d.area
   its =
       let own = own_area w s ready in
-      let image : image_of w.procs.images s ≡ one.image_of (unix_of w).texts p = sym (image_here w.procs s (ready_alive w s ready) holds) in
-      is ∙ (λ i. with_area (with_image w.procs.images s (delivery (own i) sig (image i)).image) s (delivery (own i) sig (image i)).area)
+      let image : image_of w.procs.images.kept s ≡ one.image_of (unix_of w).texts p = sym (image_here w.procs s (ready_alive w s ready) holds) in
+      is ∙ (λ i. with_area (with_image w.procs.images.kept s (delivery (own i) sig (image i)).image) s (delivery (own i) sig (image i)).area)
 
   like : IsLikeArea d.area (process_of (unix_of mem) s).u
   like =
@@ -132,9 +132,9 @@ module _ (w : World) (s : ℕ) (ready : IsReady w s) (holds : kept.IsKept w.proc
   told_board = ap (λ x. board_in (with_images w x)) its ∙ area_board mem s mem_ready d.area ∙ memory_board w s (ready_alive w s ready) d.image
 
   -- without a routine nothing has changed
-  pub told_none : handler_of (area_of w.procs.images s) sig ≡ 0 → k ≡ w.procs.images
+  pub told_none : handler_of (area_of w.procs.images.kept s) sig ≡ 0 → k ≡ w.procs.images.kept
   told_none zero =
-      let none = delivered_none (area_of w.procs.images s) sig (image_of w.procs.images s) zero in
-      is ∙ ap (λ (x : Delivery). with_area (with_image w.procs.images s x.image) s x.area) none
-      ∙ sym (area_alone w.procs.images s (area_of w.procs.images s))
-      ∙ area_back w.procs.images s (ready.good.running s ready.runs ready.user)
+      let none = delivered_none (area_of w.procs.images.kept s) sig (image_of w.procs.images.kept s) zero in
+      is ∙ ap (λ (x : Delivery). with_area (with_image w.procs.images.kept s x.image) s x.area) none
+      ∙ sym (area_alone w.procs.images.kept s (area_of w.procs.images.kept s))
+      ∙ area_back w.procs.images.kept s (ready.good.running s ready.runs ready.user)

@@ -70,16 +70,16 @@ above_zero k zero held none has = absurd (cc (sym none ∙ has))
 above_zero k (suc s) held none has = omega arith
 
 -- who has an image lives
-alive_in : (w : World) (s : ℕ) → IsGood w → IsKept w.procs.images → HasImage w.procs.images s → IsAlive w.procs s
+alive_in : (w : World) (s : ℕ) → IsGood w → IsKept w.procs.images.kept → HasImage w.procs.images.kept s → IsAlive w.procs s
 alive_in w s good holds has = record {
   agree = good.agree;
-  above = above_zero w.procs.images s has.0 good.agree.images has.1;
-  below = subst (λ n. s < n) holds.slots (alive_low w.procs.images.slots s (image_alive w.procs.images s has));
+  above = above_zero w.procs.images.kept s has.0 good.agree.images has.1;
+  below = subst (λ n. s < n) holds.slots (alive_low w.procs.images.kept.slots s (image_alive w.procs.images.kept s has));
   image = has;
 }
 
 -- The kernel when the memory of a process is another one of the same sizes.
-module _ (w : World) (s : ℕ) (alive : IsAlive w.procs s) (image : Image) (same : SameLengths (image_of w.procs.images s) image) where
+module _ (w : World) (s : ℕ) (alive : IsAlive w.procs s) (image : Image) (same : SameLengths (image_of w.procs.images.kept s) image) where
   abbrev now : World
   now = with_memory w s alive image
 
@@ -89,10 +89,10 @@ module _ (w : World) (s : ℕ) (alive : IsAlive w.procs s) (image : Image) (same
     | inr other ↦ ap (λ (u : Unix). is_user (process_of u r)) (memory_unix w s alive image) ∙ ap (λ o. is_user (unwrap_or o no_process)) (get_or-set_other (unix_of w).processes s r _ None other)
   ]
 
-  fixed_same : (f : Fixed) → IsFixed w.procs.images f → IsFixed now.procs.images f
+  fixed_same : (f : Fixed) → IsFixed w.procs.images.kept f → IsFixed now.procs.images.kept f
   fixed_same f fixed = elim (cases_eq f.slot s) [
-    | inl here ↦ subst (λ r. AreStarts now.procs.images r f.starts) (sym here) (starts_after w.procs.images s f.starts image (subst (λ r. AreStarts w.procs.images r f.starts) here fixed) same)
-    | inr other ↦ starts_others w.procs.images s f.slot f.starts image other fixed
+    | inl here ↦ subst (λ r. AreStarts now.procs.images.kept r f.starts) (sym here) (starts_after w.procs.images.kept s f.starts image (subst (λ r. AreStarts w.procs.images.kept r f.starts) here fixed) same)
+    | inr other ↦ starts_others w.procs.images.kept s f.slot f.starts image other fixed
   ]
 
   memory_kernel : (at : Stage) → phase_of at ≡ Started → IsKernel at w → IsKernel at now
@@ -125,33 +125,33 @@ module _ (w : World) (s : ℕ) (alive : IsAlive w.procs s) (image : Image) (same
   memory_kernel stage.Finished started kernel = absurd (cc started)
 
 -- A byte has been put.
-module _ (at : Stage) (w : World) (new : Kept) (swap : Bool) (i b : ℕ) (started : phase_of at ≡ Started) (kernel : IsKernel at w) (holds : IsKept w.procs.images) where
-  put_alive : (s : ℕ) (byte : Named) → IsByteOf w.procs.images swap i s byte → IsAlive w.procs s
+module _ (at : Stage) (w : World) (new : Kept) (swap : Bool) (i b : ℕ) (started : phase_of at ≡ Started) (kernel : IsKernel at w) (holds : IsKept w.procs.images.kept) where
+  put_alive : (s : ℕ) (byte : Named) → IsByteOf w.procs.images.kept swap i s byte → IsAlive w.procs s
   put_alive s byte of = alive_in w s (kernel_good at w started kernel) holds (of.0, of.1)
 
   abbrev image_put : ℕ → Named → Image
-  image_put s byte = image_after (image_of w.procs.images s) (with_byte (image_of w.procs.images s) byte b)
+  image_put s byte = image_after (image_of w.procs.images.kept s) (with_byte (image_of w.procs.images.kept s) byte b)
 
-  put_kernel : IsPut w.procs.images swap i b new → IsKernel at (with_images w new)
+  put_kernel : IsPut w.procs.images.kept swap i b new → IsKernel at (with_images w new)
   unfolding with_byte_of
   put_kernel put =
-      let m : Image = image_of w.procs.images put.0 in
+      let m : Image = image_of w.procs.images.kept put.0 in
       subst (λ k. IsKernel at (with_images w k)) (sym put.3)
       (memory_kernel w put.0 (put_alive put.0 put.1 put.2) (image_put put.0 put.1) (byte_lengths m put.1 b) at started kernel)
 
-  pub deposit_kernel : (r : Bool) → (r ≡ true → IsPut w.procs.images swap i b new) → (r ≡ false → new ≡ w.procs.images) → IsKernel at (with_images w new)
+  pub deposit_kernel : (r : Bool) → (r ≡ true → IsPut w.procs.images.kept swap i b new) → (r ≡ false → new ≡ w.procs.images.kept) → IsKernel at (with_images w new)
   deposit_kernel true put same = put_kernel (put refl)
   deposit_kernel false put same = subst (λ k. IsKernel at (with_images w k)) (sym (same refl)) kernel
 
-  pub put_system : (was : System) → system_at w ≡ was → w.procs.images ≡ kept_in was → IsPut w.procs.images swap i b new → IsPutIn was swap i b (system_at (with_images w new))
+  pub put_system : (was : System) → system_at w ≡ was → w.procs.images.kept ≡ kept_in was → IsPut w.procs.images.kept swap i b new → IsPutIn was swap i b (system_at (with_images w new))
   unfolding with_byte_of
   put_system was same told put =
       let s : ℕ = put.0 in
       let byte : Named = put.1 in
       let alive = put_alive s byte put.2 in
       let p : Process = process_of (unix_of w) s in
-      let its : image_of w.procs.images s ≡ one.image_of (unix_of w).texts p = sym (image_here w.procs s alive holds) in
-      let done = process_put p (image_of w.procs.images s) byte b put.2.2.kind (ap (λ (m : Image). m.data) its) (ap (λ (m : Image). m.stack) its) in
+      let its : image_of w.procs.images.kept s ≡ one.image_of (unix_of w).texts p = sym (image_here w.procs s alive holds) in
+      let done = process_put p (image_of w.procs.images.kept s) byte b put.2.2.kind (ap (λ (m : Image). m.data) its) (ap (λ (m : Image). m.stack) its) in
       let then_ : system_at (with_images w new) ≡ with_byte_at (system_at w) s byte b =
       ap (λ k. system_at (with_images w k)) put.3
       ∙ (λ j. record {
@@ -160,5 +160,5 @@ module _ (at : Stage) (w : World) (new : Kept) (swap : Bool) (i b : ℕ) (starte
       }) in
       (s, byte, subst (λ k. IsByteOf k swap i s byte) told put.2, then_ ∙ ap (λ m. with_byte_at m s byte b) same)
 
-  pub nobodys_in : (was : System) → w.procs.images ≡ kept_in was → IsNobodys w.procs.images swap i → IsNobodys (kept_in was) swap i
+  pub nobodys_in : (was : System) → w.procs.images.kept ≡ kept_in was → IsNobodys w.procs.images.kept swap i → IsNobodys (kept_in was) swap i
   nobodys_in was told none = subst (λ k. IsNobodys k swap i) told none

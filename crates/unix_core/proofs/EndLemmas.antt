@@ -137,8 +137,8 @@ module _ (w : World) (good : IsGood w) (s : ℕ) (above : 0 < s) (low : s < 50) 
   pub ended_good : IsGood (with_table w t)
   ended_good =
       good_table w t
-      (ended_agree w.procs.rows w.procs.images w.procs.table s good.agree above low t e is table (λ alive. good.running s (runs alive) above))
-      (ended_image w.procs.images w.procs.table t s e is good.running) good
+      (ended_agree w.procs.rows w.procs.images.kept w.procs.table s good.agree above low t e is table (λ alive. good.running s (runs alive) above))
+      (ended_image w.procs.images.kept w.procs.table t s e is good.running) good
 
   pub ended_system : (b : Board) → board_in (with_table w t) ≡ b → (now : System)
       → now ≡ record (system_at (with_table w t)) { board = (settled (board_in (with_table w t))).board }

@@ -159,7 +159,7 @@ module _ (w1 now : World) (s : ℕ) (ready : IsReady w1 s) (status : ℕ) (agree
   its_board : (block : ℕ) × ((parent : ℕ) × (board now.procs ≡ (of_end {W = its.World} left_board s block parent).board))
   its_board = let log = end_goes w1 s ready status goes in (log.0, (log.1.0, shown ∙ ap (λ l. l.board) log.1.1))
 
-  clicks : now.procs.images.core ≡ w1.procs.images.core
+  clicks : now.procs.images.kept.core ≡ w1.procs.images.kept.core
   clicks =
       let b = its_board in
       ap (λ (x : Board). x.core) b.1.1 ∙ end_core left_board s b.0 b.1.0 ∙ (text_moved w1 s ready status (its_text w1 s ready status)).core

@@ -50,28 +50,28 @@ pub forty : (k : Kept) → kept.IsKept k → length (texts_in k) ≡ 40
 forty k holds = length-map k.texts text_in ∙ holds.table
 
 pub fifty_told : (w : World) → length (told_in (unix_of w).processes) ≡ 50
-fifty_told w = length-map (unix_of w).processes told_by ∙ fifty_processes w.procs.rows.slots w.procs.images
+fifty_told w = length-map (unix_of w).processes told_by ∙ fifty_processes w.procs.rows.slots w.procs.images.kept
 
 module _ (w : World) (agree : AreProcs w.procs) (s : ℕ) (above : 0 < s) (low : s < 50) where
-  pub image_of_told : (t : Told) → told_of_slot w s ≡ Some t → HasImage w.procs.images s
+  pub image_of_told : (t : Told) → told_of_slot w s ≡ Some t → HasImage w.procs.images.kept s
   image_of_told t is =
       let here = living (unix_of w).processes s t is in
-      held_by (member_at w.procs.rows.slots s) (keeping w.procs.images s) (text_of w.procs.images s) here.process
-      (sym (process_in_slot w.procs.rows.slots w.procs.images s low) ∙ here.there) here.lives (agree.each s above low).image
+      held_by (member_at w.procs.rows.slots s) (keeping w.procs.images.kept s) (text_of w.procs.images.kept s) here.process
+      (sym (process_in_slot w.procs.rows.slots w.procs.images.kept s low) ∙ here.there) here.lives (agree.each s above low).image
 
-  pub told_of_image : (held : Held) → Has w.procs.images s held → told_of_slot w s ≡ Some (record { files = held.u.files; dir = held.u.dir })
+  pub told_of_image : (held : Held) → Has w.procs.images.kept s held → told_of_slot w s ≡ Some (record { files = held.u.files; dir = held.u.dir })
   told_of_image held has =
-      let there = is_there (member_at w.procs.rows.slots s) (row_at w.procs.table s) (keeping w.procs.images s) held (agree.each s above low) has in
-      let text : Option ℕ = text_of w.procs.images s in
+      let there = is_there (member_at w.procs.rows.slots s) (row_at w.procs.table s) (keeping w.procs.images.kept s) held (agree.each s above low) has in
+      let text : Option ℕ = text_of w.procs.images.kept s in
       told_at (unix_of w).processes s (process_by there.0 (Alive held) text)
-      (process_in_slot w.procs.rows.slots w.procs.images s low
-      ∙ (ap (λ o. process_in o (keeping w.procs.images s) text) there.1 ∙ ap (λ x. process_in (Some there.0) x text) has)) there.2
+      (process_in_slot w.procs.rows.slots w.procs.images.kept s low
+      ∙ (ap (λ o. process_in o (keeping w.procs.images.kept s) text) there.1 ∙ ap (λ x. process_in (Some there.0) x text) has)) there.2
 
 -- A world after a good one: who runs still has an image.
 module _ (w now : World) (good : IsGood w) (agree : AreProcs now.procs) where
   pub still_runs : ((s : ℕ) → now.procs.table.running ≡ Some s → w.procs.table.running ≡ Some s)
       → ((s : ℕ) (t : Told) → w.procs.table.running ≡ Some s → told_of_slot w s ≡ Some t → told_of_slot now s ≡ Some t)
-      → (s : ℕ) → now.procs.table.running ≡ Some s → 0 < s → HasImage now.procs.images s
+      → (s : ℕ) → now.procs.table.running ≡ Some s → 0 < s → HasImage now.procs.images.kept s
   still_runs ran stays s runs above =
       let was = ran s runs in
       let low = runs_low w s good.agree was in
@@ -80,16 +80,16 @@ module _ (w now : World) (good : IsGood w) (agree : AreProcs now.procs) where
 
 -- With the same table, whoever had an image has one.
 module _ (w now : World) (good : IsGood w) (agree : AreProcs now.procs) (table : now.procs.table ≡ w.procs.table) where
-  same_kind : (s : ℕ) → 0 < s → s < 50 → kind_of_keeping (keeping now.procs.images s) ≡ kind_of_keeping (keeping w.procs.images s)
+  same_kind : (s : ℕ) → 0 < s → s < 50 → kind_of_keeping (keeping now.procs.images.kept s) ≡ kind_of_keeping (keeping w.procs.images.kept s)
   same_kind s above low =
       let new = agree.each s above low in
       let old = good.agree.each s above low in
       new.image ∙ sym new.stat ∙ ap (λ (t : Table). kind_of_stat (row_at t s).stat) table ∙ old.stat ∙ sym old.image
 
-  pub runs_same : (s : ℕ) → now.procs.table.running ≡ Some s → 0 < s → HasImage now.procs.images s
+  pub runs_same : (s : ℕ) → now.procs.table.running ≡ Some s → 0 < s → HasImage now.procs.images.kept s
   runs_same s runs above =
       let was : w.procs.table.running ≡ Some s = ap (λ (t : Table). t.running) (sym table) ∙ runs in
-      held_alive (keeping now.procs.images s)
+      held_alive (keeping now.procs.images.kept s)
       (same_kind s above (runs_low w s good.agree was) ∙ ap kind_of_keeping (good.running s was above).1)
 
 -- Beside processes, inodes, their marks and the table of open files a world is as it was.
@@ -117,7 +117,7 @@ module _ (w now : World) (rests : Rests w now) (clicks : (board now.procs).core 
         limit = min (clicks i) 2048;
       }
 
-  pub good_then : IsGood w → AreProcs now.procs → ((s : ℕ) → now.procs.table.running ≡ Some s → 0 < s → HasImage now.procs.images s) → Owed now.files.tree.nodes.references (unix_of now)
+  pub good_then : IsGood w → AreProcs now.procs → ((s : ℕ) → now.procs.table.running ≡ Some s → 0 < s → HasImage now.procs.images.kept s) → Owed now.files.tree.nodes.references (unix_of now)
       → CanGoOn (unix_of now) → IsMarked now.procs now.files.tree.marks → IsGood now
   good_then good agree running owed pending marks = record {
     agree = agree;

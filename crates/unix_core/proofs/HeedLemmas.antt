@@ -54,14 +54,14 @@ module _ (w : World) (s : ℕ) (ready : IsReady w s) (v : Processes) (is : v ≡
   low = let here = is_here w.procs s (ready_alive w s ready) in member_low w.procs.rows.slots s here.member here.member_is
 
   its_row : row_at w.procs.rows s ≡ p.row
-  its_row = sym (own_row w.procs.rows.slots w.procs.images s (ready_alive w s ready).below)
+  its_row = sym (own_row w.procs.rows.slots w.procs.images.kept s (ready_alive w s ready).below)
 
   changed_unix : unix_of changed ≡ heeds (unix_of w) s
   changed_unix =
       let alive = ready_alive w s ready in
       let here = is_here w.procs s alive in
       ap (λ (l : List (Option Process)). record (unix_of w) { processes = l })
-      (used_row w.procs.rows.slots w.procs.images s here.member alive.below here.member_is row low
+      (used_row w.procs.rows.slots w.procs.images.kept s here.member alive.below here.member_is row low
       ∙ ap (λ (r : Row). set (unix_of w).processes s (Some (record p { row = record r { sig = 0 } }))) its_row)
 
   changed_ready : IsReady changed s
@@ -71,7 +71,7 @@ module _ (w : World) (s : ℕ) (ready : IsReady w s) (v : Processes) (is : v ≡
       let refs : List ℕ = w.files.tree.nodes.references in
       record {
         good = record {
-          agree = agree_row w.procs.rows w.procs.table w.procs.images s here.member row ready.good.agree alive.above alive.below low here.member_is;
+          agree = agree_row w.procs.rows w.procs.table w.procs.images.kept s here.member row ready.good.agree alive.above alive.below low here.member_is;
           running = ready.good.running;
           owed = subst (Owes refs w.files.table w.files.pipes (unix_of w).texts)
               (sym (ap (λ (x : Unix). told_in x.processes) changed_unix ∙ told_change (unix_of w).processes s p (heeding p) (slot_is w s ready) refl))

@@ -133,7 +133,7 @@ module _ (w : World) (good : IsGood w) (procs : Procs) (n : ℕ) (agree : ArePro
   told_same : told_in (unix_of now).processes ≡ told_in (unix_of w).processes
   told_same =
       ap (λ (u : Unix). told_in u.processes) key_unix
-      ∙ told_signalled has_console n (unix_of w).processes (fifty_processes w.procs.rows.slots w.procs.images)
+      ∙ told_signalled has_console n (unix_of w).processes (fifty_processes w.procs.rows.slots w.procs.images.kept)
 
   pub key_good : IsGood now
   key_good = record {

@@ -44,14 +44,14 @@ abbrev pub given : World → ℕ → Handed
 given w s = handed_of (unix_of w) (process_of (unix_of w) s)
 
 -- the u area of the process
-pub area_is : (w : World) (s : ℕ) (u : UArea) → IsReady w s → u ≡ area_of w.procs.images s → u ≡ (process_of (unix_of w) s).u
+pub area_is : (w : World) (s : ℕ) (u : UArea) → IsReady w s → u ≡ area_of w.procs.images.kept s → u ≡ (process_of (unix_of w) s).u
 area_is w s u ready is = is ∙ area_here w.procs s (ready_alive w s ready)
 
 -- what is lent is what is given
-pub lent_is : (w : World) (s : ℕ) (u : UArea) → IsReady w s → IsFileSystem w.files.tree.nodes → kept.IsKept w.procs.images → u ≡ area_of w.procs.images s
-    → handed w.files u (row_at w.procs.rows s) (image_of w.procs.images s) ≡ given w s
+pub lent_is : (w : World) (s : ℕ) (u : UArea) → IsReady w s → IsFileSystem w.files.tree.nodes → kept.IsKept w.procs.images.kept → u ≡ area_of w.procs.images.kept s
+    → handed w.files u (row_at w.procs.rows s) (image_of w.procs.images.kept s) ≡ given w s
 lent_is w s u ready form holds is =
-    ap (λ (v : UArea). handed w.files v (row_at w.procs.rows s) (image_of w.procs.images s)) is ∙ handed_is w s ready form holds
+    ap (λ (v : UArea). handed w.files v (row_at w.procs.rows s) (image_of w.procs.images.kept s)) is ∙ handed_is w s ready form holds
 
 -- A call on files has left the parts in this state.
 pub record Leaves (w w' : World) (s : ℕ) (u : UArea) (row : Row) (image : Image) (state : Handed) : Type 0 where
@@ -62,7 +62,7 @@ pub record Leaves (w w' : World) (s : ℕ) (u : UArea) (row : Row) (image : Imag
   pub rooms : (w'.tape.entry_room ≡ w.tape.entry_room) × (w'.tape.byte_room ≡ w.tape.byte_room)
   pub fifteen : length u.files ≡ 15
   pub rows : w'.procs.rows ≡ with_change w.procs.rows s (with_row row)
-  pub images : w'.procs.images ≡ with_area (with_image w.procs.images s image) s u
+  pub images : w'.procs.images.kept ≡ with_area (with_image w.procs.images.kept s image) s u
   pub table : w'.procs.table ≡ w.procs.table
   pub switches : w'.procs.switches ≡ w.procs.switches
   pub core : w'.core ≡ w.core
@@ -72,7 +72,7 @@ module _ (w w' : World) (s : ℕ) (u : UArea) (row : Row) (image : Image) (state
   is_after : IsAfter w w' s u row image
   is_after =
       let v : Processes = w.procs.rows in
-      let k : Kept = w.procs.images in
+      let k : Kept = w.procs.images.kept in
       let same : u ≡ state.u = ap (λ (h : Handed). h.u) leaves.is in
       record {
         kept = leaves.kept;
@@ -124,14 +124,14 @@ module _ (w w' : World) (s : ℕ) (u : UArea) (row : Row) (image : Image) (state
 pub record IsLent (w : World) (s : ℕ) (u : UArea) (r : Row) (m : Image) : Type 0 where
   pub ready : IsReady w s
   pub form : IsFileSystem w.files.tree.nodes
-  pub sizes : HasSizes u (image_of w.procs.images s)
-  pub holds : kept.IsKept w.procs.images
-  pub area : u ≡ area_of w.procs.images s
+  pub sizes : HasSizes u (image_of w.procs.images.kept s)
+  pub holds : kept.IsKept w.procs.images.kept
+  pub area : u ≡ area_of w.procs.images.kept s
   pub row : r ≡ row_at w.procs.rows s
-  pub image : m ≡ image_of w.procs.images s
+  pub image : m ≡ image_of w.procs.images.kept s
 
 pub lends : (w : World) (s : ℕ) {u : UArea} {r : Row} (before : Kept) (was : ℕ) → IsReady w s → IsFileSystem w.files.tree.nodes
-    → HasSizes u (image_of w.procs.images s) → kept.IsKept w.procs.images → u ≡ area_of w.procs.images s → r ≡ row_at w.procs.rows s → before ≡ w.procs.images → was ≡ s
+    → HasSizes u (image_of w.procs.images.kept s) → kept.IsKept w.procs.images.kept → u ≡ area_of w.procs.images.kept s → r ≡ row_at w.procs.rows s → before ≡ w.procs.images.kept → was ≡ s
     → IsLent w s u r (image_of before was)
 lends w s {u} {r} before was ready form sizes holds area row images slot = record {
   ready = ready;
@@ -140,7 +140,7 @@ lends w s {u} {r} before was ready form sizes holds area row images slot = recor
   holds = holds;
   area = area;
   row = row;
-  image = ap (λ (k : Kept). image_of k was) images ∙ ap (image_of w.procs.images) slot;
+  image = ap (λ (k : Kept). image_of k was) images ∙ ap (image_of w.procs.images.kept) slot;
 }
 
 pub lent_parts : (w : World) (s : ℕ) {u : UArea} {r : Row} {m : Image} → IsLent w s u r m → handed w.files u r m ≡ given w s
@@ -165,7 +165,7 @@ module _ (w : World) (s : ℕ) {u : UArea} {r : Row} {m : Image} (lent : IsLent 
 
   module _ (rows : Processes) (k : Kept) (clear : cleared ≡ record w.tape { entries = []; bytes = [] })
       (rooms : (tape.entry_room ≡ cleared.entry_room) × (tape.byte_room ≡ cleared.byte_room)) (fifteen : length v.files ≡ 15)
-      (rows_are : rows ≡ with_change w.procs.rows s (with_row row)) (images : k ≡ with_area (with_image w.procs.images s image) s v) where
+      (rows_are : rows ≡ with_change w.procs.rows s (with_row row)) (images : k ≡ with_area (with_image w.procs.images.kept s image) s v) where
     abbrev after : World
     after = record w { files = f; procs = record w.procs { rows = rows; images = k }; tape = tape }
 
@@ -202,7 +202,7 @@ closing_confined slot h = record { fits = close_all_fits slot h; steady = close_
 
 -- The file `core` of the process has been written, by which nothing of the process has changed.
 module _ (w : World) (s : ℕ) {u : UArea} {m : Image} (lent : IsLent w s u (row_at w.procs.rows s) m) (none : (given w s).u.pending ≡ 0) (now : ℕ)
-    (f : Files) (k : Kept) (same : k ≡ w.procs.images)
+    (f : Files) (k : Kept) (same : k ≡ w.procs.images.kept)
     (state : handed f u (row_at w.procs.rows s) m ≡ (core_file (handed w.files u (row_at w.procs.rows s) m) now).state)
     (keeps : IsKept (handed w.files u (row_at w.procs.rows s) m) (handed f u (row_at w.procs.rows s) m)) where
   abbrev dumped : World
@@ -213,11 +213,11 @@ module _ (w : World) (s : ℕ) {u : UArea} {m : Image} (lent : IsLent w s u (row
       ap (λ (v : UArea). length v.files) (area_is w s u lent.ready lent.area)
       ∙ lent.ready.good.owed.fifteen s (told_of (process_of (unix_of w) s)) (told_here w s lent.ready)
 
-  same_images : k ≡ with_area (with_image w.procs.images s m) s u
+  same_images : k ≡ with_area (with_image w.procs.images.kept s m) s u
   same_images =
       let has = lent.ready.good.running s lent.ready.runs lent.ready.user in
-      same ∙ sym (area_back w.procs.images s has) ∙ ap (with_area w.procs.images s) (sym lent.area) ∙ area_alone w.procs.images s u
-      ∙ ap (λ (x : Image). with_area (with_image w.procs.images s x) s u) (sym lent.image)
+      same ∙ sym (area_back w.procs.images.kept s has) ∙ ap (with_area w.procs.images.kept s) (sym lent.area) ∙ area_alone w.procs.images.kept s u
+      ∙ ap (λ (x : Image). with_area (with_image w.procs.images.kept s x) s u) (sym lent.image)
 
   dump_leaves : Leaves w dumped s u (row_at w.procs.rows s) m (core_file (given w s) now).state
   dump_leaves =

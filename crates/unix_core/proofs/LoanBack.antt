@@ -45,12 +45,12 @@ module _ (w : World) (s : ℕ) {u : UArea} {r : Row} {m : Image} (lent : IsLent 
       (record { text = steady.area.text_size; «data» = steady.area.data_size; stack = steady.area.stack_size }) steady.image
 
   -- The slot has its image when the memory has come back.
-  pub area_put : (now : Kept) → now ≡ with_image w.procs.images s image → HasImage now s × HasSizes v (image_of now s)
+  pub area_put : (now : Kept) → now ≡ with_image w.procs.images.kept s image → HasImage now s × HasSizes v (image_of now s)
   area_put now back =
-      let has : HasImage w.procs.images s = lent.ready.good.running s lent.ready.runs lent.ready.user in
+      let has : HasImage w.procs.images.kept s = lent.ready.good.running s lent.ready.runs lent.ready.user in
       let P : Kept → Type 0 = λ k. HasImage k s × HasSizes v (image_of k s) in
       let Q : Image → Type 0 = λ x. HasSizes v x in
-      subst P (sym back) (with_image_has w.procs.images s s image has, subst Q (sym (with_image_same w.procs.images s image (image_alive w.procs.images s has))) sizes_put)
+      subst P (sym back) (with_image_has w.procs.images.kept s s image has, subst Q (sym (with_image_same w.procs.images.kept s image (image_alive w.procs.images.kept s has))) sizes_put)
 
   pub row_put : SameRow (row_at w.procs.rows s) row
   row_put = let P : Row → Type 0 = λ x. SameRow x row in subst P lent.row steady.row

@@ -36,7 +36,7 @@ runs_kernel w f running = record {
   resting = λ e. absurd (cc e);
 }
 
-pub user_is : (w : World) (s : ℕ) (b : Bool) → IsAlive w.procs s → ((area_of w.procs.images s).pending == 0) ≡ b → is_user (process_of (unix_of w) s) ≡ b
+pub user_is : (w : World) (s : ℕ) (b : Bool) → IsAlive w.procs s → ((area_of w.procs.images.kept s).pending == 0) ≡ b → is_user (process_of (unix_of w) s) ≡ b
 user_is w s b alive is = ap (λ (v : UArea). v.pending == 0) (sym (area_here w.procs s alive)) ∙ is
 
 abbrev one_of : Option ℕ → ℕ
@@ -62,7 +62,7 @@ abbrev mode_if : Bool → Mode
 mode_if b = if b then User else Kernel
 
 pub mode_is : (w : World) (s : ℕ) (b : Bool) → IsGood w → w.procs.table.running ≡ Some s → 0 < s
-    → ((area_of w.procs.images s).pending == 0) ≡ b → mode_of (system_at w) ≡ (if b then User else Kernel)
+    → ((area_of w.procs.images.kept s).pending == 0) ≡ b → mode_of (system_at w) ≡ (if b then User else Kernel)
 mode_is w s b good runs above is =
     let alive = good_alive w s good runs above in
     ap (mode_by (unix_of w)) runs
@@ -76,7 +76,7 @@ like_timed Kernel u = record { clicks = refl; files = refl; dir = refl; pending 
 like_timed Idle u = record { clicks = refl; files = refl; dir = refl; pending = refl; call = refl }
 
 module _ (mode : Mode) (w : World) (s : ℕ) (good : IsGood w) (runs : w.procs.table.running ≡ Some s) (above : 0 < s)
-    (u : UArea) (is : u ≡ timed_area mode (area_of w.procs.images s)) (k : Kept) (kept : k ≡ with_area w.procs.images s u) where
+    (u : UArea) (is : u ≡ timed_area mode (area_of w.procs.images.kept s)) (k : Kept) (kept : k ≡ with_area w.procs.images.kept s u) where
   abbrev who : Process
   who = process_of (unix_of w) s
 
@@ -98,7 +98,7 @@ module _ (mode : Mode) (w : World) (s : ℕ) (good : IsGood w) (runs : w.procs.t
       ∙ ap (λ c. if c then unix_of w else with_process (unix_of w) s (timed mode who)) (ne_eqb s 0 (λ e. omega (arith, e, above))))
 
   pub charge_board : board_in (with_images w k) ≡ board_in w
-  charge_board = ap (λ l. board_in (with_images w l)) kept ∙ (λ i. record (board_in w) { texts = map text_place ((with_area_texts w.procs.images s u).texts i); core = area_core w.procs.images s u i })
+  charge_board = ap (λ l. board_in (with_images w l)) kept ∙ (λ i. record (board_in w) { texts = map text_place ((with_area_texts w.procs.images.kept s u).texts i); core = area_core w.procs.images.kept s u i })
 
   pub charge_good : IsGood (with_images w k)
   charge_good = subst (λ l. IsGood (with_images w l)) (sym kept) (good_put w s u lives charge_like good)

@@ -169,7 +169,7 @@ module _ (v : Processes) (t : Table) (k : Kept) (holds : IsKept k) where
           ]
 
 -- between two events of a run that goes on
-pub told : (at : Stage) (w : World) → IsKernel at w → phase_of at ≡ Started → AreProcesses w.procs.rows → IsKept w.procs.images
-    → w.procs.images ≡ kept_in (system_at w)
+pub told : (at : Stage) (w : World) → IsKernel at w → phase_of at ≡ Started → AreProcesses w.procs.rows → IsKept w.procs.images.kept
+    → w.procs.images.kept ≡ kept_in (system_at w)
 told at w kernel started processes holds =
-    sym (kept_is w.procs.rows w.procs.table w.procs.images holds processes (kernel_good at w started kernel).agree (system_at w) refl refl refl)
+    sym (kept_is w.procs.rows w.procs.table w.procs.images.kept holds processes (kernel_good at w started kernel).agree (system_at w) refl refl refl)

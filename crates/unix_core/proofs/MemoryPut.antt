@@ -21,7 +21,7 @@ use Rattle.unix_core.proofs.PutLemmas.{with_images, alive_slot, slot_put, agree_
 
 module _ (w : World) (s : ℕ) (alive : IsAlive w.procs s) (image : Image) where
   abbrev pub with_memory : World
-  with_memory = with_images w (with_image w.procs.images s image)
+  with_memory = with_images w (with_image w.procs.images.kept s image)
 
   abbrev p : Process
   p = process_of (unix_of w) s
@@ -31,7 +31,7 @@ module _ (w : World) (s : ℕ) (alive : IsAlive w.procs s) (image : Image) where
 
   pub memory_unix : unix_of with_memory ≡ with_process (unix_of w) s q
   memory_unix =
-      let k : Kept = w.procs.images in
+      let k : Kept = w.procs.images.kept in
       let here = is_here w.procs s alive in
       let changed = slot_put w s alive w.procs.rows (with_image k s image) (λ m. m.row) (λ held. record held { image = image }) (λ held own. refl) (λ held. refl)
       (λ m is. is) (λ r other. refl) (image_now k s image) (image_other k s image) (with_image_texts k s image) q
@@ -43,7 +43,7 @@ module _ (w : World) (s : ℕ) (alive : IsAlive w.procs s) (image : Image) where
       }
 
   pub memory_board : board_in with_memory ≡ board_in w
-  memory_board = λ i. record (board_in w) { texts = map text_place ((with_image_texts w.procs.images s image).texts i); core = image_core w.procs.images s image i }
+  memory_board = λ i. record (board_in w) { texts = map text_place ((with_image_texts w.procs.images.kept s image).texts i); core = image_core w.procs.images.kept s image i }
 
   pub memory_process : process_of (unix_of with_memory) s ≡ q
   memory_process =
@@ -52,7 +52,7 @@ module _ (w : World) (s : ℕ) (alive : IsAlive w.procs s) (image : Image) where
 
   memory_agree : AreProcs with_memory.procs
   memory_agree =
-      let k : Kept = w.procs.images in
+      let k : Kept = w.procs.images.kept in
       agree_put w s alive w.procs.rows (with_image k s image) (λ m. m.row) (λ held. record held { image = image }) (λ held own. refl) (λ held. refl)
       (λ m is. is) (λ r other. refl) (image_now k s image) (image_other k s image) (with_image_texts k s image)
 
@@ -62,12 +62,12 @@ module _ (w : World) (s : ℕ) (alive : IsAlive w.procs s) (image : Image) where
     running = runs_same w with_memory good memory_agree refl;
     owed =
         let refs : List ℕ = w.files.tree.nodes.references in
-        subst (λ texts. Owes refs w.files.table w.files.pipes texts (told_in (unix_of with_memory).processes)) (ap (λ texts. map text_in texts) (sym (with_image_texts w.procs.images s image).texts))
+        subst (λ texts. Owes refs w.files.table w.files.pipes texts (told_in (unix_of with_memory).processes)) (ap (λ texts. map text_in texts) (sym (with_image_texts w.procs.images.kept s image).texts))
         (subst (Owes refs w.files.table w.files.pipes (unix_of w).texts)
         (sym (ap (λ (x : Unix). told_in x.processes) memory_unix ∙ told_change (unix_of w).processes s p q (alive_slot w s alive) refl)) good.owed);
     pending = subst CanGoOn (sym memory_unix)
         (going_put (unix_of w) s p q (alive_slot w s alive) (record { pending = refl; call = refl; files = refl; lives = refl }) good.pending);
-    marks = good.marks ∙ ap (λ texts. marks_of (map text_in texts)) (sym (with_image_texts w.procs.images s image).texts);
+    marks = good.marks ∙ ap (λ texts. marks_of (map text_in texts)) (sym (with_image_texts w.procs.images.kept s image).texts);
     rooms = good.rooms;
-    core = good.core ∙ sym (image_core w.procs.images s image);
+    core = good.core ∙ sym (image_core w.procs.images.kept s image);
   }

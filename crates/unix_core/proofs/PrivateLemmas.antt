@@ -384,7 +384,7 @@ settled_unix h = by (calls_for_settling h)
 -- a kernel has fifty slots
 pub fifty_slots : (w : World) (m : System) → system_at w ≡ m → length m.unix.processes ≡ 50
 fifty_slots w m same =
-    subst (λ (n : System). length n.unix.processes ≡ 50) same (fifty_processes w.procs.rows.slots w.procs.images)
+    subst (λ (n : System). length n.unix.processes ≡ 50) same (fifty_processes w.procs.rows.slots w.procs.images.kept)
 
 -- The law, event by event: at the start,
 pub start_private : (m : System) → AllUndisturbed m (start_of m).next

@@ -110,7 +110,7 @@ line_goes w b e c mild is = record {
   like = λ none. is.like (sym (line_first b e c.effects) ∙ none);
 }
 
-module _ (w : World) (s : ℕ) (ready : IsReady w s) (form : IsFileSystem w.files.tree.nodes) (holds : IsKept w.procs.images) where
+module _ (w : World) (s : ℕ) (ready : IsReady w s) (form : IsFileSystem w.files.tree.nodes) (holds : IsKept w.procs.images.kept) where
   abbrev ps : List (Option Process)
   ps = (unix_of w).processes
 
@@ -372,10 +372,10 @@ module _ (w : World) (s : ℕ) (ready : IsReady w s) (form : IsFileSystem w.file
     }
 
     its_users : users_on (board w.procs) ≡ users x.texts
-    its_users = same_users w.procs.images.texts ∙ ap users (sym same_texts)
+    its_users = same_users w.procs.images.kept.texts ∙ ap users (sym same_texts)
 
     its_long : length x.texts ≡ 40
-    its_long = ap length same_texts ∙ forty w.procs.images holds
+    its_long = ap length same_texts ∙ forty w.procs.images.kept holds
 
     loads_tame : GoesOn w (board w.procs) (loads x s program)
     loads_tame = by (its.process_of x s).text

@@ -39,9 +39,9 @@ with_images w k = record w { procs = record w.procs { images = k } }
 pub alive_slot : (w : World) (s : ℕ) → IsAlive w.procs s → get_or (unix_of w).processes s None ≡ Some (process_of (unix_of w) s)
 alive_slot w s alive =
     let here = is_here w.procs s alive in
-    process_in_slot w.procs.rows.slots w.procs.images s alive.below
-    ∙ (ap (λ o. process_in o (keeping w.procs.images s) (text_of w.procs.images s)) here.member_is
-    ∙ (ap (λ x. process_in (Some here.member) x (text_of w.procs.images s)) here.image_is
+    process_in_slot w.procs.rows.slots w.procs.images.kept s alive.below
+    ∙ (ap (λ o. process_in o (keeping w.procs.images.kept s) (text_of w.procs.images.kept s)) here.member_is
+    ∙ (ap (λ x. process_in (Some here.member) x (text_of w.procs.images.kept s)) here.image_is
     ∙ ap (λ (p : Process). Some p) (sym here.process_is)))
 
 -- who runs lives
@@ -53,19 +53,19 @@ module _ (w : World) (s : ℕ) (alive : IsAlive w.procs s) (v : Processes) (k : 
     (clicks : (held : Held) → (process_of (unix_of w) s).u ≡ held.u → clicks_of (new held).u ≡ clicks_of held.u) (place : (held : Held) → (new held).place ≡ held.place)
     (member : (m : Member) → member_at w.procs.rows.slots s ≡ Some m → member_at v.slots s ≡ Some (record m { row = row m }))
     (members : (r : ℕ) → r ≢ s → member_at v.slots r ≡ member_at w.procs.rows.slots r)
-    (memory : (held : Held) → Has w.procs.images s held → Has k s (new held)) (others : (r : ℕ) → r ≢ s → keeping k r ≡ keeping w.procs.images r) (texts : SameTexts w.procs.images k) where
+    (memory : (held : Held) → Has w.procs.images.kept s held → Has k s (new held)) (others : (r : ℕ) → r ≢ s → keeping k r ≡ keeping w.procs.images.kept r) (texts : SameTexts w.procs.images.kept k) where
   abbrev here : IsHere w.procs s
   here = is_here w.procs s alive
 
   abbrev its : Member
   its = record here.member { row = row here.member }
 
-  text : (r : ℕ) → text_of k r ≡ text_of w.procs.images r
+  text : (r : ℕ) → text_of k r ≡ text_of w.procs.images.kept r
   text r = ap (λ users. get_or users r None) texts.users
 
-  pub slot_put : (q : Process) → process_by its (Alive (new here.held)) (text_of w.procs.images s) ≡ q → processes_in v.slots k ≡ set (unix_of w).processes s (Some q)
+  pub slot_put : (q : Process) → process_by its (Alive (new here.held)) (text_of w.procs.images.kept s) ≡ q → processes_in v.slots k ≡ set (unix_of w).processes s (Some q)
   slot_put q is =
-      one_changed w.procs.rows.slots v.slots w.procs.images k s (Some q) alive.below
+      one_changed w.procs.rows.slots v.slots w.procs.images.kept k s (Some q) alive.below
       ((λ i. process_in (member here.member here.member_is i) (memory here.held here.image_is i) (text s i)) ∙ ap (λ (x : Process). Some x) is)
       (λ r below other. λ i. process_in (members r other i) (others r other i) (text r i))
 
@@ -82,7 +82,7 @@ module _ (w : World) (s : ℕ) (alive : IsAlive w.procs s) (v : Processes) (k : 
         quiet = old.quiet;
         textless = old.textless;
       } in
-      agree_but w.procs.rows v w.procs.table w.procs.table w.procs.images k s alive.agree alive.above alive.agree.table refl
+      agree_but w.procs.rows v w.procs.table w.procs.table w.procs.images.kept k s alive.agree alive.above alive.agree.table refl
       (subst (λ m. Agrees m (row_at w.procs.table s) (keeping k s)) (sym (member here.member here.member_is))
       (subst (λ x. Agrees (Some its) (row_at w.procs.table s) x) (sym (memory here.held here.image_is)) now))
       (alive.agree.text s alive.above alive.below) texts members (λ r other. refl) others
@@ -95,7 +95,7 @@ module _ (w : World) (s : ℕ) (u : UArea) (alive : IsAlive w.procs s) where
   q = record p { u = u }
 
   abbrev k : Kept
-  k = w.procs.images
+  k = w.procs.images.kept
 
   abbrev w' : World
   w' = with_images w (with_area k s u)

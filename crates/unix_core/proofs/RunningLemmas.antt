@@ -52,10 +52,10 @@ module _ (k lent now : Kept) (f : Fixed) (was is : ℕ) (a b : GName) (fixed : I
         ∙ ap (λ (x : Stepped). with_machine_in k f.slot x.machine) instr_is
 
 -- What is kept has not changed, and the instruction is the same.
-module _ (p : Procs) (f : Fixed) (k : Kept) (same : k ≡ p.images) where
-  pub outcome_same : (instr (machine_in k f.slot)).outcome ≡ (instr (machine_in p.images f.slot)).outcome
+module _ (p : Procs) (f : Fixed) (k : Kept) (same : k ≡ p.images.kept) where
+  pub outcome_same : (instr (machine_in k f.slot)).outcome ≡ (instr (machine_in p.images.kept f.slot)).outcome
   outcome_same = ap (λ (x : Kept). (instr (machine_in x f.slot)).outcome) same
 
   pub procs_same : record p { images = with_machine_in k f.slot (instr (machine_in k f.slot)).machine }
-      ≡ record p { images = with_machine_in p.images f.slot (instr (machine_in p.images f.slot)).machine }
+      ≡ record p { images = with_machine_in p.images.kept f.slot (instr (machine_in p.images.kept f.slot)).machine }
   procs_same = ap (λ (x : Kept). record p { images = with_machine_in x f.slot (instr (machine_in x f.slot)).machine }) same

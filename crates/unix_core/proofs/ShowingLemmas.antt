@@ -121,7 +121,7 @@ module _ (w : World) (entries : List Entry) (slots : HaveSlots entries) where
       let kept = woken_kept w.procs.table entries slots in
       record {
         good = record {
-          agree = woken_agree w.procs.rows w.procs.table w.procs.images entries slots ready.good.agree;
+          agree = woken_agree w.procs.rows w.procs.table w.procs.images.kept entries slots ready.good.agree;
           running = λ r is above. ready.good.running r (sym kept.running ∙ is) above;
           owed = ready.good.owed;
           pending = going_same (unix_of w) (unix_of (with_woken w entries)) refl refl ready.good.pending;
@@ -137,7 +137,7 @@ module _ (w : World) (entries : List Entry) (slots : HaveSlots entries) where
 pub shown_board : (w new : World) (s : ℕ) (items : List Item) → IsReadyToShow w new s items
     → board_in (with_woken new new.tape.entries) ≡ (logged {W = Unix} (board_in w) (map Show items)).board
 shown_board w new s items shown =
-    sym (shown.wakes new.procs.table new.procs.images)
+    sym (shown.wakes new.procs.table new.procs.images.kept)
     ∙ ap (λ (b : Board). (logged {W = Unix} b (map Show items)).board)
     (λ i. record { table = record (shown.table i) { tout = 0 }; texts = map text_place (shown.texts i); core = shown.core i })
 

@@ -413,14 +413,14 @@ pub switched_stays : (m : System) (word : ℕ) → AllTextsStay m (event_of (Swi
 switched_stays m word k = stays_same m.unix.texts k
 
 -- A kernel that has been started stands so.
-module _ (at : Stage) (w : World) (started : phase_of at ≡ Started) (kernel : IsKernel at w) (holds : IsKept w.procs.images) where
+module _ (at : Stage) (w : World) (started : phase_of at ≡ Started) (kernel : IsKernel at w) (holds : IsKept w.procs.images.kept) where
   are_texts : AreTexts (system_at w)
   are_texts =
       let good : IsGood w = kernel_good at w started kernel in
       record {
-        users = same_users w.procs.images.texts;
-        forty = forty w.procs.images holds;
-        low = λ s runs. subst (λ n. suc s < n) (sym (fifty_processes w.procs.rows.slots w.procs.images))
+        users = same_users w.procs.images.kept.texts;
+        forty = forty w.procs.images.kept holds;
+        low = λ s runs. subst (λ n. suc s < n) (sym (fifty_processes w.procs.rows.slots w.procs.images.kept))
             (runs_low w (suc s) good.agree runs);
       }
 

@@ -280,23 +280,23 @@ module _ (m : System) where
 abbrev pub with_moved : World → Table → Kept → World
 with_moved w u n = record w { procs = record w.procs { table = u; images = n } }
 
-module _ (w : World) (u : Table) (n : Kept) (a z : Taken) (good : IsGood w) (moved : HasMoved w.procs.table w.procs.images a (pass (board_in w)) u n z)
-    (same : SameImages w.procs.images n) (holds : IsKept n) where
+module _ (w : World) (u : Table) (n : Kept) (a z : Taken) (good : IsGood w) (moved : HasMoved w.procs.table w.procs.images.kept a (pass (board_in w)) u n z)
+    (same : SameImages w.procs.images.kept n) (holds : IsKept n) where
   abbrev now : World
   now = with_moved w u n
 
   after_agree : Agree w.procs.rows u n
-  after_agree = moved_agree w.procs.rows w.procs.table u w.procs.images n a z good.agree moved same holds
+  after_agree = moved_agree w.procs.rows w.procs.table u w.procs.images.kept n a z good.agree moved same holds
 
-  texts_after : texts_in n ≡ texts_in w.procs.images
+  texts_after : texts_in n ≡ texts_in w.procs.images.kept
   texts_after =
-      same_texts w.procs.images n (ap (λ (k : Kept). length k.texts) moved.images ∙ all_long w.procs.images (pass (board_in w)).items) same
+      same_texts w.procs.images.kept n (ap (λ (k : Kept). length k.texts) moved.images ∙ all_long w.procs.images.kept (pass (board_in w)).items) same
 
   after_unix : unix_of now ≡ unix_of w
   after_unix =
-      let processes = moved_processes w.procs.rows w.procs.table u w.procs.images n a z good.agree moved same holds in
+      let processes = moved_processes w.procs.rows w.procs.table u w.procs.images.kept n a z good.agree moved same holds in
       let texts = texts_after in
-      let clock = moved_clock w.procs.rows w.procs.table u w.procs.images n a z good.agree moved same holds in
+      let clock = moved_clock w.procs.rows w.procs.table u w.procs.images.kept n a z good.agree moved same holds in
       λ i. record (unix_of w) { processes = processes i; texts = texts i; clock = clock i; limit = min (same.core i) 2048 }
 
   pub after_good : u.running ≡ None → IsGood now

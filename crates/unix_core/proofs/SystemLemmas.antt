@@ -20,8 +20,8 @@ use Rattle.unix_core.proofs.WorldLemmas.{ready_alive}
 use Rattle.unix_core.proofs.AreaLemmas.{own_area, area_unix, area_board, area_ready, ruled_user}
 
 -- what who runs asks for
-pub asked_here : (w : World) (s : ℕ) → IsReady w s → kept.IsKept w.procs.images → (number : ℕ) (a : Asked)
-    → ((held : Held) → Has w.procs.images s held → a ≡ asked held.image (slice_index held.u.r 7) number)
+pub asked_here : (w : World) (s : ℕ) → IsReady w s → kept.IsKept w.procs.images.kept → (number : ℕ) (a : Asked)
+    → ((held : Held) → Has w.procs.images.kept s held → a ≡ asked held.image (slice_index held.u.r 7) number)
     → a ≡ asked (image_of (unix_of w).texts (process_of (unix_of w) s)) (register (process_of (unix_of w) s) 7) number
 asked_here w s ready holds number a each =
     let here = is_here w.procs s (ready_alive w s ready) in
@@ -45,7 +45,7 @@ module _ (u : Unix) (s : ℕ) where
   resumes_wait is = ap (λ b. if b then on_files else on_wait) (sym is)
 
 -- A call has been entered, after it has been asked for.
-module _ (w : World) (s : ℕ) (ready : IsReady w s) (a : Asked) (entry : Sysent) (words : ℕ) (k l : Kept) (same : k ≡ w.procs.images)
+module _ (w : World) (s : ℕ) (ready : IsReady w s) (a : Asked) (entry : Sysent) (words : ℕ) (k l : Kept) (same : k ≡ w.procs.images.kept)
     (passed : words ≡ words_passed a entry.count) (enters : l ≡ kept.with_area k s (entered_area words (kept.area_of k s))) where
   abbrev area : UArea
   area = entered_area (words_passed a entry.count) (process_of (unix_of w) s).u
@@ -53,12 +53,12 @@ module _ (w : World) (s : ℕ) (ready : IsReady w s) (a : Asked) (entry : Sysent
   abbrev done : World
   done = record w { procs = record w.procs { images = l } }
 
-  images : l ≡ kept.with_area w.procs.images s area
+  images : l ≡ kept.with_area w.procs.images.kept s area
   images =
       enters
       ∙ ap (λ n. kept.with_area k s (entered_area n (kept.area_of k s))) passed
       ∙ ap (λ x. kept.with_area x s (entered_area (words_passed a entry.count) (kept.area_of x s))) same
-      ∙ ap (λ u. kept.with_area w.procs.images s (entered_area (words_passed a entry.count) u)) (own_area w s ready)
+      ∙ ap (λ u. kept.with_area w.procs.images.kept s (entered_area (words_passed a entry.count) u)) (own_area w s ready)
 
   pub entered_ready : IsReady done s
   entered_ready =
@@ -74,7 +74,7 @@ module _ (w : World) (s : ℕ) (ready : IsReady w s) (a : Asked) (entry : Sysent
   pub entered_user : is_user (process_of (unix_of w) s) ≡ true → is_user (process_of (unix_of done) s) ≡ true
   entered_user user =
       ruled_user w s ready (entered_area (words_passed a entry.count)) l
-      (images ∙ ap (λ u. kept.with_area w.procs.images s (entered_area (words_passed a entry.count) u)) (sym (own_area w s ready))) refl user
+      (images ∙ ap (λ u. kept.with_area w.procs.images.kept s (entered_area (words_passed a entry.count) u)) (sym (own_area w s ready))) refl user
 
   pub entered_call : (number : ℕ) → a ≡ asked (image_of (unix_of w).texts (process_of (unix_of w) s)) (register (process_of (unix_of w) s) 7) number
       → entry ≡ sysent_of a.number → does_call (unix_of done) s entry.call a.args ≡ system_call number (unix_of w) s

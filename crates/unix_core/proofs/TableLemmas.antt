@@ -24,7 +24,7 @@ with_table w t = record w { procs = record w.procs { table = t } }
 abbrev pub RunsImage : Table → Kept → Type 0
 RunsImage t k = (s : ℕ) → t.running ≡ Some s → 0 < s → HasImage k s
 
-module _ (w : World) (t : Table) (agree : Agree w.procs.rows t w.procs.images) (runs : RunsImage t w.procs.images) where
+module _ (w : World) (t : Table) (agree : Agree w.procs.rows t w.procs.images.kept) (runs : RunsImage t w.procs.images.kept) where
   pub good_table : IsGood w → IsGood (with_table w t)
   good_table good = record {
     agree = agree;

@@ -29,8 +29,8 @@ use Rattle.unix_core.proofs.StayingLemmas.{turned_stays}
 use Rattle.unix_core.proofs.IdleLemmas.{idle_nobody}
 
 -- The process that executes instructions has done one.
-module _ (at : Stage) (w : World) (f : Fixed) (is : at ≡ stage.Running f) (kernel : IsKernel at w) (holds : IsKept w.procs.images) (procs : Procs)
-    (kept : procs ≡ record w.procs { images = with_machine_in w.procs.images f.slot (instr (machine_in w.procs.images f.slot)).machine }) where
+module _ (at : Stage) (w : World) (f : Fixed) (is : at ≡ stage.Running f) (kernel : IsKernel at w) (holds : IsKept w.procs.images.kept) (procs : Procs)
+    (kept : procs ≡ record w.procs { images = with_machine_in w.procs.images.kept f.slot (instr (machine_in w.procs.images.kept f.slot)).machine }) where
   abbrev then_ : World
   then_ = record w { procs = procs }
 
@@ -40,11 +40,11 @@ module _ (at : Stage) (w : World) (f : Fixed) (is : at ≡ stage.Running f) (ker
   pub step_user : IsUser f.slot then_
   step_user = stepped_user w f.slot run.user holds procs kept
 
-  pub step_done : (o : Outcome) → o ≡ (instr (machine_in w.procs.images f.slot)).outcome → HasStepped (system_at w) then_ f.slot o
+  pub step_done : (o : Outcome) → o ≡ (instr (machine_in w.procs.images.kept f.slot)).outcome → HasStepped (system_at w) then_ f.slot o
   step_done o outcome = has_stepped w f.slot run.user holds procs kept o outcome
 
   -- and just goes on
-  module _ (next : Next ≡ (instr (machine_in w.procs.images f.slot)).outcome) (fixed : IsFixed procs.images f) where
+  module _ (next : Next ≡ (instr (machine_in w.procs.images.kept f.slot)).outcome) (fixed : IsFixed procs.images.kept f) where
     done : HasStepped (system_at w) then_ f.slot Next
     done = step_done Next next
 
@@ -68,28 +68,28 @@ module _ (at : Stage) (w : World) (f : Fixed) (is : at ≡ stage.Running f) (ker
 abbrev pub state_of : Stage → World → KernelState
 state_of at w = record {
   system = system_at w;
-  kept = w.procs.images;
+  kept = w.procs.images.kept;
   blocks = w.files.tree.nodes.blocks;
   stored = w.files.tree.nodes.stored;
   phase = phase_of at;
 }
 
 -- Nothing was done, and the kernel is the same.
-module _ (at : Stage) (w : World) (k : Kept) (kept : k ≡ w.procs.images) where
+module _ (at : Stage) (w : World) (k : Kept) (kept : k ≡ w.procs.images.kept) where
   unchanged : w ≡ with_images w k
   unchanged = ap (with_images w) (sym kept)
 
   pub left_kernel : IsKernel at w → IsKernel at (with_images w k)
   left_kernel kernel = subst (IsKernel at) unchanged kernel
 
-  pub left_kept : IsKept w.procs.images → IsKept k
+  pub left_kept : IsKept w.procs.images.kept → IsKept k
   left_kept holds = subst IsKept (sym kept) holds
 
   pub left_view : (v : KernelState) → state_of at w ≡ v → state_of at (with_images w k) ≡ v
   left_view v view = ap (state_of at) (sym unchanged) ∙ view
 
 -- What a slot came to is the event of the system that was told.
-module _ (at : Stage) (w : World) (kernel : IsKernel at w) (holds : IsKept w.procs.images) (v : KernelState) (view : state_of at w ≡ v) (goes : v.phase ≡ Started) where
+module _ (at : Stage) (w : World) (kernel : IsKernel at w) (holds : IsKept w.procs.images.kept) (v : KernelState) (view : state_of at w ≡ v) (goes : v.phase ≡ Started) where
   started : phase_of at ≡ Started
   started = ap (λ (x : KernelState). x.phase) view ∙ goes
 
@@ -116,9 +116,9 @@ module _ (at : Stage) (w : World) (kernel : IsKernel at w) (holds : IsKept w.pro
     taken_texts = turned_stays at w started kernel holds v.system _ same taken_next
 
   -- an instruction that was done in place
-  module _ (f : Fixed) (is : at ≡ stage.Running f) (k : Kept) (kept : k ≡ with_machine_in w.procs.images f.slot (instr (machine_in w.procs.images f.slot)).machine)
-      (next : (instr (machine_in w.procs.images f.slot)).outcome ≡ Next) (fixed : IsFixed k f) where
-    procs_now : record w.procs { images = k } ≡ record w.procs { images = with_machine_in w.procs.images f.slot (instr (machine_in w.procs.images f.slot)).machine }
+  module _ (f : Fixed) (is : at ≡ stage.Running f) (k : Kept) (kept : k ≡ with_machine_in w.procs.images.kept f.slot (instr (machine_in w.procs.images.kept f.slot)).machine)
+      (next : (instr (machine_in w.procs.images.kept f.slot)).outcome ≡ Next) (fixed : IsFixed k f) where
+    procs_now : record w.procs { images = k } ≡ record w.procs { images = with_machine_in w.procs.images.kept f.slot (instr (machine_in w.procs.images.kept f.slot)).machine }
     procs_now = ap (λ (x : Kept). record w.procs { images = x }) kept
 
     near_takes : Takes (turn_at w) at (with_images w k)

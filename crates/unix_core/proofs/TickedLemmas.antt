@@ -43,12 +43,12 @@ module _ (w : World) (mode : Mode) (mode_is : mode ≡ mode_of (system_at w)) (w
     (table : w'.procs.table ≡ w.procs.table) (board : board_in w' ≡ board_in w)
     (t : Table) (t_is : t ≡ tick mode w'.procs.table) (good : IsTable t) (called : Bool) (called_is : called ≡ outside.is_due (clock_of w'.procs.table))
     (u : Table) (u_is : u ≡ called_table called Tout t) (fine : IsTable u)
-    (woken : board_of u w'.procs.images ≡ (logged {W = Unix} (board_of t w'.procs.images) (wakes called Tout)).board)
+    (woken : board_of u w'.procs.images.kept ≡ (logged {W = Unix} (board_of t w'.procs.images.kept) (wakes called Tout)).board)
     (good_low : (s : ℕ) → w.procs.table.running ≡ Some s → s < 50) where
   pub tick_good : IsGood (with_table w' u)
   tick_good =
       let v = w'.procs.rows in
-      let k : Kept = w'.procs.images in
+      let k : Kept = w'.procs.images.kept in
       let old : Table = w'.procs.table in
       let like : AreLike old t = subst (AreLike old) (sym t_is) (tick_like old mode old (tables_same old old refl)) in
       let runs : RunsImage t k = λ s e above. was.running s (sym (tick_running mode old) ∙ (ap (λ (x : Table). x.running) (sym t_is) ∙ e)) above in
@@ -77,9 +77,9 @@ module _ (w : World) (mode : Mode) (mode_is : mode ≡ mode_of (system_at w)) (w
   tick_stop : l.stop ≡ None
   tick_stop = ap (λ (x : Logged Unix). x.stop) l_is ∙ wakes_stop (applied (board_in w) (tick_entry mode)) called Tout
 
-  board_then : board_of t w'.procs.images ≡ applied (board_in w) (tick_entry mode)
+  board_then : board_of t w'.procs.images.kept ≡ applied (board_in w) (tick_entry mode)
   board_then =
-      ap (λ x. board_of x w'.procs.images) t_is ∙ board_ticked mode w'.procs.table w'.procs.images ∙ ap (λ b. applied b (tick_entry mode)) board
+      ap (λ x. board_of x w'.procs.images.kept) t_is ∙ board_ticked mode w'.procs.table w'.procs.images.kept ∙ ap (λ b. applied b (tick_entry mode)) board
 
   tick_is : system_at (with_table w' u) ≡ record { unix = outside.ticked m; board = l.board }
   tick_is =
@@ -89,12 +89,12 @@ module _ (w : World) (mode : Mode) (mode_is : mode ≡ mode_of (system_at w)) (w
       let after : unix_of (with_table w' u) ≡ outside.ticked m =
       (λ i. record (unix i) { clock = clock i })
       ∙ ap (λ md. record (outside.charged m.unix md running) { clock = clock_after m.unix.clock }) mode_is in
-      let log : board_of u w'.procs.images ≡ l.board =
+      let log : board_of u w'.procs.images.kept ≡ l.board =
       woken ∙ ap (λ b. (logged {W = Unix} b (wakes called Tout)).board) board_then ∙ ap (λ (x : Logged Unix). x.board) (sym l_is) in
       λ i. record { unix = after i; board = log i }
 
   -- the lines of the tick, and who is woken
-  pub first_items : (a b c : Taken) → Took a (Log (tick_entry mode) ∷ []) b → Took b (logged {W = Unix} (board_of t w'.procs.images) (wakes called Tout)).items c
+  pub first_items : (a b c : Taken) → Took a (Log (tick_entry mode) ∷ []) b → Took b (logged {W = Unix} (board_of t w'.procs.images.kept) (wakes called Tout)).items c
       → Took a l.items c
   first_items a b c one two =
       let shown : Took b rest.items c = subst (λ x. Took b (logged {W = Unix} x (wakes called Tout)).items c) board_then two in
@@ -117,7 +117,7 @@ module _ (w : World) (mode : Mode) (mode_is : mode ≡ mode_of (system_at w)) (w
       ap (mode_by (unix_of w2)) running_is
       ∙ ap (λ x. mode_by x w.procs.table.running) unix_is
       ∙ mode_charged m.unix (clock_after m.unix.clock) (mode_of m) w.procs.table.running
-      (λ s runs. (let low = good_low s runs in let fifty = fifty_processes w.procs.rows.slots w.procs.images in omega (arith, low, fifty)))
+      (λ s runs. (let low = good_low s runs in let fifty = fifty_processes w.procs.rows.slots w.procs.images.kept in omega (arith, low, fifty)))
 
   module _ (as_trap : Bool) (trap_is : as_trap ≡ (is_user_mode mode && is_second (clock_of w'.procs.table))) where
     trap_mode : as_trap ≡ true → is_user_mode (mode_of (system_at w2)) ≡ true

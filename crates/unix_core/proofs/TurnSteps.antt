@@ -37,25 +37,25 @@ pub memory_ready : (w : World) (s : ℕ) (ready : IsReady w s) (image : Image) �
 memory_ready w s ready image = record { good = memory_good w s (ready_alive w s ready) image ready.good; runs = ready.runs; user = ready.user }
 
 -- what an instruction works on
-machine_is : (w : World) (s : ℕ) → IsReady w s → IsKept w.procs.images → machine_of (unix_of w).texts (process_of (unix_of w) s) ≡ machine_in w.procs.images s
+machine_is : (w : World) (s : ℕ) → IsReady w s → IsKept w.procs.images.kept → machine_of (unix_of w).texts (process_of (unix_of w) s) ≡ machine_in w.procs.images.kept s
 machine_is w s ready holds =
     let own = own_area w s ready in
     λ i. record { r = (sym own i).r; cc = (sym own i).cc; image = image_here w.procs s (ready_alive w s ready) holds i }
 
 -- The process has stepped, and its memory and its registers are these.
-module _ (w : World) (s : ℕ) (user : IsUser s w) (holds : IsKept w.procs.images) (procs : Procs)
-    (kept : procs ≡ record w.procs { images = with_machine_in w.procs.images s (instr (machine_in w.procs.images s)).machine }) where
+module _ (w : World) (s : ℕ) (user : IsUser s w) (holds : IsKept w.procs.images.kept) (procs : Procs)
+    (kept : procs ≡ record w.procs { images = with_machine_in w.procs.images.kept s (instr (machine_in w.procs.images.kept s)).machine }) where
   abbrev old : Process
   old = process_of (unix_of w) s
 
   abbrev m : Machine
-  m = (instr (machine_in w.procs.images s)).machine
+  m = (instr (machine_in w.procs.images.kept s)).machine
 
   abbrev with_image_then : World
   with_image_then = with_memory w s (ready_alive w s user.ready) m.image
 
   abbrev area : UArea
-  area = with_state (area_of w.procs.images s) m.r m.cc
+  area = with_state (area_of w.procs.images.kept s) m.r m.cc
 
   abbrev stored : Process
   stored = record old { u = area; «data» = m.image.data; stack = m.image.stack }
@@ -96,9 +96,9 @@ module _ (w : World) (s : ℕ) (user : IsUser s w) (holds : IsKept w.procs.image
     settled = user.settled;
   })
 
-  pub has_stepped : (o : Outcome) → o ≡ (instr (machine_in w.procs.images s)).outcome → HasStepped (system_at w) (stepped_world procs) s o
+  pub has_stepped : (o : Outcome) → o ≡ (instr (machine_in w.procs.images.kept s)).outcome → HasStepped (system_at w) (stepped_world procs) s o
   has_stepped o outcome =
-      let its : machine_in w.procs.images s ≡ machine_of (unix_of w).texts old = sym (machine_is w s user.ready holds) in
+      let its : machine_in w.procs.images.kept s ≡ machine_of (unix_of w).texts old = sym (machine_is w s user.ready holds) in
       subst (λ p. HasStepped (system_at w) (stepped_world p) s o) (sym kept) (record {
         runs = user.ready.runs;
         user = user.user;

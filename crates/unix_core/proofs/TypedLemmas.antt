@@ -54,11 +54,11 @@ module _ (w : World) (byte : ℕ) (line : Terminal) (line_is : line ≡ (typed w
     (unix : unix_of sent_ ≡ with_key k (unix_of (with_line w line)))
     (board : board_in sent_ ≡ (logged {W = Unix} (board_in w) (map Show (key_lines k (unix_of (with_line w line))))).board)
     (called : Bool) (called_is : called ≡ calls k) (t : Table) (table_is : t ≡ called_table called Keys sent_.procs.table) (table : IsTable t)
-    (woken : board_of t sent_.procs.images ≡ (logged {W = Unix} (board_in sent_) (wakes called Keys)).board) where
+    (woken : board_of t sent_.procs.images.kept ≡ (logged {W = Unix} (board_in sent_) (wakes called Keys)).board) where
   pub typed_good : IsGood (with_table sent_ t)
   typed_good =
-      good_table sent_ t (called_agree sent_.procs.rows sent_.procs.images sent_.procs.table t called Keys table_is table good.agree)
-      (called_image sent_.procs.images sent_.procs.table t called Keys table_is good.running) good
+      good_table sent_ t (called_agree sent_.procs.rows sent_.procs.images.kept sent_.procs.table t called Keys table_is table good.agree)
+      (called_image sent_.procs.images.kept sent_.procs.table t called Keys table_is good.running) good
 
   abbrev m : System
   m = system_at w
@@ -106,7 +106,7 @@ module _ (w : World) (byte : ℕ) (line : Terminal) (line_is : line ≡ (typed w
   typed_is : system_at (with_table sent_ t) ≡ record { unix = now; board = l.board }
   typed_is =
       let unix_is = typed_unix in
-      let board_is : board_of t sent_.procs.images ≡ l.board = woken ∙ ap (λ (x : Logged Unix). x.board) (sym l_is) in
+      let board_is : board_of t sent_.procs.images.kept ≡ l.board = woken ∙ ap (λ (x : Logged Unix). x.board) (sym l_is) in
       λ i. record { unix = unix_is i; board = board_is i }
 
   pub typed_next : (last : System) → last ≡ record (system_at (with_table sent_ t)) { board = (settled (board_in (with_table sent_ t))).board }

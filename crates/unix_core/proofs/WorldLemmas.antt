@@ -55,7 +55,7 @@ is_living w s ready =
 pub told_here : (w : World) (s : ℕ) → IsReady w s → told_of_slot w s ≡ Some (told_of (process_of (unix_of w) s))
 told_here w s ready = told_at (unix_of w).processes s (process_of (unix_of w) s) (slot_is w s ready) (is_living w s ready)
 
-pub sound_parts : (w : World) (s : ℕ) (h : Handed) → IsReady w s → length w.files.table ≡ 100 → kept.IsKept w.procs.images
+pub sound_parts : (w : World) (s : ℕ) (h : Handed) → IsReady w s → length w.files.table ≡ 100 → kept.IsKept w.procs.images.kept
     → h.files ≡ w.files.table → h.pipes ≡ w.files.pipes → h.u ≡ (process_of (unix_of w) s).u → h.inodes.references ≡ w.files.tree.nodes.references → IsSound h
 sound_parts w s h ready long holds files pipes area references =
     let ts : List (Option Told) = told_in (unix_of w).processes in
@@ -64,7 +64,7 @@ sound_parts w s h ready long holds files pipes area references =
     let owed : Owes refs h.files h.pipes texts ts =
     subst (λ table. Owes refs table h.pipes texts ts) (sym files) (subst (λ ends. Owes refs w.files.table ends texts ts) (sym pipes) ready.good.owed) in
     sound_by h texts ts s (subst (λ l. Owes l h.files h.pipes texts ts) (sym references) owed)
-    (told_here w s ready ∙ ap (λ (u : UArea). Some (record { files = u.files; dir = u.dir })) (sym area)) (ap length files ∙ long) (fifty_told w) (forty w.procs.images holds)
+    (told_here w s ready ∙ ap (λ (u : UArea). Some (record { files = u.files; dir = u.dir })) (sym area)) (ap length files ∙ long) (fifty_told w) (forty w.procs.images.kept holds)
 
 -- the references of the file system are those that the Unix says
 pub references_in : (w : World) (s : ℕ) → IsReady w s → IsFileSystem w.files.tree.nodes → w.files.tree.nodes.references ≡ references_of (unix_of w)
@@ -74,15 +74,15 @@ references_in w s ready form =
     (λ k low. ready.good.owed.referred k ∙ refer_told (unix_of w) k)
 
 -- What the kernel hands to a call of the process is what the Unix says.
-pub handed_is : (w : World) (s : ℕ) → IsReady w s → IsFileSystem w.files.tree.nodes → kept.IsKept w.procs.images
-    → handed w.files (area_of w.procs.images s) (proc.row_at w.procs.rows s) (image_of w.procs.images s) ≡ handed_of (unix_of w) (process_of (unix_of w) s)
+pub handed_is : (w : World) (s : ℕ) → IsReady w s → IsFileSystem w.files.tree.nodes → kept.IsKept w.procs.images.kept
+    → handed w.files (area_of w.procs.images.kept s) (proc.row_at w.procs.rows s) (image_of w.procs.images.kept s) ≡ handed_of (unix_of w) (process_of (unix_of w) s)
 handed_is w s ready form holds =
     let alive = ready_alive w s ready in
     let p : Process = process_of (unix_of w) s in
     let references = references_in w s ready form in
-    let area : area_of w.procs.images s ≡ p.u = area_here w.procs s alive in
-    let row : proc.row_at w.procs.rows s ≡ p.row = sym (own_row w.procs.rows.slots w.procs.images s alive.below) in
-    let image : image_of w.procs.images s ≡ one.image_of (unix_of w).texts p = sym (image_here w.procs s alive holds) in
+    let area : area_of w.procs.images.kept s ≡ p.u = area_here w.procs s alive in
+    let row : proc.row_at w.procs.rows s ≡ p.row = sym (own_row w.procs.rows.slots w.procs.images.kept s alive.below) in
+    let image : image_of w.procs.images.kept s ≡ one.image_of (unix_of w).texts p = sym (image_here w.procs s alive holds) in
     λ i. record {
       inodes = record { store = w.files.tree.nodes.store; references = references i };
       marks = ready.good.marks i;
@@ -103,11 +103,11 @@ pub record IsAfter (w w' : World) (s : ℕ) (u : UArea) (row : Row) (image : Ima
   pub fifteen : length u.files ≡ 15
   pub member : (m : Member) → member_at w.procs.rows.slots s ≡ Some m → member_at w'.procs.rows.slots s ≡ Some (record m { row = row })
   pub members : (r : ℕ) → r ≢ s → member_at w'.procs.rows.slots r ≡ member_at w.procs.rows.slots r
-  pub memory : (held : Held) → Has w.procs.images s held → Has w'.procs.images s (record held { u = u; image = image })
-  pub others : (r : ℕ) → r ≢ s → keeping w'.procs.images r ≡ keeping w.procs.images r
+  pub memory : (held : Held) → Has w.procs.images.kept s held → Has w'.procs.images.kept s (record held { u = u; image = image })
+  pub others : (r : ℕ) → r ≢ s → keeping w'.procs.images.kept r ≡ keeping w.procs.images.kept r
   pub table : w'.procs.table ≡ w.procs.table
-  pub texts : SameTexts w.procs.images w'.procs.images
-  pub core : w'.procs.images.core ≡ w.procs.images.core
+  pub texts : SameTexts w.procs.images.kept w'.procs.images.kept
+  pub core : w'.procs.images.kept.core ≡ w.procs.images.kept.core
   pub last_pid : w'.procs.rows.last_pid ≡ w.procs.rows.last_pid
   pub switches : w'.procs.switches ≡ w.procs.switches
   pub marks : w'.files.tree.marks ≡ w.files.tree.marks
@@ -133,7 +133,7 @@ module _ (w w' : World) (s : ℕ) (ready : IsReady w s) (u : UArea) (row : Row) 
 
   processes_after : (unix_of w').processes ≡ set (unix_of w).processes s (Some q)
   processes_after =
-      slot_put w s (ready_alive w s ready) w'.procs.rows w'.procs.images (λ m. row) now clicks (λ held. refl) after.member after.members after.memory after.others after.texts q
+      slot_put w s (ready_alive w s ready) w'.procs.rows w'.procs.images.kept (λ m. row) now clicks (λ held. refl) after.member after.members after.memory after.others after.texts q
       (let here = is_here w.procs s (ready_alive w s ready) in
       ap (λ (x : Process). record x { u = u; row = row; «data» = image.data; stack = image.stack }) (sym here.process_is))
 
@@ -145,18 +145,18 @@ module _ (w w' : World) (s : ℕ) (ready : IsReady w s) (u : UArea) (row : Row) 
     texts = map text_in (after.texts.texts i);
     switches = after.switches i;
     last_pid = after.last_pid i;
-    limit = (unix_of (record w { procs = record w.procs { images = record w.procs.images { core = after.core i } } })).limit;
+    limit = (unix_of (record w { procs = record w.procs { images = record w.procs.images.kept { core = after.core i } } })).limit;
   }
 
-  agrees : Agree w'.procs.rows w.procs.table w'.procs.images
-  agrees = agree_put w s (ready_alive w s ready) w'.procs.rows w'.procs.images (λ m. row) now clicks (λ held. refl) after.member after.members after.memory after.others after.texts
+  agrees : Agree w'.procs.rows w.procs.table w'.procs.images.kept
+  agrees = agree_put w s (ready_alive w s ready) w'.procs.rows w'.procs.images.kept (λ m. row) now clicks (λ held. refl) after.member after.members after.memory after.others after.texts
 
   running_after : w'.procs.table.running ≡ Some s
   running_after = ap (λ (t : Table). t.running) after.table ∙ ready.runs
 
   pub good_after : IsFileSystem w.files.tree.nodes → IsGood w'
   good_after form =
-      let agree : Agree w'.procs.rows w'.procs.table w'.procs.images = subst (λ (t : Table). Agree w'.procs.rows t w'.procs.images) (sym after.table) agrees in
+      let agree : Agree w'.procs.rows w'.procs.table w'.procs.images.kept = subst (λ (t : Table). Agree w'.procs.rows t w'.procs.images.kept) (sym after.table) agrees in
       record {
         agree = agree;
         running = runs_same w w' ready.good agree after.table;

@@ -37,19 +37,19 @@ use Rattle.abstract_unix.specs.Turn.{Turn, machine_of, with_machine, is_user, en
 abbrev pub unix_of : parts.World → Unix
 unix_of w = record {
   store = w.files.tree.nodes.store;
-  processes = processes_in w.procs.rows.slots w.procs.images;
+  processes = processes_in w.procs.rows.slots w.procs.images.kept;
   files = w.files.table;
   pipes = w.files.pipes;
-  texts = texts_in w.procs.images;
+  texts = texts_in w.procs.images.kept;
   line = w.files.line;
   clock = clock_of w.procs.table;
   switches = w.procs.switches;
   last_pid = w.procs.rows.last_pid;
-  limit = min w.procs.images.core 2048;
+  limit = min w.procs.images.kept.core 2048;
 }
 
 abbrev pub board_in : parts.World → Board
-board_in w = board_of w.procs.table w.procs.images
+board_in w = board_of w.procs.table w.procs.images.kept
 
 abbrev pub system_at : parts.World → System
 system_at w = record { unix = unix_of w; board = board_in w }
@@ -82,12 +82,12 @@ first_held = record {
 -- What is so of a world between two things that the kernel does.
 pub record IsGood (w : parts.World) : Type 0 where
   pub agree : AreProcs w.procs
-  pub running : (s : ℕ) → w.procs.table.running ≡ Some s → 0 < s → HasImage w.procs.images s
+  pub running : (s : ℕ) → w.procs.table.running ≡ Some s → 0 < s → HasImage w.procs.images.kept s
   pub owed : Owed w.files.tree.nodes.references (unix_of w)
   pub pending : CanGoOn (unix_of w)
   pub marks : IsMarked w.procs w.files.tree.marks
   pub rooms : (w.tape.entry_room ≡ 64) × (w.tape.byte_room ≡ 524288)
-  pub core : w.core ≡ w.procs.images.core
+  pub core : w.core ≡ w.procs.images.kept.core
 
 -- a process that isn't the swapper runs
 pub record IsReady (w : parts.World) (s : ℕ) : Type 0 where
@@ -99,8 +99,8 @@ pub record IsReady (w : parts.World) (s : ℕ) : Type 0 where
 pub record IsReadyToShow (old new : parts.World) (s : ℕ) (items : List Item) : Type 0 where
   pub ready : IsReady new s
   pub table : new.procs.table ≡ old.procs.table
-  pub core : new.procs.images.core ≡ old.procs.images.core
-  pub texts : new.procs.images.texts ≡ old.procs.images.texts
+  pub core : new.procs.images.kept.core ≡ old.procs.images.kept.core
+  pub texts : new.procs.images.kept.texts ≡ old.procs.images.kept.texts
   pub shown : shown_by new.tape ≡ items
   pub slots : HaveSlots new.tape.entries
   pub wakes : (t : Table) (k : Kept) → (logged {W = Unix} (board_of t k) (map Show items)).board ≡ board_of (all_woken t new.tape.entries) k
@@ -130,7 +130,7 @@ pub record IsUser (s : ℕ) (w : parts.World) : Type 0 where
 -- It is known where its image stands.
 pub record IsRunning (f : Fixed) (w : parts.World) : Type 0 where
   pub user : IsUser f.slot w
-  pub fixed : IsFixed w.procs.images f
+  pub fixed : IsFixed w.procs.images.kept f
 
 -- Between two events a process goes on with a call, or nobody runs but the swapper, or nobody.
 pub record IsPaused (w : parts.World) : Type 0 where
@@ -154,7 +154,7 @@ pub record IsNew (w : parts.World) : Type 0 where
 
 -- what is kept is what the system tells
 abbrev pub IsCovered : parts.World → Type 0
-IsCovered w = w.procs.images ≡ kept_in (system_at w)
+IsCovered w = w.procs.images.kept ≡ kept_in (system_at w)
 
 -- what is so of every kernel
 pub record IsKernel (at : Stage) (w : parts.World) : Type 0 where

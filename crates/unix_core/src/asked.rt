@@ -31,9 +31,9 @@ fn word_in<S: Space>(space: &S, at: u16) -> u16
 
 /// A word of a process's memory.
 fn word_at(images: &mut Images, s: Slot, at: u16) -> u16
-    requires { HasImage images.old s }
-    ensures word { (held : Held) → Has images.old s held → result ≡ word_at held.image at }
-    ensures same { images.new ≡ images.old }
+    requires { HasImage images.old.kept s }
+    ensures word { (held : Held) → Has images.old.kept s held → result ≡ word_at held.image at }
+    ensures same { images.new.kept ≡ images.old.kept }
 {
     let space = images.space(s);
     word_in(&space, at)
@@ -41,9 +41,9 @@ fn word_at(images: &mut Images, s: Slot, at: u16) -> u16
 
 /// The words that a call may take as its arguments, from an address on.
 fn arguments_at(images: &mut Images, s: Slot, at: u16) -> [u16; 4]
-    requires { HasImage images.old s }
-    ensures words { (held : Held) → Has images.old s held → result ≡ arguments_at held.image at }
-    ensures same { images.new ≡ images.old }
+    requires { HasImage images.old.kept s }
+    ensures words { (held : Held) → Has images.old.kept s held → result ≡ arguments_at held.image at }
+    ensures same { images.new.kept ≡ images.old.kept }
 {
     let space = images.space(s);
     [
@@ -67,10 +67,10 @@ fn named_call(word: u16) -> u8
 
 /// What a call of this number asks for, where the PC has passed its word.
 pub(crate) fn ask(images: &mut Images, s: Slot, number: u8) -> Asked
-    requires { HasImage images.old s }
-    ensures asked { (held : Held) → Has images.old s held → result ≡ asked held.image (slice_index held.u.r 7) number }
-    ensures same { images.new ≡ images.old }
-    ensures holds { IsKept images.old }
+    requires { HasImage images.old.kept s }
+    ensures asked { (held : Held) → Has images.old.kept s held → result ≡ asked held.image (slice_index held.u.r 7) number }
+    ensures same { images.new.kept ≡ images.old.kept }
+    ensures holds { IsKept images.old.kept }
 {
     let pc = images.area(s).r[7];
     if number != 0 {

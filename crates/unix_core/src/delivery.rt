@@ -49,7 +49,7 @@ fn heed(world: &mut World, s: Slot)
     ensures board { board_in world.new ≡ board_in world.old }
     ensures ready { IsReady world.new s }
     ensures files { world.new.files ≡ world.old.files }
-    ensures images { world.new.procs.images ≡ world.old.procs.images }
+    ensures images { world.new.procs.images.kept ≡ world.old.procs.images.kept }
 {
     let mut row = *world.procs.rows.row(s);
     row.sig = 0;
@@ -58,15 +58,15 @@ fn heed(world: &mut World, s: Slot)
 
 /// Does what a process has asked for where this signal comes. Where it has a routine its stack has grown.
 fn tell(world: &mut World, s: Slot, sig: u8) -> Delivered
-    requires image { HasImage world.old.procs.images s }
+    requires image { HasImage world.old.procs.images.kept s }
     requires signal { is_signal sig ≡ true }
-    requires heeded { handler_of (area_of world.old.procs.images s) sig % 2 ≡ 0 }
-    ensures answer { result ≡ (delivery (area_of world.old.procs.images s) sig (image_of world.old.procs.images s)).answer }
-    ensures images { world.new.procs.images
-        ≡ with_area (with_image world.old.procs.images s (delivery (area_of world.old.procs.images s) sig (image_of world.old.procs.images s)).image)
-        s (delivery (area_of world.old.procs.images s) sig (image_of world.old.procs.images s)).area }
+    requires heeded { handler_of (area_of world.old.procs.images.kept s) sig % 2 ≡ 0 }
+    ensures answer { result ≡ (delivery (area_of world.old.procs.images.kept s) sig (image_of world.old.procs.images.kept s)).answer }
+    ensures images { world.new.procs.images.kept
+        ≡ with_area (with_image world.old.procs.images.kept s (delivery (area_of world.old.procs.images.kept s) sig (image_of world.old.procs.images.kept s)).image)
+        s (delivery (area_of world.old.procs.images.kept s) sig (image_of world.old.procs.images.kept s)).area }
     ensures others { world.new ≡ record world.old { procs = record world.old.procs { images = world.new.procs.images } } }
-    ensures holds { IsKept world.old.procs.images }
+    ensures holds { IsKept world.old.procs.images.kept }
 {
     let mut u = world.procs.images.area(s);
     let told = {
@@ -79,9 +79,9 @@ fn tell(world: &mut World, s: Slot, sig: u8) -> Delivered
 
 /// Whether a process has asked for nothing where this signal comes.
 fn is_default(images: &Images, s: Slot, sig: u8) -> bool
-    requires image { HasImage images.now s }
+    requires image { HasImage images.now.kept s }
     requires signal { is_signal sig ≡ true }
-    ensures { result ≡ (handler_of (area_of images.now s) sig == 0) }
+    ensures { result ≡ (handler_of (area_of images.now.kept s) sig == 0) }
 {
     images.area(s).handlers[usize::from(sig)] == 0
 }
@@ -101,8 +101,8 @@ fn leaves_core(told: Delivered) -> bool
 fn catch<T: Trace>(world: &mut World, s: Slot, sig: u8, trace: &mut T) -> Ending
     requires ready { IsReady world.old s }
     requires signal { is_signal sig ≡ true }
-    requires heeded { handler_of (area_of world.old.procs.images s) sig % 2 ≡ 0 }
-    requires routine { handler_of (area_of world.old.procs.images s) sig ≢ 0 }
+    requires heeded { handler_of (area_of world.old.procs.images.kept s) sig % 2 ≡ 0 }
+    requires routine { handler_of (area_of world.old.procs.images.kept s) sig ≢ 0 }
     ensures come { HasCome (board_in world.old) (catches (unix_of world.old) s sig) result world.new }
     ensures ready { is_over result ≡ false → IsReady world.new s }
     ensures covered { is_over result ≡ true → IsCovered world.new }
@@ -166,7 +166,7 @@ fn end_by<T: Trace>(world: &mut World, s: Slot, sig: u8, trace: &mut T) -> Endin
     requires ready { IsReady world.old s }
     requires user { is_user (process_of (unix_of world.old) s) ≡ true }
     requires signal { is_signal sig ≡ true }
-    requires default { handler_of (area_of world.old.procs.images s) sig ≡ 0 }
+    requires default { handler_of (area_of world.old.procs.images.kept s) sig ≡ 0 }
     ensures come { HasCome (board_in world.old) (ends_by (unix_of world.old) s sig) result world.new }
     ensures items { Took (T.taken trace.old) (logged (board_in world.old) (ends_by (unix_of world.old) s sig).effects).items
         (T.taken trace.new) }

@@ -34,7 +34,7 @@ pub(crate) fn see_table(table: &OpenTable)
 
 /// Sees what holds of all images that are kept.
 pub(crate) fn see_kept(images: &Images)
-    ensures { IsKept images.now }
+    ensures { IsKept images.now.kept }
 {
     let _place = images.place(0);
 }
@@ -42,7 +42,7 @@ pub(crate) fn see_kept(images: &Images)
 /// Sees what holds of the table of processes and of all images that are kept.
 pub(crate) fn see_procs(procs: &Procs)
     ensures rows { AreProcesses procs.now.rows }
-    ensures images { IsKept procs.now.images }
+    ensures images { IsKept procs.now.images.kept }
 {
     let _used = procs.rows.in_use(0);
     see_kept(&procs.images);

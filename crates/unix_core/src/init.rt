@@ -30,12 +30,11 @@ fn store_program<S: Space>(space: &mut S)
 
 /// Puts the program at the front of the data of a slot, one click that is cleared.
 pub(crate) fn put_program(procs: &mut Procs, s: Slot)
-    requires image { HasImage procs.old.images s }
-    requires no_text { (image_of procs.old.images s).text ≡ [] }
-    requires cleared { (image_of procs.old.images s).data ≡ replicate 64 0 }
-    ensures { procs.new ≡ record procs.old {
-      images = with_image procs.old.images s (record (image_of procs.old.images s) { «data» = init_data });
-    } }
+    requires image { HasImage procs.old.images.kept s }
+    requires no_text { (image_of procs.old.images.kept s).text ≡ [] }
+    requires cleared { (image_of procs.old.images.kept s).data ≡ replicate 64 0 }
+    ensures kept { procs.new.images.kept ≡ with_image procs.old.images.kept s (record (image_of procs.old.images.kept s) { «data» = init_data }) }
+    ensures others { procs.new ≡ record procs.old { images = procs.new.images } }
 {
     see_kept(&procs.images);
     let mut space = procs.images.space(s);

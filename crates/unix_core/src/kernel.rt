@@ -1,5 +1,5 @@
 //! The kernel, which takes one event a call.
-ghost use Rattle.std.specs.Prelude.{◌≡◌, ◌≢◌, ◌⊎◌, ◌==◌, ◌<◌, ◌≤◌, ℕ, [], slice_index, if◌then◌else◌, true, false};
+ghost use Rattle.std.specs.Prelude.{◌≡◌, ◌≢◌, ◌⊎◌, ◌==◌, ◌<◌, ◌≤◌, ℕ, [], slice_index, slice_set, if◌then◌else◌, true, false};
 ghost use Rattle.v6_base.specs.Trace.{Took};
 ghost use Rattle.fs_codec.specs.Disk.{head};
 ghost use Rattle.fs_codec.specs.Stands.{StandsFor};
@@ -47,9 +47,10 @@ const FIRST: Proto = Proto {
 
 /// Makes the first image of process 1, with the program that executes `/etc/init`, at the front of core.
 fn make_first(procs: &mut Procs)
-    requires least { 64 ≤ procs.old.images.core }
-    requires empty { procs.old.images ≡ first_kept procs.old.images.core }
-    ensures { procs.new ≡ record procs.old { images = with_keeping procs.old.images 1 (Alive first_held) } }
+    requires least { 64 ≤ procs.old.images.kept.core }
+    requires empty { procs.old.images.kept ≡ first_kept procs.old.images.kept.core }
+    ensures kept { procs.new.images.kept ≡ with_keeping procs.old.images.kept 1 (Alive first_held) }
+    ensures others { procs.new ≡ record procs.old { images = procs.new.images } }
 {
     let _ = procs.images.replace(SLOT, FIRST, None);
     put_program(procs, SLOT);
@@ -74,7 +75,9 @@ impl Model for Kernel {
 
     ghost view = { λ k. record {
       system = system_at k.machine.world;
-      kept = k.machine.world.procs.images;
+      kept = k.machine.world.procs.images.kept;
+      core = k.machine.world.procs.images.core;
+      swap = k.machine.world.procs.images.swap;
       blocks = k.machine.world.files.tree.nodes.blocks;
       stored = k.machine.world.files.tree.nodes.stored;
       phase = phase_of k.machine.stage;
@@ -101,7 +104,7 @@ impl Kernel {
     ) -> Self
         requires least { 64 ≤ core }
         requires most { core ≤ 3968 }
-        requires images { images ≡ first_kept core }
+        requires images { images.kept ≡ first_kept core }
         requires tape { tape ≡ record { entries = []; bytes = []; entry_room = 64; byte_room = 524288 } }
         requires referred { (ino : ℕ) → slice_index nodes.references ino ≡ (if ino == 1 then 2 else 0) }
         requires time { time ≡ nodes.store.stamp }
@@ -246,6 +249,8 @@ impl Kernel {
         ensures there { result ≡ true → HasByte self.new.kept swap at b }
         ensures nobodys { result ≡ false → IsNobodys (kept_in self.old.system) swap at }
         ensures same { result ≡ false → self.new ≡ self.old }
+        ensures core { result ≡ true → self.new.core ≡ (if swap then self.old.core else slice_set self.old.core at b) }
+        ensures area { result ≡ true → self.new.swap ≡ (if swap then slice_set self.old.swap at b else self.old.swap) }
         ensures told { self.new.kept ≡ kept_in self.new.system }
         ensures blocks { self.new.blocks ≡ self.old.blocks }
         ensures stored { self.new.stored ≡ self.old.stored }
@@ -264,6 +269,8 @@ impl Kernel {
         ensures phase { self.new.phase ≡ Finished }
         ensures system { self.new.system ≡ finished self.old.system }
         ensures kept { self.new.kept ≡ kept_in self.new.system }
+        ensures core { self.new.core ≡ self.old.core }
+        ensures swap { self.new.swap ≡ self.old.swap }
         ensures stored { self.new.stored ≡ self.new.blocks }
         ensures stands { StandsFor DISK_BLOCKS (block_at self.new.stored) self.new.system.unix.store }
         ensures below { (head (block_at self.old.blocks)).f_size ≤ SWAP_START

@@ -129,12 +129,11 @@ fn turned(ending: Ending) -> Turned
 /// area.
 #[inline(always)]
 fn execute_lent(procs: &mut Procs, fixed: &Fixed) -> Outcome
-    requires { IsFixed procs.old.images fixed.now }
-    ensures outcome { result ≡ (instr (machine_in procs.old.images fixed.now.slot)).outcome }
-    ensures kept { procs.new ≡ record procs.old {
-      images = with_machine_in procs.old.images fixed.now.slot (instr (machine_in procs.old.images fixed.now.slot)).machine;
-    } }
-    ensures fixed { IsFixed procs.new.images fixed.now }
+    requires { IsFixed procs.old.images.kept fixed.now }
+    ensures outcome { result ≡ (instr (machine_in procs.old.images.kept fixed.now.slot)).outcome }
+    ensures kept { procs.new.images.kept ≡ with_machine_in procs.old.images.kept fixed.now.slot (instr (machine_in procs.old.images.kept fixed.now.slot)).machine }
+    ensures others { procs.new ≡ record procs.old { images = procs.new.images } }
+    ensures fixed { IsFixed procs.new.images.kept fixed.now }
 {
     let u = procs.images.area_at(fixed);
     let r = u.r;
@@ -150,12 +149,11 @@ fn execute_lent(procs: &mut Procs, fixed: &Fixed) -> Outcome
 /// The process of which this is fixed does one instruction, whatever it comes to. A call is looked for first.
 #[inline(always)]
 fn execute(procs: &mut Procs, fixed: &Fixed) -> Outcome
-    requires { IsFixed procs.old.images fixed.now }
-    ensures outcome { result ≡ (instr (machine_in procs.old.images fixed.now.slot)).outcome }
-    ensures kept { procs.new ≡ record procs.old {
-      images = with_machine_in procs.old.images fixed.now.slot (instr (machine_in procs.old.images fixed.now.slot)).machine;
-    } }
-    ensures fixed { IsFixed procs.new.images fixed.now }
+    requires { IsFixed procs.old.images.kept fixed.now }
+    ensures outcome { result ≡ (instr (machine_in procs.old.images.kept fixed.now.slot)).outcome }
+    ensures kept { procs.new.images.kept ≡ with_machine_in procs.old.images.kept fixed.now.slot (instr (machine_in procs.old.images.kept fixed.now.slot)).machine }
+    ensures others { procs.new ≡ record procs.old { images = procs.new.images } }
+    ensures fixed { IsFixed procs.new.images.kept fixed.now }
 {
     if let Some(n) = procs.images.call_near(fixed) {
         return Outcome::Call(n);

@@ -58,7 +58,7 @@ pub(crate) fn do_on_files(world: &mut World, s: Slot, call: FileCall, args: [u16
 /// Goes on with a call on files: a read of the console, or a read or a write of a pipe.
 pub(crate) fn resume_on_files(world: &mut World, s: Slot) -> Answer
     requires ready { IsReady world.old s }
-    requires pending { is_on_files (area_of world.old.procs.images s).pending ≡ true }
+    requires pending { is_on_files (area_of world.old.procs.images.kept s).pending ≡ true }
     ensures answer { result ≡ (resumes (handed_of (unix_of world.old) (process_of (unix_of world.old) s)) s world.old.procs.table.now).answer }
     ensures unix { unix_of world.new ≡ with_handed (unix_of world.old) s
         (resumes (handed_of (unix_of world.old) (process_of (unix_of world.old) s)) s world.old.procs.table.now).state }

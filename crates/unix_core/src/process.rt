@@ -43,8 +43,8 @@ const SETD: u16 = 0o170011;
 
 /// A call begins: C is cleared, and the PC passes so many words.
 fn enter(images: &mut Images, s: Slot, words: u8)
-    requires { HasImage images.old s }
-    ensures { images.new ≡ with_area images.old s (entered_area words (area_of images.old s)) }
+    requires { HasImage images.old.kept s }
+    ensures { images.new.kept ≡ with_area images.old.kept s (entered_area words (area_of images.old.kept s)) }
 {
     let u = images.area(s);
     let mut r = u.r;
@@ -54,8 +54,8 @@ fn enter(images: &mut Images, s: Slot, words: u8)
 
 /// R0 and R1 take what a call gives.
 fn give(images: &mut Images, s: Slot, r0: u16, r1: u16)
-    requires { HasImage images.old s }
-    ensures { images.new ≡ with_area images.old s (given_area r0 r1 (area_of images.old s)) }
+    requires { HasImage images.old.kept s }
+    ensures { images.new.kept ≡ with_area images.old.kept s (given_area r0 r1 (area_of images.old.kept s)) }
 {
     let u = images.area(s);
     let mut r = u.r;
@@ -66,8 +66,8 @@ fn give(images: &mut Images, s: Slot, r0: u16, r1: u16)
 
 /// A call is refused: C is set, and R0 takes the number of the error.
 fn refuse(images: &mut Images, s: Slot, number: u16)
-    requires { HasImage images.old s }
-    ensures { images.new ≡ with_area images.old s (refused_area number (area_of images.old s)) }
+    requires { HasImage images.old.kept s }
+    ensures { images.new.kept ≡ with_area images.old.kept s (refused_area number (area_of images.old.kept s)) }
 {
     let u = images.area(s);
     let mut r = u.r;
@@ -346,8 +346,8 @@ fn call<T: Trace>(world: &mut World, s: Slot, number: u8, trace: &mut T) -> Endi
 
 /// Whether an illegal instruction is passed by: SETD, of a process that does nothing about illegal ones.
 fn passes_setd(images: &Images, s: Slot, word: u16) -> bool
-    requires { HasImage images.now s }
-    ensures { (u : Unix) → (process_of u s).u ≡ area_of images.now s → result ≡ passes_setd u s word }
+    requires { HasImage images.now.kept s }
+    ensures { (u : Unix) → (process_of u s).u ≡ area_of images.now.kept s → result ≡ passes_setd u s word }
 {
     word == SETD && images.area(s).handlers[usize::from(SIGINS)] == 0
 }
@@ -406,8 +406,8 @@ pub(crate) fn come_to<T: Trace>(
 
 /// The call that a process has to go on with.
 fn pending_of(images: &Images, s: Slot) -> u8
-    requires { HasImage images.now s }
-    ensures { result ≡ (area_of images.now s).pending }
+    requires { HasImage images.now.kept s }
+    ensures { result ≡ (area_of images.now.kept s).pending }
 {
     images.area(s).pending
 }
@@ -422,7 +422,7 @@ fn is_on_files(pending: u8) -> bool
 /// Goes on with a call on files.
 fn go_on_files<T: Trace>(world: &mut World, s: Slot, trace: &mut T) -> Ending
     requires ready { IsReady world.old s }
-    requires pending { is_on_files (area_of world.old.procs.images s).pending ≡ true }
+    requires pending { is_on_files (area_of world.old.procs.images.kept s).pending ≡ true }
     ensures come { HasCome (board_in world.old) (did_by (unix_of world.old) s
         (resumes (handed_of (unix_of world.old) (process_of (unix_of world.old) s)) s world.old.procs.table.now)) result world.new }
     ensures ready { IsReady world.new s }

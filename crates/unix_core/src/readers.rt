@@ -5,7 +5,7 @@ ghost use Rattle.fs_codec.specs.declared.layout.TheConstants.{SWAP_START};
 ghost use Rattle.buf_cache.specs.Blocks.{block_at};
 ghost use Rattle.core_mem.specs.Bytes.{part};
 ghost use Rattle.image_keep.specs.Kept.{place_of};
-ghost use Rattle.image_keep.specs.Holds.{CoreHolds, SwapHolds, AreRangesApart};
+ghost use Rattle.image_keep.specs.Holds.{MemoryHolds};
 
 use crate::files::see_procs;
 use crate::kernel::Kernel;
@@ -39,8 +39,8 @@ impl Kernel {
     /// The bytes of core: byte 0 of click c is byte 64 * (c - 1). It holds the images and the texts that are there;
     /// between two events of a run that goes on, those of the system, at the places that its board tells.
     pub fn core(&self) -> &[u8]
-        ensures holds { CoreHolds result.now self.now.kept }
-        ensures apart { AreRangesApart self.now.kept }
+        ensures bytes { result.now ≡ self.now.core }
+        ensures holds { MemoryHolds self.now.core self.now.swap self.now.kept }
         ensures told { self.now.phase ≡ Started → self.now.kept ≡ kept_in self.now.system }
     {
         see_procs(&self.machine.world.procs);
@@ -51,26 +51,26 @@ impl Kernel {
     /// core, half of the u area of each process that has ended, and all texts; between two events of a run that goes on, those
     /// of the system.
     pub fn swap(&self) -> &[u8]
-        ensures holds { SwapHolds result.now self.now.kept }
-        ensures apart { AreRangesApart self.now.kept }
+        ensures bytes { result.now ≡ self.now.swap }
+        ensures holds { MemoryHolds self.now.core self.now.swap self.now.kept }
         ensures told { self.now.phase ≡ Started → self.now.kept ≡ kept_in self.now.system }
     {
         see_procs(&self.machine.world.procs);
         self.machine.world.procs.images.swap()
     }
 
-    /// A byte of core.
+    /// A byte of core, which holds what `core` says.
     pub fn core_byte(&self, at: u32) -> u8
         requires { at < 64 * self.now.kept.core }
-        ensures { (core : List ℕ) × CoreHolds core self.now.kept × (result ≡ slice_index core at) }
+        ensures { result ≡ slice_index self.now.core at }
     {
         self.core()[at as usize]
     }
 
-    /// A byte of the swap area.
+    /// A byte of the swap area, which holds what `swap` says.
     pub fn swap_byte(&self, at: u32) -> u8
         requires { at < 446464 }
-        ensures { (swap : List ℕ) × SwapHolds swap self.now.kept × (result ≡ slice_index swap at) }
+        ensures { result ≡ slice_index self.now.swap at }
     {
         self.swap()[at as usize]
     }
@@ -88,8 +88,7 @@ impl Kernel {
     pub fn disk_block(&self, n: u16) -> [u8; 512]
         requires { n < DISK_BLOCKS }
         ensures below { n < SWAP_START → result ≡ block_at self.now.stored n }
-        ensures swapped { SWAP_START ≤ n
-            → (swap : List ℕ) × SwapHolds swap self.now.kept × (result ≡ part swap (512 * (n - SWAP_START)) 512) }
+        ensures swapped { SWAP_START ≤ n → result ≡ part self.now.swap (512 * (n - SWAP_START)) 512 }
     {
         if n < SWAP_START {
             *self.machine.world.files.tree.nodes.on_disk(n)
@@ -98,13 +97,12 @@ impl Kernel {
         }
     }
 
-    /// Block `n` of the disk, as a run that has been finished leaves it: from block 4000 on what the swap area holds then.
+    /// Block `n` of the disk, as a run that has been finished leaves it: what the disk holds of it then.
     pub fn final_block(&self, n: u16) -> [u8; 512]
         requires finished { self.now.phase ≡ Finished }
         requires block { n < DISK_BLOCKS }
         ensures below { n < SWAP_START → result ≡ block_at self.now.stored n }
-        ensures swapped { SWAP_START ≤ n
-            → (swap : List ℕ) × SwapHolds swap self.now.kept × (result ≡ part swap (512 * (n - SWAP_START)) 512) }
+        ensures swapped { SWAP_START ≤ n → result ≡ part self.now.swap (512 * (n - SWAP_START)) 512 }
     {
         self.disk_block(n)
     }

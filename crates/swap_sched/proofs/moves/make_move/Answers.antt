@@ -7,4 +7,4 @@ pub serve-requires-clause-next : goal.serve-requires-clause-next
 serve-requires-clause-next g c = sym c.in-Some.ensures.candidate
 
 pub sleep-requires-clause-comes : goal.sleep-requires-clause-comes
-sleep-requires-clause-comes g c = move_none (board_of c.args.table.now c.args.images.now) (sym c.in-None.ensures.candidate)
+sleep-requires-clause-comes g c = move_none (board_of c.args.table.now c.args.images.now.kept) (sym c.in-None.ensures.candidate)

@@ -71,7 +71,7 @@ returns-in_err-place_image-clause-marks g c =
 
 pub fill_program-requires-clause-out : goal.fill_program-requires-clause-out
 fill_program-requires-clause-out g c =
-    out_still c.take_text.new.p.images c.place_image.new.p.images c.args.program.now.text_clicks c.in_ok-new.new
+    out_still c.take_text.new.p.images.kept c.place_image.new.p.images.kept c.args.program.now.text_clicks c.in_ok-new.new
     c.place_image.ensures.stays
     c.in_ok-new.ensures.out
 

@@ -41,12 +41,12 @@ module _ (p q : Procs) (fs gs : FileSystem) (s name list : ℕ) (program : Progr
       let same = ap (λ l. slice_index l i) is in
       omega (arith, most, same)
 
-  referred : (i : ℕ) → count_by (is_text_of i) (texts_in p.images) + (if i == program.ino then 1 else 0) ≤ slice_index
+  referred : (i : ℕ) → count_by (is_text_of i) (texts_in p.images.kept) + (if i == program.ino then 1 else 0) ≤ slice_index
       gs.references i
   referred =
-      subst (λ l. (i : ℕ) → count_by (is_text_of i) (texts_in p.images) + (if i == program.ino then 1 else 0) ≤ slice_index l i)
+      subst (λ l. (i : ℕ) → count_by (is_text_of i) (texts_in p.images.kept) + (if i == program.ino then 1 else 0) ≤ slice_index l i)
       (sym is)
-      (more_referred fs.references program.ino (λ i. count_by (is_text_of i) (texts_in p.images)) some_more
+      (more_referred fs.references program.ino (λ i. count_by (is_text_of i) (texts_in p.images.kept)) some_more
       (λ i. let most = calls.referred i in omega (arith, most)))
 
 pub load-requires-clause-few : goal.load-requires-clause-few
@@ -57,7 +57,7 @@ load-requires-clause-few g c =
 
 pub load-requires-clause-referred : goal.load-requires-clause-referred
 load-requires-clause-referred g c =
-    subst (λ (p : Procs). (i : ℕ) → count_by (is_text_of i) (texts_in p.images) + (if i == c.in-Ok.program.ino then 1 else 0)
+    subst (λ (p : Procs). (i : ℕ) → count_by (is_text_of i) (texts_in p.images.kept) + (if i == c.in-Ok.program.ino then 1 else 0)
     ≤ slice_index c.test_program.new.tree.nodes.references i) (sym c.test_program.ensures.procs)
     (referred c.args.p.now c.test_program.new.p c.args.tree.now.nodes c.test_program.new.tree.nodes c.args.s
     (get_or c.args.args 0 0)

@@ -18,23 +18,23 @@ use Rattle.sys_procs.proofs.exec.fill_image.Goals as goal
 
 -- the images after the loan
 abbrev now : goal.After-fill → Kept
-now c = c.fill.new.space.images.now
+now c = c.fill.new.space.images.now.kept
 
 slot_is : (c : goal.After-fill) → c.fill.new.space.slot ≡ c.args.s
 slot_is c = ap (λ (l : Lent). l.slot) c.fill.ensures.rest ∙ c.space-space.ensures.slot
 
-left : (c : goal.After-fill) → left_of (now c) c.args.s ≡ left_of c.args.p.now.images c.args.s
+left : (c : goal.After-fill) → left_of (now c) c.args.s ≡ left_of c.args.p.now.images.kept c.args.s
 left c =
     ap (left_of (now c)) (sym (slot_is c))
     ∙ (ap (λ (l : Lent). l.left) c.fill.ensures.rest
-    ∙ (ap (left_of c.space-space.result.images.now) c.space-space.ensures.slot
+    ∙ (ap (left_of c.space-space.result.images.now.kept) c.space-space.ensures.slot
     ∙ ap (λ (k : Kept). left_of k c.args.s) c.space-space.ensures.images))
 
 -- what is lent is cleared
-lent_is : (c : goal.After-fill) → kept.image_of c.space-space.result.images.now c.space-space.result.slot
+lent_is : (c : goal.After-fill) → kept.image_of c.space-space.result.images.now.kept c.space-space.result.slot
     ≡ cleared_image (memory_here c.args.p.now c.args.s).text c.args.program.now.plan
 lent_is c =
-    ap (kept.image_of c.space-space.result.images.now) c.space-space.ensures.slot
+    ap (kept.image_of c.space-space.result.images.now.kept) c.space-space.ensures.slot
     ∙ (ap (λ (k : Kept). kept.image_of k c.args.s) c.space-space.ensures.images
     ∙ (sym (image_here c.args.p.now c.args.s c.requires.alive c.area-area.ensures.holds) ∙ c.requires.cleared))
 
@@ -60,7 +60,7 @@ returns-clause-state c =
     }) c.args.s (record old { «data» = (image_is c i).data; stack = (image_is c i).stack }))
 
 -- The text of a process is as long as its u area says.
-long_is : (p : Procs) (s size : ℕ) → IsAlive p s → IsKept p.images → (process_here p s).u.text_size ≡ size
+long_is : (p : Procs) (s size : ℕ) → IsAlive p s → IsKept p.images.kept → (process_here p s).u.text_size ≡ size
     → length (memory_here p s).text ≡ 64 * size
 long_is p s size alive holds same =
     ap (λ (m : Image). length m.text) (image_here p s alive holds)
@@ -71,7 +71,7 @@ pub fill-requires-clause-cleared : goal.fill-requires-clause-cleared
 fill-requires-clause-cleared c = (
   (memory_here c.args.p.now c.args.s).text,
   long_is c.args.p.now c.args.s c.args.program.now.text_clicks c.requires.alive c.area-area.ensures.holds c.requires.text_size,
-  ap (kept.image_of c.space-space.result.images.now) c.space-space.ensures.slot
+  ap (kept.image_of c.space-space.result.images.now.kept) c.space-space.ensures.slot
       ∙ (ap (λ (k : Kept). kept.image_of k c.args.s) c.space-space.ensures.images
       ∙ (sym (image_here c.args.p.now c.args.s c.requires.alive c.area-area.ensures.holds) ∙ c.requires.cleared)),
 )

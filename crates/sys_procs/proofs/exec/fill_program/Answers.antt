@@ -32,7 +32,7 @@ module _ (p q : Procs) (fs gs : FileSystem) (s : ℕ) (program : Program) (b : B
     filled_here =
         ap (λ (w : World). process_of w s) is
         ∙ (put_here (handed q gs).processes s (filled program memory (process_here q s))
-        (omega (arith, low, fifty_processes q.rows.slots q.images))
+        (omega (arith, low, fifty_processes q.rows.slots q.images.kept))
         ∙ ap (λ (x : Process). filled program memory x) here)
 
     row_is : (process_here p s).row ≡ (process_here r s).row
@@ -46,7 +46,7 @@ fill_image-requires-clause-cleared c =
     let same = here c.args.p.now c.fill_text.new.p c.args.tree.now.nodes c.fill_text.new.tree.nodes c.args.s c.args.program.now
     (is_some c.args.new) c.fill_text.ensures.state in
     λ i. record {
-      text = text_bytes (texts_in c.fill_text.new.p.images) (process_here c.fill_text.new.p c.args.s).text;
+      text = text_bytes (texts_in c.fill_text.new.p.images.kept) (process_here c.fill_text.new.p c.args.s).text;
       «data» = (ap (λ (q : Process). q.data) same ∙ c.requires.zeros) i;
       stack = (ap (λ (q : Process). q.stack) same ∙ c.requires.stack) i;
     }

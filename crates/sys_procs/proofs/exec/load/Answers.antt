@@ -25,8 +25,8 @@ use Rattle.sys_procs.proofs.LeftWorld.{IsAfter, gone, is_after, text_there, leav
 use Rattle.sys_procs.proofs.exec.load.Goals as goal
 
 -- The world when the text has been left, and the image has been given back.
-module _ (p q r : Procs) (fs gs : FileSystem) (s : ℕ) (program : Program) (alive : IsAlive p s) (shared : AreShared p.images)
-    (referred : (i : ℕ) → count_by (is_text_of i) (texts_in p.images) + (if i == program.ino then 1 else 0) ≤ slice_index
+module _ (p q r : Procs) (fs gs : FileSystem) (s : ℕ) (program : Program) (alive : IsAlive p s) (shared : AreShared p.images.kept)
+    (referred : (i : ℕ) → count_by (is_text_of i) (texts_in p.images.kept) + (if i == program.ino then 1 else 0) ≤ slice_index
     fs.references i)
     {start middle : Taken} (left : HasLeft p q gs start middle (leaves (handed p fs) s))
     (bare : (hs : FileSystem) → handed r hs ≡ change (handed q hs) s bared) where
@@ -37,7 +37,7 @@ module _ (p q r : Procs) (fs gs : FileSystem) (s : ℕ) (program : Program) (ali
   l = (leaves w s).state
 
   low : s < length w.processes
-  low = let below = alive.below in omega (arith, below, fifty_processes p.rows.slots p.images)
+  low = let below = alive.below in omega (arith, below, fifty_processes p.rows.slots p.images.kept)
 
   facts : IsAfter w l s program.ino program.text_clicks
   facts = is_after w s program.ino program.text_clicks low referred (text_there p fs s alive shared)

@@ -24,7 +24,7 @@ did g c = record {
   table = c.end_row.ensures.table;
   rows = c.end_row.ensures.rows;
   images = c.end_row.ensures.images
-      ∙ (c.end.ensures.kept ∙ ap (with_grave_at c.args.p.now.images c.args.s (area_of c.args.p.now.images c.args.s)) c.in-Ok.ensures.block);
+      ∙ (c.end.ensures.kept ∙ ap (with_grave_at c.args.p.now.images.kept c.args.s (area_of c.args.p.now.images.kept c.args.s)) c.in-Ok.ensures.block);
   switches = c.end_row.ensures.switches;
 }
 
@@ -65,8 +65,8 @@ no_end g c fs =
     (parent_is c.args.p.now c.args.s c.slot_of-parent.result c.row-row.result fs c.see.ensures.rows.long c.row-row.ensures c.slot_of-parent.ensures)
     c.in-Err.ensures.block
 
-images_stay : (g : given.Over) (c : goal.After-entry g) → c.end.new.self ≡ c.args.p.now.images
-images_stay g c = c.end.ensures.kept ∙ ap (with_grave_at c.args.p.now.images c.args.s (area_of c.args.p.now.images c.args.s)) c.in-Err.ensures.block
+images_stay : (g : given.Over) (c : goal.After-entry g) → c.end.new.self ≡ c.args.p.now.images.kept
+images_stay g c = c.end.ensures.kept ∙ ap (with_grave_at c.args.p.now.images.kept c.args.s (area_of c.args.p.now.images.kept c.args.s)) c.in-Err.ensures.block
 
 pub returns-in-Err-clause-does : goal.returns-in-Err-clause-does
 returns-in-Err-clause-does g c = λ fs.

@@ -23,7 +23,7 @@ returns-clause-does g c =
     let w : World = handed p fs in
     let v : World = leaves w s c.args.status in
     let below = (calls_alive p fs s c.requires.calls).below in
-    let low : s < length w.processes = omega (arith, below, fifty_processes p.rows.slots p.images) in
+    let low : s < length w.processes = omega (arith, below, fifty_processes p.rows.slots p.images.kept) in
     let text : Option ℕ = (process_of v s).text in
     let left : HasLeft c.leave.new.p c.leave_text.new.p c.leave_text.new.tree.nodes (g.T.Trace.taken c.args.trace.now) (g.T.Trace.taken c.leave_text.new.trace) (xfree v s text nothing) =
     subst (λ (x : World). HasLeft c.leave.new.p c.leave_text.new.p c.leave_text.new.tree.nodes (g.T.Trace.taken c.args.trace.now) (g.T.Trace.taken c.leave_text.new.trace)

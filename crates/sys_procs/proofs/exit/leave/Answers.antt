@@ -20,13 +20,13 @@ let_go-requires c =
     }
 
 pub returns-clause-texts : goal.returns-clause-texts
-returns-clause-texts c = ap (λ (k : Kept). k.texts) c.put_area.ensures.images ∙ (with_area_texts c.args.p.now.images c.args.s c.ended.result).texts
+returns-clause-texts c = ap (λ (k : Kept). k.texts) c.put_area.ensures.images ∙ (with_area_texts c.args.p.now.images.kept c.args.s c.ended.result).texts
 
 pub returns-clause-referred : goal.returns-clause-referred
 returns-clause-referred c = λ ino.
     let n : List (Option Shared) → ℕ = λ texts. count_by (is_text_of ino) (map text_in texts) in
     subst (λ m. m ≤ slice_index c.let_go.new.nodes.references ino) (sym (ap n (returns-clause-texts c)))
-    (subst (λ (v : Inodes). n c.args.p.now.images.texts ≤ slice_index v.references ino) (sym c.let_go.ensures.inodes)
+    (subst (λ (v : Inodes). n c.args.p.now.images.kept.texts ≤ slice_index v.references ino) (sym c.let_go.ensures.inodes)
     (left_referred c.args.p.now c.args.tree.now.nodes c.args.s c.requires c.area-u.result.dir (ap (λ (u : UArea). u.dir) c.area-u.ensures) ino))
 
 pub returns-clause-state : goal.returns-clause-state

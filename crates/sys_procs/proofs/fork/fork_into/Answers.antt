@@ -29,9 +29,9 @@ returns-in-Err-clause-does g c =
     let child : ℕ = c.args.child in
     let fs : FileSystem = c.args.tree.now.nodes in
     let alive : IsAlive p s = calls_alive p fs s c.requires.calls in
-    let is : c.copy_for_fork.new.self ≡ p.images =
+    let is : c.copy_for_fork.new.self ≡ p.images.kept =
     c.copy_for_fork.ensures.kept
-    ∙ ap (forked_at p.images s child) c.in-Err.ensures.place in
+    ∙ ap (forked_at p.images.kept s child) c.in-Err.ensures.place in
     done_logged (logged_no_fork (board p) s child (handed p fs)
     (fork_place p s alive c.see.ensures.images.slots ∙ c.in-Err.ensures.place)) refl
     (ap (λ (k : Kept). handed (record p { images = k }) fs) is) (ap (λ (k : Kept). board (record p { images = k })) is)
@@ -101,11 +101,11 @@ returns-in-Ok-clause-does g c =
     let alive : IsAlive p s = calls_alive p fs s c.requires.calls in
     let free : IsFreeSlot p s child = free_slot p s child alive c.requires.free in
     let fifty : length p.rows.slots ≡ 50 = c.see.ensures.rows.long in
-    let images : length p.images.slots ≡ 50 = c.see.ensures.images.slots in
-    let seats : length p.images.users ≡ 50 = c.see.ensures.images.seats in
+    let images : length p.images.kept.slots ≡ 50 = c.see.ensures.images.slots in
+    let seats : length p.images.kept.users ≡ 50 = c.see.ensures.images.seats in
     let done : Answer → Result Answer PanicKind = λ a. Ok a in
-    let low : s < length w.processes = let below = alive.below in omega (arith, below, fifty_processes p.rows.slots p.images) in
-    let child_low : child < length w.processes = let below = free.low in omega (arith, below, fifty_processes p.rows.slots p.images) in
+    let low : s < length w.processes = let below = alive.below in omega (arith, below, fifty_processes p.rows.slots p.images.kept) in
+    let child_low : child < length w.processes = let below = free.low in omega (arith, below, fifty_processes p.rows.slots p.images.kept) in
     let now : ◌≡◌ {A = Procs} (record p { rows = c.args.rows.now; table = c.add_row.new.table; images = c.copy_for_fork.new.self }) (seated p s child place) =
     is_seated p s child place c.args.rows.now c.add_row.new.table c.copy_for_fork.new.self c.requires.rows c.add_row.ensures.table c.in-Ok.ensures.place c.copy_for_fork.ensures.kept in
     let pid : (process_here (seated p s child place) child).row.pid ≡ next_pid w =

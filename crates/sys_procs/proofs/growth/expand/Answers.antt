@@ -22,17 +22,17 @@ pub resize-requires-clause-segments : goal.resize-requires-clause-segments
 resize-requires-clause-segments g c =
     let p : Procs = c.args.p.now in
     subst (λ (u : UArea). nseg u.text_size + nseg c.args.d + nseg c.args.stack ≤ 8) (sym (area_here p c.args.s c.requires.alive))
-    (few_segments (process_here p c.args.s).u.text_size c.args.d c.args.stack (most_clicks p.images) c.requires.sizes)
+    (few_segments (process_here p c.args.s).u.text_size c.args.d c.args.stack (most_clicks p.images.kept) c.requires.sizes)
 
 -- It finds a place.
 now : (p : Procs) (s d stack : ℕ) (place : Place) (o : Option Place) (t : Table) (k : Kept) → o ≡ Some place
-    → k ≡ with_image_moved p.images s (area_resized (area_of p.images s) d stack) (image_resized (image_of p.images s) d stack) o
+    → k ≡ with_image_moved p.images.kept s (area_resized (area_of p.images.kept s) d stack) (image_resized (image_of p.images.kept s) d stack) o
     → t ≡ (resized p s d stack place).table → ◌≡◌ {A = Procs} (record p { table = t; images = k }) (resized p s d stack place)
 now p s d stack place o t k found images table = λ i. record p {
   table = table i;
-  images = (images ∙ ap (λ (q : Option Place). with_image_moved p.images s (area_resized (area_of p.images s) d stack)
-      (image_resized (image_of p.images s) d stack) q) found
-      ∙ slot_moved p.images (text_of p.images s) (place_of p.images s) place s (Alive (grown p.images s d stack place))) i;
+  images = (images ∙ ap (λ (q : Option Place). with_image_moved p.images.kept s (area_resized (area_of p.images.kept s) d stack)
+      (image_resized (image_of p.images.kept s) d stack) q) found
+      ∙ slot_moved p.images.kept (text_of p.images.kept s) (place_of p.images.kept s) place s (Alive (grown p.images.kept s d stack place))) i;
 }
 
 pub returns-in-Ok-clause-does : goal.returns-in-Ok-clause-does
@@ -60,16 +60,16 @@ returns-in-Ok-clause-agree g c =
 
 -- There is none: nothing changes.
 stays : (p : Procs) (s d stack : ℕ) (o : Option Place) (k : Kept) → o ≡ None
-    → k ≡ with_image_moved p.images s (area_resized (area_of p.images s) d stack) (image_resized (image_of p.images s) d stack) o
-    → k ≡ p.images
+    → k ≡ with_image_moved p.images.kept s (area_resized (area_of p.images.kept s) d stack) (image_resized (image_of p.images.kept s) d stack) o
+    → k ≡ p.images.kept
 stays p s d stack o k none images =
-    images ∙ ap (λ (q : Option Place). with_image_moved p.images s (area_resized (area_of p.images s) d stack)
-    (image_resized (image_of p.images s) d stack) q) none
+    images ∙ ap (λ (q : Option Place). with_image_moved p.images.kept s (area_resized (area_of p.images.kept s) d stack)
+    (image_resized (image_of p.images.kept s) d stack) q) none
 
 pub returns-in-Err-clause-does : goal.returns-in-Err-clause-does
 returns-in-Err-clause-does g c = λ fs.
     let p : Procs = c.args.p.now in
-    let is : c.resize.new.self ≡ p.images =
+    let is : c.resize.new.self ≡ p.images.kept =
     stays p c.args.s c.args.d c.args.stack _ c.resize.new.self c.in-Err.ensures.place c.resize.ensures.kept in
     ended_logged (log_stopped p c.args.s c.requires.alive c.see.ensures.images.slots c.args.d c.args.stack fs c.in-Err.ensures.place)
     refl (ap (λ (k : Kept). handed (record p { images = k }) fs) is) (ap (λ (k : Kept). board (record p { images = k })) is)

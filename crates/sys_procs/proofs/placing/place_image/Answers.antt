@@ -12,19 +12,19 @@ module _ (g : given.Over) (c : goal.After-entry g) where
   abbrev bare : IsBare c.args.p.now c.args.s
   bare = c.requires.bare
 
-  abbrev all : IsKept c.args.p.now.images
+  abbrev all : IsKept c.args.p.now.images.kept
   all = c.place-place.ensures.holds
 
   abbrev text : List ℕ
-  text = text_bytes c.args.p.now.images (row_at c.args.p.now.table c.args.s).text
+  text = text_bytes c.args.p.now.images.kept (row_at c.args.p.now.table c.args.s).text
 
   abbrev it : Procs
-  it = record c.args.p.now { table = c.put_place.new.table; images = c.new_image.new.images }
+  it = record c.args.p.now { table = c.put_place.new.table; images = c.new_image.new.images.kept }
 
   it_now : it ≡ now c.args.p.now c.args.s c.args.t c.args.d bare all c.in-Ok.place text c.in-Ok.ensures.place
   it_now =
       it_is c.args.p.now c.args.s c.args.t c.args.d bare all c.in-Ok.place text c.in-Ok.ensures.place
-      c.put_place.new.table c.new_image.new.images c.put_place.ensures.table c.new_image.ensures.images
+      c.put_place.new.table c.new_image.new.images.kept c.put_place.ensures.table c.new_image.ensures.images
 
 pub returns-in-Ok-clause-does : goal.returns-in-Ok-clause-does
 returns-in-Ok-clause-does g c = λ fs.
@@ -34,15 +34,15 @@ returns-in-Ok-clause-does g c = λ fs.
 
 pub returns-in-Ok-clause-image : goal.returns-in-Ok-clause-image
 returns-in-Ok-clause-image g c =
-    ap (λ (q : Procs). image_of q.images c.args.s) (it_now g c)
+    ap (λ (q : Procs). image_of q.images.kept c.args.s) (it_now g c)
     ∙ (made_now c.args.p.now c.args.s c.args.t c.args.d c.requires.bare c.place-place.ensures.holds c.in-Ok.place
     (text g c) c.in-Ok.ensures.place
-    ∙ ap (λ o. made_image (text_bytes c.args.p.now.images o) c.args.d 20)
+    ∙ ap (λ o. made_image (text_bytes c.args.p.now.images.kept o) c.args.d 20)
     (c.requires.bare.agree.text c.args.s c.requires.bare.above c.requires.bare.below))
 
 pub returns-in-Ok-clause-stays : goal.returns-in-Ok-clause-stays
 returns-in-Ok-clause-stays g c = λ k x is none.
-    ap (λ (q : Procs). shared q.images k) (it_now g c)
+    ap (λ (q : Procs). shared q.images.kept k) (it_now g c)
     ∙ out_stays c.args.p.now c.args.s c.args.t c.args.d c.requires.bare c.place-place.ensures.holds c.in-Ok.place
     (text g c) c.in-Ok.ensures.place k x is none
 
@@ -62,6 +62,6 @@ returns-in-Ok-clause-alive g c =
 pub returns-in-Err-clause-does : goal.returns-in-Err-clause-does
 returns-in-Err-clause-does g c = λ fs.
     unplaced c.args.p.now c.args.s c.args.t c.args.d c.requires.bare c.place-place.ensures.holds fs
-    (made_image (text_bytes c.args.p.now.images (row_at c.args.p.now.table c.args.s).text) c.args.d 20) c.new_image.new.images
+    (made_image (text_bytes c.args.p.now.images.kept (row_at c.args.p.now.table c.args.s).text) c.args.d 20) c.new_image.new.images.kept
     (g.T.Trace.taken c.args.trace.now)
     (g.T.Trace.taken c.entry-in-Err.new.self) c.in-Err.ensures.place c.new_image.ensures.images c.entry-in-Err.ensures.took

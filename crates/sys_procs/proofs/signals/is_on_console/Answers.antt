@@ -13,5 +13,5 @@ returns-then-not-in_use-clause-meant c = λ fs.
 pub returns-clause-meant : goal.returns-clause-meant
 returns-clause-meant c = λ fs.
     let p : Procs = c.args.p.now in
-    ap (λ (r : Row). r.tty == 1) (c.row.ensures ∙ sym (own_row p.rows.slots p.images c.args.s c.requires))
+    ap (λ (r : Row). r.tty == 1) (c.row.ensures ∙ sym (own_row p.rows.slots p.images.kept c.args.s c.requires))
     ∙ sym (meant_there p fs c.args.s has_console c.requires (sym c.in_use.ensures.used ∙ c.if-not-in_use.false))

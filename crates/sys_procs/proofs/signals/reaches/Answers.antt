@@ -16,6 +16,6 @@ pub returns-clause-meant : goal.returns-clause-meant
 returns-clause-meant c = λ fs who sender.
     let p : Procs = c.args.p.now in
     c.is_reached.ensures who (process_of (handed p fs) c.args.s) sender
-    (own_row p.rows.slots p.images c.args.s c.requires ∙ sym c.row.ensures)
+    (own_row p.rows.slots p.images.kept c.args.s c.requires ∙ sym c.row.ensures)
     ∙ sym (meant_there p fs c.args.s (is_reached c.args.sender.slot who) c.requires
     (sym c.in_use.ensures.used ∙ c.if-not-in_use.false))

@@ -45,8 +45,8 @@ pub returns-clause-board : goal.returns-clause-board
 returns-clause-board g c =
     let p : Procs = c.args.p.now in
     let is : is_signal c.args.sig ≡ true = sym c.post.ensures.signal ∙ c.if-not-post.false in
-    ap (λ (t : Table). board_of t p.images) c.signal_slot.ensures.table
-    ∙ (board_signalled p.table p.images c.args.s c.args.sig
+    ap (λ (t : Table). board_of t p.images.kept) c.signal_slot.ensures.table
+    ∙ (board_signalled p.table p.images.kept c.args.s c.args.sig
     ∙ (sym (ap (λ (l : Logged World). l.board) (logged_line (board p) (line.Signal c.args.s c.args.sig)))
     ∙ sym (ap (λ (items : List Item). (logged {W = World} (board p) (map Show items)).board) (one_line c.args.s c.args.sig is))))
 
@@ -54,9 +54,9 @@ pub returns-clause-agree : goal.returns-clause-agree
 returns-clause-agree g c =
     let p : Procs = c.args.p.now in
     let it = member_there (member_at p.rows.slots c.args.s) c.requires.used in
-    subst (λ (t : Table). Agree c.set_row.new.self t p.images) (sym c.signal_slot.ensures.table)
-    (agree_signalled c.set_row.new.self p.table p.images c.args.s
-    (subst (λ (v : Processes). Agree v p.table p.images) (sym c.set_row.ensures)
-    (agree_row p.rows p.table p.images c.args.s it.0 c.post.new.row c.requires.agree c.requires.above c.requires.low
+    subst (λ (t : Table). Agree c.set_row.new.self t p.images.kept) (sym c.signal_slot.ensures.table)
+    (agree_signalled c.set_row.new.self p.table p.images.kept c.args.s
+    (subst (λ (v : Processes). Agree v p.table p.images.kept) (sym c.set_row.ensures)
+    (agree_row p.rows p.table p.images.kept c.args.s it.0 c.post.new.row c.requires.agree c.requires.above c.requires.low
     (is_within p.rows.slots c.args.s it.0 it.1) it.1))
     c.requires.above c.requires.low)

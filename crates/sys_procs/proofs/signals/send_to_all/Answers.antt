@@ -18,7 +18,7 @@ loop-s-init g c =
     let p : Procs = c.args.p.now in
     record {
       sent = λ who sender. sent_first (is_reached c.args.sender.slot who) c.args.sig p _
-          (λ fs. fifty_processes p.rows.slots p.images)
+          (λ fs. fifty_processes p.rows.slots p.images.kept)
           (λ fs. kernel_is_none p fs c.in_use-kernel.ensures.table.kernel);
       found = λ fs who sender. refl;
       frame = g.met.T.Trace.stays _;
@@ -63,7 +63,7 @@ returns-clause-none g c = λ fs who sender none.
     ∙ ap (λ (ps : List (Option Process)). record w { processes = ps })
     (ap (λ k. sent_below test c.args.sig k w.processes) end
     ∙ (all_below test c.args.sig w.processes
-    ∙ none_meant test c.args.sig w.processes (fifty_processes p.rows.slots p.images)
+    ∙ none_meant test c.args.sig w.processes (fifty_processes p.rows.slots p.images.kept)
     (kernel_is_none p fs c.in_use-kernel.ensures.table.kernel) nobody))
 
 pub returns-clause-state : goal.returns-clause-state

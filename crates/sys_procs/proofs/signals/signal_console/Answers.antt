@@ -18,7 +18,7 @@ pub loop-s-init : goal.loop-s-init
 loop-s-init g c =
     let p : Procs = c.args.p.now in
     record {
-      sent = sent_first has_console c.args.sig p _ (λ fs. fifty_processes p.rows.slots p.images)
+      sent = sent_first has_console c.args.sig p _ (λ fs. fifty_processes p.rows.slots p.images.kept)
           (λ fs. kernel_is_none p fs c.in_use-kernel.ensures.table.kernel);
       frame = g.met.T.Trace.stays _;
       agree = c.requires.agree;

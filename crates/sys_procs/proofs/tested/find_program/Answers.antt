@@ -17,12 +17,12 @@ area : (c : goal.After-find_name) → c.area-u.result ≡ (process_here c.args.p
 area c = c.area-u.ensures.u ∙ area_here c.args.p.now c.args.s (alive c)
 
 image : (c : goal.After-find_name)
-    → kept.image_of c.space-space.result.images.now c.space-space.result.slot
+    → kept.image_of c.space-space.result.images.now.kept c.space-space.result.slot
     ≡ memory_here c.args.p.now c.args.s
 image c =
     sym (image_here c.args.p.now c.args.s (alive c) c.area-u.ensures.holds
     ∙ (ap (λ (k : Kept). kept.image_of k c.args.s) (sym c.space-space.ensures.images)
-    ∙ ap (λ n. kept.image_of c.space-space.result.images.now n) (sym c.space-space.ensures.slot)))
+    ∙ ap (λ n. kept.image_of c.space-space.result.images.now.kept n) (sym c.space-space.ensures.slot)))
 
 -- a search of the name for a process with such an area and such a memory
 abbrev search_in : goal.After-find_name → UArea → Image → Finding ℕ

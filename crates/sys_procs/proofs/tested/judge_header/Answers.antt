@@ -7,6 +7,6 @@ use Rattle.sys_procs.proofs.tested.judge_header.Goals as goal
 -- A text that is there has the clicks that were taken.
 pub returns-clause-shared : goal.returns-clause-shared
 returns-clause-shared c =
-    subst (λ n. 0 < n → AreSized (texts_in c.args.images.now) c.args.ino n) (sym c.text_clicks.ensures)
-    (sized_by (texts_in c.args.images.now) c.args.ino c.entry_clicks-there.result c.in_ok-plan.plan
+    subst (λ n. 0 < n → AreSized (texts_in c.args.images.now.kept) c.args.ino n) (sym c.text_clicks.ensures)
+    (sized_by (texts_in c.args.images.now.kept) c.args.ino c.entry_clicks-there.result c.in_ok-plan.plan
     c.entry_clicks-there.ensures.sized)

@@ -12,7 +12,7 @@ returns-in-Ok-clause-answer c = λ m memory done error.
     let w : World = handed c.args.p.now c.args.tree.now.nodes in
     ap (λ (t : Tested). t.answer)
     (header_tested w c.args.ino c.args.args m c.args.head.now c.args.read.done c.args.read.error
-    (most_clicks c.args.p.now.images) _
+    (most_clicks c.args.p.now.images.kept) _
     memory done error refl (c.in-Ok.ensures.answer))
 
 pub returns-in-Ok-clause-state : goal.returns-in-Ok-clause-state
@@ -20,7 +20,7 @@ returns-in-Ok-clause-state c = λ m memory done error.
     let w : World = handed c.args.p.now c.args.tree.now.nodes in
     ap (λ (t : Tested). t.world)
     (header_tested w c.args.ino c.args.args m c.args.head.now c.args.read.done c.args.read.error
-    (most_clicks c.args.p.now.images) _
+    (most_clicks c.args.p.now.images.kept) _
     memory done error refl (c.in-Ok.ensures.answer))
 
 pub returns-in-Err-clause-answer : goal.returns-in-Err-clause-answer
@@ -28,7 +28,7 @@ returns-in-Err-clause-answer c = λ m memory done error.
     let w : World = handed c.args.p.now c.args.tree.now.nodes in
     ap (λ (t : Tested). t.answer)
     (header_tested w c.args.ino c.args.args m c.args.head.now c.args.read.done c.args.read.error
-    (most_clicks c.args.p.now.images) _
+    (most_clicks c.args.p.now.images.kept) _
     memory done error refl (c.in-Err.ensures.answer))
 
 pub returns-in-Err-clause-state : goal.returns-in-Err-clause-state
@@ -37,7 +37,7 @@ returns-in-Err-clause-state c = λ m memory done error.
     ap (λ (n : Inodes). record w { inodes = n }) c.let_go.ensures.inodes
     ∙ ap (λ (t : Tested). t.world)
     (header_tested w c.args.ino c.args.args m c.args.head.now c.args.read.done c.args.read.error
-    (most_clicks c.args.p.now.images) _
+    (most_clicks c.args.p.now.images.kept) _
     memory done error refl (c.in-Err.ensures.answer))
 
 pub returns-in-Ok-clause-tested : goal.returns-in-Ok-clause-tested
@@ -48,5 +48,5 @@ returns-in-Ok-clause-tested c =
       sizes = c.in-Ok.ensures.fits;
       init = c.in-Ok.ensures.most;
       shared = subst (λ i. 0 < c.in-Ok.program.text_clicks
-          → AreSized (texts_in c.args.p.now.images) i c.in-Ok.program.text_clicks) (sym is) c.in-Ok.ensures.shared;
+          → AreSized (texts_in c.args.p.now.images.kept) i c.in-Ok.program.text_clicks) (sym is) c.in-Ok.ensures.shared;
     }

@@ -30,10 +30,10 @@ returns-clause-left g c = λ ino size.
     left_logged {old = p} {new = it g c} {fs = fs} {c = xalloc_by (handed p fs) c.args.s ino size (Some c.args.t)
     (λ placed is_new. nothing placed)} (logged_line (board p) (line.Share c.args.s c.args.t))
     (ap (λ (q : Procs). handed q fs) (it_is g c)
-    ∙ (state p c.args.s c.args.t (more p.images c.args.t) c.requires.bare c.place-place.ensures.holds.seats fs
+    ∙ (state p c.args.s c.args.t (more p.images.kept c.args.t) c.requires.bare c.place-place.ensures.holds.seats fs
     ∙ (λ i. record (handed p fs) {
       processes = set (handed p fs).processes c.args.s (Some (with_entry c.args.t (process_here p c.args.s)));
-      texts = texts_joined p.images c.args.t i;
+      texts = texts_joined p.images.kept c.args.t i;
     })))
     (ap (λ (q : Procs). board q) (it_is g c) ∙ board_joined p c.args.s c.args.t)
     c.entry.ensures.took
@@ -41,9 +41,9 @@ returns-clause-left g c = λ ino size.
 pub returns-clause-bare : goal.returns-clause-bare
 returns-clause-bare g c =
     subst (λ (q : Procs). IsBare q c.args.s) (sym (it_is g c))
-    (is_bare c.args.p.now c.args.s c.args.t (more c.args.p.now.images c.args.t) c.requires.bare c.place-place.ensures.holds.seats)
+    (is_bare c.args.p.now c.args.s c.args.t (more c.args.p.now.images.kept c.args.t) c.requires.bare c.place-place.ensures.holds.seats)
 
 pub returns-clause-marks : goal.returns-clause-marks
 returns-clause-marks g c =
-    c.requires.marks ∙ (sym (marks_joined c.args.p.now.images c.args.t)
-    ∙ ap (λ (q : Procs). marks_of (texts_in q.images)) (sym (it_is g c)))
+    c.requires.marks ∙ (sym (marks_joined c.args.p.now.images.kept c.args.t)
+    ∙ ap (λ (q : Procs). marks_of (texts_in q.images.kept)) (sym (it_is g c)))

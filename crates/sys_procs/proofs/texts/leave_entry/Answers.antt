@@ -66,8 +66,8 @@ returns-in-Used g c =
           (c.is_sticky-sticky.ensures) c.entry.ensures.took;
       frame = c.entry.ensures.frame;
       alive = subst (λ (q : Procs). IsAlive q c.args.s) (sym (used_is g c)) (is_alive c.is_sticky-sticky.result h);
-      none = ap (λ (q : Procs). text_of q.images c.args.s) (used_is g c) ∙ none_now c.is_sticky-sticky.result h;
-      marks = c.requires.marks ∙ sym (ap (λ (q : Procs). marks_of (texts_in q.images)) (used_is g c)
+      none = ap (λ (q : Procs). text_of q.images.kept c.args.s) (used_is g c) ∙ none_now c.is_sticky-sticky.result h;
+      marks = c.requires.marks ∙ sym (ap (λ (q : Procs). marks_of (texts_in q.images.kept)) (used_is g c)
           ∙ marks_stay c.is_sticky-sticky.result h c.leave_text.result c.leave_text.ensures.left (stays g c));
       blocks = rest_stays _;
     }
@@ -84,7 +84,7 @@ module _ (g : given.Over) (c : goal.After-unmark_text g) where
       left_is c.is_sticky-sticky.result gone_by c.give_text.new.table c.leave_text.new.self
       c.give_text.ensures c.leave_text.ensures.kept
 
-  goes : Gone ≡ table.left (row_of_text c.args.p.now.images (text_of c.args.p.now.images c.args.s)) c.is_sticky-sticky.result
+  goes : Gone ≡ table.left (row_of_text c.args.p.now.images.kept (text_of c.args.p.now.images.kept c.args.s)) c.is_sticky-sticky.result
   goes = sym c.in-Gone.is ∙ c.leave_text.ensures.left
 
 pub returns-in-Gone-clause-left : goal.returns-in-Gone-clause-left
@@ -103,11 +103,11 @@ returns-in-Gone-clause-alive g c =
 
 pub returns-in-Gone-clause-none : goal.returns-in-Gone-clause-none
 returns-in-Gone-clause-none g c =
-    ap (λ (q : Procs). text_of q.images c.args.s) (it_is g c) ∙ none_now c.is_sticky-sticky.result (gone_by g c)
+    ap (λ (q : Procs). text_of q.images.kept c.args.s) (it_is g c) ∙ none_now c.is_sticky-sticky.result (gone_by g c)
 
 pub returns-in-Gone-clause-marks : goal.returns-in-Gone-clause-marks
 returns-in-Gone-clause-marks g c =
     c.unmark_text.ensures.marks
-    ∙ sym (ap (λ (q : Procs). marks_of (texts_in q.images)) (it_is g c)
+    ∙ sym (ap (λ (q : Procs). marks_of (texts_in q.images.kept)) (it_is g c)
     ∙ marks_gone c.is_sticky-sticky.result
     (gone_by g c) c.args.tree.now.marks c.inode_of-ino.result c.requires.marks c.inode_of-ino.ensures.inode (goes g c))

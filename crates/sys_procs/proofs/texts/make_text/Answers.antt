@@ -12,7 +12,7 @@ use Rattle.sys_procs.proofs.texts.make_text.Goals as goal
 
 pub mark_text-requires-clause-unmarked : goal.mark_text-requires-clause-unmarked
 mark_text-requires-clause-unmarked g c =
-    unmarked c.args.p.now.images c.args.ino c.args.tree.now.marks c.requires.marks
+    unmarked c.args.p.now.images.kept c.args.ino c.args.tree.now.marks c.requires.marks
     (omega (arith, c.ranges.ino.fits)) c.requires.unknown
 
 pub text_row-requires : goal.text_row-requires
@@ -30,10 +30,10 @@ module _ (g : given.Over) (c : goal.After-entry g) where
   abbrev bare : IsBare c.args.p.now c.args.s
   bare = c.requires.bare
 
-  abbrev all : IsKept c.args.p.now.images
+  abbrev all : IsKept c.args.p.now.images.kept
   all = c.place-place.ensures.holds
 
-  abbrev made : IsMade (free_text c.args.p.now.images) (swap_fit c.args.p.now.images (blocks c.args.clicks)) c.in-Ok.t
+  abbrev made : IsMade (free_text c.args.p.now.images.kept) (swap_fit c.args.p.now.images.kept (blocks c.args.clicks)) c.in-Ok.t
   made = made_in c.args.p.now c.args.clicks c.in-Ok.t (sym c.in-Ok.is ∙ c.new_text.ensures.text)
 
   abbrev it : Procs
@@ -54,15 +54,15 @@ returns-in-Ok-clause-left g c =
 pub returns-in-Ok-clause-made : goal.returns-in-Ok-clause-made
 returns-in-Ok-clause-made g c = (
   goes_on c.args.p.now c.args.s c.args.ino c.args.clicks (bare g c) (all g c) c.in-Ok.t (made g c) c.args.tree.now.nodes,
-  entry_free c.args.p.now.images c.in-Ok.t (made g c).entry,
-  ap (λ (q : Procs). text_of q.images c.args.s) (it_now g c)
+  entry_free c.args.p.now.images.kept c.in-Ok.t (made g c).entry,
+  ap (λ (q : Procs). text_of q.images.kept c.args.s) (it_now g c)
       ∙ user_now c.args.p.now c.args.s c.args.ino c.args.clicks (bare g c) (all g c) c.in-Ok.t (made g c),
 )
 
 pub returns-in-Ok-clause-out : goal.returns-in-Ok-clause-out
 returns-in-Ok-clause-out g c = (
   zeros_text c.args.ino c.args.clicks (made g c).block,
-  ap (λ (q : Procs). shared q.images c.in-Ok.t) (it_now g c)
+  ap (λ (q : Procs). shared q.images.kept c.in-Ok.t) (it_now g c)
       ∙ text_now c.args.p.now c.args.s c.args.ino c.args.clicks (bare g c) (all g c) c.in-Ok.t (made g c),
   refl,
   refl,
@@ -76,7 +76,7 @@ returns-in-Ok-clause-bare g c =
 pub returns-in-Ok-clause-marks : goal.returns-in-Ok-clause-marks
 returns-in-Ok-clause-marks g c =
     c.mark_text.ensures.marks
-    ∙ sym (ap (λ (q : Procs). marks_of (texts_in q.images)) (it_now g c)
+    ∙ sym (ap (λ (q : Procs). marks_of (texts_in q.images.kept)) (it_now g c)
     ∙ marks_made c.args.p.now c.args.s c.args.ino c.args.clicks (bare g c) (all g c) c.in-Ok.t (made g c)
     c.args.tree.now.marks c.requires.marks)
 

@@ -22,7 +22,7 @@ returns-then-program-eq0-clause-left g c =
 
 -- The row, where an entry is found, or none.
 module _ (p : Procs) (fs : FileSystem) (s : ℕ) (program : Program) (o : Option ℕ)
-    (some : program.text_clicks ≢ 0) (found : found_text p.images program.ino ≡ o) where
+    (some : program.text_clicks ≢ 0) (found : found_text p.images.kept program.ino ≡ o) where
   abbrev its_row : Comes
   its_row = takes_by (handed p fs) s program.ino program.text_clicks o
 
@@ -30,13 +30,13 @@ module _ (p : Procs) (fs : FileSystem) (s : ℕ) (program : Program) (o : Option
   whole = takes (handed p fs) s program.ino program.text_clicks
 
   row : its_row ≡ whole
-  row = takes_as (handed p fs) s program.ino program.text_clicks o some (entry_is p.images program.ino ∙ found)
+  row = takes_as (handed p fs) s program.ino program.text_clicks o some (entry_is p.images.kept program.ino ∙ found)
 
-  answer : taken_by (came p its_row).stop (new_if (texts_in p.images) o)
-      ≡ taken_by (came p whole).stop (new_entry (texts_in p.images) program.ino program.text_clicks)
+  answer : taken_by (came p its_row).stop (new_if (texts_in p.images.kept) o)
+      ≡ taken_by (came p whole).stop (new_entry (texts_in p.images.kept) program.ino program.text_clicks)
   answer =
-      answer_as p its_row whole (new_if (texts_in p.images) o) (new_entry (texts_in p.images) program.ino program.text_clicks)
-      row (new_as (texts_in p.images) program.ino program.text_clicks o some (entry_is p.images program.ino ∙ found))
+      answer_as p its_row whole (new_if (texts_in p.images.kept) o) (new_entry (texts_in p.images.kept) program.ino program.text_clicks)
+      row (new_as (texts_in p.images.kept) program.ino program.text_clicks o some (entry_is p.images.kept program.ino ∙ found))
 
 pub returns-in-Some-clause-left : goal.returns-in-Some-clause-left
 returns-in-Some-clause-left g c =
@@ -83,6 +83,6 @@ returns-in_err-t-in-None-clause-answer g c =
     let it : Comes = takes_by (handed c.args.p.now c.args.tree.now.nodes) c.args.s program.ino program.text_clicks None in
     given.1
     ∙ (ap (λ e. Err e) given.2
-    ∙ (same_panic (came c.args.p.now it).stop None (new_if (texts_in c.args.p.now.images) None)
+    ∙ (same_panic (came c.args.p.now it).stop None (new_if (texts_in c.args.p.now.images.kept) None)
     c.in_err-t-in-None.field-0.0 c.in_err-t-in-None.ensures.kind
     ∙ answer c.args.p.now c.args.tree.now.nodes c.args.s program None c.if-program-eq0.false found))

@@ -13,24 +13,24 @@ use Rattle.sys_procs.proofs.times.put_bytes.Goals as goal
 
 -- the images after the loan
 abbrev now : goal.After-copy_out → Kept
-now c = c.copy_out.new.self.images.now
+now c = c.copy_out.new.self.images.now.kept
 
 slot_is : (c : goal.After-copy_out) → c.copy_out.new.self.slot ≡ c.args.s
 slot_is c = ap (λ (l : Lent). l.slot) c.copy_out.ensures.rest ∙ c.space-space.ensures.slot
 
-left : (c : goal.After-copy_out) → left_of (now c) c.args.s ≡ left_of c.args.p.now.images c.args.s
+left : (c : goal.After-copy_out) → left_of (now c) c.args.s ≡ left_of c.args.p.now.images.kept c.args.s
 left c =
     ap (left_of (now c)) (sym (slot_is c))
     ∙ (ap (λ (l : Lent). l.left) c.copy_out.ensures.rest
-    ∙ (ap (left_of c.space-space.result.images.now) c.space-space.ensures.slot
+    ∙ (ap (left_of c.space-space.result.images.now.kept) c.space-space.ensures.slot
     ∙ ap (λ (k : Kept). left_of k c.args.s) c.space-space.ensures.images))
 
 -- the image before, and the one after
-before : (c : goal.After-copy_out) → memory_here c.args.p.now c.args.s ≡ kept.image_of c.space-space.result.images.now c.space-space.result.slot
+before : (c : goal.After-copy_out) → memory_here c.args.p.now c.args.s ≡ kept.image_of c.space-space.result.images.now.kept c.space-space.result.slot
 before c =
     image_here c.args.p.now c.args.s c.requires c.area-area.ensures.holds
     ∙ (ap (λ (k : Kept). kept.image_of k c.args.s) (sym c.space-space.ensures.images)
-    ∙ ap (λ n. kept.image_of c.space-space.result.images.now n) (sym c.space-space.ensures.slot))
+    ∙ ap (λ n. kept.image_of c.space-space.result.images.now.kept n) (sym c.space-space.ensures.slot))
 
 whole : (c : goal.After-copy_out) → c.copy_out.result ≡ true → store_bytes (memory_here c.args.p.now c.args.s) c.args.at c.args.bytes.now ≡ Some (kept.image_of (now c) c.args.s)
 whole c is =
@@ -40,11 +40,11 @@ whole c is =
 none : (c : goal.After-copy_out) → c.copy_out.result ≡ false → store_bytes (memory_here c.args.p.now c.args.s) c.args.at c.args.bytes.now ≡ None
 none c is = ap (λ m. store_bytes m c.args.at c.args.bytes.now) (before c) ∙ c.copy_out.ensures.refused is
 
-same : (c : goal.After-copy_out) → c.copy_out.result ≡ false → now c ≡ c.args.p.now.images
+same : (c : goal.After-copy_out) → c.copy_out.result ≡ false → now c ≡ c.args.p.now.images.kept
 same c is = loan_same c.args.p.now c.args.s c.requires c.area-area.ensures.holds.slots (now c) (left c)
     (ap (kept.image_of (now c)) (sym (slot_is c))
     ∙ (c.copy_out.ensures.same is
-    ∙ (ap (λ n. kept.image_of c.space-space.result.images.now n) c.space-space.ensures.slot
+    ∙ (ap (λ n. kept.image_of c.space-space.result.images.now.kept n) c.space-space.ensures.slot
     ∙ ap (λ (k : Kept). kept.image_of k c.args.s) c.space-space.ensures.images)))
 
 pub returns-clause-done : goal.returns-clause-done

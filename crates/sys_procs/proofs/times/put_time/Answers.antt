@@ -25,7 +25,7 @@ unfolding applied
 returns-clause-board g c =
     let p : Procs = c.args.p.now in
     let t : Table = record p.table { now = c.args.time } in
-    ap (λ (u : Table). board_of u p.images) c.wakeup.ensures.table ∙ board_woken t p.images Tout
+    ap (λ (u : Table). board_of u p.images.kept) c.wakeup.ensures.table ∙ board_woken t p.images.kept Tout
 
 pub returns-clause-items : goal.returns-clause-items
 returns-clause-items g c = took_more _ _ _ _ _ c.entry.ensures.took c.entry-2.ensures.took

@@ -11,7 +11,7 @@ use Rattle.sys_procs.proofs.Graves.{used, still_alive}
 use Rattle.sys_procs.proofs.wait.bury.Goals as goal
 
 pub row-requires : goal.row-requires
-row-requires g c = used c.args.p.now.rows c.args.p.now.table c.args.p.now.images c.args.dead c.requires.alive.agree c.requires.above c.requires.low c.requires.grave
+row-requires g c = used c.args.p.now.rows c.args.p.now.table c.args.p.now.images.kept c.args.dead c.requires.alive.agree c.requires.above c.requires.low c.requires.grave
 
 pub area-u-requires : goal.area-u-requires
 area-u-requires g c = still_alive c.args.p.now c.clear-half.new.p c.args.s c.args.dead c.requires.alive c.requires.grave c.clear-half.ensures.images c.clear-half.ensures.agree
@@ -31,7 +31,7 @@ pub returns-clause-answer : goal.returns-clause-answer
 returns-clause-answer g c = λ fs.
     let gone : Process = process_here c.args.p.now c.args.dead in
     let pid : c.row.result.now.pid ≡ gone.row.pid =
-    ap (λ (row : Row). row.pid) (c.row.ensures ∙ sym (own_row c.args.p.now.rows.slots c.args.p.now.images c.args.dead c.requires.low)) in
+    ap (λ (row : Row). row.pid) (c.row.ensures ∙ sym (own_row c.args.p.now.rows.slots c.args.p.now.images.kept c.args.dead c.requires.low)) in
     let status : c.status_of.result ≡ gone.u.status = c.status_of.ensures gone.u c.clear-half.ensures.sized c.clear-half.ensures.half in
     λ i. Ret (pid i) (status i)
 

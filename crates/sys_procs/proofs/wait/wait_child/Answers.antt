@@ -26,7 +26,7 @@ bury-requires g c =
       alive = calls_alive c.args.p.now c.args.tree.now.nodes c.args.s c.requires;
       above = words.above;
       low = words.low;
-      grave = has_grave c.args.p.now.rows c.args.p.now.table c.args.p.now.images c.in-Dead.dead c.row-pid.result.pid c.requires.agree words.above words.low words.passes;
+      grave = has_grave c.args.p.now.rows c.args.p.now.table c.args.p.now.images.kept c.in-Dead.dead c.row-pid.result.pid c.requires.agree words.above words.low words.passes;
     }
 
 -- There is no child.

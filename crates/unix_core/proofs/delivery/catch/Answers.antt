@@ -18,7 +18,7 @@ use Rattle.unix_core.proofs.DeliveryLemmas.{told_ready, told_unix, told_board}
 use Rattle.unix_core.proofs.delivery.catch.Goals as goal
 
 -- where the stack has to reach
-address : (w : World) (s : ℕ) (u : UArea) → IsReady w s → u ≡ area_of w.procs.images s → signal_stack u ≡ signal_stack (process_of (unix_of w) s).u
+address : (w : World) (s : ℕ) (u : UArea) → IsReady w s → u ≡ area_of w.procs.images.kept s → signal_stack u ≡ signal_stack (process_of (unix_of w) s).u
 address w s u ready is = ap signal_stack (is ∙ own_area w s ready)
 
 pub area-requires : goal.area-requires
@@ -55,7 +55,7 @@ returns-in-Ok-clause-come g c =
     let stays = beside w c.grow.new.tree c.grow.new.p in
     let e = c.grow.ensures in
     let t = c.tell-caught.ensures in
-    let k : Kept = c.tell-caught.new.world.procs.images in
+    let k : Kept = c.tell-caught.new.world.procs.images.kept in
     let grown = grows_ready w now s _ c.requires.ready c.see_nodes.ensures stays e.does c.in-Ok.field-0 c.in-Ok.is e.agree e.marks in
     subst (λ x. HasCome (board_in w) (catches (unix_of w) s sig) Trapped x) (sym t.others)
     (caught_come w now s _ sig c.requires.ready c.see_nodes.ensures stays (address w s c.area.result c.requires.ready c.area.ensures.u) e.does c.in-Ok.field-0 c.in-Ok.is
@@ -69,7 +69,7 @@ returns-in-Ok-clause-ready g c goes =
     let e = c.grow.ensures in
     let t = c.tell-caught.ensures in
     let grown = grows_ready w now s _ c.requires.ready c.see_nodes.ensures (beside w c.grow.new.tree c.grow.new.p) e.does c.in-Ok.field-0 c.in-Ok.is e.agree e.marks in
-    subst (λ x. IsReady x s) (sym t.others) (told_ready now s grown t.holds c.args.sig c.tell-caught.new.world.procs.images t.images)
+    subst (λ x. IsReady x s) (sym t.others) (told_ready now s grown t.holds c.args.sig c.tell-caught.new.world.procs.images.kept t.images)
 
 pub returns-in-Ok-clause-items : goal.returns-in-Ok-clause-items
 returns-in-Ok-clause-items g c =

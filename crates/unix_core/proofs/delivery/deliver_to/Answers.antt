@@ -19,14 +19,14 @@ use Rattle.unix_core.proofs.delivery.deliver_to.Goals as goal
 
 -- The signal has been heeded: the world then, and what the process has asked for.
 module _ (w w1 : World) (s sig : ℕ) (ready : IsReady w s) (its : due (process_of (unix_of w) s).row (process_of (unix_of w) s).u ≡ Some sig)
-    (unix : unix_of w1 ≡ heeds (unix_of w) s) (images : w1.procs.images ≡ w.procs.images) where
-  handler : handler_of (area_of w1.procs.images s) sig ≡ handler_of (process_of (unix_of w) s).u sig
+    (unix : unix_of w1 ≡ heeds (unix_of w) s) (images : w1.procs.images.kept ≡ w.procs.images.kept) where
+  handler : handler_of (area_of w1.procs.images.kept s) sig ≡ handler_of (process_of (unix_of w) s).u sig
   handler = ap (λ (k : Kept). handler_of (area_of k s) sig) images ∙ ap (λ (u : UArea). handler_of u sig) (own_area w s ready)
 
   ignored_not : (is_signal sig ≡ true) × (handler_of (process_of (unix_of w) s).u sig % 2 ≡ 0)
   ignored_not = due_some (process_of (unix_of w) s).row (process_of (unix_of w) s).u sig its
 
-  still_heeded : handler_of (area_of w1.procs.images s) sig % 2 ≡ 0
+  still_heeded : handler_of (area_of w1.procs.images.kept s) sig % 2 ≡ 0
   still_heeded = ap (λ n. n % 2) handler ∙ ignored_not.1
 
   still_user : is_user (process_of (unix_of w) s) ≡ true → is_user (process_of (unix_of w1) s) ≡ true
@@ -35,10 +35,10 @@ module _ (w w1 : World) (s sig : ℕ) (ready : IsReady w s) (its : due (process_
   abbrev by_handler : Bool → Steps
   by_handler b = if b then ends_by (heeds (unix_of w) s) s sig else catches (heeds (unix_of w) s) s sig
 
-  ends_is : (b : Bool) → b ≡ (handler_of (area_of w1.procs.images s) sig == 0) → b ≡ true → ends_by (unix_of w1) s sig ≡ delivers (unix_of w) s sig
+  ends_is : (b : Bool) → b ≡ (handler_of (area_of w1.procs.images.kept s) sig == 0) → b ≡ true → ends_by (unix_of w1) s sig ≡ delivers (unix_of w) s sig
   ends_is b test is = ap (λ u. ends_by u s sig) unix ∙ ap by_handler (sym is ∙ test ∙ ap (λ n. n == 0) handler)
 
-  catches_is : (b : Bool) → b ≡ (handler_of (area_of w1.procs.images s) sig == 0) → b ≡ false → catches (unix_of w1) s sig ≡ delivers (unix_of w) s sig
+  catches_is : (b : Bool) → b ≡ (handler_of (area_of w1.procs.images.kept s) sig == 0) → b ≡ false → catches (unix_of w1) s sig ≡ delivers (unix_of w) s sig
   catches_is b test is = ap (λ u. catches u s sig) unix ∙ ap by_handler (sym is ∙ test ∙ ap (λ n. n == 0) handler)
 
 has_none : (n : ℕ) (b : Bool) → b ≡ (n == 0) → b ≡ true → n ≡ 0

@@ -14,14 +14,14 @@ area-requires c = c.requires.alive.image
 pub returns-then-row-eq0 : goal.returns-then-row-eq0
 returns-then-row-eq0 c =
     let procs = c.args.procs.now in
-    let same = own_row procs.rows.slots procs.images c.args.s c.requires.alive.below in
+    let same = own_row procs.rows.slots procs.images.kept c.args.s c.requires.alive.below in
     sym (none_due (process_here procs c.args.s).row (process_here procs c.args.s).u
     (ap (λ (r : Row). r.sig) (same ∙ sym c.row-row.ensures) ∙ c.if-row-eq0.true))
 
 pub returns : goal.returns
 returns c =
     let procs = c.args.procs.now in
-    let same = own_row procs.rows.slots procs.images c.args.s c.requires.alive.below in
+    let same = own_row procs.rows.slots procs.images.kept c.args.s c.requires.alive.below in
     let area = area_here procs c.args.s c.requires.alive in
     c.due.ensures ∙ ap (λ (r : Row). due r c.area.result) (c.row-row.ensures ∙ sym same)
     ∙ ap (λ (u : UArea). due (process_here procs c.args.s).row u) (c.area.ensures.u ∙ area)

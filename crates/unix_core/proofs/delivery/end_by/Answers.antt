@@ -32,7 +32,7 @@ core_of w s = core_file (handed_of (unix_of w) (process_of (unix_of w) s)) w.pro
 abbrev flag : World → ℕ → ℕ
 flag w s = if is_written (core_of w s).answer then dumped else 0
 
-status_is : (w : World) (s sig : ℕ) (u : UArea) (n : ℕ) → IsReady w s → u ≡ area_of w.procs.images s → n ≡ sig
+status_is : (w : World) (s sig : ℕ) (u : UArea) (n : ℕ) → IsReady w s → u ≡ area_of w.procs.images.kept s → n ≡ sig
     → 256 * (slice_index u.r 0 % 256) + n ≡ signal_status (unix_of w) s sig
 status_is w s sig u n ready area same =
     (λ i. 256 * (slice_index (area i).r 0 % 256) + same i) ∙ ap (λ (v : UArea). 256 * (slice_index v.r 0 % 256) + sig) (own_area w s ready)
@@ -41,16 +41,16 @@ total : (a b x y : ℕ) → a ≡ b → x ≡ y → a + x ≡ b + y
 total a b x y first second = λ i. first i + second i
 
 -- The world is as it was, and so is what is answered.
-module _ (w w1 : World) (s sig : ℕ) (ready : IsReady w s) (holds : IsKept w.procs.images) (zero : handler_of (area_of w.procs.images s) sig ≡ 0) (told : Delivered)
-    (answer : told ≡ (delivery (area_of w.procs.images s) sig (image_of w.procs.images s)).answer)
-    (images : w1.procs.images ≡ with_area (with_image w.procs.images s (delivery (area_of w.procs.images s) sig (image_of w.procs.images s)).image) s
-    (delivery (area_of w.procs.images s) sig (image_of w.procs.images s)).area)
-    (others : w1 ≡ with_images w w1.procs.images) where
+module _ (w w1 : World) (s sig : ℕ) (ready : IsReady w s) (holds : IsKept w.procs.images.kept) (zero : handler_of (area_of w.procs.images.kept s) sig ≡ 0) (told : Delivered)
+    (answer : told ≡ (delivery (area_of w.procs.images.kept s) sig (image_of w.procs.images.kept s)).answer)
+    (images : w1.procs.images.kept ≡ with_area (with_image w.procs.images.kept s (delivery (area_of w.procs.images.kept s) sig (image_of w.procs.images.kept s)).image) s
+    (delivery (area_of w.procs.images.kept s) sig (image_of w.procs.images.kept s)).area)
+    (others : w1 ≡ with_images w w1.procs.images.kept) where
   same : w1 ≡ w
-  same = others ∙ ap (with_images w) (told_none w s ready holds sig w1.procs.images images zero)
+  same = others ∙ ap (with_images w) (told_none w s ready holds sig w1.procs.images.kept images zero)
 
   ends_so : told ≡ Ends (makes_core sig)
-  ends_so = answer ∙ ap (λ (d : Delivery). d.answer) (delivered_none (area_of w.procs.images s) sig (image_of w.procs.images s) zero)
+  ends_so = answer ∙ ap (λ (d : Delivery). d.answer) (delivered_none (area_of w.procs.images.kept s) sig (image_of w.procs.images.kept s) zero)
 
   -- without the file
   module _ (b : Bool) (each : (core : Bool) → told ≡ Ends core → b ≡ core) where

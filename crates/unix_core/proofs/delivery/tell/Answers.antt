@@ -38,24 +38,24 @@ module _ (k before now : Kept) (s was is sig : ℕ) (a b : GName) (u v : UArea) 
 
 pub set_area-requires : goal.set_area-requires
 set_area-requires c = record {
-  image = has_back c.args.world.now.procs.images c.space-space.result.images.now c.deliver-told.new.space.images.now c.args.s c.space-space.result.slot c.deliver-told.new.space.slot c.args.sig
+  image = has_back c.args.world.now.procs.images.kept c.space-space.result.images.now.kept c.deliver-told.new.space.images.now.kept c.args.s c.space-space.result.slot c.deliver-told.new.space.slot c.args.sig
       _ _ c.area-u.result c.deliver-told.new.u c.requires.image c.area-u.ensures.sizes c.area-u.ensures.u c.space-space.ensures.images c.space-space.ensures.slot
       c.deliver-told.ensures.rest c.deliver-told.ensures.area c.deliver-told.ensures.image;
-  sizes = sizes_back c.args.world.now.procs.images c.space-space.result.images.now c.deliver-told.new.space.images.now c.args.s c.space-space.result.slot c.deliver-told.new.space.slot c.args.sig
+  sizes = sizes_back c.args.world.now.procs.images.kept c.space-space.result.images.now.kept c.deliver-told.new.space.images.now.kept c.args.s c.space-space.result.slot c.deliver-told.new.space.slot c.args.sig
       _ _ c.area-u.result c.deliver-told.new.u c.requires.image c.area-u.ensures.sizes c.area-u.ensures.u c.space-space.ensures.images c.space-space.ensures.slot
       c.deliver-told.ensures.rest c.deliver-told.ensures.area c.deliver-told.ensures.image;
 }
 
 pub returns-clause-images : goal.returns-clause-images
 returns-clause-images c =
-    let k : Kept = c.args.world.now.procs.images in
+    let k : Kept = c.args.world.now.procs.images.kept in
     let d : Delivery = delivery (area_of k c.args.s) c.args.sig (image_of k c.args.s) in
     c.set_area.ensures
     ∙ ap (λ x. with_area x c.args.s c.deliver-told.new.u)
-    (back k c.space-space.result.images.now c.deliver-told.new.space.images.now c.args.s c.space-space.result.slot c.deliver-told.new.space.slot c.args.sig
+    (back k c.space-space.result.images.now.kept c.deliver-told.new.space.images.now.kept c.args.s c.space-space.result.slot c.deliver-told.new.space.slot c.args.sig
     _ _ c.area-u.result c.deliver-told.new.u c.requires.image c.area-u.ensures.sizes c.area-u.ensures.u c.space-space.ensures.images c.space-space.ensures.slot
     c.deliver-told.ensures.rest c.deliver-told.ensures.area c.deliver-told.ensures.image)
     ∙ ap (with_area (with_image k c.args.s d.image) c.args.s)
-    (v_is k c.space-space.result.images.now c.deliver-told.new.space.images.now c.args.s c.space-space.result.slot c.deliver-told.new.space.slot c.args.sig
+    (v_is k c.space-space.result.images.now.kept c.deliver-told.new.space.images.now.kept c.args.s c.space-space.result.slot c.deliver-told.new.space.slot c.args.sig
     _ _ c.area-u.result c.deliver-told.new.u c.requires.image c.area-u.ensures.sizes c.area-u.ensures.u c.space-space.ensures.images c.space-space.ensures.slot
     c.deliver-told.ensures.rest c.deliver-told.ensures.area c.deliver-told.ensures.image)

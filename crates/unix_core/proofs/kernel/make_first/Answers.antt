@@ -7,42 +7,42 @@ use Rattle.unix_core.proofs.kernel.make_first.Goals as goal
 pub replace-requires : goal.replace-requires
 replace-requires c = record {
   slot = lit< tt;
-  nothing = keeps_nothing c.args.procs.now.images c.requires.empty c.requires.least 1;
-  text = text_at c.args.procs.now.images c.requires.empty c.requires.least;
+  nothing = keeps_nothing c.args.procs.now.images.kept c.requires.empty c.requires.least 1;
+  text = text_at c.args.procs.now.images.kept c.requires.empty c.requires.least;
   text_size = refl;
 }
 
 pub put_program-requires-clause-image : goal.put_program-requires-clause-image
 put_program-requires-clause-image c =
-    made_image c.args.procs.now.images c.requires.empty c.requires.least c.replace.new.self 1 0 refl refl
-    (made_at c.args.procs.now.images c.requires.empty c.requires.least c.replace.new.self c.replace.ensures.kept)
+    made_image c.args.procs.now.images.kept c.requires.empty c.requires.least c.replace.new.self 1 0 refl refl
+    (made_at c.args.procs.now.images.kept c.requires.empty c.requires.least c.replace.new.self c.replace.ensures.kept)
 
 pub put_program-requires-clause-no_text : goal.put_program-requires-clause-no_text
 put_program-requires-clause-no_text c =
-    made_bare c.args.procs.now.images c.requires.empty c.requires.least c.replace.new.self 1 0 refl refl
-    (made_at c.args.procs.now.images c.requires.empty c.requires.least c.replace.new.self c.replace.ensures.kept)
+    made_bare c.args.procs.now.images.kept c.requires.empty c.requires.least c.replace.new.self 1 0 refl refl
+    (made_at c.args.procs.now.images.kept c.requires.empty c.requires.least c.replace.new.self c.replace.ensures.kept)
 
 pub put_program-requires-clause-cleared : goal.put_program-requires-clause-cleared
 put_program-requires-clause-cleared c =
-    made_cleared c.args.procs.now.images c.requires.empty c.requires.least c.replace.new.self 1 0 refl refl
-    (made_at c.args.procs.now.images c.requires.empty c.requires.least c.replace.new.self c.replace.ensures.kept)
+    made_cleared c.args.procs.now.images.kept c.requires.empty c.requires.least c.replace.new.self 1 0 refl refl
+    (made_at c.args.procs.now.images.kept c.requires.empty c.requires.least c.replace.new.self c.replace.ensures.kept)
 
 pub area-u-requires : goal.area-u-requires
 area-u-requires c =
-    filled_image c.args.procs.now.images c.requires.empty c.requires.least c.replace.new.self 1 0 refl refl
-    (made_at c.args.procs.now.images c.requires.empty c.requires.least c.replace.new.self c.replace.ensures.kept)
-    c.put_program.new.procs.images (ap (λ (p : Procs). p.images) c.put_program.ensures)
+    filled_image c.args.procs.now.images.kept c.requires.empty c.requires.least c.replace.new.self 1 0 refl refl
+    (made_at c.args.procs.now.images.kept c.requires.empty c.requires.least c.replace.new.self c.replace.ensures.kept)
+    c.put_program.new.procs.images.kept (ap (λ (p : Procs). p.images.kept) c.put_program.ensures)
 
 pub set_area-requires-clause-image : goal.set_area-requires-clause-image
 set_area-requires-clause-image c =
-    filled_image c.args.procs.now.images c.requires.empty c.requires.least c.replace.new.self 1 0 refl refl
-    (made_at c.args.procs.now.images c.requires.empty c.requires.least c.replace.new.self c.replace.ensures.kept)
-    c.put_program.new.procs.images (ap (λ (p : Procs). p.images) c.put_program.ensures)
+    filled_image c.args.procs.now.images.kept c.requires.empty c.requires.least c.replace.new.self 1 0 refl refl
+    (made_at c.args.procs.now.images.kept c.requires.empty c.requires.least c.replace.new.self c.replace.ensures.kept)
+    c.put_program.new.procs.images.kept (ap (λ (p : Procs). p.images.kept) c.put_program.ensures)
 
 pub returns : goal.returns
 returns c =
     ap (λ (p : Procs). record p { images = c.set_area.new.self }) c.put_program.ensures
     ∙ ap (λ (k : Kept). record c.args.procs.now { images = k })
-    (first_made c.args.procs.now.images c.requires.empty c.requires.least c.replace.new.self 1 0 refl refl
-    (made_at c.args.procs.now.images c.requires.empty c.requires.least c.replace.new.self c.replace.ensures.kept)
-    c.put_program.new.procs.images (ap (λ (p : Procs). p.images) c.put_program.ensures) c.area-u.result _ c.set_area.new.self c.area-u.ensures.u c.set_area.ensures)
+    (first_made c.args.procs.now.images.kept c.requires.empty c.requires.least c.replace.new.self 1 0 refl refl
+    (made_at c.args.procs.now.images.kept c.requires.empty c.requires.least c.replace.new.self c.replace.ensures.kept)
+    c.put_program.new.procs.images.kept (ap (λ (p : Procs). p.images.kept) c.put_program.ensures) c.area-u.result _ c.set_area.new.self c.area-u.ensures.u c.set_area.ensures)

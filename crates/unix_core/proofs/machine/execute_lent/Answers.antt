@@ -9,14 +9,14 @@ pub set_registers_at-requires-clause-fixed : goal.set_registers_at-requires-clau
 set_registers_at-requires-clause-fixed c =
     let lent = c.space_at-space in
     let done = c.step-outcome in
-    fixed_after c.args.procs.now.images lent.result.images.now done.new.space.images.now c.args.fixed.now lent.result.slot done.new.space.slot _ _
+    fixed_after c.args.procs.now.images.kept lent.result.images.now.kept done.new.space.images.now.kept c.args.fixed.now lent.result.slot done.new.space.slot _ _
     c.requires lent.ensures.images lent.ensures.slot done.ensures.rest done.ensures.form
 
 pub returns-clause-outcome : goal.returns-clause-outcome
 returns-clause-outcome c =
     let lent = c.space_at-space in
     let done = c.step-outcome in
-    outcome_is c.args.procs.now.images lent.result.images.now done.new.space.images.now c.args.fixed.now lent.result.slot done.new.space.slot _ _
+    outcome_is c.args.procs.now.images.kept lent.result.images.now.kept done.new.space.images.now.kept c.args.fixed.now lent.result.slot done.new.space.slot _ _
     c.requires lent.ensures.images lent.ensures.slot done.ensures.rest _ _ done.new.regs done.result
     (ap (λ (u : UArea). u.r) c.area_at-u.ensures) (ap (λ (u : UArea). u.cc) c.area_at-u.ensures) done.ensures.step
 
@@ -26,7 +26,7 @@ returns-clause-kept c =
     let done = c.step-outcome in
     let p : Procs = c.args.procs.now in
     ap (λ (k : Kept). record p { images = k })
-    (kept_is p.images lent.result.images.now done.new.space.images.now c.args.fixed.now lent.result.slot done.new.space.slot _ _
+    (kept_is p.images.kept lent.result.images.now.kept done.new.space.images.now.kept c.args.fixed.now lent.result.slot done.new.space.slot _ _
     c.requires lent.ensures.images lent.ensures.slot done.ensures.rest _ _ done.new.regs done.result
     (ap (λ (u : UArea). u.r) c.area_at-u.ensures) (ap (λ (u : UArea). u.cc) c.area_at-u.ensures) done.ensures.step
     _ c.set_registers_at.ensures.kept)

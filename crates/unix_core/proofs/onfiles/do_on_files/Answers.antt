@@ -23,7 +23,7 @@ space-space-requires c = c.requires.ready.good.running c.args.s c.requires.ready
 pub do_file_call-answer-requires : goal.do_file_call-answer-requires
 do_file_call-answer-requires c =
     let w : World = c.args.world.now in
-    let parts : Handed = handed w.files c.area-u.result c.row.result.now (image_of c.space-space.result.images.now c.space-space.result.slot) in
+    let parts : Handed = handed w.files c.area-u.result c.row.result.now (image_of c.space-space.result.images.now.kept c.space-space.result.slot) in
     let area = area_is w c.args.s c.area-u.result c.requires.ready c.area-u.ensures.u in
     record { sound = sound_parts w c.args.s parts c.requires.ready c.see_table.ensures c.area-u.ensures.holds refl refl area refl }
 
@@ -31,10 +31,10 @@ do_file_call-answer-requires c =
 pub set_area-requires : goal.set_area-requires
 set_area-requires c =
     let w : World = c.args.world.now in
-    let now : Kept = c.do_file_call-answer.new.space.images.now in
+    let now : Kept = c.do_file_call-answer.new.space.images.now.kept in
     let lent = lends w c.args.s _ _ c.requires.ready c.see_nodes.ensures c.area-u.ensures.sizes c.area-u.ensures.holds c.area-u.ensures.u c.row.ensures
     c.space-space.ensures.images c.space-space.ensures.slot in
-    let back = lent_back w.procs.images c.space-space.result.images.now now c.args.s c.space-space.result.slot c.do_file_call-answer.new.space.slot _ _
+    let back = lent_back w.procs.images.kept c.space-space.result.images.now.kept now c.args.s c.space-space.result.slot c.do_file_call-answer.new.space.slot _ _
     c.space-space.ensures.images c.space-space.ensures.slot c.do_file_call-answer.ensures.memory in
     let put = area_put w c.args.s lent (λ h. file_row c.args.call h c.args.s c.args.args w.procs.table.now) (row_confined c.args.call (given w c.args.s) c.args.s c.args.args w.procs.table.now c.see_count.ensures).steady
     c.do_file_call-answer.new.files c.do_file_call-answer.new.u c.do_file_call-answer.new.row _ c.do_file_call-answer.ensures.does.state now back in
@@ -59,10 +59,10 @@ set_row-requires-clause-ppid c =
 pub returns : goal.returns
 returns c =
     let w : World = c.args.world.now in
-    let now : Kept = c.do_file_call-answer.new.space.images.now in
+    let now : Kept = c.do_file_call-answer.new.space.images.now.kept in
     let lent = lends w c.args.s _ _ c.requires.ready c.see_nodes.ensures c.area-u.ensures.sizes c.area-u.ensures.holds c.area-u.ensures.u c.row.ensures
     c.space-space.ensures.images c.space-space.ensures.slot in
-    let back = lent_back w.procs.images c.space-space.result.images.now now c.args.s c.space-space.result.slot c.do_file_call-answer.new.space.slot _ _
+    let back = lent_back w.procs.images.kept c.space-space.result.images.now.kept now c.args.s c.space-space.result.slot c.do_file_call-answer.new.space.slot _ _
     c.space-space.ensures.images c.space-space.ensures.slot c.do_file_call-answer.ensures.memory in
     let done = call_done w c.args.s lent (λ h. file_row c.args.call h c.args.s c.args.args w.procs.table.now) (row_confined c.args.call (given w c.args.s) c.args.s c.args.args w.procs.table.now c.see_count.ensures)
     (row_pends c.args.call (given w c.args.s) c.args.s c.args.args w.procs.table.now (none_pending (process_of (unix_of w) c.args.s) c.requires.user))

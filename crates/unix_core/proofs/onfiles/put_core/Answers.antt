@@ -23,7 +23,7 @@ space-space-requires c = c.requires.ready.good.running c.args.s c.requires.ready
 pub write_core-requires-clause-sound : goal.write_core-requires-clause-sound
 write_core-requires-clause-sound c row =
     let w : World = c.args.world.now in
-    let image : Image = image_of c.space-space.result.images.now c.space-space.result.slot in
+    let image : Image = image_of c.space-space.result.images.now.kept c.space-space.result.slot in
     sound_parts w c.args.s (handed w.files c.area-u.result row image) c.requires.ready c.see_table.ensures c.area-u.ensures.holds refl refl
     (area_is w c.args.s c.area-u.result c.requires.ready c.area-u.ensures.u) refl
 
@@ -42,7 +42,7 @@ returns-clause-unix c =
     let lent = lends w c.args.s {r = row} _ _ c.requires.ready c.see_nodes.ensures c.area-u.ensures.sizes c.area-u.ensures.holds c.area-u.ensures.u refl
     c.space-space.ensures.images c.space-space.ensures.slot in
     dumped_unix w c.args.s lent (none_pending (process_of (unix_of w) c.args.s) c.requires.user) w.procs.table.now c.write_core.new.f
-    c.space-space.result.images.now c.space-space.ensures.images (c.write_core.ensures.state row) (c.write_core.ensures.kept row)
+    c.space-space.result.images.now.kept c.space-space.ensures.images (c.write_core.ensures.state row) (c.write_core.ensures.kept row)
 
 pub returns-clause-ready : goal.returns-clause-ready
 returns-clause-ready c =
@@ -51,7 +51,7 @@ returns-clause-ready c =
     let lent = lends w c.args.s {r = row} _ _ c.requires.ready c.see_nodes.ensures c.area-u.ensures.sizes c.area-u.ensures.holds c.area-u.ensures.u refl
     c.space-space.ensures.images c.space-space.ensures.slot in
     dumped_ready w c.args.s lent (none_pending (process_of (unix_of w) c.args.s) c.requires.user) w.procs.table.now c.write_core.new.f
-    c.space-space.result.images.now c.space-space.ensures.images (c.write_core.ensures.state row) (c.write_core.ensures.kept row)
+    c.space-space.result.images.now.kept c.space-space.ensures.images (c.write_core.ensures.state row) (c.write_core.ensures.kept row)
 
 pub returns-clause-user : goal.returns-clause-user
 returns-clause-user c =
@@ -60,4 +60,4 @@ returns-clause-user c =
     let lent = lends w c.args.s {r = row} _ _ c.requires.ready c.see_nodes.ensures c.area-u.ensures.sizes c.area-u.ensures.holds c.area-u.ensures.u refl
     c.space-space.ensures.images c.space-space.ensures.slot in
     dumped_user w c.args.s lent (none_pending (process_of (unix_of w) c.args.s) c.requires.user) w.procs.table.now c.write_core.new.f
-    c.space-space.result.images.now c.space-space.ensures.images (c.write_core.ensures.state row) (c.write_core.ensures.kept row)
+    c.space-space.result.images.now.kept c.space-space.ensures.images (c.write_core.ensures.state row) (c.write_core.ensures.kept row)

@@ -22,7 +22,7 @@ use Rattle.unix_core.proofs.LeavingLemmas.{given, area_is, lends, lent_parts, ca
 use Rattle.unix_core.proofs.onfiles.resume_on_files.Goals as goal
 
 -- what is pending, of the process
-pends_on : (w : World) (s : ℕ) → IsReady w s → is_on_files (area_of w.procs.images s).pending ≡ true → is_on_files (process_of (unix_of w) s).u.pending ≡ true
+pends_on : (w : World) (s : ℕ) → IsReady w s → is_on_files (area_of w.procs.images.kept s).pending ≡ true → is_on_files (process_of (unix_of w) s).u.pending ≡ true
 pends_on w s ready is = ap (λ (u : UArea). is_on_files u.pending) (sym (own_area w s ready)) ∙ is
 
 -- What goes on and is no read of the console waits in a pipe.
@@ -35,7 +35,7 @@ in_pipe n on other = by (n == 1) (n == 3) (n == 4) other refl refl on
     by false false true e f g is = inr (eqb-true n 4 g)
     by false false false e f g is = absurd (cc is)
 
-module _ (w : World) (s : ℕ) (ready : IsReady w s) (pending : is_on_files (area_of w.procs.images s).pending ≡ true) where
+module _ (w : World) (s : ℕ) (ready : IsReady w s) (pending : is_on_files (area_of w.procs.images.kept s).pending ≡ true) where
   its_pends : Pends (given w s)
   its_pends = handed_pends (unix_of w) s ready.good.pending (slot_is w s ready) (is_living w s ready)
 
@@ -63,7 +63,7 @@ space-space-requires c = c.requires.ready.good.running c.args.s c.requires.ready
 pub resume_file-answer-requires-clause-sound : goal.resume_file-answer-requires-clause-sound
 resume_file-answer-requires-clause-sound c =
     let w : World = c.args.world.now in
-    let parts : Handed = handed w.files c.area-u.result c.row.result.now (image_of c.space-space.result.images.now c.space-space.result.slot) in
+    let parts : Handed = handed w.files c.area-u.result c.row.result.now (image_of c.space-space.result.images.now.kept c.space-space.result.slot) in
     let area = area_is w c.args.s c.area-u.result c.requires.ready c.area-u.ensures.u in
     sound_parts w c.args.s parts c.requires.ready c.see_table.ensures c.area-u.ensures.holds refl refl area refl
 
@@ -80,10 +80,10 @@ resume_file-answer-requires-clause-pending c =
 pub set_area-requires : goal.set_area-requires
 set_area-requires c =
     let w : World = c.args.world.now in
-    let now : Kept = c.resume_file-answer.new.space.images.now in
+    let now : Kept = c.resume_file-answer.new.space.images.now.kept in
     let lent = lends w c.args.s _ _ c.requires.ready c.see_nodes.ensures c.area-u.ensures.sizes c.area-u.ensures.holds c.area-u.ensures.u c.row.ensures
     c.space-space.ensures.images c.space-space.ensures.slot in
-    let back = lent_back w.procs.images c.space-space.result.images.now now c.args.s c.space-space.result.slot c.resume_file-answer.new.space.slot _ _
+    let back = lent_back w.procs.images.kept c.space-space.result.images.now.kept now c.args.s c.space-space.result.slot c.resume_file-answer.new.space.slot _ _
     c.space-space.ensures.images c.space-space.ensures.slot c.resume_file-answer.ensures.memory in
     let put = area_put w c.args.s lent (λ h. resumes h c.args.s w.procs.table.now) (confined w c.args.s c.requires.ready c.requires.pending).steady
     c.resume_file-answer.new.f c.resume_file-answer.new.u c.resume_file-answer.new.row _ c.resume_file-answer.ensures.does.state now back in
@@ -108,10 +108,10 @@ set_row-requires-clause-ppid c =
 pub returns : goal.returns
 returns c =
     let w : World = c.args.world.now in
-    let now : Kept = c.resume_file-answer.new.space.images.now in
+    let now : Kept = c.resume_file-answer.new.space.images.now.kept in
     let lent = lends w c.args.s _ _ c.requires.ready c.see_nodes.ensures c.area-u.ensures.sizes c.area-u.ensures.holds c.area-u.ensures.u c.row.ensures
     c.space-space.ensures.images c.space-space.ensures.slot in
-    let back = lent_back w.procs.images c.space-space.result.images.now now c.args.s c.space-space.result.slot c.resume_file-answer.new.space.slot _ _
+    let back = lent_back w.procs.images.kept c.space-space.result.images.now.kept now c.args.s c.space-space.result.slot c.resume_file-answer.new.space.slot _ _
     c.space-space.ensures.images c.space-space.ensures.slot c.resume_file-answer.ensures.memory in
     let done = call_done w c.args.s lent (λ h. resumes h c.args.s w.procs.table.now) (confined w c.args.s c.requires.ready c.requires.pending)
     (resume_pends (given w c.args.s) c.args.s w.procs.table.now (pends_on w c.args.s c.requires.ready c.requires.pending)

@@ -28,7 +28,7 @@ use Rattle.unix_core.proofs.process.call_processes.Goals as goal
 abbrev row : World → ProcessCall → ℕ → List ℕ → Comes
 row w call s args = process_row call (given w) s args
 
-tame : (w : World) (call : ProcessCall) (s : ℕ) (args : List ℕ) → IsReady w s → IsFileSystem w.files.tree.nodes → IsKept w.procs.images → IsTame w (row w call s args)
+tame : (w : World) (call : ProcessCall) (s : ℕ) (args : List ℕ) → IsReady w s → IsFileSystem w.files.tree.nodes → IsKept w.procs.images.kept → IsTame w (row w call s args)
 tame w call s args ready form holds = tame_row w s ready form holds call args
 
 -- who waits in a pipe can go on, since who calls doesn't

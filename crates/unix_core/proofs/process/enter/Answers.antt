@@ -7,7 +7,7 @@ use Rattle.unix_core.proofs.process.enter.Goals as goal
 pub returns : goal.returns
 returns c =
     c.set_registers.ensures
-    ∙ ap (λ n. with_area c.args.images.now c.args.s (with_state (area_of c.args.images.now c.args.s)
+    ∙ ap (λ n. with_area c.args.images.now.kept c.args.s (with_state (area_of c.args.images.now.kept c.args.s)
     (slice_set c.area-u.result.r 7 ((slice_index c.area-u.result.r 7 + 2 * n) % 65536)) (c.area-u.result.cc - c.area-u.result.cc % 2))) c.from.ensures
-    ∙ ap (λ (u : UArea). with_area c.args.images.now c.args.s (with_state (area_of c.args.images.now c.args.s)
+    ∙ ap (λ (u : UArea). with_area c.args.images.now.kept c.args.s (with_state (area_of c.args.images.now.kept c.args.s)
     (slice_set u.r 7 ((slice_index u.r 7 + 2 * c.args.words) % 65536)) (u.cc - u.cc % 2))) c.area-u.ensures.u

@@ -12,7 +12,7 @@ use Rattle.unix_core.proofs.AreaLemmas.{own_area}
 use Rattle.unix_core.proofs.process.exit.Goals as goal
 
 -- the status that stands in R0
-status : (w : World) (s : ℕ) (u : UArea) → IsReady w s → u ≡ area_of w.procs.images s → 256 * (slice_index u.r 0 % 256) ≡ exit_status (process_of (unix_of w) s)
+status : (w : World) (s : ℕ) (u : UArea) → IsReady w s → u ≡ area_of w.procs.images.kept s → 256 * (slice_index u.r 0 % 256) ≡ exit_status (process_of (unix_of w) s)
 status w s u ready is = ap (λ (v : UArea). 256 * (slice_index v.r 0 % 256)) (is ∙ own_area w s ready)
 
 pub area-requires : goal.area-requires

@@ -22,7 +22,7 @@ returns-in-Segment-clause-come g c =
     (sym c.in-Segment.is) c.grow_stack.ensures.come
 
 -- whether an illegal instruction is passed by
-passes : (w : World) (s word : ℕ) (b : Bool) → IsReady w s → ((u : Unix) → (process_of u s).u ≡ area_of w.procs.images s → b ≡ passes_setd u s word)
+passes : (w : World) (s word : ℕ) (b : Bool) → IsReady w s → ((u : Unix) → (process_of u s).u ≡ area_of w.procs.images.kept s → b ≡ passes_setd u s word)
     → b ≡ passes_setd (unix_of w) s word
 passes w s word b ready each = each (unix_of w) (sym (own_area w s ready))
 

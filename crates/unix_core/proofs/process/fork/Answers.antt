@@ -45,7 +45,7 @@ share_files-requires-clause-few g c = room_for c.args.world.now c.args.s c.requi
 abbrev shared : World → Tree → List (Option OpenFile) → Procs → World
 shared w tree table procs = record w { files = record w.files { tree = tree; table = table }; procs = procs }
 
-its_table : (w : World) (s : ℕ) (u : UArea) (table : List (Option OpenFile)) (answer : Answer) → IsReady w s → u ≡ area_of w.procs.images s
+its_table : (w : World) (s : ℕ) (u : UArea) (table : List (Option OpenFile)) (answer : Answer) → IsReady w s → u ≡ area_of w.procs.images.kept s
     → table ≡ shares w.files.table u.files answer → table ≡ shares w.files.table (process_of (unix_of w) s).u.files answer
 its_table w s u table answer ready area is = is ∙ ap (λ (v : UArea). shares w.files.table v.files answer) (area ∙ own_area w s ready)
 

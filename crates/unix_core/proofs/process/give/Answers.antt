@@ -8,6 +8,6 @@ use Rattle.unix_core.proofs.process.give.Goals as goal
 pub returns : goal.returns
 returns c =
     c.set_registers.ensures
-    ∙ ap (λ (u : UArea). with_area c.args.images.now c.args.s (with_state (area_of c.args.images.now c.args.s)
+    ∙ ap (λ (u : UArea). with_area c.args.images.now.kept c.args.s (with_state (area_of c.args.images.now.kept c.args.s)
     (slice_set (slice_set u.r 0 c.args.r0) 1 c.args.r1) u.cc)) c.area-u.ensures.u
-    ∙ ap (with_area c.args.images.now c.args.s) (given_is (area_of c.args.images.now c.args.s) _)
+    ∙ ap (with_area c.args.images.now.kept c.args.s) (given_is (area_of c.args.images.now.kept c.args.s) _)

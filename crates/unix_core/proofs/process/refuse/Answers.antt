@@ -7,5 +7,5 @@ use Rattle.unix_core.proofs.process.refuse.Goals as goal
 pub returns : goal.returns
 returns c =
     c.set_registers.ensures
-    ∙ ap (λ (u : UArea). with_area c.args.images.now c.args.s (with_state (area_of c.args.images.now c.args.s)
+    ∙ ap (λ (u : UArea). with_area c.args.images.now.kept c.args.s (with_state (area_of c.args.images.now.kept c.args.s)
     (slice_set u.r 0 c.args.number) (u.cc - u.cc % 2 + 1))) c.area-u.ensures.u

@@ -16,7 +16,7 @@ use Rattle.unix_core.proofs.SystemLemmas.{resumes_files, resumes_wait}
 use Rattle.unix_core.proofs.process.resume.Goals as goal
 
 -- what is pending of who runs
-pends : (w : World) (s : ℕ) → IsReady w s → (n : ℕ) → n ≡ (area_of w.procs.images s).pending → is_on_files n ≡ is_on_files (process_of (unix_of w) s).u.pending
+pends : (w : World) (s : ℕ) → IsReady w s → (n : ℕ) → n ≡ (area_of w.procs.images.kept s).pending → is_on_files n ≡ is_on_files (process_of (unix_of w) s).u.pending
 pends w s ready n is = ap is_on_files (is ∙ ap (λ (u : UArea). u.pending) (own_area w s ready))
 
 pub pending_of-pending-requires : goal.pending_of-pending-requires

@@ -21,7 +21,7 @@ set_area-requires-clause-sizes c =
       «data» = c.requires.data_size ∙ sym (ap (λ (v : UArea). v.data_size) is);
       stack = c.requires.stack_size ∙ sym (ap (λ (v : UArea). v.stack_size) is);
     } in
-    sizes_stay u c.area-area.result (image_of p.images c.args.s) same c.area-area.ensures.sizes
+    sizes_stay u c.area-area.result (image_of p.images.kept c.args.s) same c.area-area.ensures.sizes
 
 pub returns-clause-state : goal.returns-clause-state
 returns-clause-state c = λ fs.
@@ -37,7 +37,7 @@ returns-clause-here c =
     let at : List (Option Process) → Process = λ ps. unwrap_or (get_or ps c.args.s None) no_process in
     ap (λ (k : Kept). at (processes_in p.rows.slots k)) c.set_area.ensures
     ∙ (ap at (area_put p c.args.s u c.requires.alive c.area-area.ensures.holds.slots)
-    ∙ put_here (processes_in p.rows.slots p.images) c.args.s (record (process_here p c.args.s) { u = u }) (omega (arith, c.requires.alive.below, fifty_processes p.rows.slots p.images)))
+    ∙ put_here (processes_in p.rows.slots p.images.kept) c.args.s (record (process_here p c.args.s) { u = u }) (omega (arith, c.requires.alive.below, fifty_processes p.rows.slots p.images.kept)))
 
 pub returns-clause-board : goal.returns-clause-board
 returns-clause-board c =

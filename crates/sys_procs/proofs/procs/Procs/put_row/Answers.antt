@@ -11,10 +11,10 @@ use Rattle.sys_procs.proofs.Alive.{put_here, row_put, row_alive}
 use Rattle.sys_procs.proofs.procs.Procs.put_row.Goals as goal
 
 pub set_row-requires-clause-pid : goal.set_row-requires-clause-pid
-set_row-requires-clause-pid c = let p : Procs = c.args.self.now in c.requires.pid ∙ ap (λ (r : Row). r.pid) (own_row p.rows.slots p.images c.args.s c.requires.alive.below)
+set_row-requires-clause-pid c = let p : Procs = c.args.self.now in c.requires.pid ∙ ap (λ (r : Row). r.pid) (own_row p.rows.slots p.images.kept c.args.s c.requires.alive.below)
 
 pub set_row-requires-clause-ppid : goal.set_row-requires-clause-ppid
-set_row-requires-clause-ppid c = let p : Procs = c.args.self.now in c.requires.ppid ∙ ap (λ (r : Row). r.ppid) (own_row p.rows.slots p.images c.args.s c.requires.alive.below)
+set_row-requires-clause-ppid c = let p : Procs = c.args.self.now in c.requires.ppid ∙ ap (λ (r : Row). r.ppid) (own_row p.rows.slots p.images.kept c.args.s c.requires.alive.below)
 
 pub returns-clause-state : goal.returns-clause-state
 returns-clause-state c = λ fs.
@@ -26,9 +26,9 @@ pub returns-clause-here : goal.returns-clause-here
 returns-clause-here c =
     let p : Procs = c.args.self.now in
     let at : List (Option Process) → Process = λ ps. unwrap_or (get_or ps c.args.s None) no_process in
-    ap (λ (v : Processes). at (processes_in v.slots p.images)) c.set_row.ensures
+    ap (λ (v : Processes). at (processes_in v.slots p.images.kept)) c.set_row.ensures
     ∙ (ap at (row_put p c.args.s c.args.row c.requires.alive)
-    ∙ put_here (processes_in p.rows.slots p.images) c.args.s (record (process_here p c.args.s) { row = c.args.row }) (omega (arith, c.requires.alive.below, fifty_processes p.rows.slots p.images)))
+    ∙ put_here (processes_in p.rows.slots p.images.kept) c.args.s (record (process_here p c.args.s) { row = c.args.row }) (omega (arith, c.requires.alive.below, fifty_processes p.rows.slots p.images.kept)))
 
 pub returns-clause-alive : goal.returns-clause-alive
 returns-clause-alive c =

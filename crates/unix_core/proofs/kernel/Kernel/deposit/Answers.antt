@@ -17,7 +17,7 @@ pub returns-clause-next : goal.returns-clause-next
 returns-clause-next c put =
     let m = c.self.inside.machine in
     let started : phase_of m.stage ≡ Started = ap (λ (v : KernelState). v.phase) c.self.view_is ∙ c.requires.phase in
-    let is : m.world.procs.images ≡ kept_in c.args.self.now.system =
+    let is : m.world.procs.images.kept ≡ kept_in c.args.self.now.system =
     told m.stage m.world c.self.invariant started c.see_procs.ensures.rows c.see_procs.ensures.images ∙ ap (λ (v : KernelState). kept_in v.system) c.self.view_is in
     put_system m.stage m.world c.deposit-is_put.new.self c.args.swap c.args.at c.args.b started c.self.invariant c.see_procs.ensures.images
     c.args.self.now.system (ap (λ (v : KernelState). v.system) c.self.view_is) is (c.deposit-is_put.ensures.put put)
@@ -26,7 +26,7 @@ pub returns-clause-nobodys : goal.returns-clause-nobodys
 returns-clause-nobodys c none =
     let m = c.self.inside.machine in
     let started : phase_of m.stage ≡ Started = ap (λ (v : KernelState). v.phase) c.self.view_is ∙ c.requires.phase in
-    let is : m.world.procs.images ≡ kept_in c.args.self.now.system =
+    let is : m.world.procs.images.kept ≡ kept_in c.args.self.now.system =
     told m.stage m.world c.self.invariant started c.see_procs.ensures.rows c.see_procs.ensures.images ∙ ap (λ (v : KernelState). kept_in v.system) c.self.view_is in
     nobodys_in m.stage m.world c.deposit-is_put.new.self c.args.swap c.args.at c.args.b started c.self.invariant c.see_procs.ensures.images c.args.self.now.system is (c.deposit-is_put.ensures.nobodys none)
 

@@ -21,7 +21,7 @@ returns-clause-system c =
     w c.new-tree.ensures.nodes c.new-tree.ensures.none c.new.ensures c.new-3.ensures c.new-2.ensures (ap (λ (p : Procs). p.rows) made ∙ c.new-4.ensures)
     (ap (λ (p : Procs). p.table) made ∙ c.new-5.ensures.table ∙ ap first_table c.requires.time)
     (subst (λ (p : Procs). IsTable p.table) (sym made) c.new-5.ensures.good)
-    (ap (λ (p : Procs). p.images) made ∙ ap (λ (k : Kept). with_keeping k 1 (Alive first_held)) c.requires.images) (ap (λ (p : Procs). p.switches) made)
+    (ap (λ (p : Procs). p.images.kept) made ∙ ap (λ (k : Kept). with_keeping k 1 (Alive first_held)) c.requires.images) (ap (λ (p : Procs). p.switches) made)
     (ap (λ t. t.entry_room) c.requires.tape) (ap (λ t. t.byte_room) c.requires.tape) refl
 
 pub returns-clause-blocks : goal.returns-clause-blocks
@@ -40,5 +40,5 @@ invariant_of-result c =
     w c.new-tree.ensures.nodes c.new-tree.ensures.none c.new.ensures c.new-3.ensures c.new-2.ensures (ap (λ (p : Procs). p.rows) made ∙ c.new-4.ensures)
     (ap (λ (p : Procs). p.table) made ∙ c.new-5.ensures.table ∙ ap first_table c.requires.time)
     (subst (λ (p : Procs). IsTable p.table) (sym made) c.new-5.ensures.good)
-    (ap (λ (p : Procs). p.images) made ∙ ap (λ (k : Kept). with_keeping k 1 (Alive first_held)) c.requires.images) (ap (λ (p : Procs). p.switches) made)
+    (ap (λ (p : Procs). p.images.kept) made ∙ ap (λ (k : Kept). with_keeping k 1 (Alive first_held)) c.requires.images) (ap (λ (p : Procs). p.switches) made)
     (ap (λ t. t.entry_room) c.requires.tape) (ap (λ t. t.byte_room) c.requires.tape) refl

@@ -20,7 +20,7 @@ set_area-requires-clause-image c =
 
 pub set_area-requires-clause-sizes : goal.set_area-requires-clause-sizes
 set_area-requires-clause-sizes c =
-    timed_sizes c.args.mode c.area.result c.timed-u.result (image_of c.args.self.now.world.procs.images c.in-Some.s) c.timed-u.ensures c.area.ensures.sizes
+    timed_sizes c.args.mode c.area.result c.timed-u.result (image_of c.args.self.now.world.procs.images.kept c.in-Some.s) c.timed-u.ensures c.area.ensures.sizes
 
 pub returns-clause-good : goal.returns-clause-good
 returns-clause-good c =

@@ -23,7 +23,7 @@ returns-in-Ran-clause-takes g c =
     let goes = c.in-Ran.ensures.goes refl in
     let on = not_over c.args.ending goes in
     ended_takes w (c.requires.good on) c.args.s c.requires.user c.requires.slot c.args.ending (c.requires.runs on) c.end_turn.new.table c.end_turn.ensures.table c.end_turn.ensures.good
-    goes _ _ c.settle.ensures.kernel c.settle.ensures.started (c.end_turn.ensures.board w.procs.images) c.settle.ensures.system
+    goes _ _ c.settle.ensures.kernel c.settle.ensures.started (c.end_turn.ensures.board w.procs.images.kept) c.settle.ensures.system
 
 pub returns-in-Ran-clause-items : goal.returns-in-Ran-clause-items
 returns-in-Ran-clause-items g c =
@@ -31,7 +31,7 @@ returns-in-Ran-clause-items g c =
     let goes = c.in-Ran.ensures.goes refl in
     let on = not_over c.args.ending goes in
     ended_items w (c.requires.good on) c.args.s c.requires.user c.requires.slot c.args.ending (c.requires.runs on) c.end_turn.new.table c.end_turn.ensures.table c.end_turn.ensures.good
-    goes _ _ _ (c.end_turn.ensures.board w.procs.images) (c.end_turn.ensures.items (board_in w)) c.settle.ensures.items
+    goes _ _ _ (c.end_turn.ensures.board w.procs.images.kept) (c.end_turn.ensures.items (board_in w)) c.settle.ensures.items
 
 pub returns-in_default-clause-answer : goal.returns-in_default-clause-answer
 returns-in_default-clause-answer g c = c.turned.ensures.answer ∙ end_answer c.args.self.now.world c.args.s c.args.ending

@@ -16,26 +16,26 @@ refresh-requires-clause-good g c =
     let t : Table = w.procs.table in
     let u : Table = c.settle.new.table in
     let good = c.requires in
-    good_table w u (settled_agree w.procs.rows w.procs.images t u c.settle.ensures.table c.settle.ensures.good good.agree)
-    (settled_image w.procs.rows w.procs.images t u c.settle.ensures.table c.settle.ensures.good good.agree good.running) good
+    good_table w u (settled_agree w.procs.rows w.procs.images.kept t u c.settle.ensures.table c.settle.ensures.good good.agree)
+    (settled_image w.procs.rows w.procs.images.kept t u c.settle.ensures.table c.settle.ensures.good good.agree good.running) good
 
 pub refresh-requires-clause-settled : goal.refresh-requires-clause-settled
 refresh-requires-clause-settled g c =
     let w : World = c.args.self.now.world in
-    settled_settles w.procs.rows w.procs.images w.procs.table c.settle.new.table c.settle.ensures.table
+    settled_settles w.procs.rows w.procs.images.kept w.procs.table c.settle.new.table c.settle.ensures.table
 
 pub refresh-requires-clause-idle : goal.refresh-requires-clause-idle
 refresh-requires-clause-idle g c =
     let w : World = c.args.self.now.world in
-    settled_idle w.procs.rows w.procs.images w.procs.table c.settle.new.table c.settle.ensures.table
+    settled_idle w.procs.rows w.procs.images.kept w.procs.table c.settle.new.table c.settle.ensures.table
 
 pub returns-clause-system : goal.returns-clause-system
 returns-clause-system g c =
     let w : World = c.args.self.now.world in
     let t : Table = w.procs.table in
     ap system_at c.refresh.ensures.world
-    ∙ table_system w c.settle.new.table (ap clock_of c.settle.ensures.table ∙ settled_clock w.procs.rows w.procs.images t)
-    ∙ ap (λ (b : Board). record (system_at w) { board = b }) (c.settle.ensures.board w.procs.images)
+    ∙ table_system w c.settle.new.table (ap clock_of c.settle.ensures.table ∙ settled_clock w.procs.rows w.procs.images.kept t)
+    ∙ ap (λ (b : Board). record (system_at w) { board = b }) (c.settle.ensures.board w.procs.images.kept)
 
 pub returns-clause-items : goal.returns-clause-items
-returns-clause-items g c = c.settle.ensures.items c.args.self.now.world.procs.images
+returns-clause-items g c = c.settle.ensures.items c.args.self.now.world.procs.images.kept

@@ -30,7 +30,7 @@ deliver-requires-clause-good g c =
     tick_good w c.mode-mode.result c.mode-mode.ensures n.world c.charge.ensures.good
     c.charge.ensures.unix c.charge.ensures.table c.charge.ensures.board second.new.self second.ensures.table second.ensures.good
     c.is_due.result (second_due n.world.procs.table second.result c.is_due.result second.ensures.told c.is_due.ensures.second c.is_due.ensures.within)
-    c.wake.new.table c.wake.ensures.table c.wake.ensures.good (c.wake.ensures.board n.world.procs.images)
+    c.wake.new.table c.wake.ensures.table c.wake.ensures.good (c.wake.ensures.board n.world.procs.images.kept)
     (λ s. runs_low w s (kernel_good c.args.self.now.stage w c.requires.started c.requires.kernel).agree)
 
 pub deliver-requires-clause-user : goal.deliver-requires-clause-user
@@ -42,7 +42,7 @@ deliver-requires-clause-user g c =
     has_ticked w c.mode-mode.result c.mode-mode.ensures n.world c.charge.ensures.good
     c.charge.ensures.unix c.charge.ensures.table c.charge.ensures.board second.new.self second.ensures.table second.ensures.good
     c.is_due.result (second_due n.world.procs.table second.result c.is_due.result second.ensures.told c.is_due.ensures.second c.is_due.ensures.within)
-    c.wake.new.table c.wake.ensures.table c.wake.ensures.good (c.wake.ensures.board n.world.procs.images)
+    c.wake.new.table c.wake.ensures.table c.wake.ensures.good (c.wake.ensures.board n.world.procs.images.kept)
     (λ s. runs_low w s (kernel_good c.args.self.now.stage w c.requires.started c.requires.kernel).agree)
     c.is_as_trap.result (second_trap c.mode-mode.result n.world.procs.table second.result c.is_as_trap.result second.ensures.told
     c.is_as_trap.ensures.second c.is_as_trap.ensures.within) in
@@ -57,14 +57,14 @@ returns-in-Panic g c =
     has_ticked w c.mode-mode.result c.mode-mode.ensures n.world c.charge.ensures.good
     c.charge.ensures.unix c.charge.ensures.table c.charge.ensures.board second.new.self second.ensures.table second.ensures.good
     c.is_due.result (second_due n.world.procs.table second.result c.is_due.result second.ensures.told c.is_due.ensures.second c.is_due.ensures.within)
-    c.wake.new.table c.wake.ensures.table c.wake.ensures.good (c.wake.ensures.board n.world.procs.images)
+    c.wake.new.table c.wake.ensures.table c.wake.ensures.good (c.wake.ensures.board n.world.procs.images.kept)
     (λ s. runs_low w s (kernel_good c.args.self.now.stage w c.requires.started c.requires.kernel).agree)
     c.is_as_trap.result (second_trap c.mode-mode.result n.world.procs.table second.result c.is_as_trap.result second.ensures.told
     c.is_as_trap.ensures.second c.is_as_trap.ensures.within) in
     let shown = first_items w c.mode-mode.result c.mode-mode.ensures n.world c.charge.ensures.good
     c.charge.ensures.unix c.charge.ensures.table c.charge.ensures.board second.new.self second.ensures.table second.ensures.good
     c.is_due.result (second_due n.world.procs.table second.result c.is_due.result second.ensures.told c.is_due.ensures.second c.is_due.ensures.within)
-    c.wake.new.table c.wake.ensures.table c.wake.ensures.good (c.wake.ensures.board n.world.procs.images)
+    c.wake.new.table c.wake.ensures.table c.wake.ensures.good (c.wake.ensures.board n.world.procs.images.kept)
     (λ s. runs_low w s (kernel_good c.args.self.now.stage w c.requires.started c.requires.kernel).agree)
     (g.T.Trace.taken c.args.trace.now) (g.T.Trace.taken c.entry.new.self) (g.T.Trace.taken c.wake.new.trace)
     (subst (λ (e : Entry). Took (g.T.Trace.taken c.args.trace.now) (Log e ∷ []) (g.T.Trace.taken c.entry.new.self)) c.tick_entry.ensures c.entry.ensures.took)
@@ -90,14 +90,14 @@ returns-in_default g c =
     has_ticked w c.mode-mode.result c.mode-mode.ensures n.world c.charge.ensures.good
     c.charge.ensures.unix c.charge.ensures.table c.charge.ensures.board second.new.self second.ensures.table second.ensures.good
     c.is_due.result (second_due n.world.procs.table second.result c.is_due.result second.ensures.told c.is_due.ensures.second c.is_due.ensures.within)
-    c.wake.new.table c.wake.ensures.table c.wake.ensures.good (c.wake.ensures.board n.world.procs.images)
+    c.wake.new.table c.wake.ensures.table c.wake.ensures.good (c.wake.ensures.board n.world.procs.images.kept)
     (λ s. runs_low w s (kernel_good c.args.self.now.stage w c.requires.started c.requires.kernel).agree)
     c.is_as_trap.result (second_trap c.mode-mode.result n.world.procs.table second.result c.is_as_trap.result second.ensures.told
     c.is_as_trap.ensures.second c.is_as_trap.ensures.within) in
     let shown = first_items w c.mode-mode.result c.mode-mode.ensures n.world c.charge.ensures.good
     c.charge.ensures.unix c.charge.ensures.table c.charge.ensures.board second.new.self second.ensures.table second.ensures.good
     c.is_due.result (second_due n.world.procs.table second.result c.is_due.result second.ensures.told c.is_due.ensures.second c.is_due.ensures.within)
-    c.wake.new.table c.wake.ensures.table c.wake.ensures.good (c.wake.ensures.board n.world.procs.images)
+    c.wake.new.table c.wake.ensures.table c.wake.ensures.good (c.wake.ensures.board n.world.procs.images.kept)
     (λ s. runs_low w s (kernel_good c.args.self.now.stage w c.requires.started c.requires.kernel).agree)
     (g.T.Trace.taken c.args.trace.now) (g.T.Trace.taken c.entry.new.self) (g.T.Trace.taken c.wake.new.trace)
     (subst (λ (e : Entry). Took (g.T.Trace.taken c.args.trace.now) (Log e ∷ []) (g.T.Trace.taken c.entry.new.self)) c.tick_entry.ensures c.entry.ensures.took)

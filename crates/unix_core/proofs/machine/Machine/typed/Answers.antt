@@ -17,7 +17,7 @@ settle-requires g c =
     let sent = c.send_key.new.self in
     typed_good c.args.self.now.world c.args.byte c.typed-keyed.new.self c.typed-keyed.ensures.line c.typed-keyed.result c.typed-keyed.ensures.keyed
     sent.world c.send_key.ensures.good c.send_key.ensures.unix c.send_key.ensures.board c.calls.result c.calls.ensures
-    c.wake.new.table c.wake.ensures.table c.wake.ensures.good (c.wake.ensures.board sent.world.procs.images)
+    c.wake.new.table c.wake.ensures.table c.wake.ensures.good (c.wake.ensures.board sent.world.procs.images.kept)
 
 pub returns-clause-takes : goal.returns-clause-takes
 returns-clause-takes g c =
@@ -25,7 +25,7 @@ returns-clause-takes g c =
       kernel = c.settle.ensures.kernel;
       system = typed_next c.args.self.now.world c.args.byte c.typed-keyed.new.self c.typed-keyed.ensures.line c.typed-keyed.result c.typed-keyed.ensures.keyed
           sent.world c.send_key.ensures.good c.send_key.ensures.unix c.send_key.ensures.board c.calls.result c.calls.ensures
-          c.wake.new.table c.wake.ensures.table c.wake.ensures.good (c.wake.ensures.board sent.world.procs.images)
+          c.wake.new.table c.wake.ensures.table c.wake.ensures.good (c.wake.ensures.board sent.world.procs.images.kept)
           _ c.settle.ensures.system;
       phase = c.settle.ensures.started;
     }
@@ -35,7 +35,7 @@ returns-clause-items g c =
     let sent = c.send_key.new.self in
     typed_items c.args.self.now.world c.args.byte c.typed-keyed.new.self c.typed-keyed.ensures.line c.typed-keyed.result c.typed-keyed.ensures.keyed
     sent.world c.send_key.ensures.good c.send_key.ensures.unix c.send_key.ensures.board c.calls.result c.calls.ensures
-    c.wake.new.table c.wake.ensures.table c.wake.ensures.good (c.wake.ensures.board sent.world.procs.images)
+    c.wake.new.table c.wake.ensures.table c.wake.ensures.good (c.wake.ensures.board sent.world.procs.images.kept)
     _ refl _ _ _ _ _ c.typed-keyed.ensures.items c.send_key.ensures.items (c.wake.ensures.items _) c.settle.ensures.items
 
 pub returns-clause-frame : goal.returns-clause-frame
