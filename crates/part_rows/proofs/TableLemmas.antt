@@ -1,6 +1,5 @@
 -- What is known of each slot stays what the slots have.
 use Rattle.std.proofs.Common.{◌≡◌, ◌<◌, ℕ, zero, suc, Bool, true, false, List, length, get_or, set, replicate, Option, Some, None, refl, sym, ap, subst, ◌∙◌}
-use Rattle.std.specs.Prelude.{IfSome, IsTrue}
 use Rattle.std.proofs.lemmas.List.{map-set, get_or-map, length-map}
 use Rattle.v6_base.specs.declared.entry.Place.{Place}
 use Rattle.v6_base.specs.Image.{Image}
@@ -171,28 +170,11 @@ unfolding with_image with_byte_of
 plain_deposit k w swap at b true plain put same = ap (λ v. v.users) (put refl).3 ∙ plain
 plain_deposit k w swap at b false plain put same = ap (λ v. v.users) (same refl) ∙ plain
 
--- an instruction is done, or nothing
-tied_machine : (kinds : List Kind) (k w : Kept) (s : ℕ) (m : Machine) → kinds ≡ kinds_of k → w ≡ with_machine_in k s m → kinds ≡ kinds_of w
+-- an instruction is done
+pub tied_machine : (kinds : List Kind) (k w : Kept) (s : ℕ) (m : Machine) → kinds ≡ kinds_of k → w ≡ with_machine_in k s m → kinds ≡ kinds_of w
 tied_machine kinds k w s m tied is = tied_area kinds (with_image k s m.image) w s _ (tied_loan kinds k (with_image k s m.image) s tied (left_image k s m.image)) is
 
-plain_machine : (k w : Kept) (s : ℕ) (m : Machine) → k.users ≡ no_users → w ≡ with_machine_in k s m → w.users ≡ no_users
+pub plain_machine : (k w : Kept) (s : ℕ) (m : Machine) → k.users ≡ no_users → w ≡ with_machine_in k s m → w.users ≡ no_users
 plain_machine k w s m plain is = plain_area (with_image k s m.image) w s _ (plain_loan k (with_image k s m.image) s plain (left_image k s m.image)) is
-
-pub tied_executed : (kinds : List Kind) (k w : Kept) (s : ℕ) (m : Machine) (done : Bool) → kinds ≡ kinds_of k → (IsTrue done → w ≡ with_machine_in k s m) → (done ≡ false → w ≡ k) → kinds ≡ kinds_of w
-tied_executed kinds k w s m true tied is same = tied_machine kinds k w s m tied (is refl)
-tied_executed kinds k w s m false tied is same = tied ∙ ap kinds_of (sym (same refl))
-
-pub plain_executed : (k w : Kept) (s : ℕ) (m : Machine) (done : Bool) → k.users ≡ no_users → (IsTrue done → w ≡ with_machine_in k s m) → (done ≡ false → w ≡ k) → w.users ≡ no_users
-plain_executed k w s m true plain is same = plain_machine k w s m plain (is refl)
-plain_executed k w s m false plain is same = ap (λ (v : Kept). v.users) (same refl) ∙ plain
-
--- a system call is asked for, or none
-pub tied_asked : (kinds : List Kind) (k w : Kept) (s : ℕ) (m : Machine) (call : Option ℕ) → kinds ≡ kinds_of k → IfSome call (λ _. w ≡ with_machine_in k s m) → (call ≡ None → w ≡ k) → kinds ≡ kinds_of w
-tied_asked kinds k w s m None tied is same = tied ∙ ap kinds_of (sym (same refl))
-tied_asked kinds k w s m (Some n) tied is same = tied_machine kinds k w s m tied is
-
-pub plain_asked : (k w : Kept) (s : ℕ) (m : Machine) (call : Option ℕ) → k.users ≡ no_users → IfSome call (λ _. w ≡ with_machine_in k s m) → (call ≡ None → w ≡ k) → w.users ≡ no_users
-plain_asked k w s m None plain is same = ap (λ (v : Kept). v.users) (same refl) ∙ plain
-plain_asked k w s m (Some n) plain is same = plain_machine k w s m plain is
 
 pub ruleset ties = (tied_deposit, plain_deposit, has_image, has_nothing, has_grave, no_text, none_text, tied_put, tied_area, tied_loan, tied_moved, tied_not_moved, tied_expanded, tied_forked, tied_not_forked, tied_grave, tied_no_grave, plain_put, plain_moved, plain_forked, plain_grave, plain_area, plain_loan)

@@ -21,8 +21,8 @@ use v6_base::{Chan, Entry, PanicKind, Slot, Tape};
 struct Scene {
     table: Table,
     images: Images,
-    ghost matching: { Matches table images } by { Prim.hlevel props },
-    ghost plain: { images.users ≡ no_users },
+    ghost matching: { Matches table images.kept } by { Prim.hlevel props },
+    ghost plain: { images.kept.users ≡ no_users },
 }
 
 const NOBODY: TableRow = TableRow {

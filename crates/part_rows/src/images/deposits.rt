@@ -1,6 +1,10 @@
 //! Bytes that are put into core and the swap area, and so into the images that stand there: docs/manual/memory.md.
+ghost use Rattle.std.specs.Prelude.{◌≤◌};
+
 use crate::images::scenes::Step::{Bares, Deposits, Ends, Forks, Has, Loads, Makes};
-use crate::images::scenes::{Scene, judge};
+use crate::images::scenes::{Scene, Step, first_of, judge};
+use crate::images::table::Table;
+use std::alloc::{AllocError, Global};
 use v6_base::Place::{Core, Swap};
 use v6_base::Trap::Segment;
 
@@ -76,6 +80,101 @@ static DEPOSITS: [Scene; 2] = [
         ],
     },
 ];
+
+/// In a core of 64 clicks slot 1 has clicks 1 to 56: 1,024 bytes of u area, 1,280 of data, 1,280 of stack. Slot 2 stands in
+/// blocks 4000 to 4002, with 128 bytes of data and 64 of stack. What is kept of slot 3 is in block 4006, behind three blocks
+/// that it has given back.
+static BESIDE: [Step; 4] = [
+    Makes(1, 20, 20, Some(Core(1))),
+    Makes(2, 2, 1, Some(Swap(4000))),
+    Makes(3, 2, 1, Some(Swap(4003))),
+    Ends(3, Some(4006)),
+];
+
+/// Bytes that are put there, one after the other, to a place of core or with `true` of the swap area; and whether each is.
+static PUT: [(bool, u32, u8, bool); 23] = [
+    (false, 0, 1, false),
+    (false, 1023, 2, false),
+    (false, 1024, 3, true),
+    (false, 1024, 4, true),
+    (false, 2303, 5, true),
+    (false, 2304, 6, true),
+    (false, 3583, 7, true),
+    (false, 3584, 8, false),
+    (false, 4095, 9, false),
+    (true, 0, 10, false),
+    (true, 1023, 11, false),
+    (true, 1024, 12, true),
+    (true, 1151, 13, true),
+    (true, 1152, 14, true),
+    (true, 1215, 15, true),
+    (true, 1216, 16, false),
+    (true, 1535, 17, false),
+    (true, 1536, 18, false),
+    (true, 2560, 19, false),
+    (true, 3072, 20, false),
+    (true, 3583, 21, false),
+    (true, 3584, 22, false),
+    (true, 446_463, 23, false),
+];
+
+/// Whether the bytes are as before but for one, where one is put.
+fn are_but_for(before: &[u8], after: &[u8], put: Option<(usize, u8)>) -> bool {
+    if before.len() != after.len() {
+        return false;
+    }
+    for k in 0..before.len() {
+        let byte = match put {
+            Some((at, byte)) if at == k => byte,
+            _ => before[k],
+        };
+        if after[k] != byte {
+            return false;
+        }
+    }
+    true
+}
+
+/// Puts a byte. The answer is whether it was put or not as it must be, and no other byte of core and of the swap area changed.
+fn puts_that_byte_alone(
+    alloc: Global,
+    table: &mut Table,
+    place: (bool, u32),
+    byte: u8,
+    put: bool,
+) -> Result<bool, AllocError> {
+    let (swap, at) = place;
+    let core = table.core().to_vec(alloc)?;
+    let area = table.swap().to_vec(alloc)?;
+    let answered = table.deposit(swap, at, byte) == Some(put);
+    let (in_core, in_area) = match (put, swap) {
+        (false, _) => (None, None),
+        (true, false) => (Some((at as usize, byte)), None),
+        (true, true) => (None, Some((at as usize, byte))),
+    };
+    Ok(answered
+        && are_but_for(&core, table.core(), in_core)
+        && are_but_for(&area, table.swap(), in_area))
+}
+
+/// The number of the first byte with which it isn't so.
+fn first_other(alloc: Global) -> Result<Option<usize>, AllocError> {
+    let mut table = Table::new(alloc, 64)?;
+    if first_of(&mut table, &BESIDE).is_some() {
+        return Ok(Some(usize::MAX));
+    }
+    for (k, (swap, at, byte, put)) in PUT.iter().enumerate() {
+        if !puts_that_byte_alone(alloc, &mut table, (*swap, *at), *byte, *put)? {
+            return Ok(Some(k));
+        }
+    }
+    Ok(None)
+}
+
+#[test]
+fn no_other_byte_of_core_or_swap_area_changes(rt: HostRuntime) {
+    assert!(rt; first_other(rt.alloc()).expect(&rt, "memory") == None);
+}
 
 #[test]
 fn a_byte_that_is_put_is_the_image_s(rt: HostRuntime) {

@@ -2,6 +2,7 @@
 ghost use Rattle.std.specs.Prelude.{◌≤◌};
 
 use crate::images::table::Table;
+use pdp_step::Outcome;
 use std::alloc::{AllocError, Global};
 use std::process::Abort;
 use v6_base::{Place, Slot, Trap};
@@ -33,12 +34,8 @@ pub enum Step {
     Gets(Slot, u16, Option<[u8; 4]>),
     /// Four bytes, and whether they are put from an address of a slot's image on.
     Puts(Slot, u16, [u8; 4], bool),
-    /// A slot's process does one instruction by the handler of its word where it stands in core, or nothing.
-    Executes(Slot, bool),
-    /// It does one by its addressing modes, or nothing.
-    ExecutesAny(Slot, bool),
-    /// A slot's process asks for this system call where it stands in core, or for none.
-    Asks(Slot, Option<u8>),
+    /// A slot's process does one instruction, and this is what it comes to.
+    Executes(Slot, Outcome),
     /// A byte is put to a place of core, or with `true` of the swap area, or not.
     Deposits(bool, u32, u8, bool),
     /// The byte at such a place.
@@ -81,9 +78,7 @@ fn holds(table: &mut Table, step: Step) -> bool {
         Step::Loads(s, at, byte) => table.load(s, at) == Some(byte),
         Step::Gets(s, at, bytes) => table.get(s, at) == Some(bytes),
         Step::Puts(s, at, bytes, done) => table.put(s, at, bytes) == Some(done),
-        Step::Executes(s, done) => table.execute(s) == Some(done),
-        Step::ExecutesAny(s, done) => table.execute_any(s) == Some(done),
-        Step::Asks(s, call) => table.ask(s) == Some(call),
+        Step::Executes(s, outcome) => table.execute(s) == Some(outcome),
         Step::Deposits(swap, at, byte, put) => table.deposit(swap, at, byte) == Some(put),
         Step::Has(swap, at, byte) => table.byte(swap, at) == Some(byte),
         _ => places(table, step),

@@ -6,6 +6,7 @@ ghost use Rattle.part_rows.specs.Kinds.{kinds_of};
 use crate::kind::Kind;
 use image_keep::{Images, NoSwap};
 use pdp_decode::Dispatch;
+use pdp_step::Outcome;
 use seg_regs::Proto;
 use std::alloc::{AllocError, Global};
 use v6_base::{Place, Slot, Space, Trap};
@@ -27,8 +28,8 @@ pub struct Table {
     images: Images,
     kinds: [Kind; 50],
     dispatch: Dispatch,
-    ghost tied: { kinds ≡ kinds_of images },
-    ghost plain: { images.users ≡ no_users },
+    ghost tied: { kinds ≡ kinds_of images.kept },
+    ghost plain: { images.kept.users ≡ no_users },
 }
 
 #[tactic(auto, using(crate::proofs::TableLemmas::ties))]
@@ -48,21 +49,21 @@ impl Table {
 
     /// Whether there is such a slot, with an image.
     fn has_image(&self, s: Slot) -> bool
-        ensures { result ≡ true → (s < 50) × HasImage self.now.images s }
+        ensures { result ≡ true → (s < 50) × HasImage self.now.images.kept s }
     {
         s < 50 && self.kinds[s as usize] == Kind::Image
     }
 
     /// Whether there is such a slot, with nothing.
     fn has_nothing(&self, s: Slot) -> bool
-        ensures { result ≡ true → (s < 50) × (keeping self.now.images s ≡ Nothing) }
+        ensures { result ≡ true → (s < 50) × (keeping self.now.images.kept s ≡ Nothing) }
     {
         s < 50 && self.kinds[s as usize] == Kind::Nothing
     }
 
     /// Whether there is such a slot, with what is kept of a process that has ended.
     fn has_grave(&self, s: Slot) -> bool
-        ensures { result ≡ true → (s < 50) × HasGrave self.now.images s }
+        ensures { result ≡ true → (s < 50) × HasGrave self.now.images.kept s }
     {
         s < 50 && self.kinds[s as usize] == Kind::Grave
     }
@@ -209,39 +210,21 @@ impl Table {
         Some(space.copy_out(at, &bytes))
     }
 
-    /// The process in a slot does one instruction by the handler of its word where it stands in core, or nothing.
-    pub fn execute(&mut self, s: Slot) -> Option<bool> {
+    /// The process in a slot does one instruction, and this is what it comes to.
+    pub fn execute(&mut self, s: Slot) -> Option<Outcome> {
         if !self.has_image(s) {
             return None;
         }
         let fixed = self.images.fixed(s);
-        Some(self.images.execute_near(&fixed, &self.dispatch))
-    }
-
-    /// It does one by its addressing modes, or nothing.
-    pub fn execute_any(&mut self, s: Slot) -> Option<bool> {
-        if !self.has_image(s) {
-            return None;
-        }
-        let fixed = self.images.fixed(s);
-        Some(self.images.execute_any(&fixed))
-    }
-
-    /// The system call that the process in a slot asks for where it stands in core, if its instruction is one.
-    pub fn ask(&mut self, s: Slot) -> Option<Option<u8>> {
-        if !self.has_image(s) {
-            return None;
-        }
-        let fixed = self.images.fixed(s);
-        Some(self.images.call_near(&fixed))
+        Some(self.images.execute(&fixed, &self.dispatch))
     }
 
     /// Puts a byte to a place of core, or of the swap area, where there is such a place, and says whether it is put.
     pub fn deposit(&mut self, swap: bool, at: u32, byte: u8) -> Option<bool> {
         let all = if swap {
-            self.images.swap().len()
+            self.swap().len()
         } else {
-            self.images.core().len()
+            self.core().len()
         };
         if at as usize >= all {
             return None;
@@ -249,13 +232,19 @@ impl Table {
         Some(self.images.deposit(swap, at, byte))
     }
 
+    /// The bytes of core.
+    pub fn core(&self) -> &[u8] {
+        self.images.core()
+    }
+
+    /// The bytes of the swap area.
+    pub fn swap(&self) -> &[u8] {
+        self.images.swap()
+    }
+
     /// The byte at a place of core, or of the swap area.
     pub fn byte(&self, swap: bool, at: u32) -> Option<u8> {
-        let bytes = if swap {
-            self.images.swap()
-        } else {
-            self.images.core()
-        };
+        let bytes = if swap { self.swap() } else { self.core() };
         bytes.get(at as usize).copied()
     }
 }

@@ -1,4 +1,4 @@
-use Rattle.part_rows.proofs.TableLemmas.{tied_executed, plain_executed}
+use Rattle.part_rows.proofs.TableLemmas.{tied_machine, plain_machine}
 use Rattle.part_rows.proofs.images.table.Table.execute.Goals as goal
 
 pub fixed-fixed-requires : goal.fixed-fixed-requires
@@ -8,6 +8,6 @@ pub invariant_of-self : goal.invariant_of-self
 invariant_of-self c =
     let old = c.args.self.now in
     record {
-      tied = tied_executed old.kinds old.images _ _ _ c.execute_near.result old.tied c.execute_near.ensures.done c.execute_near.ensures.kept;
-      plain = plain_executed old.images _ _ _ c.execute_near.result old.plain c.execute_near.ensures.done c.execute_near.ensures.kept;
+      tied = tied_machine old.kinds old.images.kept _ _ _ old.tied c.execute.ensures.kept;
+      plain = plain_machine old.images.kept _ _ _ old.plain c.execute.ensures.kept;
     }

@@ -7,4 +7,4 @@ use Rattle.part_rows.proofs.images.table.Table.has_grave.Goals as goal
 pub returns-then-s-lt50 : goal.returns-then-s-lt50
 returns-then-s-lt50 c = λ e.
     let table = c.args.self.now in
-    (c.if-s-lt50.true, has_grave table.kinds table.images c.args.s _ table.tied (search rules) (same_true the_type (search rules) _ _ (sym c.eq.ensures ∙ e)))
+    (c.if-s-lt50.true, has_grave table.kinds table.images.kept c.args.s _ table.tied (search rules) (same_true the_type (search rules) _ _ (sym c.eq.ensures ∙ e)))

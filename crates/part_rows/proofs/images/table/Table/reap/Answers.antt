@@ -3,4 +3,4 @@ use Rattle.part_rows.proofs.TableLemmas.{tied_put, plain_put}
 use Rattle.part_rows.proofs.images.table.Table.reap.Goals as goal
 
 pub invariant_of-self : goal.invariant_of-self
-invariant_of-self c = record { tied = tied_put c.args.self.now.kinds c.args.self.now.images _ c.args.s Nothing c.args.self.now.tied c.reap-half.ensures.kept; plain = plain_put c.args.self.now.images _ c.args.s Nothing c.args.self.now.plain c.reap-half.ensures.kept }
+invariant_of-self c = record { tied = tied_put c.args.self.now.kinds c.args.self.now.images.kept _ c.args.s Nothing c.args.self.now.tied c.reap-half.ensures.kept; plain = plain_put c.args.self.now.images.kept _ c.args.s Nothing c.args.self.now.plain c.reap-half.ensures.kept }
