@@ -9,4 +9,4 @@ mod words;
 mod writing;
 
 pub use crate::reading::parse;
-pub use crate::writing::{Text, line};
+pub use crate::writing::{Line, Text, line, put_line};

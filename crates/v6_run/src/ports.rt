@@ -8,11 +8,9 @@ ghost use Rattle.v6_run.specs.Ports.{is_silent, failed_output, screened, HasCoun
 use crate::files::write_text;
 use crate::outputs::Output;
 use arrayvec::ArrayVec;
+use log_text::{Line, put_line};
 use v6_base::{Entry, Trace};
 use v6_port::{Host, OutPort};
-
-/// How many bytes a line of the log has at most, with its line feed.
-const LINE_ROOM: usize = 81;
 
 /// For how many bytes of the terminal there is room where they aren't written.
 const SCREEN_ROOM: usize = 4096;
@@ -24,7 +22,7 @@ enum Kept {
     /// A byte of the terminal.
     Byte(u8),
     /// The rest of a line of the log, with its line feed.
-    Line(ArrayVec<u8, LINE_ROOM>),
+    Line(Line),
     /// All of it: nobody wants what the run shows.
     Unwanted,
     /// All bytes of the terminal: nobody wants more than to count them.
@@ -127,24 +125,12 @@ fn keep(kept: &mut Kept, byte: u8)
     }
 }
 
-/// Puts the line of an entry of the log, with its line feed, into an empty line.
-fn put_line(line: &mut ArrayVec<u8, LINE_ROOM>, entry: &Entry)
-    requires { line.old.items ≡ [] }
-    ensures { line.new.items ≡ entry_line entry.now ++ 0o012 ∷ [] }
-{
-    let text = log_text::line(entry);
-    let Ok(()) = line.try_extend_from_slice(text.as_slice()) else {
-        unreachable!()
-    };
-    line.push(b'\n');
-}
-
 /// What is left of a line after so many bytes.
-fn rest_of(line: &ArrayVec<u8, LINE_ROOM>, count: usize) -> ArrayVec<u8, LINE_ROOM>
+fn rest_of(line: &Line, count: usize) -> Line
     requires { count ≤ length line.now.items }
     ensures { result.items ≡ drop count line.now.items }
 {
-    let mut rest = ArrayVec::new();
+    let mut rest = Line::new();
     let Ok(()) = rest.try_extend_from_slice(&line.as_slice()[count..]) else {
         unreachable!()
     };
@@ -162,7 +148,7 @@ fn keep_byte(kept: &mut Kept, byte: u8)
 
 /// So many bytes of a line were written, and the others could not be.
 #[inline(never)]
-fn keep_line(kept: &mut Kept, line: &ArrayVec<u8, LINE_ROOM>, count: usize)
+fn keep_line(kept: &mut Kept, line: &Line, count: usize)
     requires { count ≤ length line.now.items }
     ensures { kept.new ≡ Kept.Line (record { items = drop count line.now.items }) }
 {
@@ -187,7 +173,7 @@ impl<'a, H: Host> Trace for Ports<'a, H> {
         if self.is_silent() {
             return;
         }
-        let mut line = ArrayVec::new();
+        let mut line = Line::new();
         put_line(&mut line, &e);
         if let Err(count) = write_text(self.host, OutPort::Log, line.as_slice()) {
             keep_line(&mut self.kept, &line, count);
