@@ -216,7 +216,11 @@ impl Table {
             return None;
         }
         let fixed = self.images.fixed(s);
-        Some(self.images.execute(&fixed, &self.dispatch))
+        let mut outcome = Outcome::Next;
+        if self.images.execute(&fixed, &self.dispatch, &mut outcome) {
+            return Some(Outcome::Next);
+        }
+        Some(outcome)
     }
 
     /// Puts a byte to a place of core, or of the swap area, where there is such a place, and says whether it is put.
