@@ -217,10 +217,8 @@ impl Table {
         }
         let fixed = self.images.fixed(s);
         let mut outcome = Outcome::Next;
-        if self.images.execute(&fixed, &self.dispatch, &mut outcome) {
-            return Some(Outcome::Next);
-        }
-        Some(outcome)
+        let is_next = self.images.execute(&fixed, &self.dispatch, &mut outcome);
+        Some(if is_next { Outcome::Next } else { outcome })
     }
 
     /// Puts a byte to a place of core, or of the swap area, where there is such a place, and says whether it is put.
