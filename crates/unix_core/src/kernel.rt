@@ -26,6 +26,7 @@ use fs_tree::Tree;
 use image_keep::Images;
 use open_files::OpenTable;
 use pdp_decode::Dispatch;
+use pdp_step::Outcome;
 use pick_rules::Table;
 use proc_tab::Rows;
 use seg_regs::Proto;
@@ -181,11 +182,14 @@ impl Kernel {
         match &self.machine.stage {
             Stage::Running(fixed) => {
                 let images = &mut self.machine.world.procs.images;
-                if images.execute_near(fixed, &self.dispatch) {
+                match images.execute(fixed, &self.dispatch) {
                     // left at once: joined with the other answers it is looked at anew each time
-                    return Turned::Ran;
+                    Outcome::Next => return Turned::Ran,
+                    outcome => {
+                        let s = fixed.slot;
+                        self.machine.after_step(s, outcome, trace)
+                    }
                 }
-                self.machine.careful(trace)
             }
             _ => self.machine.other_slot(trace),
         }

@@ -2,11 +2,9 @@
 ghost use Rattle.std.specs.Prelude.{◌≡◌, ◌≢◌, ◌<◌, ℕ, Bool, true, false, None, Some, map};
 ghost use Rattle.v6_base.specs.Trace.{Took};
 ghost use Rattle.fs_laws.specs.Rest.{SameRest};
-ghost use Rattle.pdp_step.specs.Instruction.{instr};
 ghost use Rattle.pick_rules.specs.Choice.{chosen, settle};
 ghost use Rattle.pick_rules.specs.Effects.{Show};
 ghost use Rattle.pick_rules.specs.Logged.{logged};
-ghost use Rattle.image_keep.specs.Running.{IsFixed, machine_in, with_machine_in};
 ghost use Rattle.abstract_unix.specs.declared.ends.Ends.TheVariants.{AtEnd};
 ghost use Rattle.abstract_unix.specs.Unix.{Unix, System, Started, process_of};
 ghost use Rattle.abstract_unix.specs.Endings.{is_early};
@@ -15,16 +13,16 @@ ghost use Rattle.abstract_unix.specs.Outside.{calls, charged, mode_of, tick_entr
 ghost use Rattle.unix_core.specs.Parts.{unix_of, board_in, system_at, turn_at, turn_end, phase_of, is_over, IsGood, IsReady, IsUser, IsCovered, IsKernel, HasCome, HasStepped, Takes, delivers_where};
 
 use crate::delivery::{deliver_after, deliver_due};
-use crate::files::{see_kept, see_procs};
+use crate::files::see_procs;
 use crate::process::{come_to, resume};
 use crate::settling::{end_turn, settle, wake};
 use crate::world::World;
 use abstract_unix::{Ending, Turned};
 use image_keep::Fixed;
-use pdp_step::{Outcome, Regs, step};
+use pdp_step::Outcome;
 use pick_rules::{Mode, Second};
 use swap_sched::pass;
-use sys_procs::{Procs, signal_console};
+use sys_procs::signal_console;
 use tty_line::Keyed;
 use u_area::UArea;
 use v6_base::{Chan, Entry, PanicKind, Slot, Trace};
@@ -125,45 +123,6 @@ fn turned(ending: Ending) -> Turned
     }
 }
 
-/// The process of which this is fixed does one instruction over its memory, which is lent for it, with the registers in its u
-/// area.
-#[inline(always)]
-fn execute_lent(procs: &mut Procs, fixed: &Fixed) -> Outcome
-    requires { IsFixed procs.old.images.kept fixed.now }
-    ensures outcome { result ≡ (instr (machine_in procs.old.images.kept fixed.now.slot)).outcome }
-    ensures kept { procs.new.images.kept ≡ with_machine_in procs.old.images.kept fixed.now.slot (instr (machine_in procs.old.images.kept fixed.now.slot)).machine }
-    ensures others { procs.new ≡ record procs.old { images = procs.new.images } }
-    ensures fixed { IsFixed procs.new.images.kept fixed.now }
-{
-    let u = procs.images.area_at(fixed);
-    let r = u.r;
-    let mut regs = Regs { r, cc: u.cc };
-    let outcome = {
-        let mut space = procs.images.space_at(fixed);
-        step(&mut regs, &mut space)
-    };
-    procs.images.set_registers_at(fixed, &regs.r, regs.cc);
-    outcome
-}
-
-/// The process of which this is fixed does one instruction, whatever it comes to. A call is looked for first.
-#[inline(always)]
-fn execute(procs: &mut Procs, fixed: &Fixed) -> Outcome
-    requires { IsFixed procs.old.images.kept fixed.now }
-    ensures outcome { result ≡ (instr (machine_in procs.old.images.kept fixed.now.slot)).outcome }
-    ensures kept { procs.new.images.kept ≡ with_machine_in procs.old.images.kept fixed.now.slot (instr (machine_in procs.old.images.kept fixed.now.slot)).machine }
-    ensures others { procs.new ≡ record procs.old { images = procs.new.images } }
-    ensures fixed { IsFixed procs.new.images.kept fixed.now }
-{
-    if let Some(n) = procs.images.call_near(fixed) {
-        return Outcome::Call(n);
-    }
-    if procs.images.execute_any(fixed) {
-        return Outcome::Next;
-    }
-    execute_lent(procs, fixed)
-}
-
 impl Machine {
     /// Sees what the next slot finds, when the kernel has settled.
     fn refresh(&mut self)
@@ -176,6 +135,18 @@ impl Machine {
     {
         match self.world.procs.table.running {
             Some(s) if s != 0 => self.enter_user(s),
+            _ => self.rest(),
+        }
+    }
+
+    /// Rests. Where it does already nothing is written: the stage is as large as what stays fixed of a process.
+    #[inline(always)]
+    fn rest(&mut self)
+        ensures stage { self.new.stage ≡ Stage.Resting }
+        ensures world { self.new.world ≡ self.old.world }
+    {
+        match self.stage {
+            Stage::Resting => {}
             _ => self.stage = Stage::Resting,
         }
     }
@@ -191,7 +162,7 @@ impl Machine {
         if self.world.procs.images.area(s).pending == 0 {
             self.stage = Stage::Running(self.world.procs.images.fixed(s));
         } else {
-            self.stage = Stage::Resting;
+            self.rest();
         }
     }
 
@@ -309,33 +280,6 @@ impl Machine {
         let ending = come_to(&mut self.world, s, outcome, trace);
         let ending = deliver_after(&mut self.world, s, ending, trace);
         self.end(s, ending, trace)
-    }
-
-    /// Takes a slot in which a process executes any instruction, with what that comes to. It stands out of line, beside the
-    /// loop over slots, which has those that are done where the process stands in core.
-    #[cold]
-    #[inline(never)]
-    pub(crate) fn careful<T: Trace>(&mut self, trace: &mut T) -> Turned
-        requires kernel { IsKernel self.old.stage self.old.world }
-        requires running { (f : Fixed) × (self.old.stage ≡ Stage.Running f) }
-        ensures answer { result ≡ turned (turn_at self.old.world) }
-        ensures takes { Takes (turn_at self.old.world) self.new.stage self.new.world }
-        ensures rest { SameRest self.old.world.files.tree.nodes.blocks self.new.world.files.tree.nodes.blocks }
-        ensures items { Took (T.taken trace.old)
-            (turn_at self.old.world).items (T.taken trace.new) }
-        ensures frame { T.leads_to trace.old trace.new }
-    {
-        see_kept(&self.world.procs.images);
-        match &self.stage {
-            Stage::Running(fixed) => match execute(&mut self.world.procs, fixed) {
-                Outcome::Next => Turned::Ran,
-                outcome => {
-                    let s = fixed.slot;
-                    self.after_step(s, outcome, trace)
-                }
-            },
-            _ => unreachable!(),
-        }
     }
 
     /// Takes a slot in which no process just executes an instruction. It stands out of line, so that every other slot asks for

@@ -3,6 +3,7 @@ use Rattle.std.proofs.lemmas.Bool.{eq-eqb, ne_eqb}
 use Rattle.u_area.specs.declared.area.UArea.{UArea}
 use Rattle.unix_core.specs.declared.world.World.{World}
 use Rattle.unix_core.specs.declared.machine.Stage.{Stage}
+use Rattle.unix_core.specs.declared.machine.Stage.TheVariants as stage
 use Rattle.unix_core.specs.Parts.{IsUser, IsKernel}
 use Rattle.unix_core.proofs.WorldLemmas.{ready_alive}
 use Rattle.unix_core.proofs.MachineLemmas.{user_is, runs_kernel, calls_kernel}
@@ -31,5 +32,7 @@ pub returns-else-area-eq0-clause-kernel : goal.returns-else-area-eq0-clause-kern
 returns-else-area-eq0-clause-kernel c =
     let w : World = c.args.self.now.world in
     let s = c.args.s in
-    calls_kernel w s c.requires.ready c.requires.settled
-    (user_is w s _ (ready_alive w s c.requires.ready) (ne_eqb _ 0 (λ e. c.if-area-eq0.false (ap (λ (u : UArea). u.pending) c.area.ensures.u ∙ e))))
+    subst (λ (x : Stage). IsKernel x c.rest.new.self.world) (sym c.rest.ensures.stage)
+    (subst (IsKernel stage.Resting) (sym c.rest.ensures.world)
+    (calls_kernel w s c.requires.ready c.requires.settled
+    (user_is w s _ (ready_alive w s c.requires.ready) (ne_eqb _ 0 (λ e. c.if-area-eq0.false (ap (λ (u : UArea). u.pending) c.area.ensures.u ∙ e))))))
