@@ -19,7 +19,7 @@ use Rattle.unix_core.specs.declared.machine.Stage.TheVariants as stage
 use Rattle.abstract_unix.specs.Unix.{process_of, with_process}
 use Rattle.abstract_unix.specs.Turn.{is_user}
 use Rattle.abstract_unix.specs.Outside.{mode_by, mode_of, timed_area, timed, charged}
-use Rattle.unix_core.specs.Parts.{unix_of, board_in, system_at, IsGood, IsReady, IsRunning, IsKernel}
+use Rattle.unix_core.specs.Parts.{unix_of, board_in, system_at, IsGood, IsReady, IsUser, IsRunning, IsKernel, IsKnown}
 use Rattle.unix_core.proofs.LoanLemmas.{area_core}
 use Rattle.unix_core.proofs.PutLemmas.{good_alive, IsLikeArea, with_images, with_kept, unix_put, good_put}
 
@@ -36,6 +36,14 @@ runs_kernel w f running = record {
   running = λ g e. subst (λ x. IsRunning x w) (ap (fixed_or f) e) running;
   resting = λ e. absurd (cc e);
 }
+
+-- a process executes instructions, of which it is known what stays fixed
+pub known_kernel : (at : Stage) (w : World) (s : ℕ) → IsKnown at w s → IsReady w s → settle w.procs.table ≡ None → is_user (process_of (unix_of w) s) ≡ true → IsKernel at w
+known_kernel at w s known ready settled user =
+    subst (λ (x : Stage). IsKernel x w) (sym known.stage) (runs_kernel w known.fixed (record {
+      user = subst (λ t. IsUser t w) (sym known.slot) (record { ready = ready; user = user; settled = settled });
+      fixed = known.is;
+    }))
 
 pub user_is : (w : World) (s : ℕ) (b : Bool) → IsAlive w.procs s → ((area_of w.procs.images.kept s).pending == 0) ≡ b → is_user (process_of (unix_of w) s) ≡ b
 user_is w s b alive is = ap (λ (v : UArea). v.pending == 0) (sym (area_here w.procs s alive)) ∙ is

@@ -21,7 +21,7 @@ use Rattle.unix_core.specs.declared.world.World.{World}
 use Rattle.unix_core.specs.declared.machine.Stage.{Stage}
 use Rattle.unix_core.specs.declared.machine.Stage.TheVariants as stage
 use Rattle.unix_core.specs.State.{KernelState}
-use Rattle.unix_core.specs.Parts.{system_at, turn_at, phase_of, HasStepped, IsKernel, IsRunning, IsUser, Takes}
+use Rattle.unix_core.specs.Parts.{system_at, turn_at, phase_of, slot_in, HasStepped, IsKernel, IsRunning, IsUser, Takes}
 use Rattle.unix_core.proofs.PutLemmas.{with_images}
 use Rattle.unix_core.proofs.MachineLemmas.{runs_kernel}
 use Rattle.unix_core.proofs.TurnSteps.{user_slot, has_stepped, stepped_user, quiet_system, plain_answer, plain_goes, plain_next, plain_items}
@@ -134,24 +134,30 @@ module _ (at : Stage) (w : World) (kernel : IsKernel at w) (holds : IsKept w.pro
   -- an instruction that comes to something else, with which the turn ends
   module _ (f : Fixed) (is : at ≡ stage.Running f) (x : ImagesState) (kept : x.kept ≡ with_machine_in w.procs.images.kept f.slot (instr (machine_in w.procs.images.kept f.slot)).machine)
       (o : Outcome) (outcome : o ≡ (instr (machine_in w.procs.images.kept f.slot)).outcome) where
-    did : HasStepped (system_at w) (with_images w x) f.slot o
-    did = step_done at w f is kernel holds x kept o outcome
+    slot : slot_in at ≡ f.slot
+    slot = ap slot_in is
+
+    did : HasStepped (system_at w) (with_images w x) (slot_in at) o
+    did = subst (λ s. HasStepped (system_at w) (with_images w x) s o) (sym slot) (step_done at w f is kernel holds x kept o outcome)
 
     abbrev then_turn : System → Turn
-    then_turn m = settled_after (turn_of m f.slot (turn m f.slot))
+    then_turn m = settled_after (turn_of m (slot_in at) (turn m (slot_in at)))
 
-    slot : then_turn (system_at w) ≡ turn_at w
-    slot = let run : IsRunning f w = kernel.running f is in sym (user_slot (system_at w) f.slot run.user.ready.runs run.user.ready.user)
+    own_turn : then_turn (system_at w) ≡ turn_at w
+    own_turn =
+        let run : IsRunning f w = kernel.running f is in
+        ap (λ s. settled_after (turn_of (system_at w) s (turn (system_at w) s))) slot
+        ∙ sym (user_slot (system_at w) f.slot run.user.ready.runs run.user.ready.user)
 
-    pub far_user : IsUser f.slot (with_images w x)
-    far_user = step_user at w f is kernel holds x kept
+    pub far_user : IsUser (slot_in at) (with_images w x)
+    far_user = subst (λ s. IsUser s (with_images w x)) (sym slot) (step_user at w f is kernel holds x kept)
 
-    pub far_answer : (answer : Turned) → ((m : System) → HasStepped m (with_images w x) f.slot o → answer ≡ turned (then_turn m)) → answer ≡ turned (turn_at w)
-    far_answer answer each = each (system_at w) did ∙ ap turned slot
+    pub far_answer : (answer : Turned) → ((m : System) → HasStepped m (with_images w x) (slot_in at) o → answer ≡ turned (then_turn m)) → answer ≡ turned (turn_at w)
+    far_answer answer each = each (system_at w) did ∙ ap turned own_turn
 
-    pub far_takes : (at' : Stage) (w' : World) → ((m : System) → HasStepped m (with_images w x) f.slot o → Takes (then_turn m) at' w') → Takes (turn_at w) at' w'
-    far_takes at' w' each = subst (λ (t : Turn). Takes t at' w') slot (each (system_at w) did)
+    pub far_takes : (at' : Stage) (w' : World) → ((m : System) → HasStepped m (with_images w x) (slot_in at) o → Takes (then_turn m) at' w') → Takes (turn_at w) at' w'
+    far_takes at' w' each = subst (λ (t : Turn). Takes t at' w') own_turn (each (system_at w) did)
 
-    pub far_items : (a b : Taken) → ((m : System) → HasStepped m (with_images w x) f.slot o → Took a (then_turn m).items b) → Took a (event_of Slot v.system).items b
+    pub far_items : (a b : Taken) → ((m : System) → HasStepped m (with_images w x) (slot_in at) o → Took a (then_turn m).items b) → Took a (event_of Slot v.system).items b
     far_items a b each =
-        subst (λ (m : System). Took a (event_of Slot m).items b) same (subst (λ (t : Turn). Took a t.items b) slot (each (system_at w) did))
+        subst (λ (m : System). Took a (event_of Slot m).items b) same (subst (λ (t : Turn). Took a t.items b) own_turn (each (system_at w) did))

@@ -131,6 +131,7 @@ impl Kernel {
         Kernel {
             machine: Machine {
                 stage: Stage::New,
+                came: Outcome::Next,
                 world: World {
                     files,
                     procs,
@@ -182,14 +183,11 @@ impl Kernel {
         match &self.machine.stage {
             Stage::Running(fixed) => {
                 let images = &mut self.machine.world.procs.images;
-                match images.execute(fixed, &self.dispatch) {
+                if images.execute(fixed, &self.dispatch, &mut self.machine.came) {
                     // left at once: joined with the other answers it is looked at anew each time
-                    Outcome::Next => return Turned::Ran,
-                    outcome => {
-                        let s = fixed.slot;
-                        self.machine.after_step(s, outcome, trace)
-                    }
+                    return Turned::Ran;
                 }
+                self.machine.step_out(trace)
             }
             _ => self.machine.other_slot(trace),
         }

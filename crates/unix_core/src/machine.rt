@@ -1,16 +1,17 @@
 //! The parts of a kernel, and what each event does to them.
-ghost use Rattle.std.specs.Prelude.{◌≡◌, ◌≢◌, ◌<◌, ℕ, Bool, true, false, None, Some, map};
+ghost use Rattle.std.specs.Prelude.{◌≡◌, ◌≢◌, ◌<◌, ℕ, Bool, IsTrue, true, false, None, Some, map};
 ghost use Rattle.v6_base.specs.Trace.{Took};
 ghost use Rattle.fs_laws.specs.Rest.{SameRest};
 ghost use Rattle.pick_rules.specs.Choice.{chosen, settle};
 ghost use Rattle.pick_rules.specs.Effects.{Show};
 ghost use Rattle.pick_rules.specs.Logged.{logged};
+ghost use Rattle.image_keep.specs.Kept.{HasImage};
 ghost use Rattle.abstract_unix.specs.declared.ends.Ends.TheVariants.{AtEnd};
 ghost use Rattle.abstract_unix.specs.Unix.{Unix, System, Started, process_of};
 ghost use Rattle.abstract_unix.specs.Endings.{is_early};
 ghost use Rattle.abstract_unix.specs.Turn.{turned, ticked_by, turned_by, ending_of, turn, turn_of, settled, settled_after, pass_of};
 ghost use Rattle.abstract_unix.specs.Outside.{calls, charged, mode_of, tick_entry, timed_area, is_user_mode, tick_of, with_key, key_lines, typed_of};
-ghost use Rattle.unix_core.specs.Parts.{unix_of, board_in, system_at, turn_at, turn_end, phase_of, is_over, IsGood, IsReady, IsUser, IsCovered, IsKernel, HasCome, HasStepped, Takes, delivers_where};
+ghost use Rattle.unix_core.specs.Parts.{unix_of, board_in, system_at, turn_at, turn_end, phase_of, slot_in, is_over, IsGood, IsReady, IsUser, IsCovered, IsKernel, IsKnown, HasCome, HasStepped, Takes, delivers_where};
 
 use crate::delivery::{deliver_after, deliver_due};
 use crate::files::see_procs;
@@ -46,6 +47,8 @@ pub enum Stage {
 #[derive(Drop)]
 pub(crate) struct Machine {
     pub(crate) stage: Stage,
+    /// What the last instruction came to that wasn't just done.
+    pub(crate) came: Outcome,
     pub(crate) world: World,
 }
 
@@ -159,11 +162,34 @@ impl Machine {
         ensures started { phase_of self.new.stage ≡ Started }
         ensures world { self.new.world ≡ self.old.world }
     {
-        if self.world.procs.images.area(s).pending == 0 {
-            self.stage = Stage::Running(self.world.procs.images.fixed(s));
-        } else {
+        if self.world.procs.images.area(s).pending != 0 {
             self.rest();
+        } else if !self.stays(s) {
+            self.begin(s);
         }
+    }
+
+    /// Whether what stays fixed of the process in a slot is known already.
+    #[inline(always)]
+    fn stays(&self, s: Slot) -> bool
+        requires { HasImage self.now.world.procs.images.kept s }
+        ensures { IsTrue result → IsKnown self.now.stage self.now.world s }
+    {
+        match &self.stage {
+            Stage::Running(fixed) => self.world.procs.images.is_fixed(fixed, s),
+            _ => false,
+        }
+    }
+
+    /// Finds what stays fixed of the process in a slot. It stands out of line: after most events it has stayed.
+    #[cold]
+    #[inline(never)]
+    fn begin(&mut self, s: Slot)
+        requires { HasImage self.old.world.procs.images.kept s }
+        ensures known { IsKnown self.new.stage self.old.world s }
+        ensures world { self.new.world ≡ self.old.world }
+    {
+        self.stage = Stage::Running(self.world.procs.images.fixed(s));
     }
 
     /// Settles, after an event.
@@ -257,10 +283,9 @@ impl Machine {
         }
     }
 
-    /// Takes what an instruction comes to, where that isn't the next one, with the signal that is due then, and settles. It stands
-    /// out of line, beside the loop over slots.
-    #[inline(never)]
-    pub(crate) fn after_step<T: Trace>(
+    /// Takes what an instruction comes to, where that isn't the next one, with the signal that is due then, and settles.
+    #[inline(always)]
+    fn after_step<T: Trace>(
         &mut self,
         s: Slot,
         outcome: Outcome,
@@ -280,6 +305,32 @@ impl Machine {
         let ending = come_to(&mut self.world, s, outcome, trace);
         let ending = deliver_after(&mut self.world, s, ending, trace);
         self.end(s, ending, trace)
+    }
+
+    /// Takes what the last instruction came to. It stands out of line, beside the loop over slots, and what it takes stays in its
+    /// place: a copy of it would cost each slot.
+    #[cold]
+    #[inline(never)]
+    pub(crate) fn step_out<T: Trace>(&mut self, trace: &mut T) -> Turned
+        requires running { (f : Fixed) × (self.old.stage ≡ Stage.Running f) }
+        requires user { IsUser (slot_in self.old.stage) self.old.world }
+        ensures answer { (m : System) → HasStepped m self.old.world (slot_in self.old.stage) self.old.came
+            → result ≡ turned (settled_after (turn_of m (slot_in self.old.stage) (turn m (slot_in self.old.stage)))) }
+        ensures takes { (m : System) → HasStepped m self.old.world (slot_in self.old.stage) self.old.came
+            → Takes (settled_after (turn_of m (slot_in self.old.stage) (turn m (slot_in self.old.stage)))) self.new.stage self.new.world }
+        ensures kernel { IsKernel self.new.stage self.new.world }
+        ensures rest { SameRest self.old.world.files.tree.nodes.blocks self.new.world.files.tree.nodes.blocks }
+        ensures items { (m : System) → HasStepped m self.old.world (slot_in self.old.stage) self.old.came → Took (T.taken trace.old)
+            (settled_after (turn_of m (slot_in self.old.stage) (turn m (slot_in self.old.stage)))).items (T.taken trace.new) }
+        ensures frame { T.leads_to trace.old trace.new }
+    {
+        match &self.stage {
+            Stage::Running(fixed) => {
+                let s = fixed.slot;
+                self.after_step(s, self.came, trace)
+            }
+            _ => unreachable!(),
+        }
     }
 
     /// Takes a slot in which no process just executes an instruction. It stands out of line, so that every other slot asks for
