@@ -255,9 +255,8 @@ impl Machine {
         deliver_after(&mut self.world, s, ending, trace)
     }
 
-    /// Ends a turn of a process that has come to this: the kernel settles, where the run goes on. It stands out of line, beside
-    /// the loop over slots.
-    #[inline(never)]
+    /// Ends a turn of a process that has come to this: the kernel settles, where the run goes on.
+    #[inline(always)]
     fn end<T: Trace>(&mut self, s: Slot, ending: Ending, trace: &mut T) -> Turned
         requires good { is_over ending ≡ false → IsGood self.old.world }
         requires covered { is_over ending ≡ true → IsCovered self.old.world }
@@ -309,7 +308,6 @@ impl Machine {
 
     /// Takes what the last instruction came to. It stands out of line, beside the loop over slots, and what it takes stays in its
     /// place: a copy of it would cost each slot.
-    #[cold]
     #[inline(never)]
     pub(crate) fn step_out<T: Trace>(&mut self, trace: &mut T) -> Turned
         requires running { (f : Fixed) × (self.old.stage ≡ Stage.Running f) }
