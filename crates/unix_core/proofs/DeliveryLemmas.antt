@@ -12,6 +12,7 @@ use Rattle.u_area.specs.declared.area.UArea.{UArea}
 use Rattle.u_area.specs.Area.{status_word}
 use Rattle.image_keep.specs.Kept.{Kept, HasSizes, area_of, image_of, with_area, with_image}
 use Rattle.image_keep.specs.Kept as kept
+use Rattle.image_keep.specs.State.{ImagesState}
 use Rattle.sig_core.specs.declared.psig.Delivered.TheVariants.{Caught, Ends}
 use Rattle.sig_core.specs.Signals.{handler_of}
 use Rattle.sig_core.specs.Delivery.{Delivery, makes_core, below_stack, with_word_at, caught, pushed, delivery}
@@ -25,7 +26,7 @@ use Rattle.unix_core.specs.declared.world.World.{World}
 use Rattle.unix_core.specs.Parts.{unix_of, board_in, IsReady}
 use Rattle.unix_core.proofs.WorldLemmas.{ready_alive}
 use Rattle.unix_core.proofs.AreaLemmas.{own_area, area_unix, area_board, area_ready}
-use Rattle.unix_core.proofs.PutLemmas.{IsLikeArea, with_images}
+use Rattle.unix_core.proofs.PutLemmas.{IsLikeArea, with_images, with_kept}
 use Rattle.unix_core.proofs.LoanLemmas.{area_back, area_alone}
 use Rattle.unix_core.proofs.LoanBack.{sizes_kept}
 use Rattle.unix_core.proofs.TurnSteps.{memory_ready}
@@ -87,11 +88,11 @@ module _ (u : UArea) (sig : ℕ) (m : Image) where
 pub told_sizes : (u : UArea) (sig : ℕ) (m : Image) → HasSizes u m → HasSizes (delivery u sig m).area (delivery u sig m).image
 told_sizes u sig m has = sizes_kept u (delivery u sig m).area m (delivery u sig m).image has (delivered_sizes u sig m) (delivered_lengths u sig m)
 
-module _ (w : World) (s : ℕ) (ready : IsReady w s) (holds : kept.IsKept w.procs.images.kept) (sig : ℕ) (k : Kept)
-    (is : k ≡ with_area (with_image w.procs.images.kept s (delivery (area_of w.procs.images.kept s) sig (image_of w.procs.images.kept s)).image) s
+module _ (w : World) (s : ℕ) (ready : IsReady w s) (holds : kept.IsKept w.procs.images.kept) (sig : ℕ) (x : ImagesState)
+    (is : x.kept ≡ with_area (with_image w.procs.images.kept s (delivery (area_of w.procs.images.kept s) sig (image_of w.procs.images.kept s)).image) s
     (delivery (area_of w.procs.images.kept s) sig (image_of w.procs.images.kept s)).area) where
   abbrev told : World
-  told = with_images w k
+  told = with_images w x
 
   abbrev p : Process
   p = process_of (unix_of w) s
@@ -100,12 +101,12 @@ module _ (w : World) (s : ℕ) (ready : IsReady w s) (holds : kept.IsKept w.proc
   d = delivery p.u sig (one.image_of (unix_of w).texts p)
 
   abbrev mem : World
-  mem = with_memory w s (ready_alive w s ready) d.image
+  mem = with_memory w x s (ready_alive w s ready) d.image
 
   mem_ready : IsReady mem s
-  mem_ready = memory_ready w s ready d.image
+  mem_ready = memory_ready w x s ready d.image
 
-  its : k ≡ with_area (with_image w.procs.images.kept s d.image) s d.area
+  its : x.kept ≡ with_area (with_image w.procs.images.kept s d.image) s d.area
   its =
       let own = own_area w s ready in
       let image : image_of w.procs.images.kept s ≡ one.image_of (unix_of w).texts p = sym (image_here w.procs s (ready_alive w s ready) holds) in
@@ -113,26 +114,26 @@ module _ (w : World) (s : ℕ) (ready : IsReady w s) (holds : kept.IsKept w.proc
 
   like : IsLikeArea d.area (process_of (unix_of mem) s).u
   like =
-      subst (λ (x : Process). IsLikeArea d.area x.u) (sym (memory_process w s (ready_alive w s ready) d.image))
+      subst (λ (q : Process). IsLikeArea d.area q.u) (sym (memory_process w x s (ready_alive w s ready) d.image))
       (delivered_area p.u sig (one.image_of (unix_of w).texts p))
 
   pub told_ready : IsReady told s
-  told_ready = subst (λ x. IsReady (with_images w x) s) (sym its) (area_ready mem s mem_ready d.area like)
+  told_ready = subst (λ (k : Kept). IsReady (with_kept w x k) s) (sym its) (area_ready mem x s mem_ready d.area like)
 
   pub told_unix : unix_of told ≡ interrupted (unix_of w) s sig
   told_unix =
       let ps : List (Option Process) = (unix_of w).processes in
       let q : Process = record p { «data» = d.image.data; stack = d.image.stack } in
-      ap (λ x. unix_of (with_images w x)) its
-      ∙ area_unix mem s mem_ready d.area
-      ∙ (λ i. with_process (memory_unix w s (ready_alive w s ready) d.image i) s (record (memory_process w s (ready_alive w s ready) d.image i) { u = d.area }))
+      ap (λ (k : Kept). unix_of (with_kept w x k)) its
+      ∙ area_unix mem x s mem_ready d.area
+      ∙ (λ i. with_process (memory_unix w x s (ready_alive w s ready) d.image i) s (record (memory_process w x s (ready_alive w s ready) d.image i) { u = d.area }))
       ∙ ap (λ l. record (unix_of w) { processes = l }) (set-set ps s (Some q) (Some (record q { u = d.area })))
 
   pub told_board : board_in told ≡ board_in w
-  told_board = ap (λ x. board_in (with_images w x)) its ∙ area_board mem s mem_ready d.area ∙ memory_board w s (ready_alive w s ready) d.image
+  told_board = ap (λ (k : Kept). board_in (with_kept w x k)) its ∙ area_board mem x s mem_ready d.area ∙ memory_board w x s (ready_alive w s ready) d.image
 
   -- without a routine nothing has changed
-  pub told_none : handler_of (area_of w.procs.images.kept s) sig ≡ 0 → k ≡ w.procs.images.kept
+  pub told_none : handler_of (area_of w.procs.images.kept s) sig ≡ 0 → x.kept ≡ w.procs.images.kept
   told_none zero =
       let none = delivered_none (area_of w.procs.images.kept s) sig (image_of w.procs.images.kept s) zero in
       is ∙ ap (λ (x : Delivery). with_area (with_image w.procs.images.kept s x.image) s x.area) none

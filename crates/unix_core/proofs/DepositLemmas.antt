@@ -13,6 +13,7 @@ use Rattle.v6_base.proofs.Copies.{SameLengths}
 use Rattle.image_keep.specs.declared.starts.Starts.{Starts}
 use Rattle.image_keep.specs.declared.running.Fixed.{Fixed}
 use Rattle.image_keep.specs.Kept.{Held, Nothing, Kept, Has, HasImage, IsKept, keeping, image_in, image_of, is_alive, with_image}
+use Rattle.image_keep.specs.State.{ImagesState}
 use Rattle.image_keep.specs.Starts.{data_start, AreStarts}
 use Rattle.image_keep.specs.Running.{IsFixed}
 use Rattle.image_keep.specs.Deposits.{IsByteOf, IsNobodys, with_byte_of, IsPut}
@@ -32,7 +33,7 @@ use Rattle.unix_core.specs.Parts.{unix_of, system_at, phase_of, IsGood, IsRunnin
 use Rattle.unix_core.specs.Deposits.{with_its_byte, with_byte_at, IsPutIn}
 use Rattle.unix_core.proofs.BootKernelLemmas.{kernel_good}
 use Rattle.unix_core.proofs.MachineLemmas.{runs_kernel}
-use Rattle.unix_core.proofs.PutLemmas.{with_images}
+use Rattle.unix_core.proofs.PutLemmas.{with_images, with_kept}
 use Rattle.unix_core.proofs.MemoryPut.{with_memory, memory_unix, memory_board, memory_process, memory_good}
 
 -- Where another slot's image stands stays.
@@ -79,14 +80,14 @@ alive_in w s good holds has = record {
 }
 
 -- The kernel when the memory of a process is another one of the same sizes.
-module _ (w : World) (s : ℕ) (alive : IsAlive w.procs s) (image : Image) (same : SameLengths (image_of w.procs.images.kept s) image) where
+module _ (w : World) (x : ImagesState) (s : ℕ) (alive : IsAlive w.procs s) (image : Image) (same : SameLengths (image_of w.procs.images.kept s) image) where
   abbrev now : World
-  now = with_memory w s alive image
+  now = with_memory w x s alive image
 
   user_same : (r : ℕ) → is_user (process_of (unix_of now) r) ≡ is_user (process_of (unix_of w) r)
   user_same r = elim (cases_eq r s) [
-    | inl here ↦ ap (λ x. is_user (process_of (unix_of now) x)) here ∙ ap is_user (memory_process w s alive image) ∙ ap (λ x. is_user (process_of (unix_of w) x)) (sym here)
-    | inr other ↦ ap (λ (u : Unix). is_user (process_of u r)) (memory_unix w s alive image) ∙ ap (λ o. is_user (unwrap_or o no_process)) (get_or-set_other (unix_of w).processes s r _ None other)
+    | inl here ↦ ap (λ t. is_user (process_of (unix_of now) t)) here ∙ ap is_user (memory_process w x s alive image) ∙ ap (λ t. is_user (process_of (unix_of w) t)) (sym here)
+    | inr other ↦ ap (λ (u : Unix). is_user (process_of u r)) (memory_unix w x s alive image) ∙ ap (λ o. is_user (unwrap_or o no_process)) (get_or-set_other (unix_of w).processes s r _ None other)
   ]
 
   fixed_same : (f : Fixed) → IsFixed w.procs.images.kept f → IsFixed now.procs.images.kept f
@@ -101,7 +102,7 @@ module _ (w : World) (s : ℕ) (alive : IsAlive w.procs s) (image : Image) (same
       let was : IsRunning f w = kernel.running f refl in
       runs_kernel now f (record {
         user = record {
-          ready = record { good = memory_good w s alive image was.user.ready.good; runs = was.user.ready.runs; user = was.user.ready.user };
+          ready = record { good = memory_good w x s alive image was.user.ready.good; runs = was.user.ready.runs; user = was.user.ready.user };
           user = user_same f.slot ∙ was.user.user;
           settled = was.user.settled;
         };
@@ -115,7 +116,7 @@ module _ (w : World) (s : ℕ) (alive : IsAlive w.procs s) (image : Image) (same
         finished = λ e. absurd (cc e);
         running = λ f e. absurd (cc e);
         resting = λ e. record {
-          good = memory_good w s alive image was.good;
+          good = memory_good w x s alive image was.good;
           settled = was.settled;
           idle = was.idle;
           calls = λ r runs above. user_same r ∙ was.calls r runs above;
@@ -125,25 +126,25 @@ module _ (w : World) (s : ℕ) (alive : IsAlive w.procs s) (image : Image) (same
   memory_kernel stage.Finished started kernel = absurd (cc started)
 
 -- A byte has been put.
-module _ (at : Stage) (w : World) (new : Kept) (swap : Bool) (i b : ℕ) (started : phase_of at ≡ Started) (kernel : IsKernel at w) (holds : IsKept w.procs.images.kept) where
+module _ (at : Stage) (w : World) (new : ImagesState) (swap : Bool) (i b : ℕ) (started : phase_of at ≡ Started) (kernel : IsKernel at w) (holds : IsKept w.procs.images.kept) where
   put_alive : (s : ℕ) (byte : Named) → IsByteOf w.procs.images.kept swap i s byte → IsAlive w.procs s
   put_alive s byte of = alive_in w s (kernel_good at w started kernel) holds (of.0, of.1)
 
   abbrev image_put : ℕ → Named → Image
   image_put s byte = image_after (image_of w.procs.images.kept s) (with_byte (image_of w.procs.images.kept s) byte b)
 
-  put_kernel : IsPut w.procs.images.kept swap i b new → IsKernel at (with_images w new)
+  put_kernel : IsPut w.procs.images.kept swap i b new.kept → IsKernel at (with_images w new)
   unfolding with_byte_of
   put_kernel put =
       let m : Image = image_of w.procs.images.kept put.0 in
-      subst (λ k. IsKernel at (with_images w k)) (sym put.3)
-      (memory_kernel w put.0 (put_alive put.0 put.1 put.2) (image_put put.0 put.1) (byte_lengths m put.1 b) at started kernel)
+      subst (λ (k : Kept). IsKernel at (with_kept w new k)) (sym put.3)
+      (memory_kernel w new put.0 (put_alive put.0 put.1 put.2) (image_put put.0 put.1) (byte_lengths m put.1 b) at started kernel)
 
-  pub deposit_kernel : (r : Bool) → (r ≡ true → IsPut w.procs.images.kept swap i b new) → (r ≡ false → new ≡ w.procs.images.kept) → IsKernel at (with_images w new)
+  pub deposit_kernel : (r : Bool) → (r ≡ true → IsPut w.procs.images.kept swap i b new.kept) → (r ≡ false → new ≡ w.procs.images) → IsKernel at (with_images w new)
   deposit_kernel true put same = put_kernel (put refl)
-  deposit_kernel false put same = subst (λ k. IsKernel at (with_images w k)) (sym (same refl)) kernel
+  deposit_kernel false put same = subst (λ (x : ImagesState). IsKernel at (with_images w x)) (sym (same refl)) kernel
 
-  pub put_system : (was : System) → system_at w ≡ was → w.procs.images.kept ≡ kept_in was → IsPut w.procs.images.kept swap i b new → IsPutIn was swap i b (system_at (with_images w new))
+  pub put_system : (was : System) → system_at w ≡ was → w.procs.images.kept ≡ kept_in was → IsPut w.procs.images.kept swap i b new.kept → IsPutIn was swap i b (system_at (with_images w new))
   unfolding with_byte_of
   put_system was same told put =
       let s : ℕ = put.0 in
@@ -153,10 +154,10 @@ module _ (at : Stage) (w : World) (new : Kept) (swap : Bool) (i b : ℕ) (starte
       let its : image_of w.procs.images.kept s ≡ one.image_of (unix_of w).texts p = sym (image_here w.procs s alive holds) in
       let done = process_put p (image_of w.procs.images.kept s) byte b put.2.2.kind (ap (λ (m : Image). m.data) its) (ap (λ (m : Image). m.stack) its) in
       let then_ : system_at (with_images w new) ≡ with_byte_at (system_at w) s byte b =
-      ap (λ k. system_at (with_images w k)) put.3
+      ap (λ (k : Kept). system_at (with_kept w new k)) put.3
       ∙ (λ j. record {
-        unix = (memory_unix w s alive (image_put s byte) ∙ ap (with_process (unix_of w) s) done) j;
-        board = memory_board w s alive (image_put s byte) j;
+        unix = (memory_unix w new s alive (image_put s byte) ∙ ap (with_process (unix_of w) s) done) j;
+        board = memory_board w new s alive (image_put s byte) j;
       }) in
       (s, byte, subst (λ k. IsByteOf k swap i s byte) told put.2, then_ ∙ ap (λ m. with_byte_at m s byte b) same)
 

@@ -25,6 +25,7 @@ use Rattle.sys_files.specs.Descriptors.{close_all}
 use Rattle.sys_files.specs.declared.files.Files.{Files}
 use Rattle.sys_procs.proofs.Alive.{area_here}
 use Rattle.image_keep.specs.Kept as kept
+use Rattle.image_keep.specs.State.{ImagesState}
 use Rattle.image_keep.proofs.Frames.{with_image_texts, with_area_texts}
 use Rattle.unix_core.specs.declared.world.World.{World}
 use Rattle.sys_procs.specs.Process.{Process, no_process}
@@ -163,11 +164,11 @@ module _ (w : World) (s : ℕ) {u : UArea} {r : Row} {m : Image} (lent : IsLent 
       let P : Handed → Type 0 = λ h. Does h (handed f v row image) a (taken_on cleared) (taken_on tape) (does h) in
       subst P (lent_parts w s lent) done
 
-  module _ (rows : Processes) (k : Kept) (clear : cleared ≡ record w.tape { entries = []; bytes = [] })
+  module _ (rows : Processes) (x : ImagesState) (clear : cleared ≡ record w.tape { entries = []; bytes = [] })
       (rooms : (tape.entry_room ≡ cleared.entry_room) × (tape.byte_room ≡ cleared.byte_room)) (fifteen : length v.files ≡ 15)
-      (rows_are : rows ≡ with_change w.procs.rows s (with_row row)) (images : k ≡ with_area (with_image w.procs.images.kept s image) s v) where
+      (rows_are : rows ≡ with_change w.procs.rows s (with_row row)) (images : x.kept ≡ with_area (with_image w.procs.images.kept s image) s v) where
     abbrev after : World
-    after = record w { files = f; procs = record w.procs { rows = rows; images = k }; tape = tape }
+    after = record w { files = f; procs = record w.procs { rows = rows; images = x }; tape = tape }
 
     call_leaves : Leaves w after s v row image (does (given w s)).state
     call_leaves = record {
@@ -202,22 +203,22 @@ closing_confined slot h = record { fits = close_all_fits slot h; steady = close_
 
 -- The file `core` of the process has been written, by which nothing of the process has changed.
 module _ (w : World) (s : ℕ) {u : UArea} {m : Image} (lent : IsLent w s u (row_at w.procs.rows s) m) (none : (given w s).u.pending ≡ 0) (now : ℕ)
-    (f : Files) (k : Kept) (same : k ≡ w.procs.images.kept)
+    (f : Files) (x : ImagesState) (same : x.kept ≡ w.procs.images.kept)
     (state : handed f u (row_at w.procs.rows s) m ≡ (core_file (handed w.files u (row_at w.procs.rows s) m) now).state)
     (keeps : IsKept (handed w.files u (row_at w.procs.rows s) m) (handed f u (row_at w.procs.rows s) m)) where
   abbrev dumped : World
-  dumped = record w { files = f; procs = record w.procs { images = k } }
+  dumped = record w { files = f; procs = record w.procs { images = x } }
 
   its_numbers : length u.files ≡ 15
   its_numbers =
       ap (λ (v : UArea). length v.files) (area_is w s u lent.ready lent.area)
       ∙ lent.ready.good.owed.fifteen s (told_of (process_of (unix_of w) s)) (told_here w s lent.ready)
 
-  same_images : k ≡ with_area (with_image w.procs.images.kept s m) s u
+  same_images : x.kept ≡ with_area (with_image w.procs.images.kept s m) s u
   same_images =
       let has = lent.ready.good.running s lent.ready.runs lent.ready.user in
       same ∙ sym (area_back w.procs.images.kept s has) ∙ ap (with_area w.procs.images.kept s) (sym lent.area) ∙ area_alone w.procs.images.kept s u
-      ∙ ap (λ (x : Image). with_area (with_image w.procs.images.kept s x) s u) (sym lent.image)
+      ∙ ap (λ (i : Image). with_area (with_image w.procs.images.kept s i) s u) (sym lent.image)
 
   dump_leaves : Leaves w dumped s u (row_at w.procs.rows s) m (core_file (given w s) now).state
   dump_leaves =

@@ -10,7 +10,12 @@ use Rattle.proc_tab.specs.Processes.{Processes, member_at, row_of, row_at, chang
 use Rattle.image_keep.specs.Kept.{Held, Keeping, Nothing, Alive, Grave, Kept, Has, HasImage, keeping, with_keeping, imaged, described, with_image, with_area, area_in, area_of, image_of}
 use Rattle.std.specs.Borrow.{GName}
 use Rattle.image_keep.specs.Lent.{Lent, left_of}
+use Rattle.image_keep.specs.State.{ImagesState}
 use Rattle.image_keep.proofs.Frames.{after, keeping_same, keeping_other, keeping_back, alive_low, image_alive, image_back}
+
+-- what is kept is a part of the images
+pub same_kept : {a b : ImagesState} → a ≡ b → a.kept ≡ b.kept
+same_kept e = ap (λ (x : ImagesState). x.kept) e
 
 pub area_now : (k : Kept) (s : ℕ) (u : UArea) (held : Held) → Has k s held → Has (with_area k s u) s (record held { u = u })
 unfolding with_area

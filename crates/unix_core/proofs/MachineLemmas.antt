@@ -7,6 +7,7 @@ use Rattle.pick_rules.specs.declared.row.Mode.TheVariants.{User, Kernel, Idle}
 use Rattle.pick_rules.specs.Choice.{settle}
 use Rattle.image_keep.specs.declared.running.Fixed.{Fixed}
 use Rattle.image_keep.specs.Kept.{Kept, with_area, area_of}
+use Rattle.image_keep.specs.State.{ImagesState}
 use Rattle.sys_procs.specs.Process.{Process}
 use Rattle.sys_procs.specs.Handed.{IsAlive}
 use Rattle.sys_procs.proofs.Alive.{area_here}
@@ -18,9 +19,9 @@ use Rattle.unix_core.specs.declared.machine.Stage.TheVariants as stage
 use Rattle.abstract_unix.specs.Unix.{process_of, with_process}
 use Rattle.abstract_unix.specs.Turn.{is_user}
 use Rattle.abstract_unix.specs.Outside.{mode_by, mode_of, timed_area, timed, charged}
-use Rattle.unix_core.specs.Parts.{unix_of, board_in, system_at, IsGood, IsReady, IsRunning, IsKernel}
+use Rattle.unix_core.specs.Parts.{unix_of, board_in, system_at, IsGood, IsReady, IsUser, IsRunning, IsKernel, IsKnown}
 use Rattle.unix_core.proofs.LoanLemmas.{area_core}
-use Rattle.unix_core.proofs.PutLemmas.{good_alive, IsLikeArea, with_images, unix_put, good_put}
+use Rattle.unix_core.proofs.PutLemmas.{good_alive, IsLikeArea, with_images, with_kept, unix_put, good_put}
 
 -- what is fixed in a stage, and else this
 abbrev fixed_or : Fixed → Stage → Fixed
@@ -35,6 +36,14 @@ runs_kernel w f running = record {
   running = λ g e. subst (λ x. IsRunning x w) (ap (fixed_or f) e) running;
   resting = λ e. absurd (cc e);
 }
+
+-- a process executes instructions, of which it is known what stays fixed
+pub known_kernel : (at : Stage) (w : World) (s : ℕ) → IsKnown at w s → IsReady w s → settle w.procs.table ≡ None → is_user (process_of (unix_of w) s) ≡ true → IsKernel at w
+known_kernel at w s known ready settled user =
+    subst (λ (x : Stage). IsKernel x w) (sym known.stage) (runs_kernel w known.fixed (record {
+      user = subst (λ t. IsUser t w) (sym known.slot) (record { ready = ready; user = user; settled = settled });
+      fixed = known.is;
+    }))
 
 pub user_is : (w : World) (s : ℕ) (b : Bool) → IsAlive w.procs s → ((area_of w.procs.images.kept s).pending == 0) ≡ b → is_user (process_of (unix_of w) s) ≡ b
 user_is w s b alive is = ap (λ (v : UArea). v.pending == 0) (sym (area_here w.procs s alive)) ∙ is
@@ -76,7 +85,7 @@ like_timed Kernel u = record { clicks = refl; files = refl; dir = refl; pending 
 like_timed Idle u = record { clicks = refl; files = refl; dir = refl; pending = refl; call = refl }
 
 module _ (mode : Mode) (w : World) (s : ℕ) (good : IsGood w) (runs : w.procs.table.running ≡ Some s) (above : 0 < s)
-    (u : UArea) (is : u ≡ timed_area mode (area_of w.procs.images.kept s)) (k : Kept) (kept : k ≡ with_area w.procs.images.kept s u) where
+    (u : UArea) (is : u ≡ timed_area mode (area_of w.procs.images.kept s)) (x : ImagesState) (kept : x.kept ≡ with_area w.procs.images.kept s u) where
   abbrev who : Process
   who = process_of (unix_of w) s
 
@@ -89,16 +98,16 @@ module _ (mode : Mode) (w : World) (s : ℕ) (good : IsGood w) (runs : w.procs.t
   charge_like : IsLikeArea u who.u
   charge_like = subst (λ v. IsLikeArea v who.u) (sym charge_is) (like_timed mode who.u)
 
-  pub charge_unix : unix_of (with_images w k) ≡ charged (unix_of w) mode w.procs.table.running
+  pub charge_unix : unix_of (with_images w x) ≡ charged (unix_of w) mode w.procs.table.running
   charge_unix =
-      ap (λ l. unix_of (with_images w l)) kept
-      ∙ unix_put w s u lives
+      ap (λ (l : Kept). unix_of (with_kept w x l)) kept
+      ∙ unix_put w x s u lives
       ∙ ap (λ (v : UArea). with_process (unix_of w) s (record who { u = v })) charge_is
       ∙ sym (ap (charged (unix_of w) mode) runs
       ∙ ap (λ c. if c then unix_of w else with_process (unix_of w) s (timed mode who)) (ne_eqb s 0 (λ e. omega (arith, e, above))))
 
-  pub charge_board : board_in (with_images w k) ≡ board_in w
-  charge_board = ap (λ l. board_in (with_images w l)) kept ∙ (λ i. record (board_in w) { texts = map text_place ((with_area_texts w.procs.images.kept s u).texts i); core = area_core w.procs.images.kept s u i })
+  pub charge_board : board_in (with_images w x) ≡ board_in w
+  charge_board = ap (λ (l : Kept). board_in (with_kept w x l)) kept ∙ (λ i. record (board_in w) { texts = map text_place ((with_area_texts w.procs.images.kept s u).texts i); core = area_core w.procs.images.kept s u i })
 
-  pub charge_good : IsGood (with_images w k)
-  charge_good = subst (λ l. IsGood (with_images w l)) (sym kept) (good_put w s u lives charge_like good)
+  pub charge_good : IsGood (with_images w x)
+  charge_good = subst (λ (l : Kept). IsGood (with_kept w x l)) (sym kept) (good_put w x s u lives charge_like good)

@@ -2,6 +2,7 @@
 use Rattle.std.proofs.Common.{◌≡◌, ◌∙◌, ℕ, List, map, min, Option, refl, sym, ap, subst}
 use Rattle.v6_base.specs.Image.{Image}
 use Rattle.image_keep.specs.Kept.{Kept, with_image}
+use Rattle.image_keep.specs.State.{ImagesState}
 use Rattle.image_keep.proofs.Frames.{with_image_texts}
 use Rattle.sys_procs.specs.Process.{Process}
 use Rattle.sys_procs.specs.TextTable.{marks_of}
@@ -17,11 +18,11 @@ use Rattle.abstract_unix.proofs.Owing.{told_change, some_within}
 use Rattle.unix_core.proofs.GoingLemmas.{going_put}
 use Rattle.unix_core.proofs.GoodLemmas.{runs_same}
 use Rattle.unix_core.proofs.LoanLemmas.{image_now, image_other, image_core}
-use Rattle.unix_core.proofs.PutLemmas.{with_images, alive_slot, slot_put, agree_put}
+use Rattle.unix_core.proofs.PutLemmas.{with_kept, alive_slot, slot_put, agree_put}
 
-module _ (w : World) (s : ℕ) (alive : IsAlive w.procs s) (image : Image) where
+module _ (w : World) (x : ImagesState) (s : ℕ) (alive : IsAlive w.procs s) (image : Image) where
   abbrev pub with_memory : World
-  with_memory = with_images w (with_image w.procs.images.kept s image)
+  with_memory = with_kept w x (with_image w.procs.images.kept s image)
 
   abbrev p : Process
   p = process_of (unix_of w) s

@@ -7,6 +7,7 @@ use Rattle.proc_tab.specs.declared.member.Member.{Member}
 use Rattle.proc_tab.specs.declared.row.Row.{Row}
 use Rattle.proc_tab.specs.Processes.{Processes, member_at}
 use Rattle.image_keep.specs.Kept.{Held, Alive, Kept, Has, keeping, with_area, area_in, clicks_of, text_of}
+use Rattle.image_keep.specs.State.{ImagesState}
 use Rattle.image_keep.proofs.Frames.{SameTexts, alive_low, image_alive, with_area_texts}
 use Rattle.sys_procs.specs.Process.{Process, process_by, process_in}
 use Rattle.sys_procs.specs.TextTable.{marks_of}
@@ -18,7 +19,7 @@ use Rattle.sys_procs.proofs.Agreement.{agree_but}
 use Rattle.sys_procs.proofs.Alive.{IsHere, is_here}
 use Rattle.unix_core.specs.declared.world.World.{World}
 use Rattle.abstract_unix.specs.Unix.{process_of, with_process}
-use Rattle.unix_core.specs.Parts.{unix_of, board_in, IsGood}
+use Rattle.unix_core.specs.Parts.{unix_of, board_in, IsGood, IsReady}
 use Rattle.abstract_unix.specs.Whole.{told_in, Owes, CanGoOn}
 use Rattle.abstract_unix.proofs.Owing.{told_change}
 use Rattle.unix_core.proofs.GoingLemmas.{going_put}
@@ -32,8 +33,28 @@ pub record IsLikeArea (u v : UArea) : Type 0 where
   pub pending : u.pending ≡ v.pending
   pub call : u.call ≡ v.call
 
-abbrev pub with_images : World → Kept → World
-with_images w k = record w { procs = record w.procs { images = k } }
+abbrev pub with_images : World → ImagesState → World
+with_images w x = record w { procs = record w.procs { images = x } }
+
+-- the same with this kept, where the bytes are as there
+abbrev pub with_kept : World → ImagesState → Kept → World
+with_kept w x k = with_images w (record x { kept = k })
+
+-- Other bytes that keep the same: what is so of a world still is.
+module _ (w : World) (x : ImagesState) (same : x.kept ≡ w.procs.images.kept) where
+  pub good_bytes : IsGood w → IsGood (with_images w x)
+  good_bytes good = subst (λ (k : Kept). IsGood (with_kept w x k)) (sym same) (record {
+    agree = good.agree;
+    running = good.running;
+    owed = good.owed;
+    pending = good.pending;
+    marks = good.marks;
+    rooms = good.rooms;
+    core = good.core;
+  })
+
+  pub ready_bytes : (s : ℕ) → IsReady w s → IsReady (with_images w x) s
+  ready_bytes s ready = record { good = good_bytes ready.good; runs = ready.runs; user = ready.user }
 
 -- who lives is in its slot
 pub alive_slot : (w : World) (s : ℕ) → IsAlive w.procs s → get_or (unix_of w).processes s None ≡ Some (process_of (unix_of w) s)
@@ -87,7 +108,7 @@ module _ (w : World) (s : ℕ) (alive : IsAlive w.procs s) (v : Processes) (k : 
       (subst (λ x. Agrees (Some its) (row_at w.procs.table s) x) (sym (memory here.held here.image_is)) now))
       (alive.agree.text s alive.above alive.below) texts members (λ r other. refl) others
 
-module _ (w : World) (s : ℕ) (u : UArea) (alive : IsAlive w.procs s) where
+module _ (w : World) (x : ImagesState) (s : ℕ) (u : UArea) (alive : IsAlive w.procs s) where
   abbrev p : Process
   p = process_of (unix_of w) s
 
@@ -98,7 +119,7 @@ module _ (w : World) (s : ℕ) (u : UArea) (alive : IsAlive w.procs s) where
   k = w.procs.images.kept
 
   abbrev w' : World
-  w' = with_images w (with_area k s u)
+  w' = with_kept w x (with_area k s u)
 
   processes_put : (unix_of w').processes ≡ set (unix_of w).processes s (Some q)
   processes_put =

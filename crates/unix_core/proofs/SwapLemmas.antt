@@ -29,6 +29,7 @@ use Rattle.pick_rules.proofs.Placing.{row_out, loaded_row, HasCome, comes_in, go
 use Rattle.proc_tab.specs.declared.member.Member.{Member}
 use Rattle.proc_tab.specs.Processes.{Processes, AreProcesses, member_at}
 use Rattle.image_keep.specs.Kept.{Kept, IsKept, Keeping, Nothing, Alive, Grave, Shared, keeping, shared, text_of, changed}
+use Rattle.image_keep.specs.State.{ImagesState}
 use Rattle.image_keep.specs.Moves.{come_shared, leave_shared, swapped_in, swapped_out}
 use Rattle.text_tab.specs.Table as text_tab
 use Rattle.text_tab.specs.Table.{loaded_at}
@@ -277,13 +278,16 @@ module _ (m : System) where
   pass_stops stop some = ap (λ o. settled_after (passes m.unix (over m.unix (record own { stop = o })))) some
 
 -- A world after a pass.
-abbrev pub with_moved : World → Table → Kept → World
+abbrev pub with_moved : World → Table → ImagesState → World
 with_moved w u n = record w { procs = record w.procs { table = u; images = n } }
 
-module _ (w : World) (u : Table) (n : Kept) (a z : Taken) (good : IsGood w) (moved : HasMoved w.procs.table w.procs.images.kept a (pass (board_in w)) u n z)
-    (same : SameImages w.procs.images.kept n) (holds : IsKept n) where
+module _ (w : World) (u : Table) (x : ImagesState) (a z : Taken) (good : IsGood w) (moved : HasMoved w.procs.table w.procs.images.kept a (pass (board_in w)) u x.kept z)
+    (same : SameImages w.procs.images.kept x.kept) (holds : IsKept x.kept) where
+  abbrev n : Kept
+  n = x.kept
+
   abbrev now : World
-  now = with_moved w u n
+  now = with_moved w u x
 
   after_agree : Agree w.procs.rows u n
   after_agree = moved_agree w.procs.rows w.procs.table u w.procs.images.kept n a z good.agree moved same holds
@@ -317,14 +321,14 @@ module _ (w : World) (u : Table) (n : Kept) (a z : Taken) (good : IsGood w) (mov
 
     pub after_takes : (at : Stage) (last : World) → IsKernel at last → phase_of at ≡ Started
         → system_at last ≡ record (system_at now) { board = (settled (board_in now)).board } → Takes (settled_after (pass_of (system_at w))) at last
-    after_takes at last kernel started final = subst (λ (x : Turn). Takes x at last) (sym done)
+    after_takes at last kernel started final = subst (λ (o : Turn). Takes o at last) (sym done)
         (record { kernel = kernel; system = final ∙ (λ i. record { unix = after_unix i; board = (settled (moved.board i)).board }); phase = started })
 
     pub after_items : (b c : Taken) → Took a (pass (board_in w)).items b → Took b (settled (board_in now)).items c
         → Took a (settled_after (pass_of (system_at w))).items c
     after_items b c first second =
         took_then a b c (pass (board_in w)).items (settled (board_in now)).items _ first second
-        ((λ i. (pass (board_in w)).items ++ (settled (moved.board i)).items) ∙ ap (λ (x : Turn). x.items) (sym done))
+        ((λ i. (pass (board_in w)).items ++ (settled (moved.board i)).items) ∙ ap (λ (o : Turn). o.items) (sym done))
 
   -- it has panicked
   module _ (kind : PanicKind) (stops : Err kind ≡ answered (pass (board_in w)).stop) where
@@ -338,7 +342,7 @@ module _ (w : World) (u : Table) (n : Kept) (a z : Taken) (good : IsGood w) (mov
     over_with = pass_stops (system_at w) why.0 why.1 ∙ ap (broken (system_at w)) (sym same_kind)
 
     pub panic_takes : AreProcesses w.procs.rows → Takes (settled_after (pass_of (system_at w))) stage.Stopped now
-    panic_takes processes = subst (λ (x : Turn). Takes x stage.Stopped now) (sym over_with) (record {
+    panic_takes processes = subst (λ (o : Turn). Takes o stage.Stopped now) (sym over_with) (record {
       kernel = stopped_kernel now (agree_covered now after_agree processes holds);
       system = λ i. record { unix = after_unix i; board = moved.board i };
       phase = refl;

@@ -3,6 +3,7 @@ use Rattle.std.proofs.Common.{◌≡◌, ◌∙◌, ℕ, true, false, if◌then�
 use Rattle.u_area.specs.declared.area.UArea.{UArea}
 use Rattle.image_keep.specs.Kept.{Held, Has, Kept, image_in}
 use Rattle.image_keep.specs.Kept as kept
+use Rattle.image_keep.specs.State.{ImagesState}
 use Rattle.sys_procs.specs.Process.{Process, register, image_of}
 use Rattle.sys_files.specs.Moving.{resumes}
 use Rattle.sys_procs.specs.Resume.{resume_proc}
@@ -18,6 +19,7 @@ use Rattle.abstract_unix.specs.Calls.{handed_of, world_of, with_area, entered_ar
 use Rattle.unix_core.specs.Parts.{unix_of, board_in, IsReady}
 use Rattle.unix_core.proofs.WorldLemmas.{ready_alive}
 use Rattle.unix_core.proofs.AreaLemmas.{own_area, area_unix, area_board, area_ready, ruled_user}
+use Rattle.unix_core.proofs.PutLemmas.{with_images, with_kept}
 
 -- what who runs asks for
 pub asked_here : (w : World) (s : ℕ) → IsReady w s → kept.IsKept w.procs.images.kept → (number : ℕ) (a : Asked)
@@ -45,15 +47,15 @@ module _ (u : Unix) (s : ℕ) where
   resumes_wait is = ap (λ b. if b then on_files else on_wait) (sym is)
 
 -- A call has been entered, after it has been asked for.
-module _ (w : World) (s : ℕ) (ready : IsReady w s) (a : Asked) (entry : Sysent) (words : ℕ) (k l : Kept) (same : k ≡ w.procs.images.kept)
-    (passed : words ≡ words_passed a entry.count) (enters : l ≡ kept.with_area k s (entered_area words (kept.area_of k s))) where
+module _ (w : World) (s : ℕ) (ready : IsReady w s) (a : Asked) (entry : Sysent) (words : ℕ) (k : Kept) (l : ImagesState) (same : k ≡ w.procs.images.kept)
+    (passed : words ≡ words_passed a entry.count) (enters : l.kept ≡ kept.with_area k s (entered_area words (kept.area_of k s))) where
   abbrev area : UArea
   area = entered_area (words_passed a entry.count) (process_of (unix_of w) s).u
 
   abbrev done : World
-  done = record w { procs = record w.procs { images = l } }
+  done = with_images w l
 
-  images : l ≡ kept.with_area w.procs.images.kept s area
+  images : l.kept ≡ kept.with_area w.procs.images.kept s area
   images =
       enters
       ∙ ap (λ n. kept.with_area k s (entered_area n (kept.area_of k s))) passed
@@ -62,14 +64,14 @@ module _ (w : World) (s : ℕ) (ready : IsReady w s) (a : Asked) (entry : Sysent
 
   pub entered_ready : IsReady done s
   entered_ready =
-      subst (λ x. IsReady (record w { procs = record w.procs { images = x } }) s) (sym images)
-      (area_ready w s ready area (record { clicks = refl; files = refl; dir = refl; pending = refl; call = refl }))
+      subst (λ (x : Kept). IsReady (with_kept w l x) s) (sym images)
+      (area_ready w l s ready area (record { clicks = refl; files = refl; dir = refl; pending = refl; call = refl }))
 
   pub entered_board : board_in done ≡ board_in w
-  entered_board = ap (λ x. board_in (record w { procs = record w.procs { images = x } })) images ∙ area_board w s ready area
+  entered_board = ap (λ (x : Kept). board_in (with_kept w l x)) images ∙ area_board w l s ready area
 
   entered_unix : unix_of done ≡ with_area (unix_of w) s (entered_area (words_passed a entry.count))
-  entered_unix = ap (λ x. unix_of (record w { procs = record w.procs { images = x } })) images ∙ area_unix w s ready area
+  entered_unix = ap (λ (x : Kept). unix_of (with_kept w l x)) images ∙ area_unix w l s ready area
 
   pub entered_user : is_user (process_of (unix_of w) s) ≡ true → is_user (process_of (unix_of done) s) ≡ true
   entered_user user =

@@ -3,16 +3,17 @@ use Rattle.std.proofs.Common.{◌≡◌, ◌∙◌, [], None, sym, ap, subst}
 use Rattle.pdp_step.specs.declared.outcome.Outcome.{Outcome}
 use Rattle.pdp_step.specs.declared.outcome.Outcome.TheVariants.{Next}
 use Rattle.pdp_step.specs.Instruction.{instr}
+use Rattle.v6_base.specs.Trace.{Taken, Took}
 use Rattle.pick_rules.specs.Choice.{settle}
 use Rattle.image_keep.specs.declared.running.Fixed.{Fixed}
-use Rattle.image_keep.specs.Kept.{Kept, IsKept}
+use Rattle.image_keep.specs.Kept.{IsKept}
+use Rattle.image_keep.specs.State.{ImagesState}
 use Rattle.image_keep.specs.Running.{IsFixed, machine_in, with_machine_in}
-use Rattle.sys_procs.specs.declared.procs.Procs.{Procs}
 use Rattle.abstract_unix.specs.declared.turned.Turned.{Turned}
 use Rattle.abstract_unix.specs.declared.turned.Turned.TheVariants.{Ran, Idle}
 use Rattle.abstract_unix.specs.Unix.{System, Started}
 use Rattle.abstract_unix.specs.Endings.{phase_after}
-use Rattle.abstract_unix.specs.Turn.{turned, NobodyCanRun}
+use Rattle.abstract_unix.specs.Turn.{Turn, turn, turn_of, settled_after, turned, NobodyCanRun}
 use Rattle.abstract_unix.specs.Runs.{Slot, event_of}
 use Rattle.abstract_unix.specs.Private.{OthersUndisturbed}
 use Rattle.abstract_unix.specs.Shared.{OtherTextsStay}
@@ -20,31 +21,31 @@ use Rattle.unix_core.specs.declared.world.World.{World}
 use Rattle.unix_core.specs.declared.machine.Stage.{Stage}
 use Rattle.unix_core.specs.declared.machine.Stage.TheVariants as stage
 use Rattle.unix_core.specs.State.{KernelState}
-use Rattle.unix_core.specs.Parts.{system_at, turn_at, phase_of, HasStepped, IsKernel, IsRunning, IsUser, Takes}
+use Rattle.unix_core.specs.Parts.{system_at, turn_at, phase_of, slot_in, HasStepped, IsKernel, IsRunning, IsUser, Takes}
 use Rattle.unix_core.proofs.PutLemmas.{with_images}
 use Rattle.unix_core.proofs.MachineLemmas.{runs_kernel}
-use Rattle.unix_core.proofs.TurnSteps.{has_stepped, stepped_user, quiet_system, plain_answer, plain_goes, plain_next, plain_items}
+use Rattle.unix_core.proofs.TurnSteps.{user_slot, has_stepped, stepped_user, quiet_system, plain_answer, plain_goes, plain_next, plain_items}
 use Rattle.unix_core.proofs.PrivateLemmas.{fifty_slots, slot_private}
 use Rattle.unix_core.proofs.StayingLemmas.{turned_stays}
 use Rattle.unix_core.proofs.IdleLemmas.{idle_nobody}
 
 -- The process that executes instructions has done one.
-module _ (at : Stage) (w : World) (f : Fixed) (is : at ≡ stage.Running f) (kernel : IsKernel at w) (holds : IsKept w.procs.images.kept) (procs : Procs)
-    (kept : procs ≡ record w.procs { images = with_machine_in w.procs.images.kept f.slot (instr (machine_in w.procs.images.kept f.slot)).machine }) where
+module _ (at : Stage) (w : World) (f : Fixed) (is : at ≡ stage.Running f) (kernel : IsKernel at w) (holds : IsKept w.procs.images.kept) (x : ImagesState)
+    (kept : x.kept ≡ with_machine_in w.procs.images.kept f.slot (instr (machine_in w.procs.images.kept f.slot)).machine) where
   abbrev then_ : World
-  then_ = record w { procs = procs }
+  then_ = with_images w x
 
   run : IsRunning f w
   run = kernel.running f is
 
   pub step_user : IsUser f.slot then_
-  step_user = stepped_user w f.slot run.user holds procs kept
+  step_user = stepped_user w f.slot run.user holds x kept
 
   pub step_done : (o : Outcome) → o ≡ (instr (machine_in w.procs.images.kept f.slot)).outcome → HasStepped (system_at w) then_ f.slot o
-  step_done o outcome = has_stepped w f.slot run.user holds procs kept o outcome
+  step_done o outcome = has_stepped w f.slot run.user holds x kept o outcome
 
   -- and just goes on
-  module _ (next : Next ≡ (instr (machine_in w.procs.images.kept f.slot)).outcome) (fixed : IsFixed procs.images.kept f) where
+  module _ (next : Next ≡ (instr (machine_in w.procs.images.kept f.slot)).outcome) (fixed : IsFixed x.kept f) where
     done : HasStepped (system_at w) then_ f.slot Next
     done = step_done Next next
 
@@ -56,7 +57,7 @@ module _ (at : Stage) (w : World) (f : Fixed) (is : at ≡ stage.Running f) (ker
 
     pub next_takes : Takes (turn_at w) at then_
     next_takes = record {
-      kernel = subst (λ (x : Stage). IsKernel x then_) (sym is) (runs_kernel then_ f (record { user = step_user; fixed = fixed }));
+      kernel = subst (λ (t : Stage). IsKernel t then_) (sym is) (runs_kernel then_ f (record { user = step_user; fixed = fixed }));
       system = plain_next (system_at w) f.slot run.user.ready.user then_ done quiet;
       phase = ap phase_of is ∙ ap phase_after (sym (plain_goes (system_at w) f.slot run.user.ready.user then_ done quiet));
     }
@@ -69,24 +70,12 @@ abbrev pub state_of : Stage → World → KernelState
 state_of at w = record {
   system = system_at w;
   kept = w.procs.images.kept;
+  core = w.procs.images.core;
+  swap = w.procs.images.swap;
   blocks = w.files.tree.nodes.blocks;
   stored = w.files.tree.nodes.stored;
   phase = phase_of at;
 }
-
--- Nothing was done, and the kernel is the same.
-module _ (at : Stage) (w : World) (k : Kept) (kept : k ≡ w.procs.images.kept) where
-  unchanged : w ≡ with_images w k
-  unchanged = ap (with_images w) (sym kept)
-
-  pub left_kernel : IsKernel at w → IsKernel at (with_images w k)
-  left_kernel kernel = subst (IsKernel at) unchanged kernel
-
-  pub left_kept : IsKept w.procs.images.kept → IsKept k
-  left_kept holds = subst IsKept (sym kept) holds
-
-  pub left_view : (v : KernelState) → state_of at w ≡ v → state_of at (with_images w k) ≡ v
-  left_view v view = ap (state_of at) (sym unchanged) ∙ view
 
 -- What a slot came to is the event of the system that was told.
 module _ (at : Stage) (w : World) (kernel : IsKernel at w) (holds : IsKept w.procs.images.kept) (v : KernelState) (view : state_of at w ≡ v) (goes : v.phase ≡ Started) where
@@ -115,32 +104,60 @@ module _ (at : Stage) (w : World) (kernel : IsKernel at w) (holds : IsKept w.pro
     pub taken_texts : OtherTextsStay v.system (event_of Slot v.system).items (system_at w')
     taken_texts = turned_stays at w started kernel holds v.system _ same taken_next
 
-  -- an instruction that was done in place
-  module _ (f : Fixed) (is : at ≡ stage.Running f) (k : Kept) (kept : k ≡ with_machine_in w.procs.images.kept f.slot (instr (machine_in w.procs.images.kept f.slot)).machine)
-      (next : (instr (machine_in w.procs.images.kept f.slot)).outcome ≡ Next) (fixed : IsFixed k f) where
-    procs_now : record w.procs { images = k } ≡ record w.procs { images = with_machine_in w.procs.images.kept f.slot (instr (machine_in w.procs.images.kept f.slot)).machine }
-    procs_now = ap (λ (x : Kept). record w.procs { images = x }) kept
+  -- an instruction that just goes on
+  module _ (f : Fixed) (is : at ≡ stage.Running f) (x : ImagesState) (kept : x.kept ≡ with_machine_in w.procs.images.kept f.slot (instr (machine_in w.procs.images.kept f.slot)).machine)
+      (next : Next ≡ (instr (machine_in w.procs.images.kept f.slot)).outcome) (fixed : IsFixed x.kept f) where
+    near_takes : Takes (turn_at w) at (with_images w x)
+    near_takes = next_takes at w f is kernel holds x kept next fixed
 
-    near_takes : Takes (turn_at w) at (with_images w k)
-    near_takes = next_takes at w f is kernel holds (record w.procs { images = k }) procs_now (sym next) fixed
-
-    pub near_kernel : IsKernel at (with_images w k)
+    pub near_kernel : IsKernel at (with_images w x)
     near_kernel = near_takes.kernel
 
     pub near_answer : Ran ≡ turned (event_of Slot v.system)
-    near_answer = taken_answer Ran (next_answer at w f is kernel holds (record w.procs { images = k }) procs_now (sym next) fixed)
+    near_answer = taken_answer Ran (next_answer at w f is kernel holds x kept next fixed)
 
     pub near_items : (event_of Slot v.system).items ≡ []
-    near_items = ap (λ (x : System). (event_of Slot x).items) (sym same) ∙ next_items at w f is kernel holds (record w.procs { images = k }) procs_now (sym next) fixed
+    near_items = ap (λ (m : System). (event_of Slot m).items) (sym same) ∙ next_items at w f is kernel holds x kept next fixed
 
-    pub near_next : system_at (with_images w k) ≡ (event_of Slot v.system).next
-    near_next = taken_next at (with_images w k) near_takes
+    pub near_next : system_at (with_images w x) ≡ (event_of Slot v.system).next
+    near_next = taken_next at (with_images w x) near_takes
 
     pub near_phase : phase_of at ≡ phase_after (event_of Slot v.system).ending
-    near_phase = taken_phase at (with_images w k) near_takes
+    near_phase = taken_phase at (with_images w x) near_takes
 
-    pub near_private : OthersUndisturbed v.system (system_at (with_images w k))
-    near_private = taken_private at (with_images w k) near_takes
+    pub near_private : OthersUndisturbed v.system (system_at (with_images w x))
+    near_private = taken_private at (with_images w x) near_takes
 
-    pub near_texts : OtherTextsStay v.system (event_of Slot v.system).items (system_at (with_images w k))
-    near_texts = taken_texts at (with_images w k) near_takes
+    pub near_texts : OtherTextsStay v.system (event_of Slot v.system).items (system_at (with_images w x))
+    near_texts = taken_texts at (with_images w x) near_takes
+
+  -- an instruction that comes to something else, with which the turn ends
+  module _ (f : Fixed) (is : at ≡ stage.Running f) (x : ImagesState) (kept : x.kept ≡ with_machine_in w.procs.images.kept f.slot (instr (machine_in w.procs.images.kept f.slot)).machine)
+      (o : Outcome) (outcome : o ≡ (instr (machine_in w.procs.images.kept f.slot)).outcome) where
+    slot : slot_in at ≡ f.slot
+    slot = ap slot_in is
+
+    did : HasStepped (system_at w) (with_images w x) (slot_in at) o
+    did = subst (λ s. HasStepped (system_at w) (with_images w x) s o) (sym slot) (step_done at w f is kernel holds x kept o outcome)
+
+    abbrev then_turn : System → Turn
+    then_turn m = settled_after (turn_of m (slot_in at) (turn m (slot_in at)))
+
+    own_turn : then_turn (system_at w) ≡ turn_at w
+    own_turn =
+        let run : IsRunning f w = kernel.running f is in
+        ap (λ s. settled_after (turn_of (system_at w) s (turn (system_at w) s))) slot
+        ∙ sym (user_slot (system_at w) f.slot run.user.ready.runs run.user.ready.user)
+
+    pub far_user : IsUser (slot_in at) (with_images w x)
+    far_user = subst (λ s. IsUser s (with_images w x)) (sym slot) (step_user at w f is kernel holds x kept)
+
+    pub far_answer : (answer : Turned) → ((m : System) → HasStepped m (with_images w x) (slot_in at) o → answer ≡ turned (then_turn m)) → answer ≡ turned (turn_at w)
+    far_answer answer each = each (system_at w) did ∙ ap turned own_turn
+
+    pub far_takes : (at' : Stage) (w' : World) → ((m : System) → HasStepped m (with_images w x) (slot_in at) o → Takes (then_turn m) at' w') → Takes (turn_at w) at' w'
+    far_takes at' w' each = subst (λ (t : Turn). Takes t at' w') own_turn (each (system_at w) did)
+
+    pub far_items : (a b : Taken) → ((m : System) → HasStepped m (with_images w x) (slot_in at) o → Took a (then_turn m).items b) → Took a (event_of Slot v.system).items b
+    far_items a b each =
+        subst (λ (m : System). Took a (event_of Slot m).items b) same (subst (λ (t : Turn). Took a t.items b) own_turn (each (system_at w) did))

@@ -9,9 +9,9 @@ use Rattle.pdp_step.specs.declared.outcome.Outcome.TheVariants as came
 use Rattle.pdp_step.specs.Machine.{Machine}
 use Rattle.pdp_step.specs.Instruction.{instr}
 use Rattle.pick_rules.specs.Choice.{settle}
-use Rattle.image_keep.specs.Kept.{IsKept, area_of}
+use Rattle.image_keep.specs.Kept.{Kept, IsKept, area_of}
+use Rattle.image_keep.specs.State.{ImagesState}
 use Rattle.image_keep.specs.Running.{machine_in, with_machine_in, with_state}
-use Rattle.sys_procs.specs.declared.procs.Procs.{Procs}
 use Rattle.sys_procs.specs.Process.{Process}
 use Rattle.sys_procs.proofs.Alive.{put_here}
 use Rattle.sys_procs.proofs.MemoryLemmas.{image_here}
@@ -27,14 +27,14 @@ use Rattle.abstract_unix.specs.Runs.{Slot, event_of}
 use Rattle.unix_core.specs.Parts.{unix_of, system_at, IsReady, IsUser, HasStepped}
 use Rattle.abstract_unix.proofs.Owing.{some_within}
 use Rattle.unix_core.proofs.WorldLemmas.{ready_alive, slot_is}
-use Rattle.unix_core.proofs.PutLemmas.{IsLikeArea}
+use Rattle.unix_core.proofs.PutLemmas.{IsLikeArea, with_images, with_kept}
 use Rattle.unix_core.proofs.MemoryPut.{with_memory, memory_unix, memory_board, memory_process, memory_good}
 use Rattle.unix_core.proofs.BoardLemmas.{settle_same}
 use Rattle.unix_core.proofs.AreaLemmas.{own_area, with_its_area, area_unix, area_board, area_ready}
 
 -- The memory of the process that runs is another one.
-pub memory_ready : (w : World) (s : ℕ) (ready : IsReady w s) (image : Image) → IsReady (with_memory w s (ready_alive w s ready) image) s
-memory_ready w s ready image = record { good = memory_good w s (ready_alive w s ready) image ready.good; runs = ready.runs; user = ready.user }
+pub memory_ready : (w : World) (x : ImagesState) (s : ℕ) (ready : IsReady w s) (image : Image) → IsReady (with_memory w x s (ready_alive w s ready) image) s
+memory_ready w x s ready image = record { good = memory_good w x s (ready_alive w s ready) image ready.good; runs = ready.runs; user = ready.user }
 
 -- what an instruction works on
 machine_is : (w : World) (s : ℕ) → IsReady w s → IsKept w.procs.images.kept → machine_of (unix_of w).texts (process_of (unix_of w) s) ≡ machine_in w.procs.images.kept s
@@ -43,8 +43,8 @@ machine_is w s ready holds =
     λ i. record { r = (sym own i).r; cc = (sym own i).cc; image = image_here w.procs s (ready_alive w s ready) holds i }
 
 -- The process has stepped, and its memory and its registers are these.
-module _ (w : World) (s : ℕ) (user : IsUser s w) (holds : IsKept w.procs.images.kept) (procs : Procs)
-    (kept : procs ≡ record w.procs { images = with_machine_in w.procs.images.kept s (instr (machine_in w.procs.images.kept s)).machine }) where
+module _ (w : World) (s : ℕ) (user : IsUser s w) (holds : IsKept w.procs.images.kept) (x : ImagesState)
+    (kept : x.kept ≡ with_machine_in w.procs.images.kept s (instr (machine_in w.procs.images.kept s)).machine) where
   abbrev old : Process
   old = process_of (unix_of w) s
 
@@ -52,7 +52,7 @@ module _ (w : World) (s : ℕ) (user : IsUser s w) (holds : IsKept w.procs.image
   m = (instr (machine_in w.procs.images.kept s)).machine
 
   abbrev with_image_then : World
-  with_image_then = with_memory w s (ready_alive w s user.ready) m.image
+  with_image_then = with_memory w x s (ready_alive w s user.ready) m.image
 
   abbrev area : UArea
   area = with_state (area_of w.procs.images.kept s) m.r m.cc
@@ -61,21 +61,21 @@ module _ (w : World) (s : ℕ) (user : IsUser s w) (holds : IsKept w.procs.image
   stored = record old { u = area; «data» = m.image.data; stack = m.image.stack }
 
   ready_then : IsReady with_image_then s
-  ready_then = memory_ready w s user.ready m.image
+  ready_then = memory_ready w x s user.ready m.image
 
   area_like : IsLikeArea area (process_of (unix_of with_image_then) s).u
-  area_like = subst (λ (p : Process). IsLikeArea area p.u) (sym (memory_process w s (ready_alive w s user.ready) m.image))
+  area_like = subst (λ (p : Process). IsLikeArea area p.u) (sym (memory_process w x s (ready_alive w s user.ready) m.image))
       (subst (λ (u : UArea). IsLikeArea area u) (own_area w s user.ready) (record { clicks = refl; files = refl; dir = refl; pending = refl; call = refl }))
 
   abbrev now : World
-  now = with_its_area with_image_then s ready_then area
+  now = with_its_area with_image_then x s ready_then area
 
   unix_then : unix_of now ≡ with_process (unix_of w) s stored
   unix_then =
       let ps : List (Option Process) = (unix_of w).processes in
       let q : Process = record old { «data» = m.image.data; stack = m.image.stack } in
-      area_unix with_image_then s ready_then area
-      ∙ (λ i. with_process (memory_unix w s (ready_alive w s user.ready) m.image i) s (record (memory_process w s (ready_alive w s user.ready) m.image i) { u = area }))
+      area_unix with_image_then x s ready_then area
+      ∙ (λ i. with_process (memory_unix w x s (ready_alive w s user.ready) m.image i) s (record (memory_process w x s (ready_alive w s user.ready) m.image i) { u = area }))
       ∙ ap (λ l. record (unix_of w) { processes = l }) (set-set ps s (Some q) (Some stored))
 
   stored_is : stored ≡ with_machine old m
@@ -86,25 +86,22 @@ module _ (w : World) (s : ℕ) (user : IsUser s w) (holds : IsKept w.procs.image
       let ps : List (Option Process) = (unix_of w).processes in
       ap (λ (x : Unix). process_of x s) unix_then ∙ put_here ps s stored (some_within ps s old (slot_is w s user.ready))
 
-  abbrev stepped_world : Procs → World
-  stepped_world p = record w { procs = p }
-
-  pub stepped_user : IsUser s (stepped_world procs)
-  stepped_user = subst (λ p. IsUser s (stepped_world p)) (sym kept) (record {
-    ready = area_ready with_image_then s ready_then area area_like;
+  pub stepped_user : IsUser s (with_images w x)
+  stepped_user = subst (λ (k : Kept). IsUser s (with_kept w x k)) (sym kept) (record {
+    ready = area_ready with_image_then x s ready_then area area_like;
     user = ap is_user process_then ∙ ap (λ (u : UArea). u.pending == 0) (own_area w s user.ready) ∙ user.user;
     settled = user.settled;
   })
 
-  pub has_stepped : (o : Outcome) → o ≡ (instr (machine_in w.procs.images.kept s)).outcome → HasStepped (system_at w) (stepped_world procs) s o
+  pub has_stepped : (o : Outcome) → o ≡ (instr (machine_in w.procs.images.kept s)).outcome → HasStepped (system_at w) (with_images w x) s o
   has_stepped o outcome =
       let its : machine_in w.procs.images.kept s ≡ machine_of (unix_of w).texts old = sym (machine_is w s user.ready holds) in
-      subst (λ p. HasStepped (system_at w) (stepped_world p) s o) (sym kept) (record {
+      subst (λ (k : Kept). HasStepped (system_at w) (with_kept w x k) s o) (sym kept) (record {
         runs = user.ready.runs;
         user = user.user;
         outcome = outcome ∙ ap (λ x. (instr x).outcome) its;
         unix = unix_then ∙ ap (with_process (unix_of w) s) stored_is ∙ ap (λ x. with_process (unix_of w) s (with_machine old (instr x).machine)) its;
-        board = area_board with_image_then s ready_then area ∙ memory_board w s (ready_alive w s user.ready) m.image;
+        board = area_board with_image_then x s ready_then area ∙ memory_board w x s (ready_alive w s user.ready) m.image;
       })
 
 -- the slot of a process that isn't the swapper

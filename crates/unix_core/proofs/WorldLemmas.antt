@@ -1,5 +1,5 @@
 -- A process that runs: what a world says of it, what its calls on files are handed, and that they leave it running.
-use Rattle.std.proofs.Common.{◌≡◌, ◌≢◌, ◌+◌, ℕ, false, List, ◌++◌, length, get_or, set, map, Option, Some, None, refl, sym, ap, ◌∙◌, subst}
+use Rattle.std.proofs.Common.{◌≡◌, ◌≢◌, ◌+◌, ℕ, false, List, ◌++◌, length, get_or, set, map, min, Option, Some, None, refl, sym, ap, ◌∙◌, subst}
 use Rattle.v6_base.specs.Image.{Image}
 use Rattle.v6_base.specs.Trace.{Item, Log, sent, entries_of}
 use Rattle.u_area.specs.declared.area.UArea.{UArea}
@@ -145,7 +145,7 @@ module _ (w w' : World) (s : ℕ) (ready : IsReady w s) (u : UArea) (row : Row) 
     texts = map text_in (after.texts.texts i);
     switches = after.switches i;
     last_pid = after.last_pid i;
-    limit = (unix_of (record w { procs = record w.procs { images = record w.procs.images.kept { core = after.core i } } })).limit;
+    limit = min (after.core i) 2048;
   }
 
   agrees : Agree w'.procs.rows w.procs.table w'.procs.images.kept

@@ -132,6 +132,13 @@ pub record IsRunning (f : Fixed) (w : parts.World) : Type 0 where
   pub user : IsUser f.slot w
   pub fixed : IsFixed w.procs.images.kept f
 
+-- What stays fixed of the process in a slot is known.
+pub record IsKnown (at : Stage) (w : parts.World) (s : ℕ) : Type 0 where
+  pub fixed : Fixed
+  pub stage : at ≡ stage.Running fixed
+  pub slot : fixed.slot ≡ s
+  pub is : IsFixed w.procs.images.kept fixed
+
 -- Between two events a process goes on with a call, or nobody runs but the swapper, or nobody.
 pub record IsPaused (w : parts.World) : Type 0 where
   pub good : IsGood w
@@ -145,6 +152,14 @@ phase_of (stage.Running f) = Started
 phase_of stage.Resting = Started
 phase_of stage.Stopped = Stopped
 phase_of stage.Finished = Finished
+
+-- the slot of the process that executes instructions
+abbrev pub slot_in : Stage → ℕ
+slot_in stage.New = 0
+slot_in (stage.Running f) = f.slot
+slot_in stage.Resting = 0
+slot_in stage.Stopped = 0
+slot_in stage.Finished = 0
 
 -- The swapper runs, and nobody is out of core: its first pass finds nothing to do.
 pub record IsNew (w : parts.World) : Type 0 where

@@ -187,6 +187,8 @@ fn end_by<T: Trace>(world: &mut World, s: Slot, sig: u8, trace: &mut T) -> Endin
 }
 
 /// Delivers a signal to a process.
+#[cold]
+#[inline(never)]
 fn deliver_to<T: Trace>(world: &mut World, s: Slot, sig: u8, trace: &mut T) -> Ending
     requires ready { IsReady world.old s }
     requires user { is_user (process_of (unix_of world.old) s) ≡ true }
@@ -208,6 +210,7 @@ fn deliver_to<T: Trace>(world: &mut World, s: Slot, sig: u8, trace: &mut T) -> E
 }
 
 /// Delivers the signal that is due to the running process, where one is: at the end of a turn, and in a tick.
+#[inline(always)]
 pub(crate) fn deliver_due<T: Trace>(world: &mut World, s: Slot, trace: &mut T) -> Ending
     requires ready { IsReady world.old s }
     requires user { is_user (process_of (unix_of world.old) s) ≡ true }
@@ -227,6 +230,7 @@ pub(crate) fn deliver_due<T: Trace>(world: &mut World, s: Slot, trace: &mut T) -
 }
 
 /// Delivers a signal at the end of a turn that has come to this, where the process has come out of a trap.
+#[inline(always)]
 pub(crate) fn deliver_after<T: Trace>(
     world: &mut World,
     s: Slot,

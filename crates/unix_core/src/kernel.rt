@@ -26,6 +26,7 @@ use fs_tree::Tree;
 use image_keep::Images;
 use open_files::OpenTable;
 use pdp_decode::Dispatch;
+use pdp_step::Outcome;
 use pick_rules::Table;
 use proc_tab::Rows;
 use seg_regs::Proto;
@@ -130,6 +131,7 @@ impl Kernel {
         Kernel {
             machine: Machine {
                 stage: Stage::New,
+                came: Outcome::Next,
                 world: World {
                     files,
                     procs,
@@ -181,11 +183,11 @@ impl Kernel {
         match &self.machine.stage {
             Stage::Running(fixed) => {
                 let images = &mut self.machine.world.procs.images;
-                if images.execute_near(fixed, &self.dispatch) {
+                if images.execute(fixed, &self.dispatch, &mut self.machine.came) {
                     // left at once: joined with the other answers it is looked at anew each time
                     return Turned::Ran;
                 }
-                self.machine.careful(trace)
+                self.machine.step_out(trace)
             }
             _ => self.machine.other_slot(trace),
         }

@@ -1,30 +1,29 @@
 //! The parts of a kernel, and what each event does to them.
-ghost use Rattle.std.specs.Prelude.{◌≡◌, ◌≢◌, ◌<◌, ℕ, Bool, true, false, None, Some, map};
+ghost use Rattle.std.specs.Prelude.{◌≡◌, ◌≢◌, ◌<◌, ℕ, Bool, IsTrue, true, false, None, Some, map};
 ghost use Rattle.v6_base.specs.Trace.{Took};
 ghost use Rattle.fs_laws.specs.Rest.{SameRest};
-ghost use Rattle.pdp_step.specs.Instruction.{instr};
 ghost use Rattle.pick_rules.specs.Choice.{chosen, settle};
 ghost use Rattle.pick_rules.specs.Effects.{Show};
 ghost use Rattle.pick_rules.specs.Logged.{logged};
-ghost use Rattle.image_keep.specs.Running.{IsFixed, machine_in, with_machine_in};
+ghost use Rattle.image_keep.specs.Kept.{HasImage};
 ghost use Rattle.abstract_unix.specs.declared.ends.Ends.TheVariants.{AtEnd};
 ghost use Rattle.abstract_unix.specs.Unix.{Unix, System, Started, process_of};
 ghost use Rattle.abstract_unix.specs.Endings.{is_early};
 ghost use Rattle.abstract_unix.specs.Turn.{turned, ticked_by, turned_by, ending_of, turn, turn_of, settled, settled_after, pass_of};
 ghost use Rattle.abstract_unix.specs.Outside.{calls, charged, mode_of, tick_entry, timed_area, is_user_mode, tick_of, with_key, key_lines, typed_of};
-ghost use Rattle.unix_core.specs.Parts.{unix_of, board_in, system_at, turn_at, turn_end, phase_of, is_over, IsGood, IsReady, IsUser, IsCovered, IsKernel, HasCome, HasStepped, Takes, delivers_where};
+ghost use Rattle.unix_core.specs.Parts.{unix_of, board_in, system_at, turn_at, turn_end, phase_of, slot_in, is_over, IsGood, IsReady, IsUser, IsCovered, IsKernel, IsKnown, HasCome, HasStepped, Takes, delivers_where};
 
 use crate::delivery::{deliver_after, deliver_due};
-use crate::files::{see_kept, see_procs};
+use crate::files::see_procs;
 use crate::process::{come_to, resume};
 use crate::settling::{end_turn, settle, wake};
 use crate::world::World;
 use abstract_unix::{Ending, Turned};
 use image_keep::Fixed;
-use pdp_step::{Outcome, Regs, step};
+use pdp_step::Outcome;
 use pick_rules::{Mode, Second};
 use swap_sched::pass;
-use sys_procs::{Procs, signal_console};
+use sys_procs::signal_console;
 use tty_line::Keyed;
 use u_area::UArea;
 use v6_base::{Chan, Entry, PanicKind, Slot, Trace};
@@ -48,6 +47,8 @@ pub enum Stage {
 #[derive(Drop)]
 pub(crate) struct Machine {
     pub(crate) stage: Stage,
+    /// What the last instruction came to that wasn't just done.
+    pub(crate) came: Outcome,
     pub(crate) world: World,
 }
 
@@ -125,45 +126,6 @@ fn turned(ending: Ending) -> Turned
     }
 }
 
-/// The process of which this is fixed does one instruction over its memory, which is lent for it, with the registers in its u
-/// area.
-#[inline(always)]
-fn execute_lent(procs: &mut Procs, fixed: &Fixed) -> Outcome
-    requires { IsFixed procs.old.images.kept fixed.now }
-    ensures outcome { result ≡ (instr (machine_in procs.old.images.kept fixed.now.slot)).outcome }
-    ensures kept { procs.new.images.kept ≡ with_machine_in procs.old.images.kept fixed.now.slot (instr (machine_in procs.old.images.kept fixed.now.slot)).machine }
-    ensures others { procs.new ≡ record procs.old { images = procs.new.images } }
-    ensures fixed { IsFixed procs.new.images.kept fixed.now }
-{
-    let u = procs.images.area_at(fixed);
-    let r = u.r;
-    let mut regs = Regs { r, cc: u.cc };
-    let outcome = {
-        let mut space = procs.images.space_at(fixed);
-        step(&mut regs, &mut space)
-    };
-    procs.images.set_registers_at(fixed, &regs.r, regs.cc);
-    outcome
-}
-
-/// The process of which this is fixed does one instruction, whatever it comes to. A call is looked for first.
-#[inline(always)]
-fn execute(procs: &mut Procs, fixed: &Fixed) -> Outcome
-    requires { IsFixed procs.old.images.kept fixed.now }
-    ensures outcome { result ≡ (instr (machine_in procs.old.images.kept fixed.now.slot)).outcome }
-    ensures kept { procs.new.images.kept ≡ with_machine_in procs.old.images.kept fixed.now.slot (instr (machine_in procs.old.images.kept fixed.now.slot)).machine }
-    ensures others { procs.new ≡ record procs.old { images = procs.new.images } }
-    ensures fixed { IsFixed procs.new.images.kept fixed.now }
-{
-    if let Some(n) = procs.images.call_near(fixed) {
-        return Outcome::Call(n);
-    }
-    if procs.images.execute_any(fixed) {
-        return Outcome::Next;
-    }
-    execute_lent(procs, fixed)
-}
-
 impl Machine {
     /// Sees what the next slot finds, when the kernel has settled.
     fn refresh(&mut self)
@@ -176,6 +138,18 @@ impl Machine {
     {
         match self.world.procs.table.running {
             Some(s) if s != 0 => self.enter_user(s),
+            _ => self.rest(),
+        }
+    }
+
+    /// Rests. Where it does already nothing is written: the stage is as large as what stays fixed of a process.
+    #[inline(always)]
+    fn rest(&mut self)
+        ensures stage { self.new.stage ≡ Stage.Resting }
+        ensures world { self.new.world ≡ self.old.world }
+    {
+        match self.stage {
+            Stage::Resting => {}
             _ => self.stage = Stage::Resting,
         }
     }
@@ -188,11 +162,34 @@ impl Machine {
         ensures started { phase_of self.new.stage ≡ Started }
         ensures world { self.new.world ≡ self.old.world }
     {
-        if self.world.procs.images.area(s).pending == 0 {
-            self.stage = Stage::Running(self.world.procs.images.fixed(s));
-        } else {
-            self.stage = Stage::Resting;
+        if self.world.procs.images.area(s).pending != 0 {
+            self.rest();
+        } else if !self.stays(s) {
+            self.begin(s);
         }
+    }
+
+    /// Whether what stays fixed of the process in a slot is known already.
+    #[inline(always)]
+    fn stays(&self, s: Slot) -> bool
+        requires { HasImage self.now.world.procs.images.kept s }
+        ensures { IsTrue result → IsKnown self.now.stage self.now.world s }
+    {
+        match &self.stage {
+            Stage::Running(fixed) => self.world.procs.images.is_fixed(fixed, s),
+            _ => false,
+        }
+    }
+
+    /// Finds what stays fixed of the process in a slot. It stands out of line: after most events it has stayed.
+    #[cold]
+    #[inline(never)]
+    fn begin(&mut self, s: Slot)
+        requires { HasImage self.old.world.procs.images.kept s }
+        ensures known { IsKnown self.new.stage self.old.world s }
+        ensures world { self.new.world ≡ self.old.world }
+    {
+        self.stage = Stage::Running(self.world.procs.images.fixed(s));
     }
 
     /// Settles, after an event.
@@ -258,9 +255,8 @@ impl Machine {
         deliver_after(&mut self.world, s, ending, trace)
     }
 
-    /// Ends a turn of a process that has come to this: the kernel settles, where the run goes on. It stands out of line, beside
-    /// the loop over slots.
-    #[inline(never)]
+    /// Ends a turn of a process that has come to this: the kernel settles, where the run goes on.
+    #[inline(always)]
     fn end<T: Trace>(&mut self, s: Slot, ending: Ending, trace: &mut T) -> Turned
         requires good { is_over ending ≡ false → IsGood self.old.world }
         requires covered { is_over ending ≡ true → IsCovered self.old.world }
@@ -286,10 +282,9 @@ impl Machine {
         }
     }
 
-    /// Takes what an instruction comes to, where that isn't the next one, with the signal that is due then, and settles. It stands
-    /// out of line, beside the loop over slots.
-    #[inline(never)]
-    pub(crate) fn after_step<T: Trace>(
+    /// Takes what an instruction comes to, where that isn't the next one, with the signal that is due then, and settles.
+    #[inline(always)]
+    fn after_step<T: Trace>(
         &mut self,
         s: Slot,
         outcome: Outcome,
@@ -311,29 +306,27 @@ impl Machine {
         self.end(s, ending, trace)
     }
 
-    /// Takes a slot in which a process executes any instruction, with what that comes to. It stands out of line, beside the
-    /// loop over slots, which has those that are done where the process stands in core.
-    #[cold]
+    /// Takes what the last instruction came to. It stands out of line, beside the loop over slots, and what it takes stays in its
+    /// place: a copy of it would cost each slot.
     #[inline(never)]
-    pub(crate) fn careful<T: Trace>(&mut self, trace: &mut T) -> Turned
-        requires kernel { IsKernel self.old.stage self.old.world }
+    pub(crate) fn step_out<T: Trace>(&mut self, trace: &mut T) -> Turned
         requires running { (f : Fixed) × (self.old.stage ≡ Stage.Running f) }
-        ensures answer { result ≡ turned (turn_at self.old.world) }
-        ensures takes { Takes (turn_at self.old.world) self.new.stage self.new.world }
+        requires user { IsUser (slot_in self.old.stage) self.old.world }
+        ensures answer { (m : System) → HasStepped m self.old.world (slot_in self.old.stage) self.old.came
+            → result ≡ turned (settled_after (turn_of m (slot_in self.old.stage) (turn m (slot_in self.old.stage)))) }
+        ensures takes { (m : System) → HasStepped m self.old.world (slot_in self.old.stage) self.old.came
+            → Takes (settled_after (turn_of m (slot_in self.old.stage) (turn m (slot_in self.old.stage)))) self.new.stage self.new.world }
+        ensures kernel { IsKernel self.new.stage self.new.world }
         ensures rest { SameRest self.old.world.files.tree.nodes.blocks self.new.world.files.tree.nodes.blocks }
-        ensures items { Took (T.taken trace.old)
-            (turn_at self.old.world).items (T.taken trace.new) }
+        ensures items { (m : System) → HasStepped m self.old.world (slot_in self.old.stage) self.old.came → Took (T.taken trace.old)
+            (settled_after (turn_of m (slot_in self.old.stage) (turn m (slot_in self.old.stage)))).items (T.taken trace.new) }
         ensures frame { T.leads_to trace.old trace.new }
     {
-        see_kept(&self.world.procs.images);
         match &self.stage {
-            Stage::Running(fixed) => match execute(&mut self.world.procs, fixed) {
-                Outcome::Next => Turned::Ran,
-                outcome => {
-                    let s = fixed.slot;
-                    self.after_step(s, outcome, trace)
-                }
-            },
+            Stage::Running(fixed) => {
+                let s = fixed.slot;
+                self.after_step(s, self.came, trace)
+            }
             _ => unreachable!(),
         }
     }

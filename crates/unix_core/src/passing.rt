@@ -9,6 +9,7 @@ use sys_procs::signal_slot;
 use v6_base::{Entry, Tape, Trace};
 
 /// Takes a line of the log that wakes sleepers, or that sends a signal.
+#[inline(never)]
 fn wake_by<T: Trace>(entry: Entry, table: &mut Table, trace: &mut T)
     requires table { IsTable table.old }
     requires slot { HasSlot entry }
@@ -26,6 +27,7 @@ fn wake_by<T: Trace>(entry: Entry, table: &mut Table, trace: &mut T)
 }
 
 /// Passes on what a tape has taken: the bytes, and then the lines, of which each wakes those who sleep for its channel.
+#[inline(always)]
 pub(crate) fn pass_on<T: Trace>(tape: &Tape, table: &mut Table, trace: &mut T)
     requires table { IsTable table.old }
     requires slots { HaveSlots tape.now.entries }

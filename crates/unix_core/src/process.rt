@@ -98,6 +98,8 @@ fn signal<T: Trace>(world: &mut World, s: Slot, sig: u8, trace: &mut T) -> Endin
 }
 
 /// A call is refused with an error. One of 100 or more makes a signal.
+#[cold]
+#[inline(never)]
 fn fail<T: Trace>(world: &mut World, s: Slot, error: Errno, trace: &mut T) -> Ending
     requires { IsReady world.old s }
     ensures come { HasCome (board_in world.old) (refuses (unix_of world.old) s (error_number error)) result world.new }
@@ -117,6 +119,7 @@ fn fail<T: Trace>(world: &mut World, s: Slot, error: Errno, trace: &mut T) -> En
 }
 
 /// A call ends: the registers take what it answers.
+#[inline(always)]
 fn conclude<T: Trace>(world: &mut World, s: Slot, answer: Answer, trace: &mut T) -> Ending
     requires { IsReady world.old s }
     ensures come { HasCome (board_in world.old) (answers (unix_of world.old) s answer) result world.new }
@@ -138,6 +141,7 @@ fn conclude<T: Trace>(world: &mut World, s: Slot, answer: Answer, trace: &mut T)
 }
 
 /// A call on files, which has been entered.
+#[inline(never)]
 fn call_files<T: Trace>(
     world: &mut World,
     s: Slot,
@@ -163,6 +167,7 @@ fn call_files<T: Trace>(
 }
 
 /// A call on processes, which has been entered.
+#[inline(never)]
 fn call_processes<T: Trace>(
     world: &mut World,
     s: Slot,
@@ -212,6 +217,7 @@ fn share_files(table: &mut OpenTable, mine: &[u8; 15], answer: Answer)
 }
 
 /// fork(II): the child has its parent's open files.
+#[inline(never)]
 fn fork<T: Trace>(world: &mut World, s: Slot, trace: &mut T) -> Ending
     requires ready { IsReady world.old s }
     requires user { is_user (process_of (unix_of world.old) s) ≡ true }
@@ -239,6 +245,7 @@ fn fork<T: Trace>(world: &mut World, s: Slot, trace: &mut T) -> Ending
 }
 
 /// exit(II): the files of the process are closed, and it has ended.
+#[inline(never)]
 fn exit<T: Trace>(world: &mut World, s: Slot, trace: &mut T) -> Ending
     requires ready { IsReady world.old s }
     requires user { is_user (process_of (unix_of world.old) s) ≡ true }
@@ -282,6 +289,7 @@ fn grow_stack<T: Trace>(world: &mut World, s: Slot, sp: u16, trace: &mut T) -> E
 }
 
 /// A call that has been entered.
+#[inline(always)]
 fn does_call<T: Trace>(
     world: &mut World,
     s: Slot,
@@ -321,6 +329,7 @@ fn words_passed(asked: &Asked, count: u8) -> u8
 }
 
 /// A call by its number, where the PC has passed its word.
+#[inline(always)]
 fn call<T: Trace>(world: &mut World, s: Slot, number: u8, trace: &mut T) -> Ending
     requires ready { IsReady world.old s }
     requires user { is_user (process_of (unix_of world.old) s) ≡ true }
@@ -353,6 +362,8 @@ fn passes_setd(images: &Images, s: Slot, word: u16) -> bool
 }
 
 /// A fault, for which the stack may grow; else it is a signal.
+#[cold]
+#[inline(never)]
 fn fault<T: Trace>(world: &mut World, s: Slot, kind: Kind, trace: &mut T) -> Ending
     requires { IsReady world.old s }
     ensures come { HasCome (board_in world.old) (faults (unix_of world.old) s kind) result world.new }
@@ -379,7 +390,7 @@ fn fault<T: Trace>(world: &mut World, s: Slot, kind: Kind, trace: &mut T) -> End
 }
 
 /// What an instruction comes to that isn't just done.
-#[inline(never)]
+#[inline(always)]
 pub(crate) fn come_to<T: Trace>(
     world: &mut World,
     s: Slot,

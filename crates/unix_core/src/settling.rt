@@ -30,6 +30,7 @@ fn trap(table: &mut Table, s: Slot)
 }
 
 /// Ends a turn of a slot.
+#[inline(always)]
 pub(crate) fn end_turn<T: Trace>(table: &mut Table, s: Slot, ending: Ending, trace: &mut T)
     requires table { IsTable table.old }
     requires slot { s < 50 }

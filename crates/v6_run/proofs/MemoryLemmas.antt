@@ -6,7 +6,7 @@ use Rattle.v6_port.specs.Outside.{Out, same, PortState, Outside, Tells, OnlyAt}
 use Rattle.v6_port.specs.Causes.{Calm, FaultAt}
 use Rattle.abstract_unix.specs.declared.ends.Ends.{Ends}
 use Rattle.image_keep.specs.Kept.{Kept}
-use Rattle.image_keep.specs.Holds.{CoreHolds, SwapHolds, MemoryHolds, AreRangesApart}
+use Rattle.image_keep.specs.Holds.{MemoryHolds}
 use Rattle.abstract_unix.specs.Unix.{System}
 use Rattle.abstract_unix.specs.Runs.{Course, finished}
 use Rattle.unix_core.specs.Memory.{kept_in}
@@ -22,8 +22,10 @@ pub kept_finished : (m n : System) → n ≡ finished m → kept_in n ≡ kept_i
 unfolding kept_in
 kept_finished m n is = ap kept_in is
 
-pub memory_held : (core swap : List ℕ) (k : Kept) → CoreHolds core k → SwapHolds swap k → AreRangesApart k → MemoryHolds core swap k
-memory_held core swap k in_core in_swap apart = record { in_core = in_core; in_swap = in_swap; apart = apart }
+-- the bytes that are read hold what those of the kernel hold
+pub memory_held : (core swap its_core its_swap : List ℕ) (k : Kept) → core ≡ its_core → swap ≡ its_swap → MemoryHolds its_core its_swap k → MemoryHolds core swap k
+memory_held core swap its_core its_swap k is_core is_swap holds =
+    subst (λ l. MemoryHolds l swap k) (sym is_core) (subst (λ l. MemoryHolds its_core l k) (sym is_swap) holds)
 
 -- its file is opened
 module _ (run : Course) (a b : Outside) (opens : OnlyAt (same (Out out_port.Final)) a b) (opened : (final_of b).bytes ≡ (final_of a).bytes) where

@@ -1,7 +1,8 @@
 use Rattle.std.proofs.Common.{◌≡◌, ◌∙◌, ◌%◌, ℕ, List, slice_index, refl, sym, ap, subst}
 use Rattle.u_area.specs.declared.area.UArea.{UArea}
 use Rattle.fs_laws.specs.Rest.{SameRest}
-use Rattle.image_keep.specs.Kept.{Kept, area_of}
+use Rattle.image_keep.specs.Kept.{area_of}
+use Rattle.image_keep.specs.State.{ImagesState}
 use Rattle.abstract_unix.specs.declared.ending.Ending.TheVariants.{Trapped}
 use Rattle.abstract_unix.specs.Delivery.{catches}
 use Rattle.sig_core.specs.Delivery.{signal_stack}
@@ -55,7 +56,7 @@ returns-in-Ok-clause-come g c =
     let stays = beside w c.grow.new.tree c.grow.new.p in
     let e = c.grow.ensures in
     let t = c.tell-caught.ensures in
-    let k : Kept = c.tell-caught.new.world.procs.images.kept in
+    let k : ImagesState = c.tell-caught.new.world.procs.images in
     let grown = grows_ready w now s _ c.requires.ready c.see_nodes.ensures stays e.does c.in-Ok.field-0 c.in-Ok.is e.agree e.marks in
     subst (λ x. HasCome (board_in w) (catches (unix_of w) s sig) Trapped x) (sym t.others)
     (caught_come w now s _ sig c.requires.ready c.see_nodes.ensures stays (address w s c.area.result c.requires.ready c.area.ensures.u) e.does c.in-Ok.field-0 c.in-Ok.is
@@ -69,7 +70,7 @@ returns-in-Ok-clause-ready g c goes =
     let e = c.grow.ensures in
     let t = c.tell-caught.ensures in
     let grown = grows_ready w now s _ c.requires.ready c.see_nodes.ensures (beside w c.grow.new.tree c.grow.new.p) e.does c.in-Ok.field-0 c.in-Ok.is e.agree e.marks in
-    subst (λ x. IsReady x s) (sym t.others) (told_ready now s grown t.holds c.args.sig c.tell-caught.new.world.procs.images.kept t.images)
+    subst (λ x. IsReady x s) (sym t.others) (told_ready now s grown t.holds c.args.sig c.tell-caught.new.world.procs.images t.images)
 
 pub returns-in-Ok-clause-items : goal.returns-in-Ok-clause-items
 returns-in-Ok-clause-items g c =

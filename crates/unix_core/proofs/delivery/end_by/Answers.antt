@@ -4,7 +4,7 @@ use Rattle.fs_laws.specs.Rest.{SameRest}
 use Rattle.fs_laws.proofs.RestLemmas.{rest_then}
 use Rattle.pick_rules.specs.Logged.{logged}
 use Rattle.u_area.specs.declared.area.UArea.{UArea}
-use Rattle.image_keep.specs.Kept.{IsKept, area_of, image_of, with_area, with_image}
+use Rattle.image_keep.specs.Kept.{Kept, IsKept, area_of, image_of, with_area, with_image}
 use Rattle.sig_core.specs.declared.psig.Delivered.{Delivered}
 use Rattle.sig_core.specs.declared.psig.Delivered.TheVariants.{Ends}
 use Rattle.sig_core.specs.Signals.{handler_of}
@@ -13,7 +13,7 @@ use Rattle.sys_files.specs.Did.{Did}
 use Rattle.sys_files.specs.Core.{core_file, is_written}
 use Rattle.sys_procs.specs.Agree.{board_of}
 use Rattle.sys_procs.specs.declared.procs.Procs.{Procs}
-use Rattle.abstract_unix.specs.Unix.{process_of}
+use Rattle.abstract_unix.specs.Unix.{Unix, process_of}
 use Rattle.abstract_unix.specs.Steps.{Steps}
 use Rattle.abstract_unix.specs.Calls.{handed_of, with_handed, exits_with}
 use Rattle.abstract_unix.specs.Delivery.{signal_status, dumped, ends_after, ends_by}
@@ -21,7 +21,7 @@ use Rattle.abstract_unix.specs.Turn.{is_user}
 use Rattle.unix_core.specs.declared.world.World.{World}
 use Rattle.unix_core.specs.Parts.{unix_of, board_in, HasCome, IsReady}
 use Rattle.unix_core.proofs.AreaLemmas.{own_area}
-use Rattle.unix_core.proofs.PutLemmas.{with_images}
+use Rattle.unix_core.proofs.PutLemmas.{with_images, with_kept, ready_bytes}
 use Rattle.unix_core.proofs.DeliveryLemmas.{told_none, delivered_none}
 use Rattle.unix_core.proofs.delivery.end_by.Goals as goal
 
@@ -45,9 +45,24 @@ module _ (w w1 : World) (s sig : ℕ) (ready : IsReady w s) (holds : IsKept w.pr
     (answer : told ≡ (delivery (area_of w.procs.images.kept s) sig (image_of w.procs.images.kept s)).answer)
     (images : w1.procs.images.kept ≡ with_area (with_image w.procs.images.kept s (delivery (area_of w.procs.images.kept s) sig (image_of w.procs.images.kept s)).image) s
     (delivery (area_of w.procs.images.kept s) sig (image_of w.procs.images.kept s)).area)
-    (others : w1 ≡ with_images w w1.procs.images.kept) where
-  same : w1 ≡ w
-  same = others ∙ ap (with_images w) (told_none w s ready holds sig w1.procs.images.kept images zero)
+    (others : w1 ≡ with_images w w1.procs.images) where
+  same : w1.procs.images.kept ≡ w.procs.images.kept
+  same = told_none w s ready holds sig w1.procs.images images zero
+
+  same_unix : unix_of w1 ≡ unix_of w
+  same_unix = ap unix_of others ∙ ap (λ (k : Kept). unix_of (with_kept w w1.procs.images k)) same
+
+  same_board : board_in w1 ≡ board_in w
+  same_board = ap board_in others ∙ ap (λ (k : Kept). board_in (with_kept w w1.procs.images k)) same
+
+  same_core : core_of w1 s ≡ core_of w s
+  same_core = ap (λ x. core_of x s) others ∙ ap (λ (k : Kept). core_of (with_kept w w1.procs.images k) s) same
+
+  still_ready : IsReady w1 s
+  still_ready = subst (λ x. IsReady x s) (sym others) (ready_bytes w w1.procs.images same s ready)
+
+  still_user : is_user (process_of (unix_of w) s) ≡ true → is_user (process_of (unix_of w1) s) ≡ true
+  still_user user = ap (λ (u : Unix). is_user (process_of u s)) same_unix ∙ user
 
   ends_so : told ≡ Ends (makes_core sig)
   ends_so = answer ∙ ap (λ (d : Delivery). d.answer) (delivered_none (area_of w.procs.images.kept s) sig (image_of w.procs.images.kept s) zero)
@@ -61,14 +76,14 @@ module _ (w w1 : World) (s sig : ℕ) (ready : IsReady w s) (holds : IsKept w.pr
 
     without : b ≡ false → (n : ℕ) → n ≡ signal_status (unix_of w) s sig → exits_with (unix_of w1) s n ≡ ends_by (unix_of w) s sig
     without is n status =
-        (λ i. exits_with (unix_of (same i)) s (status i)) ∙ ap by_core (sym is ∙ each (makes_core sig) ends_so)
+        (λ i. exits_with (same_unix i) s (status i)) ∙ ap by_core (sym is ∙ each (makes_core sig) ends_so)
 
     with_file : b ≡ true → (w2 : World) (n : ℕ) → unix_of w2 ≡ with_handed (unix_of w1) s (core_of w1 s).state → n ≡ signal_status (unix_of w) s sig + flag w1 s
         → exits_with (unix_of w2) s n ≡ ends_by (unix_of w) s sig
     with_file is w2 n unix status =
-        let whole : n ≡ signal_status (unix_of w) s sig + flag w s = status ∙ ap (λ x. signal_status (unix_of w) s sig + flag x s) same in
+        let whole : n ≡ signal_status (unix_of w) s sig + flag w s = status ∙ ap (λ (d : Did). signal_status (unix_of w) s sig + (if is_written d.answer then dumped else 0)) same_core in
         (λ i. exits_with (unix i) s (whole i))
-        ∙ ap (λ x. exits_with (with_handed (unix_of x) s (core_of x s).state) s (signal_status (unix_of w) s sig + flag w s)) same
+        ∙ (λ i. exits_with (with_handed (same_unix i) s (same_core i).state) s (signal_status (unix_of w) s sig + flag w s))
         ∙ ap by_core (sym is ∙ each (makes_core sig) ends_so)
 
 pub area-requires : goal.area-requires
@@ -84,15 +99,13 @@ pub put_core-whole-requires-clause-ready : goal.put_core-whole-requires-clause-r
 put_core-whole-requires-clause-ready g c =
     let w : World = c.args.world.now in
     let t = c.tell-told.ensures in
-    subst (λ x. IsReady x c.args.s) (sym (same w c.tell-told.new.world c.args.s c.args.sig c.requires.ready t.holds c.requires.default c.tell-told.result t.answer t.images t.others))
-    c.requires.ready
+    still_ready w c.tell-told.new.world c.args.s c.args.sig c.requires.ready t.holds c.requires.default c.tell-told.result t.answer t.images t.others
 
 pub put_core-whole-requires-clause-user : goal.put_core-whole-requires-clause-user
 put_core-whole-requires-clause-user g c =
     let w : World = c.args.world.now in
     let t = c.tell-told.ensures in
-    subst (λ x. is_user (process_of (unix_of x) c.args.s) ≡ true)
-    (sym (same w c.tell-told.new.world c.args.s c.args.sig c.requires.ready t.holds c.requires.default c.tell-told.result t.answer t.images t.others)) c.requires.user
+    still_user w c.tell-told.new.world c.args.s c.args.sig c.requires.ready t.holds c.requires.default c.tell-told.result t.answer t.images t.others c.requires.user
 
 pub returns-then-leaves_core-clause-come : goal.returns-then-leaves_core-clause-come
 returns-then-leaves_core-clause-come g c =
@@ -100,8 +113,8 @@ returns-then-leaves_core-clause-come g c =
     let w1 : World = c.tell-told.new.world in
     let t = c.tell-told.ensures in
     let p = c.put_core-whole.ensures in
-    let is = same w w1 c.args.s c.args.sig c.requires.ready t.holds c.requires.default c.tell-told.result t.answer t.images t.others in
-    let board : board_in c.put_core-whole.new.world ≡ board_in w = ap (λ (x : Procs). board_of x.table x.images) p.procs ∙ ap board_in is in
+    let is = same_board w w1 c.args.s c.args.sig c.requires.ready t.holds c.requires.default c.tell-told.result t.answer t.images t.others in
+    let board : board_in c.put_core-whole.new.world ≡ board_in w = ap (λ (x : Procs). board_of x.table x.images.kept) p.procs ∙ is in
     let n = total _ _ _ _ (status_is w c.args.s c.args.sig c.area.result c.from.result c.requires.ready c.area.ensures.u c.from.ensures)
     (c.flag_of.ensures ∙ ap (λ b. if b then dumped else 0) p.whole) in
     subst (λ b. HasCome b (ends_by (unix_of w) c.args.s c.args.sig) c.end_with.result c.end_with.new.world) board
@@ -116,8 +129,8 @@ returns-then-leaves_core-clause-items g c =
     let w1 : World = c.tell-told.new.world in
     let t = c.tell-told.ensures in
     let p = c.put_core-whole.ensures in
-    let is = same w w1 c.args.s c.args.sig c.requires.ready t.holds c.requires.default c.tell-told.result t.answer t.images t.others in
-    let board : board_in c.put_core-whole.new.world ≡ board_in w = ap (λ (x : Procs). board_of x.table x.images) p.procs ∙ ap board_in is in
+    let is = same_board w w1 c.args.s c.args.sig c.requires.ready t.holds c.requires.default c.tell-told.result t.answer t.images t.others in
+    let board : board_in c.put_core-whole.new.world ≡ board_in w = ap (λ (x : Procs). board_of x.table x.images.kept) p.procs ∙ is in
     let n = total _ _ _ _ (status_is w c.args.s c.args.sig c.area.result c.from.result c.requires.ready c.area.ensures.u c.from.ensures)
     (c.flag_of.ensures ∙ ap (λ b. if b then dumped else 0) p.whole) in
     subst (λ b. Took (g.T.Trace.taken c.args.trace.now) (logged b (ends_by (unix_of w) c.args.s c.args.sig).effects).items (g.T.Trace.taken c.end_with.new.trace)) board
@@ -129,31 +142,28 @@ returns-then-leaves_core-clause-items g c =
 pub returns-then-leaves_core-clause-rest : goal.returns-then-leaves_core-clause-rest
 returns-then-leaves_core-clause-rest g c =
     let t = c.tell-told.ensures in
-    let is = same c.args.world.now c.tell-told.new.world c.args.s c.args.sig c.requires.ready t.holds c.requires.default c.tell-told.result t.answer t.images t.others in
-    subst (λ (x : World). SameRest x.files.tree.nodes.blocks c.end_with.new.world.files.tree.nodes.blocks) is
+    subst (λ (x : World). SameRest x.files.tree.nodes.blocks c.end_with.new.world.files.tree.nodes.blocks) t.others
     (rest_then _ _ _ c.put_core-whole.ensures.rest c.end_with.ensures.rest)
 
 pub end_with-requires-2-clause-ready : goal.end_with-requires-2-clause-ready
 end_with-requires-2-clause-ready g c =
     let w : World = c.args.world.now in
     let t = c.tell-told.ensures in
-    subst (λ x. IsReady x c.args.s) (sym (same w c.tell-told.new.world c.args.s c.args.sig c.requires.ready t.holds c.requires.default c.tell-told.result t.answer t.images t.others))
-    c.requires.ready
+    still_ready w c.tell-told.new.world c.args.s c.args.sig c.requires.ready t.holds c.requires.default c.tell-told.result t.answer t.images t.others
 
 pub end_with-requires-2-clause-user : goal.end_with-requires-2-clause-user
 end_with-requires-2-clause-user g c =
     let w : World = c.args.world.now in
     let t = c.tell-told.ensures in
-    subst (λ x. is_user (process_of (unix_of x) c.args.s) ≡ true)
-    (sym (same w c.tell-told.new.world c.args.s c.args.sig c.requires.ready t.holds c.requires.default c.tell-told.result t.answer t.images t.others)) c.requires.user
+    still_user w c.tell-told.new.world c.args.s c.args.sig c.requires.ready t.holds c.requires.default c.tell-told.result t.answer t.images t.others c.requires.user
 
 pub returns-clause-come : goal.returns-clause-come
 returns-clause-come g c =
     let w : World = c.args.world.now in
     let w1 : World = c.tell-told.new.world in
     let t = c.tell-told.ensures in
-    let is = same w w1 c.args.s c.args.sig c.requires.ready t.holds c.requires.default c.tell-told.result t.answer t.images t.others in
-    subst (λ b. HasCome b (ends_by (unix_of w) c.args.s c.args.sig) c.end_with-2.result c.end_with-2.new.world) (ap board_in is)
+    let is = same_board w w1 c.args.s c.args.sig c.requires.ready t.holds c.requires.default c.tell-told.result t.answer t.images t.others in
+    subst (λ b. HasCome b (ends_by (unix_of w) c.args.s c.args.sig) c.end_with-2.result c.end_with-2.new.world) is
     (subst (λ x. HasCome (board_in w1) x c.end_with-2.result c.end_with-2.new.world)
     (without w w1 c.args.s c.args.sig c.requires.ready t.holds c.requires.default c.tell-told.result t.answer t.images t.others
     c.leaves_core.result c.leaves_core.ensures c.if-leaves_core.false _
@@ -165,8 +175,8 @@ returns-clause-items g c =
     let w : World = c.args.world.now in
     let w1 : World = c.tell-told.new.world in
     let t = c.tell-told.ensures in
-    let is = same w w1 c.args.s c.args.sig c.requires.ready t.holds c.requires.default c.tell-told.result t.answer t.images t.others in
-    subst (λ b. Took (g.T.Trace.taken c.args.trace.now) (logged b (ends_by (unix_of w) c.args.s c.args.sig).effects).items (g.T.Trace.taken c.end_with-2.new.trace)) (ap board_in is)
+    let is = same_board w w1 c.args.s c.args.sig c.requires.ready t.holds c.requires.default c.tell-told.result t.answer t.images t.others in
+    subst (λ b. Took (g.T.Trace.taken c.args.trace.now) (logged b (ends_by (unix_of w) c.args.s c.args.sig).effects).items (g.T.Trace.taken c.end_with-2.new.trace)) is
     (subst (λ (x : Steps). Took (g.T.Trace.taken c.args.trace.now) (logged (board_in w1) x.effects).items (g.T.Trace.taken c.end_with-2.new.trace))
     (without w w1 c.args.s c.args.sig c.requires.ready t.holds c.requires.default c.tell-told.result t.answer t.images t.others
     c.leaves_core.result c.leaves_core.ensures c.if-leaves_core.false _
@@ -176,5 +186,4 @@ returns-clause-items g c =
 pub returns-clause-rest : goal.returns-clause-rest
 returns-clause-rest g c =
     let t = c.tell-told.ensures in
-    let is = same c.args.world.now c.tell-told.new.world c.args.s c.args.sig c.requires.ready t.holds c.requires.default c.tell-told.result t.answer t.images t.others in
-    subst (λ (x : World). SameRest x.files.tree.nodes.blocks c.end_with-2.new.world.files.tree.nodes.blocks) is c.end_with-2.ensures.rest
+    subst (λ (x : World). SameRest x.files.tree.nodes.blocks c.end_with-2.new.world.files.tree.nodes.blocks) t.others c.end_with-2.ensures.rest

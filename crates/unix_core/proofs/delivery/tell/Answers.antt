@@ -6,7 +6,7 @@ use Rattle.image_keep.specs.Kept.{Kept, HasImage, HasSizes, area_of, image_of, w
 use Rattle.image_keep.specs.Lent.{Lent, left_of}
 use Rattle.image_keep.proofs.Frames.{image_alive, with_image_has, with_image_same}
 use Rattle.sig_core.specs.Delivery.{Delivery, delivery}
-use Rattle.unix_core.proofs.LoanLemmas.{lent_back}
+use Rattle.unix_core.proofs.LoanLemmas.{same_kept, lent_back}
 use Rattle.unix_core.proofs.DeliveryLemmas.{told_sizes}
 use Rattle.unix_core.proofs.delivery.tell.Goals as goal
 
@@ -39,10 +39,10 @@ module _ (k before now : Kept) (s was is sig : ℕ) (a b : GName) (u v : UArea) 
 pub set_area-requires : goal.set_area-requires
 set_area-requires c = record {
   image = has_back c.args.world.now.procs.images.kept c.space-space.result.images.now.kept c.deliver-told.new.space.images.now.kept c.args.s c.space-space.result.slot c.deliver-told.new.space.slot c.args.sig
-      _ _ c.area-u.result c.deliver-told.new.u c.requires.image c.area-u.ensures.sizes c.area-u.ensures.u c.space-space.ensures.images c.space-space.ensures.slot
+      _ _ c.area-u.result c.deliver-told.new.u c.requires.image c.area-u.ensures.sizes c.area-u.ensures.u (same_kept c.space-space.ensures.images) c.space-space.ensures.slot
       c.deliver-told.ensures.rest c.deliver-told.ensures.area c.deliver-told.ensures.image;
   sizes = sizes_back c.args.world.now.procs.images.kept c.space-space.result.images.now.kept c.deliver-told.new.space.images.now.kept c.args.s c.space-space.result.slot c.deliver-told.new.space.slot c.args.sig
-      _ _ c.area-u.result c.deliver-told.new.u c.requires.image c.area-u.ensures.sizes c.area-u.ensures.u c.space-space.ensures.images c.space-space.ensures.slot
+      _ _ c.area-u.result c.deliver-told.new.u c.requires.image c.area-u.ensures.sizes c.area-u.ensures.u (same_kept c.space-space.ensures.images) c.space-space.ensures.slot
       c.deliver-told.ensures.rest c.deliver-told.ensures.area c.deliver-told.ensures.image;
 }
 
@@ -53,9 +53,9 @@ returns-clause-images c =
     c.set_area.ensures
     ∙ ap (λ x. with_area x c.args.s c.deliver-told.new.u)
     (back k c.space-space.result.images.now.kept c.deliver-told.new.space.images.now.kept c.args.s c.space-space.result.slot c.deliver-told.new.space.slot c.args.sig
-    _ _ c.area-u.result c.deliver-told.new.u c.requires.image c.area-u.ensures.sizes c.area-u.ensures.u c.space-space.ensures.images c.space-space.ensures.slot
+    _ _ c.area-u.result c.deliver-told.new.u c.requires.image c.area-u.ensures.sizes c.area-u.ensures.u (same_kept c.space-space.ensures.images) c.space-space.ensures.slot
     c.deliver-told.ensures.rest c.deliver-told.ensures.area c.deliver-told.ensures.image)
     ∙ ap (with_area (with_image k c.args.s d.image) c.args.s)
     (v_is k c.space-space.result.images.now.kept c.deliver-told.new.space.images.now.kept c.args.s c.space-space.result.slot c.deliver-told.new.space.slot c.args.sig
-    _ _ c.area-u.result c.deliver-told.new.u c.requires.image c.area-u.ensures.sizes c.area-u.ensures.u c.space-space.ensures.images c.space-space.ensures.slot
+    _ _ c.area-u.result c.deliver-told.new.u c.requires.image c.area-u.ensures.sizes c.area-u.ensures.u (same_kept c.space-space.ensures.images) c.space-space.ensures.slot
     c.deliver-told.ensures.rest c.deliver-told.ensures.area c.deliver-told.ensures.image)

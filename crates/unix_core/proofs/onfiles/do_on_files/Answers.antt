@@ -9,7 +9,7 @@ use Rattle.unix_core.specs.declared.world.World.{World}
 use Rattle.unix_core.specs.Parts.{unix_of}
 use Rattle.unix_core.proofs.AreaLemmas.{none_pending}
 use Rattle.unix_core.proofs.WorldLemmas.{sound_parts}
-use Rattle.unix_core.proofs.LoanLemmas.{lent_back}
+use Rattle.unix_core.proofs.LoanLemmas.{same_kept, lent_back}
 use Rattle.unix_core.proofs.LoanBack.{area_put, row_put}
 use Rattle.unix_core.proofs.LeavingLemmas.{given, area_is, lends, call_done}
 use Rattle.unix_core.proofs.onfiles.do_on_files.Goals as goal
@@ -33,9 +33,9 @@ set_area-requires c =
     let w : World = c.args.world.now in
     let now : Kept = c.do_file_call-answer.new.space.images.now.kept in
     let lent = lends w c.args.s _ _ c.requires.ready c.see_nodes.ensures c.area-u.ensures.sizes c.area-u.ensures.holds c.area-u.ensures.u c.row.ensures
-    c.space-space.ensures.images c.space-space.ensures.slot in
+    (same_kept c.space-space.ensures.images) c.space-space.ensures.slot in
     let back = lent_back w.procs.images.kept c.space-space.result.images.now.kept now c.args.s c.space-space.result.slot c.do_file_call-answer.new.space.slot _ _
-    c.space-space.ensures.images c.space-space.ensures.slot c.do_file_call-answer.ensures.memory in
+    (same_kept c.space-space.ensures.images) c.space-space.ensures.slot c.do_file_call-answer.ensures.memory in
     let put = area_put w c.args.s lent (λ h. file_row c.args.call h c.args.s c.args.args w.procs.table.now) (row_confined c.args.call (given w c.args.s) c.args.s c.args.args w.procs.table.now c.see_count.ensures).steady
     c.do_file_call-answer.new.files c.do_file_call-answer.new.u c.do_file_call-answer.new.row _ c.do_file_call-answer.ensures.does.state now back in
     record { image = put.0; sizes = put.1 }
@@ -44,7 +44,7 @@ pub set_row-requires-clause-pid : goal.set_row-requires-clause-pid
 set_row-requires-clause-pid c =
     let w : World = c.args.world.now in
     let lent = lends w c.args.s _ _ c.requires.ready c.see_nodes.ensures c.area-u.ensures.sizes c.area-u.ensures.holds c.area-u.ensures.u c.row.ensures
-    c.space-space.ensures.images c.space-space.ensures.slot in
+    (same_kept c.space-space.ensures.images) c.space-space.ensures.slot in
     (row_put w c.args.s lent (λ h. file_row c.args.call h c.args.s c.args.args w.procs.table.now) (row_confined c.args.call (given w c.args.s) c.args.s c.args.args w.procs.table.now c.see_count.ensures).steady
     c.do_file_call-answer.new.files c.do_file_call-answer.new.u c.do_file_call-answer.new.row _ c.do_file_call-answer.ensures.does.state).pid
 
@@ -52,7 +52,7 @@ pub set_row-requires-clause-ppid : goal.set_row-requires-clause-ppid
 set_row-requires-clause-ppid c =
     let w : World = c.args.world.now in
     let lent = lends w c.args.s _ _ c.requires.ready c.see_nodes.ensures c.area-u.ensures.sizes c.area-u.ensures.holds c.area-u.ensures.u c.row.ensures
-    c.space-space.ensures.images c.space-space.ensures.slot in
+    (same_kept c.space-space.ensures.images) c.space-space.ensures.slot in
     (row_put w c.args.s lent (λ h. file_row c.args.call h c.args.s c.args.args w.procs.table.now) (row_confined c.args.call (given w c.args.s) c.args.s c.args.args w.procs.table.now c.see_count.ensures).steady
     c.do_file_call-answer.new.files c.do_file_call-answer.new.u c.do_file_call-answer.new.row _ c.do_file_call-answer.ensures.does.state).ppid
 
@@ -61,9 +61,9 @@ returns c =
     let w : World = c.args.world.now in
     let now : Kept = c.do_file_call-answer.new.space.images.now.kept in
     let lent = lends w c.args.s _ _ c.requires.ready c.see_nodes.ensures c.area-u.ensures.sizes c.area-u.ensures.holds c.area-u.ensures.u c.row.ensures
-    c.space-space.ensures.images c.space-space.ensures.slot in
+    (same_kept c.space-space.ensures.images) c.space-space.ensures.slot in
     let back = lent_back w.procs.images.kept c.space-space.result.images.now.kept now c.args.s c.space-space.result.slot c.do_file_call-answer.new.space.slot _ _
-    c.space-space.ensures.images c.space-space.ensures.slot c.do_file_call-answer.ensures.memory in
+    (same_kept c.space-space.ensures.images) c.space-space.ensures.slot c.do_file_call-answer.ensures.memory in
     let done = call_done w c.args.s lent (λ h. file_row c.args.call h c.args.s c.args.args w.procs.table.now) (row_confined c.args.call (given w c.args.s) c.args.s c.args.args w.procs.table.now c.see_count.ensures)
     (row_pends c.args.call (given w c.args.s) c.args.s c.args.args w.procs.table.now (none_pending (process_of (unix_of w) c.args.s) c.requires.user))
     c.clear.new.self c.do_file_call-answer.new.trace c.do_file_call-answer.new.files c.do_file_call-answer.new.u c.do_file_call-answer.new.row _ c.do_file_call-answer.ensures.does

@@ -16,7 +16,7 @@ use Rattle.abstract_unix.proofs.GoingOnLemmas.{handed_goes_on, handed_pends}
 use Rattle.unix_core.specs.Parts.{unix_of, IsReady}
 use Rattle.unix_core.proofs.AreaLemmas.{own_area}
 use Rattle.unix_core.proofs.WorldLemmas.{slot_is, is_living, sound_parts}
-use Rattle.unix_core.proofs.LoanLemmas.{lent_back}
+use Rattle.unix_core.proofs.LoanLemmas.{same_kept, lent_back}
 use Rattle.unix_core.proofs.LoanBack.{area_put, row_put}
 use Rattle.unix_core.proofs.LeavingLemmas.{given, area_is, lends, lent_parts, call_done}
 use Rattle.unix_core.proofs.onfiles.resume_on_files.Goals as goal
@@ -72,7 +72,7 @@ resume_file-answer-requires-clause-pending c =
     let w : World = c.args.world.now in
     let ready = c.requires.ready in
     let lent = lends w c.args.s _ _ ready c.see_nodes.ensures c.area-u.ensures.sizes c.area-u.ensures.holds c.area-u.ensures.u c.row.ensures
-    c.space-space.ensures.images c.space-space.ensures.slot in
+    (same_kept c.space-space.ensures.images) c.space-space.ensures.slot in
     subst CanGoOn (sym (lent_parts w c.args.s lent))
     (handed_goes_on (unix_of w) c.args.s ready.good.pending (slot_is w c.args.s ready) (is_living w c.args.s ready) (pends_on w c.args.s ready c.requires.pending))
 
@@ -82,9 +82,9 @@ set_area-requires c =
     let w : World = c.args.world.now in
     let now : Kept = c.resume_file-answer.new.space.images.now.kept in
     let lent = lends w c.args.s _ _ c.requires.ready c.see_nodes.ensures c.area-u.ensures.sizes c.area-u.ensures.holds c.area-u.ensures.u c.row.ensures
-    c.space-space.ensures.images c.space-space.ensures.slot in
+    (same_kept c.space-space.ensures.images) c.space-space.ensures.slot in
     let back = lent_back w.procs.images.kept c.space-space.result.images.now.kept now c.args.s c.space-space.result.slot c.resume_file-answer.new.space.slot _ _
-    c.space-space.ensures.images c.space-space.ensures.slot c.resume_file-answer.ensures.memory in
+    (same_kept c.space-space.ensures.images) c.space-space.ensures.slot c.resume_file-answer.ensures.memory in
     let put = area_put w c.args.s lent (λ h. resumes h c.args.s w.procs.table.now) (confined w c.args.s c.requires.ready c.requires.pending).steady
     c.resume_file-answer.new.f c.resume_file-answer.new.u c.resume_file-answer.new.row _ c.resume_file-answer.ensures.does.state now back in
     record { image = put.0; sizes = put.1 }
@@ -93,7 +93,7 @@ pub set_row-requires-clause-pid : goal.set_row-requires-clause-pid
 set_row-requires-clause-pid c =
     let w : World = c.args.world.now in
     let lent = lends w c.args.s _ _ c.requires.ready c.see_nodes.ensures c.area-u.ensures.sizes c.area-u.ensures.holds c.area-u.ensures.u c.row.ensures
-    c.space-space.ensures.images c.space-space.ensures.slot in
+    (same_kept c.space-space.ensures.images) c.space-space.ensures.slot in
     (row_put w c.args.s lent (λ h. resumes h c.args.s w.procs.table.now) (confined w c.args.s c.requires.ready c.requires.pending).steady
     c.resume_file-answer.new.f c.resume_file-answer.new.u c.resume_file-answer.new.row _ c.resume_file-answer.ensures.does.state).pid
 
@@ -101,7 +101,7 @@ pub set_row-requires-clause-ppid : goal.set_row-requires-clause-ppid
 set_row-requires-clause-ppid c =
     let w : World = c.args.world.now in
     let lent = lends w c.args.s _ _ c.requires.ready c.see_nodes.ensures c.area-u.ensures.sizes c.area-u.ensures.holds c.area-u.ensures.u c.row.ensures
-    c.space-space.ensures.images c.space-space.ensures.slot in
+    (same_kept c.space-space.ensures.images) c.space-space.ensures.slot in
     (row_put w c.args.s lent (λ h. resumes h c.args.s w.procs.table.now) (confined w c.args.s c.requires.ready c.requires.pending).steady
     c.resume_file-answer.new.f c.resume_file-answer.new.u c.resume_file-answer.new.row _ c.resume_file-answer.ensures.does.state).ppid
 
@@ -110,9 +110,9 @@ returns c =
     let w : World = c.args.world.now in
     let now : Kept = c.resume_file-answer.new.space.images.now.kept in
     let lent = lends w c.args.s _ _ c.requires.ready c.see_nodes.ensures c.area-u.ensures.sizes c.area-u.ensures.holds c.area-u.ensures.u c.row.ensures
-    c.space-space.ensures.images c.space-space.ensures.slot in
+    (same_kept c.space-space.ensures.images) c.space-space.ensures.slot in
     let back = lent_back w.procs.images.kept c.space-space.result.images.now.kept now c.args.s c.space-space.result.slot c.resume_file-answer.new.space.slot _ _
-    c.space-space.ensures.images c.space-space.ensures.slot c.resume_file-answer.ensures.memory in
+    (same_kept c.space-space.ensures.images) c.space-space.ensures.slot c.resume_file-answer.ensures.memory in
     let done = call_done w c.args.s lent (λ h. resumes h c.args.s w.procs.table.now) (confined w c.args.s c.requires.ready c.requires.pending)
     (resume_pends (given w c.args.s) c.args.s w.procs.table.now (pends_on w c.args.s c.requires.ready c.requires.pending)
     (handed_pends (unix_of w) c.args.s c.requires.ready.good.pending (slot_is w c.args.s c.requires.ready) (is_living w c.args.s c.requires.ready)))

@@ -41,7 +41,7 @@ returns-clause-come g c =
     c.sysent_of-entry.ensures in
     subst (λ b. HasCome b (system_call c.args.number (unix_of w) s) c.does_call.result
     c.does_call.new.world) same
-    (subst (λ (x : Steps). HasCome (board_in (record w { procs = record w.procs { images = c.enter.new.images.kept } })) x
+    (subst (λ (x : Steps). HasCome (board_in (record w { procs = record w.procs { images = c.enter.new.images } })) x
     c.does_call.result c.does_call.new.world) steps c.does_call.ensures.come)
 
 pub returns-clause-items : goal.returns-clause-items
@@ -59,5 +59,5 @@ returns-clause-items g c =
     (logged b (system_call c.args.number (unix_of w) s).effects).items
     (g.T.Trace.taken c.does_call.new.trace)) same
     (subst (λ (x : Steps). Took (g.T.Trace.taken c.args.trace.now)
-    (logged (board_in (record w { procs = record w.procs { images = c.enter.new.images.kept } })) x.effects).items
+    (logged (board_in (record w { procs = record w.procs { images = c.enter.new.images } })) x.effects).items
     (g.T.Trace.taken c.does_call.new.trace)) steps c.does_call.ensures.items)

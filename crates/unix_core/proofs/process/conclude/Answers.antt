@@ -15,14 +15,14 @@ give-requires g c = c.requires.good.running c.args.s c.requires.runs c.requires.
 pub returns-in-Ret-clause-come : goal.returns-in-Ret-clause-come
 returns-in-Ret-clause-come g c =
     let w : World = c.args.world.now in
-    subst (λ (a : Answer). HasCome (board_in w) (answers (unix_of w) c.args.s a) Trapped (record w { procs = record w.procs { images = c.give.new.images.kept } }))
+    subst (λ (a : Answer). HasCome (board_in w) (answers (unix_of w) c.args.s a) Trapped (record w { procs = record w.procs { images = c.give.new.images } }))
     (sym c.in-Ret.is)
-    (ruled_come w c.args.s c.requires (given_area c.in-Ret.r0 c.in-Ret.r1) c.give.new.images.kept c.give.ensures)
+    (ruled_come w c.args.s c.requires (given_area c.in-Ret.r0 c.in-Ret.r1) c.give.new.images c.give.ensures)
 
 pub returns-in-Ret-clause-ready : goal.returns-in-Ret-clause-ready
 returns-in-Ret-clause-ready g c =
     let w : World = c.args.world.now in
-    ruled_ready w c.args.s c.requires (given_area c.in-Ret.r0 c.in-Ret.r1) c.give.new.images.kept c.give.ensures
+    ruled_ready w c.args.s c.requires (given_area c.in-Ret.r0 c.in-Ret.r1) c.give.new.images c.give.ensures
     (record { clicks = refl; files = refl; dir = refl; pending = refl; call = refl })
 
 pub returns-in-Ret-clause-items : goal.returns-in-Ret-clause-items

@@ -24,14 +24,14 @@ pub returns-clause-come : goal.returns-clause-come
 returns-clause-come g c =
     let w : World = c.args.world.now in
     let n = c.error_number-number.result in
-    subst (λ (x : Steps). HasCome (board_in w) x Trapped (record w { procs = record w.procs { images = c.refuse.new.images.kept } }))
+    subst (λ (x : Steps). HasCome (board_in w) x Trapped (record w { procs = record w.procs { images = c.refuse.new.images } }))
     (told (unix_of w) c.args.s n _ c.if-number-ge-FIRST_SIGNAL.false c.error_number-number.ensures)
-    (ruled_come w c.args.s c.requires (refused_area n) c.refuse.new.images.kept c.refuse.ensures)
+    (ruled_come w c.args.s c.requires (refused_area n) c.refuse.new.images c.refuse.ensures)
 
 pub returns-clause-ready : goal.returns-clause-ready
 returns-clause-ready g c =
     let w : World = c.args.world.now in
-    ruled_ready w c.args.s c.requires (refused_area c.error_number-number.result) c.refuse.new.images.kept c.refuse.ensures
+    ruled_ready w c.args.s c.requires (refused_area c.error_number-number.result) c.refuse.new.images c.refuse.ensures
     (record { clicks = refl; files = refl; dir = refl; pending = refl; call = refl })
 
 pub returns-clause-items : goal.returns-clause-items

@@ -8,4 +8,4 @@ returns-clause-written g c =
     let core = c.core-core.result.now in
     let swap = c.swap-swap.result.now in
     let is = c.finish.ensures.kept ∙ kept_finished _ _ c.finish.ensures.system in
-    (core, swap, subst (MemoryHolds core swap) is (memory_held core swap _ c.core-core.ensures.holds c.swap-swap.ensures.holds c.core-core.ensures.apart), c.write_both.ensures.whole, c.write_both.ensures.front)
+    (core, swap, subst (MemoryHolds core swap) is (memory_held core swap _ _ _ c.core-core.ensures.bytes c.swap-swap.ensures.bytes c.core-core.ensures.holds), c.write_both.ensures.whole, c.write_both.ensures.front)

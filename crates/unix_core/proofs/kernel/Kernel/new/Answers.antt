@@ -18,10 +18,10 @@ returns-clause-system c =
     } in
     let made = c.make_first.ensures in
     first_system c.args.nodes c.args.core c.requires.referred
-    w c.new-tree.ensures.nodes c.new-tree.ensures.none c.new.ensures c.new-3.ensures c.new-2.ensures (ap (λ (p : Procs). p.rows) made ∙ c.new-4.ensures)
-    (ap (λ (p : Procs). p.table) made ∙ c.new-5.ensures.table ∙ ap first_table c.requires.time)
-    (subst (λ (p : Procs). IsTable p.table) (sym made) c.new-5.ensures.good)
-    (ap (λ (p : Procs). p.images.kept) made ∙ ap (λ (k : Kept). with_keeping k 1 (Alive first_held)) c.requires.images) (ap (λ (p : Procs). p.switches) made)
+    w c.new-tree.ensures.nodes c.new-tree.ensures.none c.new.ensures c.new-3.ensures c.new-2.ensures (ap (λ (p : Procs). p.rows) made.others ∙ c.new-4.ensures)
+    (ap (λ (p : Procs). p.table) made.others ∙ c.new-5.ensures.table ∙ ap first_table c.requires.time)
+    (subst (λ (p : Procs). IsTable p.table) (sym made.others) c.new-5.ensures.good)
+    (made.kept ∙ ap (λ (k : Kept). with_keeping k 1 (Alive first_held)) c.requires.images) (ap (λ (p : Procs). p.switches) made.others)
     (ap (λ t. t.entry_room) c.requires.tape) (ap (λ t. t.byte_room) c.requires.tape) refl
 
 pub returns-clause-blocks : goal.returns-clause-blocks
@@ -37,8 +37,8 @@ invariant_of-result c =
     } in
     let made = c.make_first.ensures in
     first_kernel c.args.nodes c.args.core c.requires.referred
-    w c.new-tree.ensures.nodes c.new-tree.ensures.none c.new.ensures c.new-3.ensures c.new-2.ensures (ap (λ (p : Procs). p.rows) made ∙ c.new-4.ensures)
-    (ap (λ (p : Procs). p.table) made ∙ c.new-5.ensures.table ∙ ap first_table c.requires.time)
-    (subst (λ (p : Procs). IsTable p.table) (sym made) c.new-5.ensures.good)
-    (ap (λ (p : Procs). p.images.kept) made ∙ ap (λ (k : Kept). with_keeping k 1 (Alive first_held)) c.requires.images) (ap (λ (p : Procs). p.switches) made)
+    w c.new-tree.ensures.nodes c.new-tree.ensures.none c.new.ensures c.new-3.ensures c.new-2.ensures (ap (λ (p : Procs). p.rows) made.others ∙ c.new-4.ensures)
+    (ap (λ (p : Procs). p.table) made.others ∙ c.new-5.ensures.table ∙ ap first_table c.requires.time)
+    (subst (λ (p : Procs). IsTable p.table) (sym made.others) c.new-5.ensures.good)
+    (made.kept ∙ ap (λ (k : Kept). with_keeping k 1 (Alive first_held)) c.requires.images) (ap (λ (p : Procs). p.switches) made.others)
     (ap (λ t. t.entry_room) c.requires.tape) (ap (λ t. t.byte_room) c.requires.tape) refl

@@ -11,7 +11,7 @@ pub settle-requires : goal.settle-requires
 settle-requires g c =
     let w : World = c.args.self.now.world in
     let passed = c.pass-passed in
-    after_good w passed.new.table passed.new.images.kept _ _ c.requires.good passed.ensures.does passed.ensures.same c.see_procs.ensures.images
+    after_good w passed.new.table passed.new.images _ _ c.requires.good passed.ensures.does passed.ensures.same c.see_procs.ensures.images
     (c.in-Ok.ensures.sleeps)
 
 pub returns-in-Ok-clause-takes : goal.returns-in-Ok-clause-takes
@@ -19,19 +19,19 @@ returns-in-Ok-clause-takes g c =
     let w : World = c.args.self.now.world in
     let passed = c.pass-passed in
     let last = c.settle.new.self in
-    after_takes w passed.new.table passed.new.images.kept _ _ c.requires.good passed.ensures.does passed.ensures.same c.see_procs.ensures.images
+    after_takes w passed.new.table passed.new.images _ _ c.requires.good passed.ensures.does passed.ensures.same c.see_procs.ensures.images
     c.in-Ok.ensures.answer last.stage last.world c.settle.ensures.kernel c.settle.ensures.started c.settle.ensures.system
 
 pub returns-in-Ok-clause-items : goal.returns-in-Ok-clause-items
 returns-in-Ok-clause-items g c =
     let w : World = c.args.self.now.world in
     let passed = c.pass-passed in
-    after_items w passed.new.table passed.new.images.kept _ _ c.requires.good passed.ensures.does passed.ensures.same c.see_procs.ensures.images
+    after_items w passed.new.table passed.new.images _ _ c.requires.good passed.ensures.does passed.ensures.same c.see_procs.ensures.images
     c.in-Ok.ensures.answer _ _ passed.ensures.does.items c.settle.ensures.items
 
 pub returns-in-Err-clause-takes : goal.returns-in-Err-clause-takes
 returns-in-Err-clause-takes g c =
     let w : World = c.args.self.now.world in
     let passed = c.pass-passed in
-    panic_takes w passed.new.table passed.new.images.kept _ _ c.requires.good passed.ensures.does passed.ensures.same c.see_procs.ensures.images
+    panic_takes w passed.new.table passed.new.images _ _ c.requires.good passed.ensures.does passed.ensures.same c.see_procs.ensures.images
     c.in-Err.kind c.in-Err.ensures.answer c.see_procs.ensures.rows
