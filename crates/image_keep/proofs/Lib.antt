@@ -50,6 +50,7 @@ pub mod Registers
 pub mod SharedFacts
 pub mod Depositing
 pub mod Deposited
+pub mod ByteSet
 pub mod Executed
 pub mod StandingParts
 pub mod StandingState
