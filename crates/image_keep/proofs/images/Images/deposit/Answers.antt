@@ -33,7 +33,7 @@ pub returns-clause-core : goal.returns-clause-core
 returns-clause-core c told =
     let f = (found (stock_in c.self.inside) c.args.self.now.kept c.in-Some.s c.args.swap c.args.at c.line_place-place.result (kept_is c.self.view_is) c.self.invariant.sound c.self.invariant.counted c.line_place-place.ensures c.row_of.result c.byte_of-byte.result c.requires.inside (sym (rw c.deref.ensures.value at c.owner.ensures) ∙ c.in-Some.is) (rw c.deref-2.ensures.value at c.row_of.ensures) c.byte_of-byte.ensures) in
     let there = stands_in_line c.args.self.now.kept c.in-Some.s c.args.at c.args.swap c.starts-starts.result c.starts-starts.ensures.starts f.has c.byte_of-byte.result f.of in
-    let cut = sym (ap (λ (l : List ℕ). length l) (core_is c.self.view_is)) ∙ c.self.invariant.cut ∙ ap (λ n. 64 * n) (core_kept (stock_in c.self.inside) ∙ ap (λ (k : Kept). k.core) (kept_is c.self.view_is)) in
+    let cut = sym (ap (λ (l : List ℕ). length l) (core_is c.self.view_is)) ∙ c.self.invariant.cut ∙ ap (λ n. 64 * n) (sym (core_kept (stock_in c.self.inside)) ∙ ap (λ (k : Kept). k.core) (kept_is c.self.view_is)) in
     (byte_is_set c.args.self.now.core c.args.self.now.swap c.put_byte.new.self.core c.put_byte.new.self.swap c.args.self.now.kept.core c.args.at c.args.b c.args.swap cut c.put_byte.ensures.core c.requires.inside
     (c.put_byte.ensures.bytes ∙ ap (λ i. slice_set (c.args.self.now.core ++ c.args.self.now.swap) i c.args.b) there)).core_is
 
@@ -41,6 +41,6 @@ pub returns-clause-area : goal.returns-clause-area
 returns-clause-area c told =
     let f = (found (stock_in c.self.inside) c.args.self.now.kept c.in-Some.s c.args.swap c.args.at c.line_place-place.result (kept_is c.self.view_is) c.self.invariant.sound c.self.invariant.counted c.line_place-place.ensures c.row_of.result c.byte_of-byte.result c.requires.inside (sym (rw c.deref.ensures.value at c.owner.ensures) ∙ c.in-Some.is) (rw c.deref-2.ensures.value at c.row_of.ensures) c.byte_of-byte.ensures) in
     let there = stands_in_line c.args.self.now.kept c.in-Some.s c.args.at c.args.swap c.starts-starts.result c.starts-starts.ensures.starts f.has c.byte_of-byte.result f.of in
-    let cut = sym (ap (λ (l : List ℕ). length l) (core_is c.self.view_is)) ∙ c.self.invariant.cut ∙ ap (λ n. 64 * n) (core_kept (stock_in c.self.inside) ∙ ap (λ (k : Kept). k.core) (kept_is c.self.view_is)) in
+    let cut = sym (ap (λ (l : List ℕ). length l) (core_is c.self.view_is)) ∙ c.self.invariant.cut ∙ ap (λ n. 64 * n) (sym (core_kept (stock_in c.self.inside)) ∙ ap (λ (k : Kept). k.core) (kept_is c.self.view_is)) in
     (byte_is_set c.args.self.now.core c.args.self.now.swap c.put_byte.new.self.core c.put_byte.new.self.swap c.args.self.now.kept.core c.args.at c.args.b c.args.swap cut c.put_byte.ensures.core c.requires.inside
     (c.put_byte.ensures.bytes ∙ ap (λ i. slice_set (c.args.self.now.core ++ c.args.self.now.swap) i c.args.b) there)).swap_is
