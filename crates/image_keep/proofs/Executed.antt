@@ -10,14 +10,13 @@ use Rattle.pdp_step.specs.Machine.{Machine}
 use Rattle.pdp_step.specs.Form.{KeepsForm}
 use Rattle.pdp_step.specs.Instruction.{Stepped, stepped, instr}
 use Rattle.image_keep.specs.declared.running.Fixed.{Fixed}
-use Rattle.image_keep.specs.Kept.{Kept, HasImage, image_of, area_of, with_image, with_area}
+use Rattle.image_keep.specs.Kept.{Kept, image_of, area_of, with_image, with_area}
 use Rattle.image_keep.specs.State.{ImagesState}
 use Rattle.image_keep.specs.Lent.{Lent, left_of}
 use Rattle.image_keep.specs.Running.{IsFixed, machine_in, with_machine_in, with_state}
 use Rattle.image_keep.proofs.StateOf.{kept_is}
-use Rattle.image_keep.proofs.Frames.{alive_image, with_image_area}
+use Rattle.image_keep.proofs.Frames.{with_image_area}
 use Rattle.image_keep.proofs.Reading.{starts_after}
-use Rattle.image_keep.proofs.Registers.{starts_described}
 use Rattle.image_keep.proofs.Loans.{lent_back}
 
 module _ (k lent now left : ImagesState) (f : Fixed) (was is : ℕ) (a b : GName) (fixed : IsFixed k.kept f) (begins : lent ≡ k) (slot : was ≡ f.slot) (ended : left ≡ now)
@@ -32,17 +31,11 @@ module _ (k lent now left : ImagesState) (f : Fixed) (was is : ℕ) (a b : GName
   begun = ap (λ (x : ImagesState). image_of x.kept was) begins ∙ ap (image_of k.kept) slot
 
   -- what is fixed stays so
-  fixed_after : KeepsForm (image_of lent.kept was) image → IsFixed left.kept f
+  pub fixed_after : KeepsForm (image_of lent.kept was) image → IsFixed left.kept f
   fixed_after form =
       let own : KeepsForm (image_of k.kept f.slot) image = subst (λ m. KeepsForm m image) begun form in
       subst (λ x. IsFixed x f) (sym back)
       (starts_after k.kept f.slot f.starts image fixed (record { text = ap length own.text; «data» = own.data; stack = own.stack }))
-
-  pub has_after : KeepsForm (image_of lent.kept was) image → HasImage left.kept f.slot
-  has_after form = alive_image left.kept f.slot (fixed_after form).alive
-
-  pub fixed_then : KeepsForm (image_of lent.kept was) image → (u : UArea) (new : Kept) → new ≡ with_area left.kept f.slot u → IsFixed new f
-  fixed_then form u new put = subst (λ x. IsFixed x f) (sym put) (starts_described left.kept f.slot f.starts u (fixed_after form))
 
   module _ (r : List ℕ) (cc : ℕ) (regs' : Regs) (o : Outcome) (r_is : r ≡ (area_of k.kept f.slot).r) (cc_is : cc ≡ (area_of k.kept f.slot).cc)
       (step : stepped o (pdp.machine_of regs' image) ≡ instr (record { r = r; cc = cc; image = image_of lent.kept was })) where

@@ -317,14 +317,15 @@ pub(crate) fn attempt_call(core: &mut [u8], area: &mut UArea, standing: &Standin
 {
     let pc = reg(area, 7);
     match instruction_word(core, standing, usize::from(pc)) {
-        Some(word) => match decode(word as u16) {
+        // a TRAP has its high byte: no other word is decoded
+        Some(word) if word / 256 == 0o211 => match decode(word as u16) {
             Instr::Sys(n) => {
                 set_pc(core, area, standing, pc.wrapping_add(2));
                 Some(n)
             }
             _ => None,
         },
-        None => None,
+        _ => None,
     }
 }
 

@@ -1,5 +1,5 @@
 //! The process that executes instructions does one where it stands in core.
-ghost use Rattle.std.specs.Prelude.{◌≡◌, ◌<◌, IfSome, IsTrue, None, false, length, slice_set};
+ghost use Rattle.std.specs.Prelude.{◌≡◌, ◌↔◌, ◌<◌, IfSome, IsTrue, None, false, length, slice_set};
 ghost use Rattle.pdp_step.specs.declared.outcome.Outcome.TheVariants.{Call, Next};
 ghost use Rattle.pdp_step.specs.Instruction.{instr};
 ghost use Rattle.image_keep.specs.Areas.{area_at};
@@ -62,25 +62,40 @@ fn call_in(memory: &mut Memory, areas: &mut [UArea], s: usize, standing: &Standi
 }
 
 impl Images {
-    /// The process of which this is fixed does one instruction, whatever it comes to: the next one, a system call, a trap, or a
-    /// growth of its stack that it wants. PDP-11/40 Processor Handbook, chapters 3 and 4.
+    /// The process of which this is fixed does one instruction, whatever it comes to: true exactly where that is the next one.
+    /// Else `outcome` is what it comes to: a system call or a fault. PDP-11/40 Processor Handbook, chapters 3 and 4.
     #[inline(always)]
-    pub fn execute(&mut self, fixed: &Fixed, dispatch: &Dispatch) -> Outcome
+    pub fn execute(&mut self, fixed: &Fixed, dispatch: &Dispatch, outcome: &mut Outcome) -> bool
         requires { IsFixed self.old.kept fixed.now }
-        ensures outcome { result ≡ (instr (machine_in self.old.kept fixed.now.slot)).outcome }
+        ensures next { IsTrue result ↔ (instr (machine_in self.old.kept fixed.now.slot)).outcome ≡ Next }
+        ensures outcome { result ≡ false → outcome.new ≡ (instr (machine_in self.old.kept fixed.now.slot)).outcome }
         ensures kept { self.new.kept ≡ with_machine_in self.old.kept fixed.now.slot (instr (machine_in self.old.kept fixed.now.slot)).machine }
         ensures fixed { IsFixed self.new.kept fixed.now }
     {
         if self.execute_near(fixed, dispatch) {
-            return Outcome::Next;
+            return true;
         }
-        self.execute_apart(fixed)
+        self.execute_apart(fixed, outcome)
     }
 
-    // The same by no handler: a system call is looked for first. It stands out of line, to keep the loop over slots small.
+    // The same by no handler. It stands out of line, to keep the loop over slots small.
     #[cold]
     #[inline(never)]
-    fn execute_apart(&mut self, fixed: &Fixed) -> Outcome
+    fn execute_apart(&mut self, fixed: &Fixed, outcome: &mut Outcome) -> bool
+        requires { IsFixed self.old.kept fixed.now }
+        ensures next { IsTrue result ↔ (instr (machine_in self.old.kept fixed.now.slot)).outcome ≡ Next }
+        ensures outcome { outcome.new ≡ (instr (machine_in self.old.kept fixed.now.slot)).outcome }
+        ensures kept { self.new.kept ≡ with_machine_in self.old.kept fixed.now.slot (instr (machine_in self.old.kept fixed.now.slot)).machine }
+        ensures fixed { IsFixed self.new.kept fixed.now }
+    {
+        let came = self.outcome_apart(fixed);
+        *outcome = came;
+        came == Outcome::Next
+    }
+
+    // What the instruction comes to that is done so: a system call is looked for first.
+    #[inline(always)]
+    fn outcome_apart(&mut self, fixed: &Fixed) -> Outcome
         requires { IsFixed self.old.kept fixed.now }
         ensures outcome { result ≡ (instr (machine_in self.old.kept fixed.now.slot)).outcome }
         ensures kept { self.new.kept ≡ with_machine_in self.old.kept fixed.now.slot (instr (machine_in self.old.kept fixed.now.slot)).machine }
@@ -96,7 +111,7 @@ impl Images {
     }
 
     // The same over the memory of the process, which is lent for it, with the registers in its u area.
-    #[inline(always)]
+    #[inline(never)]
     fn execute_lent(&mut self, fixed: &Fixed) -> Outcome
         requires { IsFixed self.old.kept fixed.now }
         ensures outcome { result ≡ (instr (machine_in self.old.kept fixed.now.slot)).outcome }
@@ -110,7 +125,7 @@ impl Images {
             let mut space = self.space_at(fixed);
             step(&mut regs, &mut space)
         };
-        self.set_registers(fixed.slot, &regs.r, regs.cc);
+        self.set_registers_at(fixed, &regs.r, regs.cc);
         outcome
     }
 
@@ -136,7 +151,7 @@ impl Images {
     }
 
     // The same for any instruction.
-    #[inline(always)]
+    #[inline(never)]
     fn execute_any(&mut self, fixed: &Fixed) -> bool
         requires { IsFixed self.old.kept fixed.now }
         ensures outcome { IsTrue result → (instr (machine_in self.old.kept fixed.now.slot)).outcome ≡ Next }

@@ -1,6 +1,6 @@
 use Rattle.std.proofs.Common.{◌≡◌, ◌∙◌, sym}
 use Rattle.image_keep.proofs.Executed.{outcome_same, kept_same}
-use Rattle.image_keep.proofs.images.Images.execute_apart.Goals as goal
+use Rattle.image_keep.proofs.images.Images.outcome_apart.Goals as goal
 
 pub returns-in-Some-clause-outcome : goal.returns-in-Some-clause-outcome
 returns-in-Some-clause-outcome c = sym c.in-Some.ensures.outcome
