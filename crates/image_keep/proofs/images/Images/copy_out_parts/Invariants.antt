@@ -3,7 +3,7 @@ use Rattle.v6_base.specs.Copy.{store_bytes}
 use Rattle.v6_base.proofs.Copies.{SameLengths}
 use Rattle.image_keep.specs.Kept.{image_of, with_image}
 use Rattle.image_keep.specs.Starts.{AreStarts}
-use Rattle.image_keep.proofs.images.Images.copy_out.Given as goal
+use Rattle.image_keep.proofs.images.Images.copy_out_parts.Given as goal
 
 -- what is stored from here on comes to the same
 abbrev pub invariant-loop-done : goal.invariant-loop-done
