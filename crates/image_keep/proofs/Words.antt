@@ -1,10 +1,13 @@
 -- Loads and stores of bytes and words, by what their addresses name.
-use Rattle.std.proofs.Common.{◌≡◌, ℕ, ◌+◌, ◌-◌, ◌*◌, ◌/◌, ◌%◌, ◌≤◌, List, length, drop, true, Ok, Err, Result, Option, Some, None, arith, refl, sym, ap, ◌∙◌}
+use Rattle.std.proofs.Common.{◌≡◌, ◌<◌, subst, ℕ, ◌+◌, ◌-◌, ◌*◌, ◌/◌, ◌%◌, ◌≤◌, List, length, drop, true, Ok, Err, Result, Option, Some, None, arith, refl, sym, ap, ◌∙◌}
 use Rattle.v6_base.specs.declared.named.Named.{Named}
 use Rattle.v6_base.specs.declared.named.Named.TheVariants as named_is
 use Rattle.v6_base.specs.declared.space.Trap.{Trap}
 use Rattle.v6_base.specs.declared.space.Trap.TheVariants.{Odd, Segment}
-use Rattle.v6_base.specs.Image.{Image, named}
+use Rattle.std.specs.Option.{is_some}
+use Rattle.v6_base.specs.Image.{Image, IsImage, named}
+use Rattle.v6_base.specs.Runs.{room, with_run}
+use Rattle.v6_base.proofs.RunLemmas.{image_fits, all_stored}
 use Rattle.v6_base.specs.Access.{load_byte, load_word, store_byte, store_word, byte_at, with_byte, image_after, answer_of}
 use Rattle.std.proofs.lemmas.List.{append-nil, drop_all}
 use Rattle.v6_base.specs.Copy.{load_bytes, store_bytes, image_or}
@@ -124,3 +127,13 @@ pub image_put : (k j new : Kept) (s : ℕ) (x : Image) → j ≡ with_image k s 
 image_put k j new s x kept alive put =
     let here : image_of new s ≡ x = ap (λ i. image_of i s) put ∙ with_image_same j s x alive in
     (put ∙ ap (λ i. with_image i s x) kept ∙ image_twice k s (image_of j s) x ∙ ap (with_image k s) (sym here), here)
+
+-- bytes that all stand in one list are put at once
+pub run_put : (k new : Kept) (s at : ℕ) (bytes : List ℕ) (p : Named) → IsImage (image_of k s) → at < 65536 → p ≡ named (image_of k s) at → IsStorable p → 0 < length bytes → length bytes ≤ room (image_of k s) p
+    → new ≡ with_image k s (with_run (image_of k s) p bytes)
+    → (true ≡ is_some (store_bytes (image_of k s) at bytes)) × (new ≡ with_image k s (image_or (image_of k s) (store_bytes (image_of k s) at bytes)))
+run_put k new s at bytes p formed low is can some few put =
+    let m : Image = image_of k s in
+    let all : store_bytes m at bytes ≡ Some (with_run m p bytes) =
+    all_stored m at bytes (image_fits m formed) low (subst IsStorable is can) some (subst (λ q. length bytes ≤ room m q) is few) ∙ ap (λ q. Some (with_run m q bytes)) (sym is) in
+    (sym (ap is_some all), put ∙ sym (ap (λ o. with_image k s (image_or m o)) all))

@@ -1,5 +1,5 @@
 //! The process that executes instructions does one where it stands in core.
-ghost use Rattle.std.specs.Prelude.{◌≡◌, ◌<◌, IfSome, IsTrue, None, false, length, slice_set};
+ghost use Rattle.std.specs.Prelude.{◌≡◌, ◌↔◌, ◌<◌, IfSome, IsTrue, None, false, length, slice_set};
 ghost use Rattle.pdp_step.specs.declared.outcome.Outcome.TheVariants.{Call, Next};
 ghost use Rattle.pdp_step.specs.Instruction.{instr};
 ghost use Rattle.image_keep.specs.Areas.{area_at};
@@ -11,6 +11,7 @@ use crate::memory::Memory;
 use crate::running::Fixed;
 use crate::standing::Standing;
 use pdp_decode::Dispatch;
+use pdp_step::{Outcome, Regs, step};
 use u_area::UArea;
 
 /// An attempt at one instruction of the process in a slot.
@@ -61,10 +62,82 @@ fn call_in(memory: &mut Memory, areas: &mut [UArea], s: usize, standing: &Standi
 }
 
 impl Images {
-    /// The process of which this is fixed does one instruction where it stands in core, if that is one with a row by its handler
-    /// which ends so: else nothing has changed.
+    /// The process of which this is fixed does one instruction, whatever it comes to: true exactly where that is the next one.
+    /// Else `outcome` becomes what it comes to, a system call or a fault. PDP-11/40 Processor Handbook, chapters 3 and 4.
     #[inline(always)]
-    pub fn execute_near(&mut self, fixed: &Fixed, dispatch: &Dispatch) -> bool
+    pub fn execute(&mut self, fixed: &Fixed, dispatch: &Dispatch, outcome: &mut Outcome) -> bool
+        requires { IsFixed self.old.kept fixed.now }
+        ensures next { IsTrue result ↔ (instr (machine_in self.old.kept fixed.now.slot)).outcome ≡ Next }
+        ensures outcome { result ≡ false → outcome.new ≡ (instr (machine_in self.old.kept fixed.now.slot)).outcome }
+        ensures same { IsTrue result → outcome.new ≡ outcome.old }
+        ensures kept { self.new.kept ≡ with_machine_in self.old.kept fixed.now.slot (instr (machine_in self.old.kept fixed.now.slot)).machine }
+        ensures fixed { IsFixed self.new.kept fixed.now }
+    {
+        if self.execute_near(fixed, dispatch) {
+            return true;
+        }
+        self.execute_apart(fixed, outcome)
+    }
+
+    // The same by no handler. It stands out of line, to keep the loop over slots small.
+    #[cold]
+    #[inline(never)]
+    fn execute_apart(&mut self, fixed: &Fixed, outcome: &mut Outcome) -> bool
+        requires { IsFixed self.old.kept fixed.now }
+        ensures next { IsTrue result ↔ (instr (machine_in self.old.kept fixed.now.slot)).outcome ≡ Next }
+        ensures outcome { result ≡ false → outcome.new ≡ (instr (machine_in self.old.kept fixed.now.slot)).outcome }
+        ensures same { IsTrue result → outcome.new ≡ outcome.old }
+        ensures kept { self.new.kept ≡ with_machine_in self.old.kept fixed.now.slot (instr (machine_in self.old.kept fixed.now.slot)).machine }
+        ensures fixed { IsFixed self.new.kept fixed.now }
+    {
+        let came = self.outcome_apart(fixed);
+        if came == Outcome::Next {
+            return true;
+        }
+        *outcome = came;
+        false
+    }
+
+    // What the instruction comes to that is done so: a system call is looked for first.
+    #[inline(always)]
+    fn outcome_apart(&mut self, fixed: &Fixed) -> Outcome
+        requires { IsFixed self.old.kept fixed.now }
+        ensures outcome { result ≡ (instr (machine_in self.old.kept fixed.now.slot)).outcome }
+        ensures kept { self.new.kept ≡ with_machine_in self.old.kept fixed.now.slot (instr (machine_in self.old.kept fixed.now.slot)).machine }
+        ensures fixed { IsFixed self.new.kept fixed.now }
+    {
+        if let Some(n) = self.call_near(fixed) {
+            return Outcome::Call(n);
+        }
+        if self.execute_any(fixed) {
+            return Outcome::Next;
+        }
+        self.execute_lent(fixed)
+    }
+
+    // The same over the memory of the process, which is lent for it, with the registers in its u area.
+    #[inline(never)]
+    fn execute_lent(&mut self, fixed: &Fixed) -> Outcome
+        requires { IsFixed self.old.kept fixed.now }
+        ensures outcome { result ≡ (instr (machine_in self.old.kept fixed.now.slot)).outcome }
+        ensures kept { self.new.kept ≡ with_machine_in self.old.kept fixed.now.slot (instr (machine_in self.old.kept fixed.now.slot)).machine }
+        ensures fixed { IsFixed self.new.kept fixed.now }
+    {
+        let u = self.area_at(fixed);
+        let r = u.r;
+        let mut regs = Regs { r, cc: u.cc };
+        let outcome = {
+            let mut space = self.space_at(fixed);
+            step(&mut regs, &mut space)
+        };
+        self.set_registers_at(fixed, &regs.r, regs.cc);
+        outcome
+    }
+
+    // The process of which this is fixed does one instruction where it stands in core, if that is one with a row by its handler
+    // which ends so: else nothing has changed.
+    #[inline(always)]
+    fn execute_near(&mut self, fixed: &Fixed, dispatch: &Dispatch) -> bool
         requires { IsFixed self.old.kept fixed.now }
         ensures outcome { IsTrue result → (instr (machine_in self.old.kept fixed.now.slot)).outcome ≡ Next }
         ensures done { IsTrue result → self.new.kept ≡ with_machine_in self.old.kept fixed.now.slot (instr (machine_in self.old.kept fixed.now.slot)).machine }
@@ -82,9 +155,9 @@ impl Images {
         )
     }
 
-    /// The same for any instruction. It stands out of line, to keep the loop over slots small.
+    // The same for any instruction.
     #[inline(never)]
-    pub fn execute_any(&mut self, fixed: &Fixed) -> bool
+    fn execute_any(&mut self, fixed: &Fixed) -> bool
         requires { IsFixed self.old.kept fixed.now }
         ensures outcome { IsTrue result → (instr (machine_in self.old.kept fixed.now.slot)).outcome ≡ Next }
         ensures done { IsTrue result → self.new.kept ≡ with_machine_in self.old.kept fixed.now.slot (instr (machine_in self.old.kept fixed.now.slot)).machine }
@@ -100,10 +173,10 @@ impl Images {
         )
     }
 
-    /// The process of which this is fixed asks for a system call, where its word is at hand: PC passes the word, and the number
-    /// is answered. Else nothing has changed. UNIX Programmer's Manual, Sixth Edition, section II, INTRO.
+    // The process of which this is fixed asks for a system call, where its word is at hand: PC passes the word, and the number
+    // is answered. Else nothing has changed. UNIX Programmer's Manual, Sixth Edition, section II, INTRO.
     #[inline(always)]
-    pub fn call_near(&mut self, fixed: &Fixed) -> Option<u8>
+    fn call_near(&mut self, fixed: &Fixed) -> Option<u8>
         requires { IsFixed self.old.kept fixed.now }
         ensures outcome { IfSome result (λ n. (instr (machine_in self.old.kept fixed.now.slot)).outcome ≡ Call n) }
         ensures done { IfSome result (λ n. self.new.kept ≡ with_machine_in self.old.kept fixed.now.slot (instr (machine_in self.old.kept fixed.now.slot)).machine) }

@@ -106,6 +106,25 @@ impl Images {
         ensures kept { self.new.kept ≡ with_image self.old.kept s (image_or (image_of self.old.kept s) (store_bytes (image_of self.old.kept s) at bytes.now)) }
         ensures starts { AreStarts self.new.kept s starts.now }
     {
+        let first = self.find(s, starts, at);
+        if !bytes.is_empty() && is_storable(first) && bytes.len() <= self.room(s, starts, first) {
+            self.put_part(s, starts, first, bytes);
+            return true;
+        }
+        self.copy_out_parts(s, starts, at, bytes)
+    }
+
+    /// The same where not all of them stand in one list.
+    #[cold]
+    #[inline(never)]
+    fn copy_out_parts(&mut self, s: usize, starts: &Starts, at: u16, bytes: &[u8]) -> bool
+        requires starts { AreStarts self.old.kept s starts.now }
+        requires few { length bytes.now ≤ 512 }
+        requires formed { IsImage (image_of self.old.kept s) }
+        ensures done { result ≡ is_some (store_bytes (image_of self.old.kept s) at bytes.now) }
+        ensures kept { self.new.kept ≡ with_image self.old.kept s (image_or (image_of self.old.kept s) (store_bytes (image_of self.old.kept s) at bytes.now)) }
+        ensures starts { AreStarts self.new.kept s starts.now }
+    {
         if !self.can_set(s, starts, at, bytes.len()) {
             return false;
         }

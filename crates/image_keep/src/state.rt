@@ -1,16 +1,17 @@
 //! The process that executes instructions: its registers, at the front of its u area.
-ghost use Rattle.std.specs.Prelude.{◌≡◌, ◌<◌};
-ghost use Rattle.image_keep.specs.Kept.{HasImage, IsKept, area_of, with_area};
+ghost use Rattle.std.specs.Prelude.{◌≡◌, ◌<◌, ◌↔◌, IsTrue};
+ghost use Rattle.v6_base.specs.Access.{load_word};
+ghost use Rattle.image_keep.specs.Kept.{HasImage, IsKept, area_of, image_of, with_area};
 ghost use Rattle.image_keep.specs.Running.{IsFixed, with_state, state_bytes};
 
 use crate::areas::{area_ref, put_state};
 use crate::images::Images;
 use crate::memory::see_bytes;
 use crate::running::Fixed;
-use crate::standing::Standing;
+use crate::standing::{Standing, instruction_word};
 use fs_codec::{put_word, put_words};
 use u_area::{AREA_SIZE, PS, REGISTERS, UArea, UMODE};
-use v6_base::Slot;
+use v6_base::{Slot, Trap};
 
 /// The bytes of the registers and of the processor status word.
 pub(crate) const STATE_SIZE: usize = 18;
@@ -52,6 +53,42 @@ impl Images {
             standing,
             again: standing,
         }
+    }
+
+    /// Whether this is what stays fixed of the process in a slot still: it stands where it stood, and its parts are as long.
+    #[inline(always)]
+    pub fn is_fixed(&self, fixed: &Fixed, s: Slot) -> bool
+        requires { HasImage self.now.kept s }
+        ensures { IsTrue result ↔ (fixed.now.slot ≡ s) × IsFixed self.now.kept fixed.now }
+    {
+        fixed.slot == s && fixed.starts == self.starts(s)
+    }
+
+    /// A word of the process of which this is fixed. It is looked for first where instructions are read from in core.
+    ///
+    /// # Errors
+    ///
+    /// `Odd`: the address is odd. `Segment`: it is in none of the parts.
+    #[inline(always)]
+    pub fn word_at(&self, fixed: &Fixed, at: u16) -> Result<u16, Trap>
+        requires { IsFixed self.now.kept fixed.now }
+        ensures { result ≡ load_word (image_of self.now.kept fixed.now.slot) at }
+    {
+        self.memory.see_bytes();
+        match instruction_word(self.memory.core_bytes(), &fixed.standing, usize::from(at)) {
+            Some(word) => Ok(word as u16),
+            None => self.any_word_at(fixed, at),
+        }
+    }
+
+    // The same wherever it is.
+    #[cold]
+    #[inline(never)]
+    fn any_word_at(&self, fixed: &Fixed, at: u16) -> Result<u16, Trap>
+        requires { IsFixed self.now.kept fixed.now }
+        ensures { result ≡ load_word (image_of self.now.kept fixed.now.slot) at }
+    {
+        self.load_word(fixed.index, &fixed.starts, at)
     }
 
     /// The u area of the process of which this is fixed, with its registers.
