@@ -36,11 +36,7 @@ const FORKS: [Piece<'static>; 1] = [(
 const FIRST_WORD: &[u8] = b"\x08\x89";
 
 /// The kernel of a made disk with these pieces and so many clicks of core, before its start.
-fn kernel_of(
-    alloc: Global,
-    pieces: &[Piece<'_>],
-    core: u16,
-) -> Result<Option<Kernel>, AllocError>
+fn kernel_of(alloc: Global, pieces: &[Piece<'_>], core: u16) -> Result<Option<Kernel>, AllocError>
     requires least { 64 ≤ core }
     requires most { core ≤ 3968 }
     ensures { IfOk result (λ some. IfSome some (λ kernel. kernel.phase ≡ New)) }
@@ -231,7 +227,8 @@ fn looks_at_what_is_left(alloc: Global) -> Result<bool, AllocError> {
     if !runs_with_ticks(&mut kernel, 240, &mut tape) {
         return Ok(false);
     }
-    let moved = kernel.place(1) == Some(Place::Swap(4006)) && kernel.place(2) == Some(Place::Core(1));
+    let moved = kernel.place(1) == Some(Place::Swap(4006))
+        && kernel.place(2) == Some(Place::Core(1));
     let before = moved && are_of_the_swap_area(&kernel) && written(&kernel) == 0;
     kernel.finish();
     let parts = stands_out_of_core(&kernel, 0, b"\x01\0")

@@ -152,9 +152,11 @@ fn puts_that_byte_alone(
         (true, false) => (Some((at as usize, byte)), None),
         (true, true) => (None, Some((at as usize, byte))),
     };
-    Ok(answered
-        && are_but_for(&core, table.core(), in_core)
-        && are_but_for(&area, table.swap(), in_area))
+    Ok(
+        answered
+            && are_but_for(&core, table.core(), in_core)
+            && are_but_for(&area, table.swap(), in_area),
+    )
 }
 
 /// The number of the first byte with which it isn't so.
