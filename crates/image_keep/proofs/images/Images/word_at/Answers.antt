@@ -15,8 +15,8 @@ pub returns-in-Some : goal.returns-in-Some
 returns-in-Some c =
     let there = at_hand c.self.inside c.args.self.now.kept c.args.fixed.now (kept_is c.self.view_is) c.self.invariant c.see_bytes.ensures c.requires in
     sym (
-        ap (λ (m : Image). load_word m c.args.at) (sym (there.image c.in-Some.ensures.near))
-        ∙ ap (λ (l : List ℕ). load_word (standing_image l c.args.fixed.now.standing) c.args.at) (sym c.core_bytes.ensures)
-        ∙ ap (λ (a : ℕ). load_word (standing_image c.core_bytes.result.now c.args.fixed.now.standing) a) (sym c.from.ensures)
-        ∙ c.in-Some.ensures.word
+    ap (λ (m : Image). load_word m c.args.at) (sym (there.image c.in-Some.ensures.near))
+    ∙ ap (λ (l : List ℕ). load_word (standing_image l c.args.fixed.now.standing) c.args.at) (sym c.core_bytes.ensures)
+    ∙ ap (λ (a : ℕ). load_word (standing_image c.core_bytes.result.now c.args.fixed.now.standing) a) (sym c.from.ensures)
+    ∙ c.in-Some.ensures.word
     )
