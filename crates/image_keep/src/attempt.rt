@@ -9,7 +9,7 @@ ghost use Rattle.image_keep.specs.Near.{StandsWith, IsRowDone, standing_machine,
 
 use crate::near::processor;
 use crate::standing::{Standing, instruction_word, reg, set_state};
-use pdp_decode::{Dispatch, Handler, Instr, decode};
+use pdp_decode::{Dispatch, Handler};
 use pdp_step::{
     Processor, perform, perform_any, perform_apart, perform_between, perform_bytes,
     perform_extended, perform_stepping,
@@ -308,6 +308,11 @@ fn modes_row(core: &mut [u8], area: &mut UArea, standing: &Standing, pc: usize, 
     perform_any(&mut processor(core, area, standing), pc, word).is_ok()
 }
 
+/// The words of TRAP, whose last six bits are a number: PDP-11/40 Processor Handbook, chapter 4.
+const FIRST_TRAP: u32 = 0o104400;
+
+const LAST_TRAP: u32 = 0o104777;
+
 /// The instruction at PC, where the process is at hand and asks for a system call: PC passes its word, and the number of the
 /// call is answered. Else nothing has changed.
 #[inline(always)]
@@ -317,14 +322,10 @@ pub(crate) fn attempt_call(core: &mut [u8], area: &mut UArea, standing: &Standin
 {
     let pc = reg(area, 7);
     match instruction_word(core, standing, usize::from(pc)) {
-        // a TRAP has its high byte: no other word is decoded
-        Some(word) if word / 256 == 0o211 => match decode(word as u16) {
-            Instr::Sys(n) => {
-                set_pc(core, area, standing, pc.wrapping_add(2));
-                Some(n)
-            }
-            _ => None,
-        },
+        Some(word) if FIRST_TRAP <= word && word <= LAST_TRAP => {
+            set_pc(core, area, standing, pc.wrapping_add(2));
+            Some((word % 64) as u8)
+        }
         _ => None,
     }
 }

@@ -63,12 +63,13 @@ fn call_in(memory: &mut Memory, areas: &mut [UArea], s: usize, standing: &Standi
 
 impl Images {
     /// The process of which this is fixed does one instruction, whatever it comes to: true exactly where that is the next one.
-    /// Else `outcome` is what it comes to: a system call or a fault. PDP-11/40 Processor Handbook, chapters 3 and 4.
+    /// Else `outcome` becomes what it comes to, a system call or a fault. PDP-11/40 Processor Handbook, chapters 3 and 4.
     #[inline(always)]
     pub fn execute(&mut self, fixed: &Fixed, dispatch: &Dispatch, outcome: &mut Outcome) -> bool
         requires { IsFixed self.old.kept fixed.now }
         ensures next { IsTrue result ↔ (instr (machine_in self.old.kept fixed.now.slot)).outcome ≡ Next }
         ensures outcome { result ≡ false → outcome.new ≡ (instr (machine_in self.old.kept fixed.now.slot)).outcome }
+        ensures same { IsTrue result → outcome.new ≡ outcome.old }
         ensures kept { self.new.kept ≡ with_machine_in self.old.kept fixed.now.slot (instr (machine_in self.old.kept fixed.now.slot)).machine }
         ensures fixed { IsFixed self.new.kept fixed.now }
     {
@@ -84,13 +85,17 @@ impl Images {
     fn execute_apart(&mut self, fixed: &Fixed, outcome: &mut Outcome) -> bool
         requires { IsFixed self.old.kept fixed.now }
         ensures next { IsTrue result ↔ (instr (machine_in self.old.kept fixed.now.slot)).outcome ≡ Next }
-        ensures outcome { outcome.new ≡ (instr (machine_in self.old.kept fixed.now.slot)).outcome }
+        ensures outcome { result ≡ false → outcome.new ≡ (instr (machine_in self.old.kept fixed.now.slot)).outcome }
+        ensures same { IsTrue result → outcome.new ≡ outcome.old }
         ensures kept { self.new.kept ≡ with_machine_in self.old.kept fixed.now.slot (instr (machine_in self.old.kept fixed.now.slot)).machine }
         ensures fixed { IsFixed self.new.kept fixed.now }
     {
         let came = self.outcome_apart(fixed);
+        if came == Outcome::Next {
+            return true;
+        }
         *outcome = came;
-        came == Outcome::Next
+        false
     }
 
     // What the instruction comes to that is done so: a system call is looked for first.

@@ -12,7 +12,7 @@ returns-clause-next c =
 
 pub returns-clause-outcome : goal.returns-clause-outcome
 returns-clause-outcome c ill =
-    c.execute_apart.ensures.outcome ∙ outcome_same c.args.self.now.kept c.execute_near.new.self.kept c.args.fixed.now (c.execute_near.ensures.kept c.if-execute_near.false)
+    c.execute_apart.ensures.outcome ill ∙ outcome_same c.args.self.now.kept c.execute_near.new.self.kept c.args.fixed.now (c.execute_near.ensures.kept c.if-execute_near.false)
 
 pub returns-clause-kept : goal.returns-clause-kept
 returns-clause-kept c =
