@@ -53,8 +53,8 @@ impl Images {
         requires nothing { keeping self.old.kept to ≡ Nothing }
         requires no_text { text_of self.old.kept to ≡ None }
         ensures place { MatchResult result
-            (λ place. placed self.old from (clicks_of (area_of self.old from)) ≡ Some place)
-            (λ _. placed self.old from (clicks_of (area_of self.old from)) ≡ None) }
+            (λ place. placed self.old.kept from (clicks_of (area_of self.old.kept from)) ≡ Some place)
+            (λ _. placed self.old.kept from (clicks_of (area_of self.old.kept from)) ≡ None) }
         ensures kept { self.new.kept ≡ forked_at self.old.kept from to (placed self.old.kept from (clicks_of (area_of self.old.kept from))) }
     {
         let row = row_of(&self.rows, from as usize);

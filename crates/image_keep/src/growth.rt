@@ -303,8 +303,8 @@ impl Images {
         requires image { HasImage self.old.kept s }
         requires segments { nseg (area_of self.old.kept s).text_size + nseg d + nseg stack ≤ 8 }
         ensures place { MatchResult result
-            (λ place. expanded self.old s (16 + d + stack) ≡ Some place)
-            (λ _. expanded self.old s (16 + d + stack) ≡ None) }
+            (λ place. expanded self.old.kept s (16 + d + stack) ≡ Some place)
+            (λ _. expanded self.old.kept s (16 + d + stack) ≡ None) }
         ensures kept { self.new.kept ≡ with_image_moved self.old.kept s (area_resized (area_of self.old.kept s) d stack) (image_resized (image_of self.old.kept s) d stack) (expanded self.old.kept s (16 + d + stack)) }
     {
         if 16 + d + stack <= self.clicks(s) {

@@ -85,8 +85,8 @@ impl Images {
         requires text { text ≡ text_of self.old.kept s }
         requires text_size { p.text_size ≡ text_clicks self.old.kept text }
         ensures place { MatchResult result
-            (λ place. placed self.old s (16 + p.data_size + p.stack_size) ≡ Some place)
-            (λ _. placed self.old s (16 + p.data_size + p.stack_size) ≡ None) }
+            (λ place. placed self.old.kept s (16 + p.data_size + p.stack_size) ≡ Some place)
+            (λ _. placed self.old.kept s (16 + p.data_size + p.stack_size) ≡ None) }
         ensures kept { self.new.kept ≡ with_image_moved self.old.kept s (made_area p.text_size p.data_size p.stack_size) (made_image (text_bytes self.old.kept text) p.data_size p.stack_size) (placed self.old.kept s (16 + p.data_size + p.stack_size)) }
     {
         let bytes = made_bytes(p.text_size, p.data_size, p.stack_size);

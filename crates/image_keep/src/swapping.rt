@@ -181,7 +181,7 @@ impl Images {
     pub fn swap_out(&mut self, s: Slot) -> Result<u16, NoSwap>
         requires { IsLoaded self.old.kept s }
         ensures block { MatchResult result (λ block. swap_fit self.old.kept (blocks (clicks_of (area_of self.old.kept s))) ≡ Some block)
-            (λ _. swap_fit self.old (blocks (clicks_of (area_of self.old s))) ≡ None) }
+            (λ _. swap_fit self.old.kept (blocks (clicks_of (area_of self.old.kept s))) ≡ None) }
         ensures kept { self.new.kept ≡ swapped_out self.old.kept s (swap_fit self.old.kept (blocks (clicks_of (area_of self.old.kept s)))) }
     {
         let row = row_of(&self.rows, s as usize);

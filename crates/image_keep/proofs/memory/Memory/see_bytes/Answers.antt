@@ -1,4 +1,3 @@
-use Rattle.image_keep.proofs.StateOf.{kept_is}
 use Rattle.std.proofs.Common.{subst}
 use Rattle.v6_base.specs.Image.{AreBytes}
 use Rattle.image_keep.specs.Line.{Lists, line_of}
@@ -6,4 +5,4 @@ use Rattle.image_keep.proofs.Joined.{joined_bytes}
 use Rattle.image_keep.proofs.memory.Memory.see_bytes.Goals as goal
 
 pub returns : goal.returns
-returns c = subst (λ (m : Lists). AreBytes (line_of m)) (kept_is c.self.view_is) (joined_bytes c.self.inside.core c.self.inside.swap.items (subst AreBytes c.as_slice.ensures c.see_bytes.ensures) (rw c.deref.ensures.value at c.see_bytes-2.ensures))
+returns c = subst (λ (m : Lists). AreBytes (line_of m)) c.self.view_is (joined_bytes c.self.inside.core c.self.inside.swap.items (subst AreBytes c.as_slice.ensures c.see_bytes.ensures) (rw c.deref.ensures.value at c.see_bytes-2.ensures))
