@@ -61,7 +61,7 @@ side_of core n at p j (Core c) true i e low f g = absurd (let a = i.0 in let b =
 side_of core n at p j (Swap b) false i e low f g = absurd (omega (arith, e, low, f))
 side_of core n at p j (Swap b) true i e low f g = record { side = refl; there = omega (arith, e, f) }
 
-line_of_side : (core at p j : ℕ) (place : Place) (swap : Bool) → p ≡ line_place core swap at → is_out place ≡ swap → at ≡ first_byte place + j → p ≡ place_at core place + j
+pub line_of_side : (core at p j : ℕ) (place : Place) (swap : Bool) → p ≡ line_place core swap at → is_out place ≡ swap → at ≡ first_byte place + j → p ≡ place_at core place + j
 line_of_side core at p j (Core c) false e f g = omega (arith, e, g)
 line_of_side core at p j (Core c) true e f g = absurd (cc f)
 line_of_side core at p j (Swap b) false e f g = absurd (cc f)

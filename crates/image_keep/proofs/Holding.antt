@@ -12,7 +12,10 @@ use Rattle.text_tab.specs.Table.{text_at}
 use Rattle.image_keep.specs.declared.row.State.{State}
 use Rattle.image_keep.specs.declared.row.State.TheVariants as state
 use Rattle.image_keep.specs.declared.row.Row.{Row}
+use Rattle.image_keep.specs.declared.images.Images.TheInside.{Inside}
 use Rattle.image_keep.specs.Line.{Lists, line_of}
+use Rattle.image_keep.specs.State.{ImagesState}
+use Rattle.image_keep.specs.Inside.{stock_in, kept_in, state_of, AreImages}
 use Rattle.image_keep.specs.Kept.{Kept, Alive, Grave, Held, Shared, keeping, shared, clicks_of}
 use Rattle.image_keep.specs.Memory.{Stock, row_at, swap_at, place_at, place_size, spot_by, out_spot, in_spot, Owner, RowOf, OutOf, InOf, spot, AreApart, text_in, text_for, image_by, keeping_by, keeping_in, shared_in, kept_of, IsIn, HoldsBy, IsSound}
 use Rattle.image_keep.specs.Holds.{CoreHolds, SwapHolds, MemoryHolds, image_bytes, keeping_spot, text_out, text_in_core, spot_of}
@@ -176,3 +179,7 @@ module _ (a : Lists) (v : Stock) (is : v.line ≡ line_of a) (cut : length a.cor
 
 pub holds : (a : Lists) (v : Stock) (k : Kept) → kept_of v ≡ k → v.line ≡ line_of a → length a.core ≡ 64 * v.core → IsSound v → MemoryHolds a.core a.swap k
 holds a v k view is cut h = subst (MemoryHolds a.core a.swap) view (holding a v is cut h)
+
+-- the bytes of the images hold what is kept
+pub held_by : {a : Inside} {k : ImagesState} → AreImages a → state_of a ≡ k → MemoryHolds k.core k.swap k.kept
+held_by {a} i e = subst (λ (k : ImagesState). MemoryHolds k.core k.swap k.kept) e (holds a.memory (stock_in a) (kept_in a) refl refl i.cut i.sound)

@@ -50,6 +50,8 @@ pub mod Registers
 pub mod SharedFacts
 pub mod Depositing
 pub mod Deposited
+pub mod ByteSet
+pub mod Executed
 pub mod StandingParts
 pub mod StandingState
 pub mod NearParts

@@ -1,7 +1,8 @@
 -- What is known when the loan of a slot's image has ended: the set `loans` is for those who keep images.
 use Rattle.std.proofs.Common.{◌≡◌, ◌≢◌, ℕ, length, sym, ap, subst, ◌∙◌}
-use Rattle.image_keep.specs.Kept.{Kept, Nothing, keeping, image_of, area_of, place_of, HasImage}
-use Rattle.image_keep.specs.Lent.{left_of}
+use Rattle.std.specs.Borrow.{GName}
+use Rattle.image_keep.specs.Kept.{Kept, Nothing, keeping, image_of, area_of, place_of, with_image, HasImage}
+use Rattle.image_keep.specs.Lent.{Lent, left_of}
 use Rattle.image_keep.specs.Places.{core_fit, swap_fit, placed}
 use Rattle.image_keep.proofs.Frames.{after, keeps_nothing, with_image_other, with_image_has, with_image_area, with_image_place, with_image_long, with_image_core, SameTexts, with_image_texts}
 use Rattle.image_keep.proofs.PlaceFrames.{with_image_core_fit, with_image_swap_fit, with_image_placed}
@@ -44,3 +45,13 @@ loan_nothing k w s t same none =
     ap (λ l. keeping l t) (after k w s same) ∙ keeps_nothing k s t (image_of w s) none
 
 pub ruleset loans = (after, loan_has, loan_other, loan_nothing, loan_area, loan_place, loan_core_fit, loan_swap_fit, loan_placed)
+
+-- When the memory of a slot that was lent comes back, that alone has changed.
+pub lent_back : (k before now : Kept) (s was is : ℕ) (a b : GName) → before ≡ k → was ≡ s
+    → ◌≡◌ {A = Lent} (record { loan = a; slot = is; left = left_of now is }) (record { loan = b; slot = was; left = left_of before was })
+    → now ≡ with_image k s (image_of now is)
+lent_back k before now s was is a b begins slot same =
+    let at : is ≡ s = ap (λ (l : Lent). l.slot) same ∙ slot in
+    let left : left_of now is ≡ left_of before was = ap (λ (l : Lent). l.left) same in
+    let alike : left_of now s ≡ left_of k s = ap (left_of now) (sym at) ∙ (left ∙ (ap (λ x. left_of x was) begins ∙ ap (left_of k) slot)) in
+    after k now s alike ∙ ap (λ x. with_image k s (image_of now x)) (sym at)

@@ -1,9 +1,16 @@
 -- What the fields tell of the images, part by part.
-use Rattle.std.specs.Prelude.{◌≡◌}
+use Rattle.std.specs.Prelude.{◌≡◌, ◌++◌}
 use Rattle.std.proofs.Common.{ap}
-use Rattle.image_keep.specs.declared.images.Images.TheInside.{Inside}
 use Rattle.image_keep.specs.State.{ImagesState}
-use Rattle.image_keep.specs.Inside.{state_of, kept_in}
 
-pub kept_is : {a : Inside} {k : ImagesState} → state_of a ≡ k → kept_in a ≡ k.kept
+pub kept_is : {x y : ImagesState} → x ≡ y → x.kept ≡ y.kept
 kept_is e = ap (λ (k : ImagesState). k.kept) e
+
+pub core_is : {x y : ImagesState} → x ≡ y → x.core ≡ y.core
+core_is e = ap (λ (k : ImagesState). k.core) e
+
+pub swap_is : {x y : ImagesState} → x ≡ y → x.swap ≡ y.swap
+swap_is e = ap (λ (k : ImagesState). k.swap) e
+
+pub line_is : {x y : ImagesState} → x ≡ y → x.core ++ x.swap ≡ y.core ++ y.swap
+line_is e = ap (λ (k : ImagesState). k.core ++ k.swap) e

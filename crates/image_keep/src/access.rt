@@ -1,5 +1,5 @@
 //! Loads and stores of one image, where it stands.
-ghost use Rattle.std.specs.Prelude.{◌≡◌, ◌≢◌, ◌-◌, ◌+◌, ◌*◌, ◌%◌, ◌<◌, ◌≤◌, ◌↔◌, ℕ, List, true, false, Ok, Some, None, IsTrue, length};
+ghost use Rattle.std.specs.Prelude.{◌≡◌, ◌≢◌, ◌-◌, ◌+◌, ◌*◌, ◌%◌, ◌<◌, ◌≤◌, ◌↔◌, ℕ, List, true, false, Ok, Some, None, IsTrue, length, ◌++◌, slice_set};
 ghost use Rattle.v6_base.specs.Image.{IsImage, named, named_by, nseg};
 ghost use Rattle.v6_base.specs.Access.{load_byte, load_word, store_byte, store_word, byte_at, with_byte, image_after, answer_of};
 ghost use Rattle.v6_base.specs.Copy.{load_bytes, store_bytes, is_writable};
@@ -193,6 +193,8 @@ impl Images {
         requires within { IsWithin (image_of self.old.kept s) at }
         requires storable { IsStorable at }
         ensures kept { self.new.kept ≡ with_image self.old.kept s (image_after (image_of self.old.kept s) (with_byte (image_of self.old.kept s) at value)) }
+        ensures bytes { self.new.core ++ self.new.swap ≡ slice_set (self.old.core ++ self.old.swap) (start_of starts.now at) value }
+        ensures core { length self.new.core ≡ length self.old.core }
         ensures starts { AreStarts self.new.kept s starts.now }
     {
         self.memory.set(starts.start_of(at), value);

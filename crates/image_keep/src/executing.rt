@@ -11,6 +11,7 @@ use crate::memory::Memory;
 use crate::running::Fixed;
 use crate::standing::Standing;
 use pdp_decode::Dispatch;
+use pdp_step::{Outcome, Regs, step};
 use u_area::UArea;
 
 /// An attempt at one instruction of the process in a slot.
@@ -61,10 +62,62 @@ fn call_in(memory: &mut Memory, areas: &mut [UArea], s: usize, standing: &Standi
 }
 
 impl Images {
-    /// The process of which this is fixed does one instruction where it stands in core, if that is one with a row by its handler
-    /// which ends so: else nothing has changed.
+    /// The process of which this is fixed does one instruction, whatever it comes to: the next one, a system call, a trap, or a
+    /// growth of its stack that it wants. PDP-11/40 Processor Handbook, chapters 3 and 4.
     #[inline(always)]
-    pub fn execute_near(&mut self, fixed: &Fixed, dispatch: &Dispatch) -> bool
+    pub fn execute(&mut self, fixed: &Fixed, dispatch: &Dispatch) -> Outcome
+        requires { IsFixed self.old.kept fixed.now }
+        ensures outcome { result ≡ (instr (machine_in self.old.kept fixed.now.slot)).outcome }
+        ensures kept { self.new.kept ≡ with_machine_in self.old.kept fixed.now.slot (instr (machine_in self.old.kept fixed.now.slot)).machine }
+        ensures fixed { IsFixed self.new.kept fixed.now }
+    {
+        if self.execute_near(fixed, dispatch) {
+            return Outcome::Next;
+        }
+        self.execute_apart(fixed)
+    }
+
+    // The same by no handler: a system call is looked for first. It stands out of line, to keep the loop over slots small.
+    #[cold]
+    #[inline(never)]
+    fn execute_apart(&mut self, fixed: &Fixed) -> Outcome
+        requires { IsFixed self.old.kept fixed.now }
+        ensures outcome { result ≡ (instr (machine_in self.old.kept fixed.now.slot)).outcome }
+        ensures kept { self.new.kept ≡ with_machine_in self.old.kept fixed.now.slot (instr (machine_in self.old.kept fixed.now.slot)).machine }
+        ensures fixed { IsFixed self.new.kept fixed.now }
+    {
+        if let Some(n) = self.call_near(fixed) {
+            return Outcome::Call(n);
+        }
+        if self.execute_any(fixed) {
+            return Outcome::Next;
+        }
+        self.execute_lent(fixed)
+    }
+
+    // The same over the memory of the process, which is lent for it, with the registers in its u area.
+    #[inline(always)]
+    fn execute_lent(&mut self, fixed: &Fixed) -> Outcome
+        requires { IsFixed self.old.kept fixed.now }
+        ensures outcome { result ≡ (instr (machine_in self.old.kept fixed.now.slot)).outcome }
+        ensures kept { self.new.kept ≡ with_machine_in self.old.kept fixed.now.slot (instr (machine_in self.old.kept fixed.now.slot)).machine }
+        ensures fixed { IsFixed self.new.kept fixed.now }
+    {
+        let u = self.area_at(fixed);
+        let r = u.r;
+        let mut regs = Regs { r, cc: u.cc };
+        let outcome = {
+            let mut space = self.space_at(fixed);
+            step(&mut regs, &mut space)
+        };
+        self.set_registers(fixed.slot, &regs.r, regs.cc);
+        outcome
+    }
+
+    // The process of which this is fixed does one instruction where it stands in core, if that is one with a row by its handler
+    // which ends so: else nothing has changed.
+    #[inline(always)]
+    fn execute_near(&mut self, fixed: &Fixed, dispatch: &Dispatch) -> bool
         requires { IsFixed self.old.kept fixed.now }
         ensures outcome { IsTrue result → (instr (machine_in self.old.kept fixed.now.slot)).outcome ≡ Next }
         ensures done { IsTrue result → self.new.kept ≡ with_machine_in self.old.kept fixed.now.slot (instr (machine_in self.old.kept fixed.now.slot)).machine }
@@ -82,9 +135,9 @@ impl Images {
         )
     }
 
-    /// The same for any instruction. It stands out of line, to keep the loop over slots small.
-    #[inline(never)]
-    pub fn execute_any(&mut self, fixed: &Fixed) -> bool
+    // The same for any instruction.
+    #[inline(always)]
+    fn execute_any(&mut self, fixed: &Fixed) -> bool
         requires { IsFixed self.old.kept fixed.now }
         ensures outcome { IsTrue result → (instr (machine_in self.old.kept fixed.now.slot)).outcome ≡ Next }
         ensures done { IsTrue result → self.new.kept ≡ with_machine_in self.old.kept fixed.now.slot (instr (machine_in self.old.kept fixed.now.slot)).machine }
@@ -100,10 +153,10 @@ impl Images {
         )
     }
 
-    /// The process of which this is fixed asks for a system call, where its word is at hand: PC passes the word, and the number
-    /// is answered. Else nothing has changed. UNIX Programmer's Manual, Sixth Edition, section II, INTRO.
+    // The process of which this is fixed asks for a system call, where its word is at hand: PC passes the word, and the number
+    // is answered. Else nothing has changed. UNIX Programmer's Manual, Sixth Edition, section II, INTRO.
     #[inline(always)]
-    pub fn call_near(&mut self, fixed: &Fixed) -> Option<u8>
+    fn call_near(&mut self, fixed: &Fixed) -> Option<u8>
         requires { IsFixed self.old.kept fixed.now }
         ensures outcome { IfSome result (λ n. (instr (machine_in self.old.kept fixed.now.slot)).outcome ≡ Call n) }
         ensures done { IfSome result (λ n. self.new.kept ≡ with_machine_in self.old.kept fixed.now.slot (instr (machine_in self.old.kept fixed.now.slot)).machine) }

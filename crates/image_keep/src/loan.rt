@@ -38,7 +38,7 @@ impl Images {
 
     /// The memory of the process of which this is fixed.
     #[inline(always)]
-    pub fn space_at(&mut self, fixed: &Fixed) -> SpaceOf<'_>
+    pub(crate) fn space_at(&mut self, fixed: &Fixed) -> SpaceOf<'_>
         requires { IsFixed self.old.kept fixed.now }
         ensures images { result.images.now ≡ self.entry.now }
         ensures loan { result.images.ghost_name ≡ self.entry.ghost_name }

@@ -56,24 +56,10 @@ impl Images {
 
     /// The u area of the process of which this is fixed, with its registers.
     #[inline(always)]
-    pub fn area_at(&self, fixed: &Fixed) -> &UArea
+    pub(crate) fn area_at(&self, fixed: &Fixed) -> &UArea
         requires { IsFixed self.now.kept fixed.now }
         ensures { result.now ≡ area_of self.now.kept fixed.now.slot }
     {
         area_ref(&self.areas, fixed.slot as usize)
-    }
-
-    /// Puts registers and condition codes into the u area of the process of which this is fixed.
-    #[inline(always)]
-    pub fn set_registers_at(&mut self, fixed: &Fixed, r: &[u16; 8], cc: u8)
-        requires fixed { IsFixed self.old.kept fixed.now }
-        requires codes { cc < 16 }
-        ensures kept { self.new.kept ≡ with_area self.old.kept fixed.now.slot (with_state (area_of self.old.kept fixed.now.slot) r.now cc) }
-        ensures fixed { IsFixed self.new.kept fixed.now }
-    {
-        self.memory.see_bytes();
-        let at = fixed.starts.image - AREA_SIZE;
-        self.memory.put(at, &state_bytes(r, cc));
-        put_state(&mut self.areas, fixed.slot as usize, r, cc);
     }
 }

@@ -9,7 +9,7 @@ abbrev pub invariant-loop-done : goal.invariant-loop-done
 invariant-loop-done l = record {
   size : length l.into ≡ length l.fn.into;
   few : l.done ≤ length l.fn.into;
-  same : put_front (take l.done l.into) (load_bytes (image_of l.self l.s) (l.at + l.done) (length l.fn.into - l.done)) ≡ load_bytes (image_of l.self l.s) l.at (length l.fn.into);
+  same : put_front (take l.done l.into) (load_bytes (image_of l.self.kept l.s) (l.at + l.done) (length l.fn.into - l.done)) ≡ load_bytes (image_of l.self.kept l.s) l.at (length l.fn.into);
 }
 
 abbrev pub decreases-loop-done : goal.decreases-loop-done

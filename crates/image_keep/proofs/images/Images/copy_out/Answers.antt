@@ -12,20 +12,20 @@ use Rattle.image_keep.proofs.Words.{image_put, none_kept}
 use Rattle.image_keep.proofs.images.Images.copy_out.Goals as goal
 
 -- what is named can be written
-can_put : (c : goal.After-put_part) → IsStorable (named (image_of c.loop-done.self c.args.s) ((c.args.at + c.loop-done.done) % 65536))
+can_put : (c : goal.After-put_part) → IsStorable (named (image_of c.loop-done.self.kept c.args.s) ((c.args.at + c.loop-done.done) % 65536))
 can_put c =
     let same = c.loop-done.invariant.lengths in
-    writable_storable (image_of c.loop-done.self c.args.s) _ (same_writable (image_of c.args.self.now.kept c.args.s) (image_of c.loop-done.self c.args.s) _ same ∙ c.can_set.ensures.each c.if-not-can_set.false c.loop-done.done c.loop-done-test.true)
+    writable_storable (image_of c.loop-done.self.kept c.args.s) _ (same_writable (image_of c.args.self.now.kept c.args.s) (image_of c.loop-done.self.kept c.args.s) _ same ∙ c.can_set.ensures.each c.if-not-can_set.false c.loop-done.done c.loop-done-test.true)
 
 least : (c : goal.After-put_part) → 0 < c.min-count.result
 least c =
-    let some = writes_some (image_of c.loop-done.self c.args.s) c.find-to.result c.find-to.ensures.within (subst IsStorable (sym c.find-to.ensures.named) (can_put c)) in
+    let some = writes_some (image_of c.loop-done.self.kept c.args.s) c.find-to.result c.find-to.ensures.within (subst IsStorable (sym c.find-to.ensures.named) (can_put c)) in
     omega (arith, some, c.room.ensures, c.min-count.ensures, c.loop-done-test.true)
 
 pub loop-done-preserved : goal.loop-done-preserved
 loop-done-preserved c =
     let start = (image_of c.args.self.now.kept c.args.s) in
-    let m = (image_of c.loop-done.self c.args.s) in
+    let m = (image_of c.loop-done.self.kept c.args.s) in
     let bytes : List ℕ = c.args.bytes.now in
     let done : ℕ = c.loop-done.done in
     let count : ℕ = c.min-count.result in
@@ -37,14 +37,14 @@ loop-done-preserved c =
     let few : count ≤ room m (named m ((c.args.at + done) % 65536)) = omega (arith, c.min-count.ensures) in
     let fits : done + count ≤ length bytes = omega (arith, c.min-count.ensures, h) in
     let part : take (done + count - done) (drop done bytes) ≡ take count (drop done bytes) = (let k : done + count - done ≡ count = omega arith in ap (λ n. take n (drop done bytes)) k) in
-    let stored = image_put c.args.self.now.kept c.loop-done.self c.put_part.new.self c.args.s (with_run m c.find-to.result (take (done + count - done) (drop done bytes))) c.loop-done.invariant.kept c.loop-done.invariant.starts.alive c.put_part.ensures.kept in
-    let new : (image_of c.put_part.new.self c.args.s) ≡ with_run m (named m ((c.args.at + done) % 65536)) (take count (drop done bytes)) =
+    let stored = image_put c.args.self.now.kept c.loop-done.self.kept c.put_part.new.self.kept c.args.s (with_run m c.find-to.result (take (done + count - done) (drop done bytes))) c.loop-done.invariant.kept c.loop-done.invariant.starts.alive c.put_part.ensures.kept in
+    let new : (image_of c.put_part.new.self.kept c.args.s) ≡ with_run m (named m ((c.args.at + done) % 65536)) (take count (drop done bytes)) =
     stored.1 ∙ ap (with_run m c.find-to.result) part ∙ ap (λ p. with_run m p (take count (drop done bytes))) here in
     let long : length (take count (drop done bytes)) ≡ count = length-take-le count (drop done bytes) (omega (arith, length-drop done bytes)) in
     record {
       kept = stored.0;
       starts = c.put_part.ensures.starts;
-      lengths = then_lengths start m _ (image_of c.put_part.new.self c.args.s) same (run_lengths m (named m ((c.args.at + done) % 65536)) (take count (drop done bytes)) (omega (arith, long, few)) (omega (arith, long, some))) new;
+      lengths = then_lengths start m _ (image_of c.put_part.new.self.kept c.args.s) same (run_lengths m (named m ((c.args.at + done) % 65536)) (take count (drop done bytes)) (omega (arith, long, few)) (omega (arith, long, some))) new;
       few = fits;
       same =
           ap (λ n. store_bytes n (c.args.at + (done + count)) (drop (done + count) bytes)) new

@@ -8,11 +8,11 @@ use Rattle.image_keep.proofs.images.Images.copy_out.Given as goal
 -- what is stored from here on comes to the same
 abbrev pub invariant-loop-done : goal.invariant-loop-done
 invariant-loop-done l = record {
-  kept : l.self ≡ with_image l.fn.self l.s (image_of l.self l.s);
-  starts : AreStarts l.self l.s l.starts;
-  lengths : SameLengths (image_of l.fn.self l.s) (image_of l.self l.s);
+  kept : l.self.kept ≡ with_image l.fn.self.kept l.s (image_of l.self.kept l.s);
+  starts : AreStarts l.self.kept l.s l.starts;
+  lengths : SameLengths (image_of l.fn.self.kept l.s) (image_of l.self.kept l.s);
   few : l.done ≤ length l.bytes;
-  same : store_bytes (image_of l.self l.s) (l.at + l.done) (drop l.done l.bytes) ≡ store_bytes (image_of l.fn.self l.s) l.at l.bytes;
+  same : store_bytes (image_of l.self.kept l.s) (l.at + l.done) (drop l.done l.bytes) ≡ store_bytes (image_of l.fn.self.kept l.s) l.at l.bytes;
 }
 
 abbrev pub decreases-loop-done : goal.decreases-loop-done

@@ -1,13 +1,10 @@
-use Rattle.image_keep.proofs.StateOf.{kept_is}
-use Rattle.std.proofs.Common.{ap, refl, arith}
+use Rattle.std.proofs.Common.{◌∙◌, List, ℕ, slice_index, ap, arith}
 use Rattle.image_keep.specs.Inside.{stock_in}
 use Rattle.image_keep.specs.Kept.{Kept}
+use Rattle.image_keep.proofs.StateOf.{kept_is, core_is}
 use Rattle.image_keep.proofs.InPlan.{core_kept}
-use Rattle.image_keep.proofs.Holding.{holds}
+use Rattle.image_keep.proofs.Holding.{held_by}
 use Rattle.image_keep.proofs.images.Images.core_byte.Goals as goal
-
-pub returns : goal.returns
-returns c = (c.self.inside.memory.core, c.self.inside.memory.swap, (holds c.self.inside.memory (stock_in c.self.inside) c.args.self.now.kept (kept_is c.self.view_is) refl c.self.invariant.cut c.self.invariant.sound), c.core_byte.ensures)
 
 pub core_byte-requires : goal.core_byte-requires
 core_byte-requires c =
@@ -16,3 +13,9 @@ core_byte-requires c =
     let d = core_kept (stock_in c.self.inside) in
     let e = c.requires in
     omega (arith, a, b, d, e)
+
+pub returns-clause-byte : goal.returns-clause-byte
+returns-clause-byte c = c.core_byte.ensures ∙ ap (λ (bytes : List ℕ). slice_index bytes c.args.at) (core_is c.self.view_is)
+
+pub returns-clause-holds : goal.returns-clause-holds
+returns-clause-holds c = held_by c.self.invariant c.self.view_is

@@ -1,8 +1,8 @@
-use Rattle.image_keep.proofs.StateOf.{kept_is}
-use Rattle.std.proofs.Common.{◌<◌, ◌∙◌, length, slice_set, refl, sym, ap, subst}
+use Rattle.image_keep.proofs.StateOf.{kept_is, core_is, line_is}
+use Rattle.std.proofs.Common.{◌<◌, ◌∙◌, List, ℕ, length, slice_set, refl, sym, ap, subst}
 use Rattle.image_keep.specs.Inside.{stock_in}
 use Rattle.image_keep.specs.Line.{line_of}
-use Rattle.image_keep.specs.Starts.{AreStarts}
+use Rattle.image_keep.specs.Starts.{AreStarts, start_of}
 use Rattle.image_keep.proofs.Reading.{byte_read}
 use Rattle.image_keep.proofs.Putting.{low_of, storable_some, puts_byte}
 use Rattle.image_keep.proofs.AreasKept.{areas_imaged}
@@ -22,3 +22,12 @@ returns-clause-kept c = (puts_byte (stock_in c.self.inside) c.args.self.now.kept
 
 pub returns-clause-starts : goal.returns-clause-starts
 returns-clause-starts c = subst (λ k. AreStarts k c.args.s c.args.starts.now) (sym (puts_byte (stock_in c.self.inside) c.args.self.now.kept c.args.s c.args.starts.now c.args.at c.args.value (line_of c.set.new.self) (kept_is c.self.view_is) c.self.invariant.sound c.self.invariant.counted c.self.invariant.told c.requires.starts c.requires.within c.requires.storable (subst (λ j. j < length (line_of c.self.inside.memory)) refl (byte_read (stock_in c.self.inside) c.args.self.now.kept c.args.s c.args.starts.now c.args.at (kept_is c.self.view_is) c.self.invariant.sound c.self.invariant.counted c.requires.starts c.requires.within (storable_some c.args.at c.requires.storable)).0) (c.set.ensures.bytes ∙ ap (λ j. slice_set (line_of c.self.inside.memory) j c.args.value) c.start_of.ensures)).kept) (puts_byte (stock_in c.self.inside) c.args.self.now.kept c.args.s c.args.starts.now c.args.at c.args.value (line_of c.set.new.self) (kept_is c.self.view_is) c.self.invariant.sound c.self.invariant.counted c.self.invariant.told c.requires.starts c.requires.within c.requires.storable (subst (λ j. j < length (line_of c.self.inside.memory)) refl (byte_read (stock_in c.self.inside) c.args.self.now.kept c.args.s c.args.starts.now c.args.at (kept_is c.self.view_is) c.self.invariant.sound c.self.invariant.counted c.requires.starts c.requires.within (storable_some c.args.at c.requires.storable)).0) (c.set.ensures.bytes ∙ ap (λ j. slice_set (line_of c.self.inside.memory) j c.args.value) c.start_of.ensures)).starts
+
+pub returns-clause-bytes : goal.returns-clause-bytes
+returns-clause-bytes c =
+    c.set.ensures.bytes
+    ∙ ap (λ j. slice_set (line_of c.self.inside.memory) j c.args.value) c.start_of.ensures
+    ∙ ap (λ (l : List ℕ). slice_set l (start_of c.args.starts.now c.args.at) c.args.value) (line_is c.self.view_is)
+
+pub returns-clause-core : goal.returns-clause-core
+returns-clause-core c = c.set.ensures.core ∙ ap (λ (l : List ℕ). length l) (core_is c.self.view_is)

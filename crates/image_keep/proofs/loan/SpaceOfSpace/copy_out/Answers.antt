@@ -23,7 +23,7 @@ invariant_of-self c =
     record {
       are = c.copy_out.ensures.starts;
       formed =
-          subst IsImage (sym (has old c.copy_out.new.self s at bytes c.args.self.now.are.alive c.copy_out.ensures.kept))
+          subst IsImage (sym (has old c.copy_out.new.self.kept s at bytes c.args.self.now.are.alive c.copy_out.ensures.kept))
           (formed_after_bytes (image_of old s) at bytes (λ k. let h = c.type_inv.bytes k in omega (arith, h)) c.args.self.now.formed);
     }
 
@@ -32,7 +32,7 @@ returns-clause-done c is =
     let old : Kept = c.args.self.now.images.now.kept in
     let s : ℕ = c.args.self.now.slot in
     put_done (image_of old s) (store_bytes (image_of old s) c.args.at c.args.bytes.now) (sym c.copy_out.ensures.done ∙ is)
-    ∙ ap Some (sym (has old c.copy_out.new.self s c.args.at c.args.bytes.now c.args.self.now.are.alive c.copy_out.ensures.kept))
+    ∙ ap Some (sym (has old c.copy_out.new.self.kept s c.args.at c.args.bytes.now c.args.self.now.are.alive c.copy_out.ensures.kept))
 
 pub returns-clause-refused : goal.returns-clause-refused
 returns-clause-refused c is = put_refused _ (sym c.copy_out.ensures.done ∙ is)
@@ -41,5 +41,5 @@ pub returns-clause-same : goal.returns-clause-same
 returns-clause-same c is =
     let old : Kept = c.args.self.now.images.now.kept in
     let s : ℕ = c.args.self.now.slot in
-    has old c.copy_out.new.self s c.args.at c.args.bytes.now c.args.self.now.are.alive c.copy_out.ensures.kept
+    has old c.copy_out.new.self.kept s c.args.at c.args.bytes.now c.args.self.now.are.alive c.copy_out.ensures.kept
     ∙ put_same (image_of old s) (store_bytes (image_of old s) c.args.at c.args.bytes.now) (sym c.copy_out.ensures.done ∙ is)

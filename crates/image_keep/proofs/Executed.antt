@@ -1,0 +1,66 @@
+-- The process that executes instructions does one: its memory was lent and has come back, and its registers are put back.
+use Rattle.std.proofs.Common.{◌≡◌, ◌∙◌, ℕ, length, List, sym, ap, subst}
+use Rattle.std.specs.Borrow.{GName}
+use Rattle.v6_base.specs.Image.{Image}
+use Rattle.u_area.specs.declared.area.UArea.{UArea}
+use Rattle.pdp_step.specs.declared.outcome.Outcome.{Outcome}
+use Rattle.pdp_step.specs.declared.regs.Regs.{Regs}
+use Rattle.pdp_step.specs.Machine as pdp
+use Rattle.pdp_step.specs.Machine.{Machine}
+use Rattle.pdp_step.specs.Form.{KeepsForm}
+use Rattle.pdp_step.specs.Instruction.{Stepped, stepped, instr}
+use Rattle.image_keep.specs.declared.running.Fixed.{Fixed}
+use Rattle.image_keep.specs.Kept.{Kept, HasImage, image_of, area_of, with_image, with_area}
+use Rattle.image_keep.specs.Lent.{Lent, left_of}
+use Rattle.image_keep.specs.Running.{IsFixed, machine_in, with_machine_in, with_state}
+use Rattle.image_keep.proofs.Frames.{alive_image, with_image_area}
+use Rattle.image_keep.proofs.Reading.{starts_after}
+use Rattle.image_keep.proofs.Registers.{starts_described}
+use Rattle.image_keep.proofs.Loans.{lent_back}
+
+module _ (k lent now : Kept) (f : Fixed) (was is : ℕ) (a b : GName) (fixed : IsFixed k f) (begins : lent ≡ k) (slot : was ≡ f.slot)
+    (same : ◌≡◌ {A = Lent} (record { loan = a; slot = is; left = left_of now is }) (record { loan = b; slot = was; left = left_of lent was })) where
+  abbrev image : Image
+  image = image_of now is
+
+  back : now ≡ with_image k f.slot image
+  back = lent_back k lent now f.slot was is a b begins slot same
+
+  begun : image_of lent was ≡ image_of k f.slot
+  begun = ap (λ (x : Kept). image_of x was) begins ∙ ap (image_of k) slot
+
+  -- what is fixed stays so
+  fixed_after : KeepsForm (image_of lent was) image → IsFixed now f
+  fixed_after form =
+      let own : KeepsForm (image_of k f.slot) image = subst (λ m. KeepsForm m image) begun form in
+      subst (λ x. IsFixed x f) (sym back)
+      (starts_after k f.slot f.starts image fixed (record { text = ap length own.text; «data» = own.data; stack = own.stack }))
+
+  pub has_after : KeepsForm (image_of lent was) image → HasImage now f.slot
+  has_after form = alive_image now f.slot (fixed_after form).alive
+
+  pub fixed_then : KeepsForm (image_of lent was) image → (u : UArea) (new : Kept) → new ≡ with_area now f.slot u → IsFixed new f
+  fixed_then form u new put = subst (λ x. IsFixed x f) (sym put) (starts_described now f.slot f.starts u (fixed_after form))
+
+  module _ (r : List ℕ) (cc : ℕ) (regs' : Regs) (o : Outcome) (r_is : r ≡ (area_of k f.slot).r) (cc_is : cc ≡ (area_of k f.slot).cc)
+      (step : stepped o (pdp.machine_of regs' image) ≡ instr (record { r = r; cc = cc; image = image_of lent was })) where
+    instr_is : stepped o (pdp.machine_of regs' image) ≡ instr (machine_in k f.slot)
+    instr_is = step ∙ (λ i. instr (record { r = r_is i; cc = cc_is i; image = begun i }))
+
+    pub outcome_is : o ≡ (instr (machine_in k f.slot)).outcome
+    outcome_is = ap (λ (x : Stepped). x.outcome) instr_is
+
+    pub kept_is : (new : Kept) → new ≡ with_area now f.slot (with_state (area_of now f.slot) regs'.r regs'.cc) → new ≡ with_machine_in k f.slot (instr (machine_in k f.slot)).machine
+    kept_is new put =
+        put
+        ∙ ap (λ x. with_area x f.slot (with_state (area_of x f.slot) regs'.r regs'.cc)) back
+        ∙ ap (λ (u : UArea). with_area (with_image k f.slot image) f.slot (with_state u regs'.r regs'.cc)) (with_image_area k f.slot f.slot image)
+        ∙ ap (λ (x : Stepped). with_machine_in k f.slot x.machine) instr_is
+
+-- What is kept has not changed, and the instruction is the same.
+module _ (k now : Kept) (f : Fixed) (same : now ≡ k) where
+  pub outcome_same : (instr (machine_in now f.slot)).outcome ≡ (instr (machine_in k f.slot)).outcome
+  outcome_same = ap (λ (x : Kept). (instr (machine_in x f.slot)).outcome) same
+
+  pub kept_same : with_machine_in now f.slot (instr (machine_in now f.slot)).machine ≡ with_machine_in k f.slot (instr (machine_in k f.slot)).machine
+  kept_same = ap (λ (x : Kept). with_machine_in x f.slot (instr (machine_in x f.slot)).machine) same
