@@ -23,16 +23,16 @@ pub record SameKept (q p : Procs) : Type 0 where
 
 -- other images that keep the same
 pub same_images : {p : Procs} {i : ImagesState} → i.kept ≡ p.images.kept → SameKept (record p { images = i }) p
-same_images e = record { rows = refl; table = refl; kept = e; switches = refl }
+same_images {p} {i} e = record { rows = refl; table = refl; kept = e; switches = refl }
 
 pub same_handed : {q p : Procs} → SameKept q p → (fs : FileSystem) → handed q fs ≡ handed p fs
-same_handed e fs = λ i. world_in (e.rows i) (e.table i) (e.kept i) (e.switches i) (inodes_of fs)
+same_handed {q} {p} e fs = λ i. world_in (e.rows i) (e.table i) (e.kept i) (e.switches i) (inodes_of fs)
 
 pub same_board : {q p : Procs} → SameKept q p → board q ≡ board p
-same_board e = λ i. board_of (e.table i) (e.kept i)
+same_board {q} {p} e = λ i. board_of (e.table i) (e.kept i)
 
 pub same_here : {q p : Procs} → SameKept q p → (s : ℕ) → process_here q s ≡ process_here p s
-same_here e s = λ i. unwrap_or (slice_index_or (processes_in (e.rows i).slots (e.kept i)) s None) no_process
+same_here {q} {p} e s = λ i. unwrap_or (slice_index_or (processes_in (e.rows i).slots (e.kept i)) s None) no_process
 
 pub same_agree : {q p : Procs} → SameKept q p → AreProcs p → AreProcs q
 same_agree {q} {p} e a =
