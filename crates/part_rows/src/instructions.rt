@@ -191,7 +191,22 @@ const ROWS: &str = "\
 016001 177777 | 41     0      0      177600 5      0  | 41     5      0      177600 5      4      0  ; addresses go round
 112700 5      | 0      0      0      177600 0      0  | 5      0      0      177600 0      4      0  ; MOVB immediate: PC steps by 2
 062000 0      | 40     0      0      177600 5      0  | 47     0      0      177600 5      2      0  ; ADD (R)+,R
-022000 0      | 40     0      0      177600 42     0  | 42     0      0      177600 42     2      4  ; CMP (R)+,R: the source is formed first";
+022000 0      | 40     0      0      177600 42     0  | 42     0      0      177600 42     2      4  ; CMP (R)+,R: the source is formed first
+014626 0      | 0      0      0      42     5      17 | 0      0      0      42     5      2      1  ; MOV -(SP),(SP)+ puts a word where it was
+014041 0      | 2      42     0      177600 0      0  | 0      40     0      177600 14041  2      0  ; MOV -(R),-(R)
+014040 0      | 42     0      0      177600 5      0  | 36     0      0      177600 5      2      0  ; MOV -(R),-(R) of one register, which steps twice
+010701 0      | 0      5      0      177600 0      3  | 0      2      0      177600 0      2      1  ; MOV PC,R: the address after the word
+010107 0      | 0      1000   0      177600 0      2  | 0      1000   0      177600 0      1000   0  ; MOV R,PC
+020701 0      | 0      2      0      177600 0      13 | 0      2      0      177600 0      2      4  ; CMP PC,R, equal
+020701 0      | 0      3      0      177600 0      0  | 0      3      0      177600 0      2      11 ; CMP PC,R, borrow
+030701 0      | 0      3      0      177600 0      3  | 0      3      0      177600 0      2      1  ; BIT PC,R
+040701 0      | 0      177777 0      177600 0      1  | 0      177775 0      177600 0      2      11 ; BIC PC,R
+050701 0      | 0      4      0      177600 0      17 | 0      6      0      177600 0      2      1  ; BIS PC,R
+060701 0      | 0      177776 0      177600 0      0  | 0      0      0      177600 0      2      5  ; ADD PC,R
+060107 0      | 0      6      0      177600 0      17 | 0      6      0      177600 0      10     0  ; ADD R,PC: a table of jumps
+160701 0      | 0      1      0      177600 0      0  | 0      177777 0      177600 0      2      11 ; SUB PC,R
+005707 0      | 0      0      0      177600 0      17 | 0      0      0      177600 0      2      0  ; TST PC
+110701 0      | 0      177777 0      177600 0      0  | 0      2      0      177600 0      2      0  ; MOVB PC,R";
 
 // After the examples of the addressing modes (handbook, chapter 3) and of the instructions (chapter 4), written down
 // from memory, and two rows more in their form. In octal: the words at 1020; R0 to R5; two words of memory, each after
@@ -311,7 +326,7 @@ fn examples_of_the_handbook_come_out(rt: HostRuntime) {
 }
 
 // The word at 0 and the one after it, R0 and SP; what comes of it, and how far PC moves.
-static FAULTS: [([u16; 4], Outcome, u16); 27] = [
+static FAULTS: [([u16; 4], Outcome, u16); 28] = [
     // MOV @#41,R0
     ([0o013700, 0o41, 0, 0], Fault(Odd), 0),
     // MOV @(R0)+,R0 through an odd address
@@ -334,6 +349,8 @@ static FAULTS: [([u16; 4], Outcome, u16); 27] = [
     ([0o004637, 0o40, 0, 64256], Fault(Segment { sp: 64254 }), 0),
     // RTS PC
     ([0o000207, 0, 0, 64254], Fault(Segment { sp: 64256 }), 0),
+    // RTI at an odd address
+    ([0o000002, 0, 0, 0o41], Fault(Odd), 0),
     // RTI, whose second word isn't there
     ([0o000002, 0, 0, 0o76], Fault(Segment { sp: 0o102 }), 0),
     // MARK 40
