@@ -90,11 +90,11 @@ area_put p s u alive long =
 
 -- nothing else changes in what the call is handed, and nothing on the board
 pub area_state : (p : Procs) (s : ℕ) (u : UArea) (fs : FileSystem)
-    → handed (record p { images = with_area p.images.kept s u }) fs ≡ record (handed p fs) { processes = processes_in p.rows.slots (with_area p.images.kept s u) }
+    → handed (record p { images = record p.images { kept = with_area p.images.kept s u } }) fs ≡ record (handed p fs) { processes = processes_in p.rows.slots (with_area p.images.kept s u) }
 unfolding with_area
 area_state p s u fs = refl
 
-pub area_board : (p : Procs) (s : ℕ) (u : UArea) → board (record p { images = with_area p.images.kept s u }) ≡ board p
+pub area_board : (p : Procs) (s : ℕ) (u : UArea) → board (record p { images = record p.images { kept = with_area p.images.kept s u } }) ≡ board p
 unfolding with_area
 area_board p s u = refl
 
@@ -116,7 +116,7 @@ area_agrees m row held u same a = record {
   textless = a.textless;
 }
 
-pub area_alive : (p : Procs) (s : ℕ) (u : UArea) → IsAlive p s → length p.images.kept.slots ≡ 50 → SameSizes u (process_here p s).u → IsAlive (record p { images = with_area p.images.kept s u }) s
+pub area_alive : (p : Procs) (s : ℕ) (u : UArea) → IsAlive p s → length p.images.kept.slots ≡ 50 → SameSizes u (process_here p s).u → IsAlive (record p { images = record p.images { kept = with_area p.images.kept s u } }) s
 area_alive p s u alive long same =
     let here = is_here p s alive in
     let low : s < length p.images.kept.slots = omega (arith, alive.below, long) in

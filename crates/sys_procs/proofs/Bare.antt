@@ -22,7 +22,7 @@ use Rattle.sys_procs.proofs.PlacingRows.{bared_row, row_low, text_row}
 
 module _ (p : Procs) (s : ℕ) (alive : IsAlive p s) (long : length p.images.kept.slots ≡ 50) where
   abbrev pub now : Procs
-  now = record p { table = change_row p.table s bared_row; images = with_keeping p.images.kept s Nothing }
+  now = record p { table = change_row p.table s bared_row; images = record p.images { kept = with_keeping p.images.kept s Nothing } }
 
   low : s < length p.images.kept.slots
   low = omega (arith, alive.below, long)

@@ -150,7 +150,7 @@ module _ (p : Procs) (l : Kept) (t : ℕ) (bytes : List ℕ) (x : Shared) (there
   nothing_filled true = refl
   nothing_filled false = refl
 
-  pub alive_filled : (s : ℕ) → IsAlive p s → IsAlive (record p { images = l }) s
+  pub alive_filled : (s : ℕ) → IsAlive p s → IsAlive (record p { images = record p.images { kept = l } }) s
   alive_filled s alive =
       let a = alive.agree in
       let has = image_filled (keeping k s) t whole (text_of k s) alive.image in

@@ -23,6 +23,7 @@ use Rattle.proc_tab.specs.Processes as rows
 use Rattle.proc_tab.specs.Pids.{fresh_pid, child_of, forked}
 use Rattle.proc_tab.proofs.SearchLemmas.{lowest_finds}
 use Rattle.image_keep.specs.Kept.{Held, Keeping, Nothing, Alive, Grave, Kept, keeping, with_keeping, text_of, with_area, described, area_in, image_in, area_of, image_of, clicks_of, HasImage}
+use Rattle.image_keep.specs.State.{ImagesState}
 use Rattle.image_keep.specs.Moves.{forked_at}
 use Rattle.image_keep.specs.Places as images_of
 use Rattle.fs_nodes.specs.FileSystem.{FileSystem}
@@ -35,6 +36,7 @@ use Rattle.sys_procs.specs.Fork.{copied, past_word, next_pid, with_child, fork_i
 use Rattle.sys_procs.specs.Seats.{with_image_row}
 use Rattle.sys_procs.specs.Agree.{Free, Lives, kind_of_member, kind_of_keeping, Agrees}
 use Rattle.sys_procs.specs.Handed.{AreProcs, IsAlive, handed, board, process_here}
+use Rattle.sys_procs.proofs.SameKept.{SameKept}
 use Rattle.sys_procs.proofs.Slots.{fifty_processes, one_changed, members_are}
 use Rattle.swap_sched.proofs.Boards.{untimed, untimed_runout}
 use Rattle.sys_procs.proofs.Agreement.{agree_with}
@@ -118,7 +120,7 @@ abbrev pub seated : Procs → ℕ → ℕ → Place → Procs
 seated p s child place = record p {
   rows = forked p.rows s (Some child);
   table = with_image_row p.table child (row_of_child p.table s place) place;
-  images = kept_forked p.images.kept s child place;
+  images = record p.images { kept = kept_forked p.images.kept s child place };
 }
 
 -- what the child is before it goes on
@@ -242,15 +244,17 @@ module _ (p : Procs) (s child : ℕ) (place : Place) (alive : IsAlive p s) (slot
       (get_or-set_same (processes_in p.rows.slots p.images.kept) child (Some (copy_of p s)) None (omega (arith, free.low, fifty_processes p.rows.slots p.images.kept)))
 
 -- what the code makes of the three
-pub is_seated : (p : Procs) (s child : ℕ) (place : Place) (v : Processes) (t : Table) (k : Kept) → v ≡ forked p.rows s (Some child)
+pub is_seated : (p : Procs) (s child : ℕ) (place : Place) (v : Processes) (t : Table) (i : ImagesState) → v ≡ forked p.rows s (Some child)
     → t ≡ with_image_row p.table child (row_of_child p.table s place) place
-    → {o : Option Place} → o ≡ Some place → k ≡ forked_at p.images.kept s child o
-    → ◌≡◌ {A = Procs} (record p { rows = v; table = t; images = k }) (seated p s child place)
-is_seated p s child place v t k e f {o} found g =
-    let now : k ≡ kept_forked p.images.kept s child place =
-    g ∙ ap (forked_at p.images.kept s child) found
-    ∙ slot_forked p.images.kept (text_of p.images.kept s) place child (Alive (child_held p.images.kept s place)) (text_of p.images.kept s) in
-    λ i. record p { rows = e i; table = f i; images = now i }
+    → {o : Option Place} → o ≡ Some place → i.kept ≡ forked_at p.images.kept s child o
+    → SameKept (record p { rows = v; table = t; images = i }) (seated p s child place)
+is_seated p s child place v t i e f {o} found g = record {
+  rows = e;
+  table = f;
+  kept = g ∙ ap (forked_at p.images.kept s child) found
+      ∙ slot_forked p.images.kept (text_of p.images.kept s) place child (Alive (child_held p.images.kept s place)) (text_of p.images.kept s);
+  switches = refl;
+}
 
 -- What becomes of a child and its parent as they go on.
 abbrev pub begun_by : ℕ → Process → Process

@@ -126,7 +126,11 @@ area_buried p s a above low grave =
 
 -- A slot that becomes free.
 abbrev pub cleared : Procs → ℕ → Procs
-cleared p s = record p { rows = without p.rows s; table = with_row p.table s empty_row; images = with_keeping p.images.kept s Nothing }
+cleared p s = record p {
+  rows = without p.rows s;
+  table = with_row p.table s empty_row;
+  images = record p.images { kept = with_keeping p.images.kept s Nothing };
+}
 
 module _ (p : Procs) (s : ℕ) (low : s < 50) (slots : length p.rows.slots ≡ 50) (images : length p.images.kept.slots ≡ 50) where
   processes_cleared : processes_in (set p.rows.slots s None) (with_keeping p.images.kept s Nothing) ≡ set (processes_in p.rows.slots p.images.kept) s None

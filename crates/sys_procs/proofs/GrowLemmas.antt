@@ -87,7 +87,7 @@ kept_grown k s d stack place = record (with_keeping k s (Alive (grown k s d stac
 abbrev resized_by : Bool → Procs → ℕ → ℕ → ℕ → Place → Procs
 resized_by keeps p s d stack place = record p {
   table = table_by keeps p.table s (16 + d + stack) place;
-  images = kept_grown p.images.kept s d stack place;
+  images = record p.images { kept = kept_grown p.images.kept s d stack place };
 }
 
 abbrev pub resized : Procs → ℕ → ℕ → ℕ → Place → Procs

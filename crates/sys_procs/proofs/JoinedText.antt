@@ -62,7 +62,7 @@ module _ (p : Procs) (s t : ℕ) where
   abbrev pub joins : Procs
   joins = record p {
     table = change_row p.table s (with_its_text t);
-    images = record p.images.kept { texts = more p.images.kept t; users = set p.images.kept.users s (Some t) };
+    images = record p.images { kept = record p.images.kept { texts = more p.images.kept t; users = set p.images.kept.users s (Some t) } };
   }
 
   pub board_joined : board joins ≡ applied (board p) (line.Share s t)

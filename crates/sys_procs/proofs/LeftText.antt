@@ -26,6 +26,7 @@ use Rattle.text_tab.specs.declared.left.Left.TheVariants.{Used, Kept, Gone}
 use Rattle.text_tab.specs.Table.{left, remaining}
 use Rattle.image_keep.specs.Kept.{Keeping, Nothing, Alive, Grave, Held, Shared, keeping, shared, text_of, place_in, clicks_of, area_in, HasImage, IsKept}
 use Rattle.image_keep.specs.Kept as kept
+use Rattle.image_keep.specs.State.{ImagesState}
 use Rattle.image_keep.specs.SharedTexts.{AreShared, is_loaded, left_core, with_row, shared_left, textless, with_left_text, row_of_text, row_in}
 use Rattle.swap_sched.specs.Match.{text_place}
 use Rattle.swap_sched.proofs.Texts.{text_at_map, set_twice, one_fewer}
@@ -42,6 +43,7 @@ use Rattle.sys_procs.specs.Done.{HasLeft}
 use Rattle.sys_procs.specs.Agree.{Agrees}
 use Rattle.sys_procs.specs.Handed.{IsAlive, board, handed, process_here}
 use Rattle.sys_procs.proofs.Alive.{IsHere, is_here}
+use Rattle.sys_procs.proofs.SameKept.{SameKept, same_handed, same_board}
 use Rattle.sys_procs.proofs.Slots.{one_changed}
 use Rattle.sys_procs.proofs.Tables.{logged_line}
 use Rattle.sys_procs.proofs.Dones.{left_logged}
@@ -255,13 +257,15 @@ module _ {p : Procs} {s t : ℕ} (sticky : Bool) (h : Shares p s t) where
   images_left = refl
 
   abbrev pub now : Procs
-  now = record p { table = change_row p.table s without_its_text; images = images }
+  now = record p { table = change_row p.table s without_its_text; images = record p.images { kept = images } }
 
-  pub left_is : (rows : Table) (k : kept.Kept) → rows ≡ change_row p.table s without_its_text
-      → k ≡ with_left_text p.images.kept s sticky (text_of p.images.kept s) → record p { table = rows; images = k } ≡ now
-  left_is rows k table_is is = λ i. record p {
-    table = table_is i;
-    images = (is ∙ (ap (with_left_text p.images.kept s sticky) h.text ∙ images_left)) i;
+  pub left_is : (rows : Table) (i : ImagesState) → rows ≡ change_row p.table s without_its_text
+      → i.kept ≡ with_left_text p.images.kept s sticky (text_of p.images.kept s) → SameKept (record p { table = rows; images = i }) now
+  left_is rows i table_is is = record {
+    rows = refl;
+    table = table_is;
+    kept = is ∙ (ap (with_left_text p.images.kept s sticky) h.text ∙ images_left);
+    switches = refl;
   }
 
   text_low : t < length p.images.kept.texts
@@ -508,7 +512,7 @@ module _ {p : Procs} {s t : ℕ} (sticky : Bool) (h : Shares p s t) where
       ∙ sym (λ i. set (are i) (ino_is ino is i) false))
 
   -- so the call has done what its row says
-  pub has_left : (old_fs new_fs : FileSystem) (new : Procs) (start end : Taken) (ino : ℕ) → new ≡ now
+  pub has_left : (old_fs new_fs : FileSystem) (new : Procs) (start end : Taken) (ino : ℕ) → SameKept new now
       → ino ≡ (row_in (shared p.images.kept t)).ino
       → handed now new_fs ≡ leaves_text (handed p old_fs) s t sticky
       → sticky ≡ not (bit_and (node_in old_fs.store ino).mode ISVTX == 0)
@@ -521,4 +525,4 @@ module _ {p : Procs} {s t : ℕ} (sticky : Bool) (h : Shares p s t) where
       subst (λ b. HasLeft p new new_fs start end (logs (line.Leave s t b) (nothing (leaves_text w s t b))))
       (told ∙ ap (λ n. not (bit_and (node_in old_fs.store n).mode ISVTX == 0)) same)
       (left_logged (logged_line (board p) (line.Leave s t sticky))
-      (ap (λ (q : Procs). handed q new_fs) is ∙ state) (ap (λ (q : Procs). board q) is ∙ board_left) took)
+      (same_handed is new_fs ∙ state) (same_board is ∙ board_left) took)

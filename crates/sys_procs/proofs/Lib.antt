@@ -1,3 +1,4 @@
+pub mod SameKept
 pub mod Slots
 pub mod Tables
 pub mod Agreement

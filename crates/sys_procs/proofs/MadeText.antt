@@ -23,6 +23,7 @@ use Rattle.pick_rules.specs.Logged.{Logged, Stop, logged, log_one, nothing_logge
 use Rattle.image_keep.specs.declared.texts.TextRefusal.{TextRefusal}
 use Rattle.image_keep.specs.declared.texts.TextRefusal.TheVariants as refusal
 use Rattle.image_keep.specs.Kept.{Kept, Shared, shared, text_of, IsKept}
+use Rattle.image_keep.specs.State.{ImagesState}
 use Rattle.image_keep.specs.Places.{swap_fit, blocks}
 use Rattle.image_keep.specs.SharedTexts.{zeros_text, with_new_text, found_text, free_text, making, with_made_text, row_in}
 use Rattle.image_keep.proofs.TextSearch.{position_map}
@@ -36,6 +37,7 @@ use Rattle.sys_procs.specs.Comes.{Comes, nothing}
 use Rattle.sys_procs.specs.inside.Begun.{takes, new_if, new_entry, taken_by}
 use Rattle.sys_procs.specs.Handed.{IsBare, board, came, handed, process_here}
 use Rattle.sys_procs.specs.Done.{HasLeft}
+use Rattle.sys_procs.proofs.SameKept.{SameKept, same_images, same_handed, same_board}
 use Rattle.sys_procs.proofs.Dones.{left_logged}
 use Rattle.sys_procs.proofs.Tables.{logged_line}
 use Rattle.sys_procs.proofs.Places.{same_free, swap_bare}
@@ -139,8 +141,8 @@ pub made_in : (p : Procs) (n t : ℕ) → Ok t ≡ making (free_text p.images.ke
 made_in p n t e = made_by (free_text p.images.kept) (swap_fit p.images.kept (blocks n)) t e
 
 -- It isn't made: what is left then, and the panic.
-pub record Refused (p : Procs) (s ino n : ℕ) (fs : FileSystem) (kind : PanicKind) (k : Kept) (start end : Taken) : Type 0 where
-  pub left : HasLeft p (record p { images = k }) fs start end (makes_for p s ino n fs)
+pub record Refused (p : Procs) (s ino n : ℕ) (fs : FileSystem) (kind : PanicKind) (i : ImagesState) (start end : Taken) : Type 0 where
+  pub left : HasLeft p (record p { images = i }) fs start end (makes_for p s ino n fs)
   pub panic : taken_by (came p (makes_for p s ino n fs)).stop None ≡ Err kind
 
 module _ (p : Procs) (s ino n : ℕ) (bare : IsBare p s) (all : IsKept p.images.kept) where
@@ -154,20 +156,18 @@ module _ (p : Procs) (s ino n : ℕ) (bare : IsBare p s) (all : IsKept p.images.
       (same_free p.table p.images.kept all.table) (swap_bare p.rows p.table p.images.kept s bare.agree all.slots (blocks n))
 
   -- It isn't made.
-  pub left_refused : (fs : FileSystem) (r : TextRefusal) (kind : PanicKind) (k : Kept) (start end : Taken)
+  pub left_refused : (fs : FileSystem) (r : TextRefusal) (kind : PanicKind) (i : ImagesState) (start end : Taken)
       → Err r ≡ making (free_text p.images.kept) (swap_fit p.images.kept (blocks n))
       → (r ≡ refusal.Full → kind ≡ panic.Text) → (r ≡ refusal.NoSwap → kind ≡ panic.Swap)
-      → k ≡ with_made_text p.images.kept s ino n (free_text p.images.kept) (swap_fit p.images.kept (blocks n))
-      → Took start (Log (line.Panic kind) ∷ []) end → Refused p s ino n fs kind k start end
-  left_refused fs r kind k start end e full swap is took =
+      → i.kept ≡ with_made_text p.images.kept s ino n (free_text p.images.kept) (swap_fit p.images.kept (blocks n))
+      → Took start (Log (line.Panic kind) ∷ []) end → Refused p s ino n fs kind i start end
+  left_refused fs r kind i start end e full swap is took =
       let free : Option ℕ = free_text p.images.kept in
       let fit : Option ℕ = swap_fit p.images.kept (blocks n) in
       let refuses = refused_by (board p) p.images.kept s ino n (handed p fs) free fit r kind e full swap in
-      let it : ◌≡◌ {A = Procs} (record p { images = k }) p =
-      ap (λ (j : Kept). record p { images = j }) (is ∙ refuses.same) in
+      let it : SameKept (record p { images = i }) p = same_images (is ∙ refuses.same) in
       record {
-        left = left_logged (text_came fs ∙ refuses.log) (ap (λ (q : Procs). handed q fs) it)
-            (ap (λ (q : Procs). board q) it) took;
+        left = left_logged (text_came fs ∙ refuses.log) (same_handed it fs) (same_board it) took;
         panic = ap (λ (l : Logged World). taken_by l.stop None) (text_came fs ∙ refuses.log);
       }
 
@@ -180,7 +180,7 @@ module _ (p : Procs) (s ino n : ℕ) (bare : IsBare p s) (all : IsKept p.images.
     images = record p.images.kept { texts = texts; users = set p.images.kept.users s (Some t) }
 
     abbrev pub now : Procs
-    now = record p { table = change_row p.table s (with_its_text t); images = images }
+    now = record p { table = change_row p.table s (with_its_text t); images = record p.images { kept = images } }
 
     made_is : with_new_text p.images.kept s t ino n made.block ≡ images
     unfolding with_new_text
@@ -189,10 +189,10 @@ module _ (p : Procs) (s ino n : ℕ) (bare : IsBare p s) (all : IsKept p.images.
     pub images_made : with_made_text p.images.kept s ino n (free_text p.images.kept) (swap_fit p.images.kept (blocks n)) ≡ images
     images_made = (λ i. with_made_text p.images.kept s ino n (made.entry i) (made.blocks i)) ∙ made_is
 
-    pub it_is : (rows : Table) (k : Kept) → rows ≡ change_row p.table s (with_its_text t)
-        → k ≡ with_made_text p.images.kept s ino n (free_text p.images.kept) (swap_fit p.images.kept (blocks n))
-        → record p { table = rows; images = k } ≡ now
-    it_is rows k table_is is = λ i. record p { table = table_is i; images = (is ∙ images_made) i }
+    pub it_is : (rows : Table) (i : ImagesState) → rows ≡ change_row p.table s (with_its_text t)
+        → i.kept ≡ with_made_text p.images.kept s ino n (free_text p.images.kept) (swap_fit p.images.kept (blocks n))
+        → SameKept (record p { table = rows; images = i }) now
+    it_is rows i table_is is = record { rows = refl; table = table_is; kept = is ∙ images_made; switches = refl }
 
     is_free : (o : Option Shared) → is_none o ≡ true → o ≡ None
     is_free None e = refl
@@ -242,15 +242,15 @@ module _ (p : Procs) (s ino n : ℕ) (bare : IsBare p s) (all : IsKept p.images.
     pub goes_on : (fs : FileSystem) → (came p (makes fs)).stop ≡ None
     goes_on fs = ap (λ (l : Logged World). l.stop) (log_made fs)
 
-    pub left_made : (new : Procs) (fs after : FileSystem) (block : ℕ) (start end : Taken) → new ≡ now
+    pub left_made : (new : Procs) (fs after : FileSystem) (block : ℕ) (start end : Taken) → SameKept new now
         → inodes_of after ≡ with_reference (inodes_of fs) ino
         → block ≡ (row_in (shared new.images.kept t)).block → Took start (Log (line.Text s t n block) ∷ []) end
         → HasLeft p new after start end (makes fs)
     left_made new fs after block start end is referred block_is took =
-        let at : block ≡ made.block = block_is ∙ ap (λ (q : Procs). (row_in (shared q.images.kept t)).block) is
+        let at : block ≡ made.block = block_is ∙ ap (λ (k : Kept). (row_in (shared k t)).block) is.kept
         ∙ ap (λ o. (row_in o).block) text_now in
-        left_logged (log_made fs) (ap (λ (q : Procs). handed q after) is ∙ state_made fs after referred)
-        (ap (λ (q : Procs). board q) is ∙ board_made) (subst (λ m. Took start (Log (line.Text s t n m) ∷ []) end) at took)
+        left_logged (log_made fs) (same_handed is after ∙ state_made fs after referred)
+        (same_board is ∙ board_made) (subst (λ m. Took start (Log (line.Text s t n m) ∷ []) end) at took)
 
     pub bare_made : IsBare now s
     bare_made = is_bare p s t texts bare all.seats

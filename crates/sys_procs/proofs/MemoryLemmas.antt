@@ -8,6 +8,7 @@ use Rattle.proc_tab.specs.declared.member.Member.{Member}
 use Rattle.proc_tab.specs.Processes.{member_at}
 use Rattle.image_keep.specs.Kept.{Held, Alive, Shared, Kept, IsKept, keeping, text_of, image_in, imaged, with_image}
 use Rattle.image_keep.specs.Kept as kept
+use Rattle.image_keep.specs.State.{ImagesState}
 use Rattle.image_keep.specs.Lent.{left_of}
 use Rattle.image_keep.proofs.Frames.{after, image_back, keeping_same, with_image_other, with_image_texts}
 use Rattle.fs_nodes.specs.FileSystem.{FileSystem}
@@ -17,6 +18,7 @@ use Rattle.sys_procs.specs.TextTable.{no_text, text_bytes}
 use Rattle.sys_procs.specs.World.{processes_in, text_in, texts_in, with_process}
 use Rattle.sys_procs.specs.Agree.{Agrees, board_of}
 use Rattle.sys_procs.specs.Handed.{board, handed, process_here, memory_here, IsAlive}
+use Rattle.sys_procs.proofs.SameKept.{SameKept, same_handed, same_alive}
 use Rattle.sys_procs.proofs.Slots.{image_changed}
 use Rattle.sys_procs.proofs.Agreement.{agree_but}
 use Rattle.sys_procs.proofs.Alive.{is_here}
@@ -48,7 +50,7 @@ module _ (p : Procs) (s : ℕ) (alive : IsAlive p s) (long : length p.images.kep
       let here = is_here p s alive in
       image_changed p.rows.slots p.images.kept s here.member here.held alive.below here.member_is here.image_is m (omega (arith, alive.below, long))
 
-  state_with : (fs : FileSystem) → handed (record p { images = with_image p.images.kept s m }) fs ≡ with_process (handed p fs) s (record (process_here p s) { «data» = m.data; stack = m.stack })
+  state_with : (fs : FileSystem) → handed (record p { images = record p.images { kept = with_image p.images.kept s m } }) fs ≡ with_process (handed p fs) s (record (process_here p s) { «data» = m.data; stack = m.stack })
   unfolding with_image
   state_with fs = ap (λ (ps : List (Option Process)). record (handed p fs) { processes = ps }) image_put
 
@@ -66,7 +68,7 @@ module _ (p : Procs) (s : ℕ) (alive : IsAlive p s) (long : length p.images.kep
   unfolding with_image
   slot_with held has = keeping_same p.images.kept s (imaged m (keeping p.images.kept s)) (omega (arith, alive.below, long)) ∙ ap (imaged m) has
 
-  alive_with : IsAlive (record p { images = with_image p.images.kept s m }) s
+  alive_with : IsAlive (record p { images = record p.images { kept = with_image p.images.kept s m } }) s
   alive_with =
       let here = is_here p s alive in
       let now : keeping (with_image p.images.kept s m) s ≡ Alive (record here.held { image = m }) = slot_with here.held here.image_is in
@@ -82,18 +84,24 @@ module _ (p : Procs) (s : ℕ) (alive : IsAlive p s) (long : length p.images.kep
       }
 
 -- After a loan of the memory nothing else has changed.
-module _ (p : Procs) (s : ℕ) (alive : IsAlive p s) (long : length p.images.kept.slots ≡ 50) (w : Kept) (left : left_of w s ≡ left_of p.images.kept s) where
-  pub loan_state : (fs : FileSystem) → handed (record p { images = w }) fs
-      ≡ with_process (handed p fs) s (record (process_here p s) { «data» = (kept.image_of w s).data; stack = (kept.image_of w s).stack })
-  loan_state fs = ap (λ (k : Kept). handed (record p { images = k }) fs) (after p.images.kept w s left) ∙ state_with p s alive long (kept.image_of w s) fs
+module _ (p : Procs) (s : ℕ) (alive : IsAlive p s) (long : length p.images.kept.slots ≡ 50) (w : ImagesState) (left : left_of w.kept s ≡ left_of p.images.kept s) where
+  abbrev m : Image
+  m = kept.image_of w.kept s
 
-  pub loan_board : board_of p.table w ≡ board p
+  put : SameKept (record p { images = w }) (record p { images = record p.images { kept = with_image p.images.kept s m } })
+  put = record { rows = refl; table = refl; kept = after p.images.kept w.kept s left; switches = refl }
+
+  pub loan_state : (fs : FileSystem) → handed (record p { images = w }) fs
+      ≡ with_process (handed p fs) s (record (process_here p s) { «data» = m.data; stack = m.stack })
+  loan_state fs = same_handed put fs ∙ state_with p s alive long m fs
+
+  pub loan_board : board_of p.table w.kept ≡ board p
   unfolding with_image
-  loan_board = ap (λ (k : Kept). board_of p.table k) (after p.images.kept w s left)
+  loan_board = ap (λ (k : Kept). board_of p.table k) (after p.images.kept w.kept s left)
 
   pub loan_alive : IsAlive (record p { images = w }) s
-  loan_alive = subst (λ (k : Kept). IsAlive (record p { images = k }) s) (sym (after p.images.kept w s left)) (alive_with p s alive long (kept.image_of w s))
+  loan_alive = same_alive put (alive_with p s alive long m)
 
-  -- where the image is the same, all is
-  pub loan_same : kept.image_of w s ≡ kept.image_of p.images.kept s → w ≡ p.images.kept
-  loan_same same = after p.images.kept w s left ∙ (ap (λ m. with_image p.images.kept s m) same ∙ image_back p.images.kept s)
+  -- where the image is the same, all that is kept is
+  pub loan_same : m ≡ kept.image_of p.images.kept s → w.kept ≡ p.images.kept
+  loan_same same = after p.images.kept w.kept s left ∙ (ap (λ m. with_image p.images.kept s m) same ∙ image_back p.images.kept s)

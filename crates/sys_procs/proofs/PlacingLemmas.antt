@@ -25,6 +25,7 @@ use Rattle.proc_tab.specs.declared.member.Member.{Member}
 use Rattle.proc_tab.specs.Processes.{member_at}
 use Rattle.image_keep.specs.Area.{made_area}
 use Rattle.image_keep.specs.Kept.{Nothing, Alive, Held, Kept, Shared, keeping, shared, text_of, place_in, image_of, image_in, clicks_of, area_in, changed, IsKept}
+use Rattle.image_keep.specs.State.{ImagesState}
 use Rattle.image_keep.specs.Moves.{moved_row, moved_texts, with_image_moved}
 use Rattle.image_keep.specs.Places.{is_text_loaded, may_load, core_fit, swap_fit, placed, blocks, made_image}
 use Rattle.swap_sched.specs.Match.{text_place}
@@ -41,6 +42,7 @@ use Rattle.sys_procs.proofs.MovedTexts.{more_at, same_texts, entered_texts_board
 use Rattle.sys_procs.proofs.Places.{placed_bare}
 use Rattle.sys_procs.proofs.PlacingRows.{untimed_placed, place_text, clock_told, agree_told}
 use Rattle.sys_procs.proofs.Retexted.{there}
+use Rattle.sys_procs.proofs.SameKept.{SameKept, same_images, same_handed, same_board}
 use Rattle.sys_procs.proofs.Slots.{one_changed, own_is}
 
 -- What a demand for an image leaves in the log, by the place that is found.
@@ -133,15 +135,14 @@ module _ (p : Procs) (s t d : ℕ) (bare : IsBare p s) (all : IsKept p.images.ke
   u = made_area t d 20
 
   -- There is no place.
-  pub unplaced : (fs : FileSystem) (image : Image) (k : Kept) (start end : Taken) → placed p.images.kept s (16 + d + 20) ≡ None
-      → k ≡ with_image_moved p.images.kept s u image (placed p.images.kept s (16 + d + 20))
+  pub unplaced : (fs : FileSystem) (image : Image) (i : ImagesState) (start end : Taken) → placed p.images.kept s (16 + d + 20) ≡ None
+      → i.kept ≡ with_image_moved p.images.kept s u image (placed p.images.kept s (16 + d + 20))
       → Took start (Log (line.Panic panic.Swap) ∷ []) end
-      → HasEnded p (record p { images = k }) fs (Err panic.Swap) start end (takes_image (handed p fs) s t d)
-  unplaced fs image k start end none is took =
-      let it : ◌≡◌ {A = Procs} (record p { images = k }) p =
-      ap (λ (j : Kept). record p { images = j }) (is ∙ ap (with_image_moved p.images.kept s u image) none) in
+      → HasEnded p (record p { images = i }) fs (Err panic.Swap) start end (takes_image (handed p fs) s t d)
+  unplaced fs image i start end none is took =
+      let it : SameKept (record p { images = i }) p = same_images (is ∙ ap (with_image_moved p.images.kept s u image) none) in
       ended_logged (image_came fs ∙ ap (image_log (board p) s (16 + d + 20) (handed p fs)) none) refl
-      (ap (λ (q : Procs). handed q fs) it) (ap (λ (q : Procs). board q) it) took
+      (same_handed it fs) (same_board it) took
 
   -- There is one.
   module _ (place : Place) (text : List ℕ) (fit : placed p.images.kept s (16 + d + 20) ≡ Some place) where
@@ -155,7 +156,7 @@ module _ (p : Procs) (s t d : ℕ) (bare : IsBare p s) (all : IsKept p.images.ke
     }
 
     abbrev pub now : Procs
-    now = record p { table = with_place p.table s (16 + d + 20) place; images = images }
+    now = record p { table = with_place p.table s (16 + d + 20) place; images = record p.images { kept = images } }
 
     images_now : with_image_moved p.images.kept s u (made_image text d 20) (placed p.images.kept s (16 + d + 20)) ≡ images
     images_now =
@@ -167,10 +168,10 @@ module _ (p : Procs) (s t d : ℕ) (bare : IsBare p s) (all : IsKept p.images.ke
         with_image_moved_from from = let k : Kept = moved_texts p.images.kept (text_of p.images.kept s) from place in
             record k { slots = set k.slots s (Alive held) }
 
-    pub it_is : (rows : Table) (k : Kept) → rows ≡ with_place p.table s (16 + d + 20) place
-        → k ≡ with_image_moved p.images.kept s u (made_image text d 20) (placed p.images.kept s (16 + d + 20))
-        → record p { table = rows; images = k } ≡ now
-    it_is rows k table_is is = λ i. record p { table = table_is i; images = (is ∙ images_now) i }
+    pub it_is : (rows : Table) (i : ImagesState) → rows ≡ with_place p.table s (16 + d + 20) place
+        → i.kept ≡ with_image_moved p.images.kept s u (made_image text d 20) (placed p.images.kept s (16 + d + 20))
+        → SameKept (record p { table = rows; images = i }) now
+    it_is rows i table_is is = record { rows = refl; table = table_is; kept = is ∙ images_now; switches = refl }
 
     image_now : keeping images s ≡ Alive held
     image_now = get_or-set_same p.images.kept.slots s (Alive held) Nothing (omega (arith, bare.below, all.slots))
@@ -214,12 +215,12 @@ module _ (p : Procs) (s t d : ℕ) (bare : IsBare p s) (all : IsKept p.images.ke
               (λ c k e f. text_loaded p.images.kept s (16 + d + 20) c k (fit ∙ ap (λ x. Some x) e) f) i;
         }))
 
-    pub has_placed : (fs : FileSystem) (new : Procs) (start end : Taken) → new ≡ now
+    pub has_placed : (fs : FileSystem) (new : Procs) (start end : Taken) → SameKept new now
         → Took start (Log (line.Image s (16 + d + 20) place) ∷ []) end
         → HasEnded p new fs (Ok tt) start end (takes_image (handed p fs) s t d)
     has_placed fs new start end is took =
         ended_logged (image_came fs ∙ ap (image_log (board p) s (16 + d + 20) (handed p fs)) fit) refl
-        (ap (λ (q : Procs). handed q fs) is ∙ state_now fs) (ap (λ (q : Procs). board q) is ∙ board_now) took
+        (same_handed is fs ∙ state_now fs) (same_board is ∙ board_now) took
 
     pub time_stays : now.table.now ≡ p.table.now
     time_stays = ap (λ (c : Clock). c.time) (clock_told p.table s (placed_row (16 + d + 20) place (row_at p.table s)) place)

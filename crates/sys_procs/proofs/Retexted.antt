@@ -31,7 +31,7 @@ module _ (p : Procs) (s t : ℕ) (texts : List (Option Shared)) (bare : IsBare p
   kept = record p.images.kept { texts = texts; users = set p.images.kept.users s (Some t) }
 
   abbrev pub now : Procs
-  now = record p { table = change_row p.table s (with_its_text t); images = kept }
+  now = record p { table = change_row p.table s (with_its_text t); images = record p.images { kept = kept } }
 
   text_now : text_of kept s ≡ Some t
   text_now = get_or-set_same p.images.kept.users s (Some t) None (let below = bare.below in omega (arith, below, seats))

@@ -33,13 +33,13 @@ clock_placed t s n place = clock_told t s (placed_row n place (row_at t s)) plac
 abbrev pub grown_at : Procs → ℕ → ℕ → Held → List (Option Shared) → Procs
 grown_at p s n held texts = record p {
   table = with_place p.table s n held.place;
-  images = record (with_keeping p.images.kept s (Alive held)) { texts = texts };
+  images = record p.images { kept = record (with_keeping p.images.kept s (Alive held)) { texts = texts } };
 }
 
 abbrev pub kept_at : Procs → ℕ → ℕ → Held → List (Option Shared) → Procs
 kept_at p s n held texts = record p {
   table = change_row p.table s (sized_row n);
-  images = record (with_keeping p.images.kept s (Alive held)) { texts = texts };
+  images = record p.images { kept = record (with_keeping p.images.kept s (Alive held)) { texts = texts } };
 }
 
 -- Of the board.

@@ -121,7 +121,7 @@ fn read_list<S: Space>(space: &S, list: u16) -> Result<Arguments, Errno>
 pub(crate) fn read_arguments(images: &mut Images, s: Slot, list: u16) -> Result<Arguments, Errno>
     requires { HasImage images.old.kept s }
     ensures arguments { result ≡ arguments (image_of images.old.kept s) list }
-    ensures images { images.new.kept ≡ images.old.kept }
+    ensures images { images.new ≡ images.old }
 {
     let space = images.space(s);
     read_list(&space, list)

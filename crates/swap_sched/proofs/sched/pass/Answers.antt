@@ -17,7 +17,7 @@ make_move-requires g c = c.loop-n.invariant.moves.moved.matching
 
 pub loop-n-preserved : goal.loop-n-preserved
 loop-n-preserved g c = record {
-  moves = goes_on c.args.table.now c.loop-n.table c.make_move.new.table c.args.images.now.kept c.loop-n.images c.make_move.new.images.kept _ _ _
+  moves = goes_on c.args.table.now c.loop-n.table c.make_move.new.table c.args.images.now.kept c.loop-n.images.kept c.make_move.new.images.kept _ _ _
       c.loop-n.n _ c.loop-n.invariant.moves (sym c.is_asleep.ensures ∙ c.if-is_asleep.false) c.make_move.ensures.does c.in_ok-make_move.was;
   frame = g.met.T.Trace.goes_on _ _ _ c.loop-n.invariant.frame c.make_move.ensures.frame;
 }
@@ -25,19 +25,19 @@ loop-n-preserved g c = record {
 pub returns-then-is_asleep-clause-does : goal.returns-then-is_asleep-clause-does
 returns-then-is_asleep-clause-does g c =
     let l = c.loop-n-test.true in
-    sleep_does c.args.table.now c.loop-n.table c.args.images.now.kept c.loop-n.images _ _ c.loop-n.n c.loop-n.invariant.moves
+    sleep_does c.args.table.now c.loop-n.table c.args.images.now.kept c.loop-n.images.kept _ _ c.loop-n.n c.loop-n.invariant.moves
     (sym c.is_asleep.ensures ∙ c.if-is_asleep.true) (omega (arith, l))
 
 pub returns-then-is_asleep-clause-answer : goal.returns-then-is_asleep-clause-answer
 returns-then-is_asleep-clause-answer g c =
     let l = c.loop-n-test.true in
-    sleep_answer c.args.table.now c.loop-n.table c.args.images.now.kept c.loop-n.images _ _ c.loop-n.n c.loop-n.invariant.moves
+    sleep_answer c.args.table.now c.loop-n.table c.args.images.now.kept c.loop-n.images.kept _ _ c.loop-n.n c.loop-n.invariant.moves
     (sym c.is_asleep.ensures ∙ c.if-is_asleep.true) (omega (arith, l))
 
 pub returns-in_err-make_move-clause-does : goal.returns-in_err-make_move-clause-does
 returns-in_err-make_move-clause-does g c =
     let l = c.loop-n-test.true in
-    panic_does c.args.table.now c.loop-n.table c.make_move.new.table c.args.images.now.kept c.loop-n.images c.make_move.new.images.kept _ _ _ c.loop-n.n _
+    panic_does c.args.table.now c.loop-n.table c.make_move.new.table c.args.images.now.kept c.loop-n.images.kept c.make_move.new.images.kept _ _ _ c.loop-n.n _
     c.loop-n.invariant.moves (sym c.is_asleep.ensures ∙ c.if-is_asleep.false) c.make_move.ensures.does _ c.in_err-make_move.was (omega (arith, l))
 
 pub returns-in_err-make_move-clause-answer : goal.returns-in_err-make_move-clause-answer
@@ -45,37 +45,37 @@ returns-in_err-make_move-clause-answer g c =
     let l = c.loop-n-test.true in
     let given = err_from_is_err_and c.from_residual.result c.from_residual.ensures.1 in
     given.1 ∙ ap (λ e. Err e) given.2
-    ∙ panic_answer c.args.table.now c.loop-n.table c.make_move.new.table c.args.images.now.kept c.loop-n.images c.make_move.new.images.kept _ _ _ c.loop-n.n _
+    ∙ panic_answer c.args.table.now c.loop-n.table c.make_move.new.table c.args.images.now.kept c.loop-n.images.kept c.make_move.new.images.kept _ _ _ c.loop-n.n _
     c.loop-n.invariant.moves (sym c.is_asleep.ensures ∙ c.if-is_asleep.false) c.make_move.ensures.does _ c.in_err-make_move.was (omega (arith, l))
 
 pub returns-clause-does : goal.returns-clause-does
 returns-clause-does g c =
     let l = c.loop-n-test.false in
     let m = c.loop-n.auto.n-end in
-    end_does c.args.table.now c.loop-n.table c.args.images.now.kept c.loop-n.images _ _ c.loop-n.n c.loop-n.invariant.moves (omega arith)
+    end_does c.args.table.now c.loop-n.table c.args.images.now.kept c.loop-n.images.kept _ _ c.loop-n.n c.loop-n.invariant.moves (omega arith)
 
 pub returns-clause-answer : goal.returns-clause-answer
 returns-clause-answer g c =
     let l = c.loop-n-test.false in
     let m = c.loop-n.auto.n-end in
-    end_answer c.args.table.now c.loop-n.table c.args.images.now.kept c.loop-n.images _ _ c.loop-n.n c.loop-n.invariant.moves (omega arith)
+    end_answer c.args.table.now c.loop-n.table c.args.images.now.kept c.loop-n.images.kept _ _ c.loop-n.n c.loop-n.invariant.moves (omega arith)
 
 pub returns-then-is_asleep-clause-sleeps : goal.returns-then-is_asleep-clause-sleeps
 returns-then-is_asleep-clause-sleeps g c =
     let l = c.loop-n-test.true in
-    final_asleep c.args.table.now c.loop-n.table c.args.images.now.kept c.loop-n.images _ _ c.requires.matches c.requires.runs
-    (sleep_does c.args.table.now c.loop-n.table c.args.images.now.kept c.loop-n.images _ _ c.loop-n.n c.loop-n.invariant.moves
+    final_asleep c.args.table.now c.loop-n.table c.args.images.now.kept c.loop-n.images.kept _ _ c.requires.matches c.requires.runs
+    (sleep_does c.args.table.now c.loop-n.table c.args.images.now.kept c.loop-n.images.kept _ _ c.loop-n.n c.loop-n.invariant.moves
     (sym c.is_asleep.ensures ∙ c.if-is_asleep.true) (omega (arith, l)))
-    (sleep_answer c.args.table.now c.loop-n.table c.args.images.now.kept c.loop-n.images _ _ c.loop-n.n c.loop-n.invariant.moves
+    (sleep_answer c.args.table.now c.loop-n.table c.args.images.now.kept c.loop-n.images.kept _ _ c.loop-n.n c.loop-n.invariant.moves
     (sym c.is_asleep.ensures ∙ c.if-is_asleep.true) (omega (arith, l)))
 
 pub returns-clause-sleeps : goal.returns-clause-sleeps
 returns-clause-sleeps g c =
     let l = c.loop-n-test.false in
     let m = c.loop-n.auto.n-end in
-    final_asleep c.args.table.now c.loop-n.table c.args.images.now.kept c.loop-n.images _ _ c.requires.matches c.requires.runs
-    (end_does c.args.table.now c.loop-n.table c.args.images.now.kept c.loop-n.images _ _ c.loop-n.n c.loop-n.invariant.moves (omega arith))
-    (end_answer c.args.table.now c.loop-n.table c.args.images.now.kept c.loop-n.images _ _ c.loop-n.n c.loop-n.invariant.moves (omega arith))
+    final_asleep c.args.table.now c.loop-n.table c.args.images.now.kept c.loop-n.images.kept _ _ c.requires.matches c.requires.runs
+    (end_does c.args.table.now c.loop-n.table c.args.images.now.kept c.loop-n.images.kept _ _ c.loop-n.n c.loop-n.invariant.moves (omega arith))
+    (end_answer c.args.table.now c.loop-n.table c.args.images.now.kept c.loop-n.images.kept _ _ c.loop-n.n c.loop-n.invariant.moves (omega arith))
 
 pub returns-then-is_asleep-clause-same : goal.returns-then-is_asleep-clause-same
 returns-then-is_asleep-clause-same g c = final_same _ _ _ _ _ _ _ c.loop-n.invariant.moves.moved
@@ -84,7 +84,7 @@ pub returns-in_err-make_move-clause-same : goal.returns-in_err-make_move-clause-
 returns-in_err-make_move-clause-same g c =
     let l = c.loop-n-test.true in
     final_same _ _ _ _ _ _ _
-    (panic_does c.args.table.now c.loop-n.table c.make_move.new.table c.args.images.now.kept c.loop-n.images c.make_move.new.images.kept _ _ _ c.loop-n.n _
+    (panic_does c.args.table.now c.loop-n.table c.make_move.new.table c.args.images.now.kept c.loop-n.images.kept c.make_move.new.images.kept _ _ _ c.loop-n.n _
     c.loop-n.invariant.moves (sym c.is_asleep.ensures ∙ c.if-is_asleep.false) c.make_move.ensures.does _ c.in_err-make_move.was (omega (arith, l)))
 
 pub returns-clause-same : goal.returns-clause-same

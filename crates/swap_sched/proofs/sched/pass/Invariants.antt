@@ -3,6 +3,6 @@ use Rattle.swap_sched.proofs.sched.pass.Given as goal
 
 abbrev pub invariant-loop-n : goal.invariant-loop-n
 invariant-loop-n g l = record {
-  moves : InPass l.initial.table l.initial.images (g.T.Trace.taken l.initial.trace) l.n l.table l.images (g.T.Trace.taken l.trace);
+  moves : InPass l.initial.table l.initial.images.kept (g.T.Trace.taken l.initial.trace) l.n l.table l.images.kept (g.T.Trace.taken l.trace);
   frame : g.T.Trace.leads_to l.initial.trace l.trace;
 }

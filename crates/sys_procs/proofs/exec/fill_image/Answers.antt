@@ -4,7 +4,8 @@ use Rattle.u_area.specs.declared.area.UArea.{UArea}
 use Rattle.sys_procs.proofs.Alive.{area_here}
 use Rattle.fs_laws.specs.Pieces.{Moving}
 use Rattle.fs_nodes.specs.FileSystem.{FileSystem}
-use Rattle.image_keep.specs.Kept.{Kept, IsKept}
+use Rattle.image_keep.specs.State.{ImagesState}
+use Rattle.image_keep.specs.Kept.{IsKept}
 use Rattle.image_keep.specs.Kept as kept
 use Rattle.image_keep.specs.Lent.{Lent, left_of}
 use Rattle.sys_procs.specs.declared.procs.Procs.{Procs}
@@ -17,34 +18,34 @@ use Rattle.sys_procs.proofs.MemoryLemmas.{image_here, loan_state, loan_board, lo
 use Rattle.sys_procs.proofs.exec.fill_image.Goals as goal
 
 -- the images after the loan
-abbrev now : goal.After-fill → Kept
-now c = c.fill.new.space.images.now.kept
+abbrev now : goal.After-fill → ImagesState
+now c = c.fill.new.space.images.now
 
 slot_is : (c : goal.After-fill) → c.fill.new.space.slot ≡ c.args.s
 slot_is c = ap (λ (l : Lent). l.slot) c.fill.ensures.rest ∙ c.space-space.ensures.slot
 
-left : (c : goal.After-fill) → left_of (now c) c.args.s ≡ left_of c.args.p.now.images.kept c.args.s
+left : (c : goal.After-fill) → left_of (now c).kept c.args.s ≡ left_of c.args.p.now.images.kept c.args.s
 left c =
-    ap (left_of (now c)) (sym (slot_is c))
+    ap (left_of (now c).kept) (sym (slot_is c))
     ∙ (ap (λ (l : Lent). l.left) c.fill.ensures.rest
     ∙ (ap (left_of c.space-space.result.images.now.kept) c.space-space.ensures.slot
-    ∙ ap (λ (k : Kept). left_of k c.args.s) c.space-space.ensures.images))
+    ∙ ap (λ (i : ImagesState). left_of i.kept c.args.s) c.space-space.ensures.images))
 
 -- what is lent is cleared
 lent_is : (c : goal.After-fill) → kept.image_of c.space-space.result.images.now.kept c.space-space.result.slot
     ≡ cleared_image (memory_here c.args.p.now c.args.s).text c.args.program.now.plan
 lent_is c =
     ap (kept.image_of c.space-space.result.images.now.kept) c.space-space.ensures.slot
-    ∙ (ap (λ (k : Kept). kept.image_of k c.args.s) c.space-space.ensures.images
+    ∙ (ap (λ (i : ImagesState). kept.image_of i.kept c.args.s) c.space-space.ensures.images
     ∙ (sym (image_here c.args.p.now c.args.s c.requires.alive c.area-area.ensures.holds) ∙ c.requires.cleared))
 
 abbrev read : goal.After-fill → Moving Image
 read c = data_read (handed c.args.p.now c.args.tree.now.nodes) c.args.s c.args.program.now
 
-image_is : (c : goal.After-fill) → kept.image_of (now c) c.args.s
+image_is : (c : goal.After-fill) → kept.image_of (now c).kept c.args.s
     ≡ record (read c).memory { stack = first_stack c.args.program.now.arguments }
 image_is c =
-    ap (kept.image_of (now c)) (sym (slot_is c)) ∙ c.fill.ensures.image (memory_here c.args.p.now c.args.s).text (lent_is c)
+    ap (kept.image_of (now c).kept) (sym (slot_is c)) ∙ c.fill.ensures.image (memory_here c.args.p.now c.args.s).text (lent_is c)
 
 pub returns-clause-state : goal.returns-clause-state
 returns-clause-state c =
@@ -72,7 +73,7 @@ fill-requires-clause-cleared c = (
   (memory_here c.args.p.now c.args.s).text,
   long_is c.args.p.now c.args.s c.args.program.now.text_clicks c.requires.alive c.area-area.ensures.holds c.requires.text_size,
   ap (kept.image_of c.space-space.result.images.now.kept) c.space-space.ensures.slot
-      ∙ (ap (λ (k : Kept). kept.image_of k c.args.s) c.space-space.ensures.images
+      ∙ (ap (λ (i : ImagesState). kept.image_of i.kept c.args.s) c.space-space.ensures.images
       ∙ (sym (image_here c.args.p.now c.args.s c.requires.alive c.area-area.ensures.holds) ∙ c.requires.cleared)),
 )
 

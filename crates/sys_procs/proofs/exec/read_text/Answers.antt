@@ -1,4 +1,4 @@
-use Rattle.std.proofs.Common.{◌≡◌, ◌∙◌, ◌*◌, ℕ, List, min, replicate, ap, sym, arith}
+use Rattle.std.proofs.Common.{◌≡◌, ◌∙◌, ◌*◌, ℕ, List, min, replicate, refl, ap, sym, arith}
 use Rattle.std.proofs.Math.Nat.{min-le_left, min-le_right}
 use Rattle.std.proofs.lemmas.List.{take-replicate}
 use Rattle.std.specs.Option.{unwrap_or}
@@ -12,18 +12,20 @@ use Rattle.sys_procs.specs.World.{World}
 use Rattle.sys_procs.specs.ExecFile.{text_read, text_room, entry_in, with_moved}
 use Rattle.sys_procs.specs.Handed.{handed, board}
 use Rattle.sys_procs.proofs.Alive.{is_here}
+use Rattle.sys_procs.proofs.SameKept.{same_alive}
 use Rattle.sys_procs.proofs.FilledText.{alive_filled, places_filled, marks_filled, processes_filled, texts_filled}
 use Rattle.sys_procs.proofs.exec.read_text.Goals as goal
 
 pub returns-clause-alive : goal.returns-clause-alive
 returns-clause-alive c =
-    alive_filled c.args.p.now c.text_bytes.new.self c.args.t c.read_bytes.new.part c.requires.out.0 c.requires.out.1
-    c.text_bytes.ensures.texts c.text_bytes.ensures.slots c.text_bytes.ensures.users c.args.s c.requires.alive
+    same_alive (record { rows = refl; table = refl; kept = refl; switches = refl })
+    (alive_filled c.args.p.now c.text_bytes.new.self.kept c.args.t c.read_bytes.new.part c.requires.out.0 c.requires.out.1
+    c.text_bytes.ensures.texts c.text_bytes.ensures.slots c.text_bytes.ensures.users c.args.s c.requires.alive)
 
 pub returns-clause-board : goal.returns-clause-board
 returns-clause-board c =
     let p : Procs = c.args.p.now in
-    let places = places_filled p c.text_bytes.new.self c.args.t c.read_bytes.new.part c.requires.out.0 c.requires.out.1
+    let places = places_filled p c.text_bytes.new.self.kept c.args.t c.read_bytes.new.part c.requires.out.0 c.requires.out.1
     c.text_bytes.ensures.texts c.text_bytes.ensures.slots c.text_bytes.ensures.users in
     λ i. record (board p) { texts = places i; core = c.text_bytes.ensures.core i }
 
@@ -32,7 +34,7 @@ returns-clause-state c =
     let p : Procs = c.args.p.now in
     let w : World = handed p c.args.tree.now.nodes in
     let m : Moving (List ℕ) = text_read w c.args.program.now in
-    let l : Kept = c.text_bytes.new.self in
+    let l : Kept = c.text_bytes.new.self.kept in
     let processes = processes_filled p l c.args.t c.read_bytes.new.part c.requires.out.0 c.requires.out.1
     c.text_bytes.ensures.texts c.text_bytes.ensures.slots c.text_bytes.ensures.users p.rows.slots in
     let texts = texts_filled p l c.args.t c.read_bytes.new.part c.requires.out.0 c.requires.out.1
@@ -75,5 +77,5 @@ read_bytes-requires-clause-zeros c =
 
 pub returns-clause-marked : goal.returns-clause-marked
 returns-clause-marked c =
-    marks_filled c.args.p.now c.text_bytes.new.self c.args.t c.read_bytes.new.part c.requires.out.0 c.requires.out.1
+    marks_filled c.args.p.now c.text_bytes.new.self.kept c.args.t c.read_bytes.new.part c.requires.out.0 c.requires.out.1
     c.text_bytes.ensures.texts c.text_bytes.ensures.slots c.text_bytes.ensures.users

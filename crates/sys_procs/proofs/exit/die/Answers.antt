@@ -11,6 +11,7 @@ use Rattle.image_keep.specs.Places.{with_grave_at}
 use Rattle.sys_procs.specs.declared.procs.Procs.{Procs}
 use Rattle.sys_procs.specs.Exit.{dies, slot_of}
 use Rattle.sys_procs.specs.Handed.{came, board, handed, process_here}
+use Rattle.sys_procs.proofs.SameKept.{same_images, same_handed, same_board}
 use Rattle.sys_procs.proofs.Dones.{ended_logged}
 use Rattle.sys_procs.proofs.Ends.{DidEnd, end_state, end_board, end_agree, parent_is, logged_end, logged_no_end}
 use Rattle.sys_procs.proofs.exit.die.Given as given
@@ -65,12 +66,12 @@ no_end g c fs =
     (parent_is c.args.p.now c.args.s c.slot_of-parent.result c.row-row.result fs c.see.ensures.rows.long c.row-row.ensures c.slot_of-parent.ensures)
     c.in-Err.ensures.block
 
-images_stay : (g : given.Over) (c : goal.After-entry g) → c.end.new.self ≡ c.args.p.now.images.kept
+images_stay : (g : given.Over) (c : goal.After-entry g) → c.end.new.self.kept ≡ c.args.p.now.images.kept
 images_stay g c = c.end.ensures.kept ∙ ap (with_grave_at c.args.p.now.images.kept c.args.s (area_of c.args.p.now.images.kept c.args.s)) c.in-Err.ensures.block
 
 pub returns-in-Err-clause-does : goal.returns-in-Err-clause-does
 returns-in-Err-clause-does g c = λ fs.
     ended_logged (no_end g c fs) refl
-    (ap (λ k. handed (record c.args.p.now { images = k }) fs) (images_stay g c))
-    (ap (λ k. board (record c.args.p.now { images = k })) (images_stay g c))
+    (same_handed (same_images {p = c.args.p.now} {i = c.end.new.self} (images_stay g c)) fs)
+    (same_board (same_images {p = c.args.p.now} {i = c.end.new.self} (images_stay g c)))
     c.entry.ensures.took

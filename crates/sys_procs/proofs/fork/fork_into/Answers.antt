@@ -5,7 +5,6 @@ use Rattle.v6_base.specs.declared.answer.Answer.TheVariants.{Ret}
 use Rattle.v6_base.specs.declared.entry.PanicKind.{PanicKind}
 use Rattle.pick_rules.specs.declared.table.Table.{Table}
 use Rattle.pick_rules.specs.Table.{IsTable}
-use Rattle.image_keep.specs.Kept.{Kept}
 use Rattle.image_keep.specs.Moves.{forked_at}
 use Rattle.fs_nodes.specs.FileSystem.{FileSystem}
 use Rattle.sys_procs.specs.declared.procs.Procs.{Procs}
@@ -13,6 +12,7 @@ use Rattle.sys_procs.specs.Process.{Process, register}
 use Rattle.sys_procs.specs.World.{World, change}
 use Rattle.sys_procs.specs.Fork.{past_word, next_pid, with_child}
 use Rattle.sys_procs.specs.Handed.{IsAlive, board, handed, process_here}
+use Rattle.sys_procs.proofs.SameKept.{SameKept, same_images, same_handed, same_board, same_here, same_alive}
 use Rattle.sys_procs.proofs.Slots.{fifty_processes}
 use Rattle.sys_procs.proofs.Alive.{calls_alive}
 use Rattle.sys_procs.proofs.Referred.{dir_referred}
@@ -29,12 +29,11 @@ returns-in-Err-clause-does g c =
     let child : ℕ = c.args.child in
     let fs : FileSystem = c.args.tree.now.nodes in
     let alive : IsAlive p s = calls_alive p fs s c.requires.calls in
-    let is : c.copy_for_fork.new.self ≡ p.images.kept =
-    c.copy_for_fork.ensures.kept
-    ∙ ap (forked_at p.images.kept s child) c.in-Err.ensures.place in
+    let is : SameKept (record p { images = c.copy_for_fork.new.self }) p =
+    same_images (c.copy_for_fork.ensures.kept ∙ ap (forked_at p.images.kept s child) c.in-Err.ensures.place) in
     done_logged (logged_no_fork (board p) s child (handed p fs)
     (fork_place p s alive c.see.ensures.images.slots ∙ c.in-Err.ensures.place)) refl
-    (ap (λ (k : Kept). handed (record p { images = k }) fs) is) (ap (λ (k : Kept). board (record p { images = k })) is)
+    (same_handed is fs) (same_board is)
     c.entry-in-Err.ensures.took
 
 -- It finds one.
@@ -58,9 +57,9 @@ pub go_on-requires-clause-parent : goal.go_on-requires-clause-parent
 go_on-requires-clause-parent g c =
     let p : Procs = c.args.p.now in
     let alive : IsAlive p c.args.s = calls_alive p c.args.tree.now.nodes c.args.s c.requires.calls in
-    subst (λ (q : Procs). IsAlive q c.args.s)
-    (sym (is_seated p c.args.s c.args.child c.in-Ok.place c.args.rows.now c.add_row.new.table c.copy_for_fork.new.self
-    c.requires.rows c.add_row.ensures.table c.in-Ok.ensures.place c.copy_for_fork.ensures.kept))
+    same_alive
+    (is_seated p c.args.s c.args.child c.in-Ok.place c.args.rows.now c.add_row.new.table c.copy_for_fork.new.self
+    c.requires.rows c.add_row.ensures.table c.in-Ok.ensures.place c.copy_for_fork.ensures.kept)
     (parent_alive p c.args.s c.args.child c.in-Ok.place alive c.see.ensures.rows.long c.see.ensures.images.slots c.see.ensures.images.seats
     (free_slot p c.args.s c.args.child alive c.requires.free) (subst (λ (t : Table). IsTable t) c.add_row.ensures.table c.add_row.ensures.good))
 
@@ -68,9 +67,9 @@ pub go_on-requires-clause-child : goal.go_on-requires-clause-child
 go_on-requires-clause-child g c =
     let p : Procs = c.args.p.now in
     let alive : IsAlive p c.args.s = calls_alive p c.args.tree.now.nodes c.args.s c.requires.calls in
-    subst (λ (q : Procs). IsAlive q c.args.child)
-    (sym (is_seated p c.args.s c.args.child c.in-Ok.place c.args.rows.now c.add_row.new.table c.copy_for_fork.new.self
-    c.requires.rows c.add_row.ensures.table c.in-Ok.ensures.place c.copy_for_fork.ensures.kept))
+    same_alive
+    (is_seated p c.args.s c.args.child c.in-Ok.place c.args.rows.now c.add_row.new.table c.copy_for_fork.new.self
+    c.requires.rows c.add_row.ensures.table c.in-Ok.ensures.place c.copy_for_fork.ensures.kept)
     (child_alive p c.args.s c.args.child c.in-Ok.place alive c.see.ensures.rows.long c.see.ensures.images.slots c.see.ensures.images.seats
     (free_slot p c.args.s c.args.child alive c.requires.free) (subst (λ (t : Table). IsTable t) c.add_row.ensures.table c.add_row.ensures.good))
 
@@ -83,9 +82,9 @@ go_on-requires-clause-referenced g c =
     let p : Procs = c.args.p.now in
     let alive : IsAlive p c.args.s = calls_alive p c.args.tree.now.nodes c.args.s c.requires.calls in
     subst (λ (q : Process). 0 < slice_index c.args.tree.now.nodes.references q.u.dir)
-    (sym (ap (λ (q : Procs). process_here q c.args.s)
+    (sym (same_here
     (is_seated p c.args.s c.args.child c.in-Ok.place c.args.rows.now c.add_row.new.table c.copy_for_fork.new.self
-    c.requires.rows c.add_row.ensures.table c.in-Ok.ensures.place c.copy_for_fork.ensures.kept)
+    c.requires.rows c.add_row.ensures.table c.in-Ok.ensures.place c.copy_for_fork.ensures.kept) c.args.s
     ∙ (parent_stays p c.args.s c.args.child c.in-Ok.place alive c.see.ensures.rows.long c.see.ensures.images.slots c.see.ensures.images.seats
     (free_slot p c.args.s c.args.child alive c.requires.free))))
     (dir_referred p c.args.tree.now.nodes c.args.s c.requires.calls)
@@ -106,7 +105,7 @@ returns-in-Ok-clause-does g c =
     let done : Answer → Result Answer PanicKind = λ a. Ok a in
     let low : s < length w.processes = let below = alive.below in omega (arith, below, fifty_processes p.rows.slots p.images.kept) in
     let child_low : child < length w.processes = let below = free.low in omega (arith, below, fifty_processes p.rows.slots p.images.kept) in
-    let now : ◌≡◌ {A = Procs} (record p { rows = c.args.rows.now; table = c.add_row.new.table; images = c.copy_for_fork.new.self }) (seated p s child place) =
+    let now : SameKept (record p { rows = c.args.rows.now; table = c.add_row.new.table; images = c.copy_for_fork.new.self }) (seated p s child place) =
     is_seated p s child place c.args.rows.now c.add_row.new.table c.copy_for_fork.new.self c.requires.rows c.add_row.ensures.table c.in-Ok.ensures.place c.copy_for_fork.ensures.kept in
     let pid : (process_here (seated p s child place) child).row.pid ≡ next_pid w =
     ap (λ (q : Process). q.row.pid) (child_is p s child place alive fifty images seats free) ∙ next_is p fs fifty in
@@ -115,12 +114,12 @@ returns-in-Ok-clause-does g c =
     done_logged (logged_fork (board p) s child w place
     (fork_place p s alive images ∙ c.in-Ok.ensures.place))
     (ap done (c.go_on.ensures.answer
-    ∙ (ap (λ (q : Procs). Ret (process_here q child).row.pid (register (process_here q s) 1)) now
+    ∙ ((λ i. Ret (same_here now child i).row.pid (register (same_here now s i) 1))
     ∙ (ap (λ (n : ℕ). Ret n (register (process_here (seated p s child place) s) 1)) pid
     ∙ ap (λ (n : ℕ). Ret (next_pid w) n) (r1 ∙ register_forked w s child (next_pid w) free.apart child_low low)))))
     (c.go_on.ensures.state
-    ∙ (ap (λ (v : World). gone_on v s child) (ap (λ (q : Procs). handed q fs) now ∙ state_seated p s child place alive fifty images seats free fs)
+    ∙ (ap (λ (v : World). gone_on v s child) (same_handed now fs ∙ state_seated p s child place alive fifty images seats free fs)
     ∙ (world_forked w s child (child_pid p) free.apart child_low low
     ∙ ap (λ (n : ℕ). change (with_child w s child n) s past_word) (next_is p fs fifty))))
-    (c.go_on.ensures.board ∙ (ap (λ (q : Procs). board q) now ∙ board_seated p s child place alive fifty images seats free c.in-Ok.ensures.place))
+    (c.go_on.ensures.board ∙ (same_board now ∙ board_seated p s child place alive fifty images seats free c.in-Ok.ensures.place))
     c.entry.ensures.took

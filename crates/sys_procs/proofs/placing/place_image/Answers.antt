@@ -1,9 +1,11 @@
-use Rattle.std.proofs.Common.{◌≡◌, ◌∙◌, ℕ, List, sym, ap, subst}
+use Rattle.std.proofs.Common.{◌∙◌, ℕ, List, ap, subst}
+use Rattle.pick_rules.specs.declared.table.Table.{Table}
 use Rattle.pick_rules.specs.Table.{row_at, IsTable}
-use Rattle.image_keep.specs.Kept.{IsKept, shared, image_of, text_bytes}
+use Rattle.image_keep.specs.Kept.{Kept, IsKept, shared, image_of, text_bytes}
 use Rattle.image_keep.specs.Places.{made_image}
 use Rattle.sys_procs.specs.declared.procs.Procs.{Procs}
-use Rattle.sys_procs.specs.Handed.{IsAlive, IsBare}
+use Rattle.sys_procs.specs.Handed.{IsBare}
+use Rattle.sys_procs.proofs.SameKept.{SameKept, same_alive}
 use Rattle.sys_procs.proofs.PlacingLemmas.{now, it_is, has_placed, unplaced, made_now, time_stays, out_stays, is_alive}
 use Rattle.sys_procs.proofs.placing.place_image.Given as given
 use Rattle.sys_procs.proofs.placing.place_image.Goals as goal
@@ -19,12 +21,12 @@ module _ (g : given.Over) (c : goal.After-entry g) where
   text = text_bytes c.args.p.now.images.kept (row_at c.args.p.now.table c.args.s).text
 
   abbrev it : Procs
-  it = record c.args.p.now { table = c.put_place.new.table; images = c.new_image.new.images.kept }
+  it = record c.args.p.now { table = c.put_place.new.table; images = c.new_image.new.images }
 
-  it_now : it ≡ now c.args.p.now c.args.s c.args.t c.args.d bare all c.in-Ok.place text c.in-Ok.ensures.place
+  it_now : SameKept it (now c.args.p.now c.args.s c.args.t c.args.d bare all c.in-Ok.place text c.in-Ok.ensures.place)
   it_now =
       it_is c.args.p.now c.args.s c.args.t c.args.d bare all c.in-Ok.place text c.in-Ok.ensures.place
-      c.put_place.new.table c.new_image.new.images.kept c.put_place.ensures.table c.new_image.ensures.images
+      c.put_place.new.table c.new_image.new.images c.put_place.ensures.table c.new_image.ensures.images
 
 pub returns-in-Ok-clause-does : goal.returns-in-Ok-clause-does
 returns-in-Ok-clause-does g c = λ fs.
@@ -34,7 +36,7 @@ returns-in-Ok-clause-does g c = λ fs.
 
 pub returns-in-Ok-clause-image : goal.returns-in-Ok-clause-image
 returns-in-Ok-clause-image g c =
-    ap (λ (q : Procs). image_of q.images.kept c.args.s) (it_now g c)
+    ap (λ (k : Kept). image_of k c.args.s) (it_now g c).kept
     ∙ (made_now c.args.p.now c.args.s c.args.t c.args.d c.requires.bare c.place-place.ensures.holds c.in-Ok.place
     (text g c) c.in-Ok.ensures.place
     ∙ ap (λ o. made_image (text_bytes c.args.p.now.images.kept o) c.args.d 20)
@@ -42,19 +44,19 @@ returns-in-Ok-clause-image g c =
 
 pub returns-in-Ok-clause-stays : goal.returns-in-Ok-clause-stays
 returns-in-Ok-clause-stays g c = λ k x is none.
-    ap (λ (q : Procs). shared q.images.kept k) (it_now g c)
+    ap (λ (n : Kept). shared n k) (it_now g c).kept
     ∙ out_stays c.args.p.now c.args.s c.args.t c.args.d c.requires.bare c.place-place.ensures.holds c.in-Ok.place
     (text g c) c.in-Ok.ensures.place k x is none
 
 pub returns-in-Ok-clause-time : goal.returns-in-Ok-clause-time
 returns-in-Ok-clause-time g c =
-    ap (λ (q : Procs). q.table.now) (it_now g c)
+    ap (λ (t : Table). t.now) (it_now g c).table
     ∙ time_stays c.args.p.now c.args.s c.args.t c.args.d c.requires.bare c.place-place.ensures.holds c.in-Ok.place
     (text g c) c.in-Ok.ensures.place
 
 pub returns-in-Ok-clause-alive : goal.returns-in-Ok-clause-alive
 returns-in-Ok-clause-alive g c =
-    subst (λ (q : Procs). IsAlive q c.args.s) (sym (it_now g c))
+    same_alive (it_now g c)
     (is_alive c.args.p.now c.args.s c.args.t c.args.d c.requires.bare c.place-place.ensures.holds c.in-Ok.place
     (text g c) c.in-Ok.ensures.place
     (subst IsTable c.put_place.ensures.table c.put_place.ensures.good))
@@ -62,6 +64,6 @@ returns-in-Ok-clause-alive g c =
 pub returns-in-Err-clause-does : goal.returns-in-Err-clause-does
 returns-in-Err-clause-does g c = λ fs.
     unplaced c.args.p.now c.args.s c.args.t c.args.d c.requires.bare c.place-place.ensures.holds fs
-    (made_image (text_bytes c.args.p.now.images.kept (row_at c.args.p.now.table c.args.s).text) c.args.d 20) c.new_image.new.images.kept
+    (made_image (text_bytes c.args.p.now.images.kept (row_at c.args.p.now.table c.args.s).text) c.args.d 20) c.new_image.new.images
     (g.T.Trace.taken c.args.trace.now)
     (g.T.Trace.taken c.entry-in-Err.new.self) c.in-Err.ensures.place c.new_image.ensures.images c.entry-in-Err.ensures.took

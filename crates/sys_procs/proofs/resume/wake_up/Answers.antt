@@ -19,7 +19,7 @@ returns-clause-state c = λ fs.
     (c.awake.ensures ∙ ap (λ (u : UArea). record u { pending = 0; call = replicate 8 0 }) c.area-u.ensures)
 
 -- the directory is the one of before
-same_dir : (c : goal.After-put_area) → (area_of c.put_area.new.self.images c.args.s).dir ≡ (area_of c.args.p.now.images.kept c.args.s).dir
+same_dir : (c : goal.After-put_area) → (area_of c.put_area.new.self.images.kept c.args.s).dir ≡ (area_of c.args.p.now.images.kept c.args.s).dir
 same_dir c =
     let of : Process → ℕ = λ q. q.u.dir in
     ap (λ (u : UArea). u.dir) (area_here c.put_area.new.self c.args.s c.put_area.ensures.alive)
@@ -37,7 +37,7 @@ returns-clause-calls c = λ fs calls.
       runs = ap (λ (t : Table). t.running) same ∙ calls.runs;
       user = calls.user;
       image = c.put_area.ensures.alive.image;
-      referred = same_referred p.images.kept c.put_area.new.self.images c.args.s (λ ino. slice_index fs.references ino) (same_dir c)
+      referred = same_referred p.images.kept c.put_area.new.self.images.kept c.args.s (λ ino. slice_index fs.references ino) (same_dir c)
           (ap (λ (k : Kept). k.texts) c.put_area.ensures.images ∙ (with_area_texts p.images.kept c.args.s c.awake.result).texts) calls.referred;
       few = calls.few;
     }

@@ -1,7 +1,7 @@
 use Rattle.std.proofs.Common.{◌≡◌, ◌∙◌, ℕ, sym, ap}
 use Rattle.v6_base.specs.Image.{Image}
 use Rattle.u_area.specs.declared.area.UArea.{UArea}
-use Rattle.image_keep.specs.Kept.{Kept}
+use Rattle.image_keep.specs.State.{ImagesState}
 use Rattle.image_keep.specs.Kept as kept
 use Rattle.fs_tree.specs.Name.{name_at}
 use Rattle.fs_tree.specs.Finding.{Finding, inodes_of, find_in}
@@ -21,7 +21,7 @@ image : (c : goal.After-find_name)
     ≡ memory_here c.args.p.now c.args.s
 image c =
     sym (image_here c.args.p.now c.args.s (alive c) c.area-u.ensures.holds
-    ∙ (ap (λ (k : Kept). kept.image_of k c.args.s) (sym c.space-space.ensures.images)
+    ∙ (ap (λ (i : ImagesState). kept.image_of i.kept c.args.s) (sym c.space-space.ensures.images)
     ∙ ap (λ n. kept.image_of c.space-space.result.images.now.kept n) (sym c.space-space.ensures.slot)))
 
 -- a search of the name for a process with such an area and such a memory

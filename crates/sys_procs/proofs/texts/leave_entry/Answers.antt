@@ -1,13 +1,13 @@
 use Rattle.std.proofs.Common.{◌≡◌, ◌∙◌, ◌<◌, true, false, slice_index, inl, inr, sym, ap, subst}
 use Rattle.text_tab.specs.declared.left.Left.TheVariants.{Gone}
 use Rattle.fs_laws.proofs.RestLemmas.{rest_stays}
-use Rattle.image_keep.specs.Kept.{text_of}
+use Rattle.image_keep.specs.Kept.{Kept, text_of}
 use Rattle.image_keep.specs.SharedTexts.{row_of_text}
 use Rattle.text_tab.specs.Table as table
 use Rattle.sys_procs.specs.declared.procs.Procs.{Procs}
 use Rattle.sys_procs.specs.TextTable.{marks_of}
 use Rattle.sys_procs.specs.World.{texts_in}
-use Rattle.sys_procs.specs.Handed.{IsAlive}
+use Rattle.sys_procs.proofs.SameKept.{SameKept, same_alive}
 use Rattle.sys_procs.proofs.LeftText as left
 use Rattle.sys_procs.proofs.LeftText.{Shares, shares, is_there, referenced, is_marked, has_left, left_is, is_gone, state_stays, state_goes, is_alive, none_now, marks_stay, marks_gone}
 use Rattle.sys_procs.proofs.texts.leave_entry.Given as given
@@ -43,7 +43,7 @@ module _ (g : given.Over) (c : goal.In-Used g) where
   abbrev used_it : Procs
   used_it = record c.args.p.now { table = c.give_text.new.table; images = c.leave_text.new.self }
 
-  used_is : used_it ≡ left.now c.is_sticky-sticky.result used_by
+  used_is : SameKept used_it (left.now c.is_sticky-sticky.result used_by)
   used_is =
       left_is c.is_sticky-sticky.result used_by c.give_text.new.table c.leave_text.new.self
       c.give_text.ensures c.leave_text.ensures.kept
@@ -65,9 +65,9 @@ returns-in-Used g c =
           (stays g c))
           (c.is_sticky-sticky.ensures) c.entry.ensures.took;
       frame = c.entry.ensures.frame;
-      alive = subst (λ (q : Procs). IsAlive q c.args.s) (sym (used_is g c)) (is_alive c.is_sticky-sticky.result h);
-      none = ap (λ (q : Procs). text_of q.images.kept c.args.s) (used_is g c) ∙ none_now c.is_sticky-sticky.result h;
-      marks = c.requires.marks ∙ sym (ap (λ (q : Procs). marks_of (texts_in q.images.kept)) (used_is g c)
+      alive = same_alive (used_is g c) (is_alive c.is_sticky-sticky.result h);
+      none = ap (λ (k : Kept). text_of k c.args.s) (used_is g c).kept ∙ none_now c.is_sticky-sticky.result h;
+      marks = c.requires.marks ∙ sym (ap (λ (k : Kept). marks_of (texts_in k)) (used_is g c).kept
           ∙ marks_stay c.is_sticky-sticky.result h c.leave_text.result c.leave_text.ensures.left (stays g c));
       blocks = rest_stays _;
     }
@@ -79,7 +79,7 @@ module _ (g : given.Over) (c : goal.After-unmark_text g) where
   abbrev gone_it : Procs
   gone_it = record c.args.p.now { table = c.give_text.new.table; images = c.leave_text.new.self }
 
-  it_is : gone_it ≡ left.now c.is_sticky-sticky.result gone_by
+  it_is : SameKept gone_it (left.now c.is_sticky-sticky.result gone_by)
   it_is =
       left_is c.is_sticky-sticky.result gone_by c.give_text.new.table c.leave_text.new.self
       c.give_text.ensures c.leave_text.ensures.kept
@@ -99,15 +99,15 @@ returns-in-Gone-clause-left g c =
 
 pub returns-in-Gone-clause-alive : goal.returns-in-Gone-clause-alive
 returns-in-Gone-clause-alive g c =
-    subst (λ (q : Procs). IsAlive q c.args.s) (sym (it_is g c)) (is_alive c.is_sticky-sticky.result (gone_by g c))
+    same_alive (it_is g c) (is_alive c.is_sticky-sticky.result (gone_by g c))
 
 pub returns-in-Gone-clause-none : goal.returns-in-Gone-clause-none
 returns-in-Gone-clause-none g c =
-    ap (λ (q : Procs). text_of q.images.kept c.args.s) (it_is g c) ∙ none_now c.is_sticky-sticky.result (gone_by g c)
+    ap (λ (k : Kept). text_of k c.args.s) (it_is g c).kept ∙ none_now c.is_sticky-sticky.result (gone_by g c)
 
 pub returns-in-Gone-clause-marks : goal.returns-in-Gone-clause-marks
 returns-in-Gone-clause-marks g c =
     c.unmark_text.ensures.marks
-    ∙ sym (ap (λ (q : Procs). marks_of (texts_in q.images.kept)) (it_is g c)
+    ∙ sym (ap (λ (k : Kept). marks_of (texts_in k)) (it_is g c).kept
     ∙ marks_gone c.is_sticky-sticky.result
     (gone_by g c) c.args.tree.now.marks c.inode_of-ino.result c.requires.marks c.inode_of-ino.ensures.inode (goes g c))

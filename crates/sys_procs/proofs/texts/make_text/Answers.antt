@@ -6,6 +6,7 @@ use Rattle.sys_procs.specs.declared.procs.Procs.{Procs}
 use Rattle.sys_procs.specs.TextTable.{marks_of}
 use Rattle.sys_procs.specs.World.{texts_in}
 use Rattle.sys_procs.specs.Handed.{IsBare}
+use Rattle.sys_procs.proofs.SameKept.{SameKept, same_bare}
 use Rattle.sys_procs.proofs.MadeText.{IsMade, Refused, unmarked, made_in, entry_free, left_refused, images_made, now, it_is, text_now, user_now, goes_on, left_made, bare_made, marks_made}
 use Rattle.sys_procs.proofs.texts.make_text.Given as given
 use Rattle.sys_procs.proofs.texts.make_text.Goals as goal
@@ -20,7 +21,7 @@ text_row-requires g c =
     let bare = c.requires.bare in
     let all = c.place-place.ensures.holds in
     let made = made_in c.args.p.now c.args.clicks c.in-Ok.t (sym c.in-Ok.is ∙ c.new_text.ensures.text) in
-    let there : shared c.new_text.new.self c.in-Ok.t ≡ Some (zeros_text c.args.ino c.args.clicks made.block) =
+    let there : shared c.new_text.new.self.kept c.in-Ok.t ≡ Some (zeros_text c.args.ino c.args.clicks made.block) =
     ap (λ (k : Kept). shared k c.in-Ok.t)
     (c.new_text.ensures.kept ∙ images_made c.args.p.now c.args.s c.args.ino c.args.clicks bare all c.in-Ok.t made)
     ∙ text_now c.args.p.now c.args.s c.args.ino c.args.clicks bare all c.in-Ok.t made in
@@ -39,7 +40,7 @@ module _ (g : given.Over) (c : goal.After-entry g) where
   abbrev it : Procs
   it = record c.args.p.now { table = c.give_text.new.table; images = c.new_text.new.self }
 
-  it_now : it ≡ now c.args.p.now c.args.s c.args.ino c.args.clicks bare all c.in-Ok.t made
+  it_now : SameKept it (now c.args.p.now c.args.s c.args.ino c.args.clicks bare all c.in-Ok.t made)
   it_now =
       it_is c.args.p.now c.args.s c.args.ino c.args.clicks bare all c.in-Ok.t made
       c.give_text.new.table c.new_text.new.self c.give_text.ensures c.new_text.ensures.kept
@@ -55,14 +56,14 @@ pub returns-in-Ok-clause-made : goal.returns-in-Ok-clause-made
 returns-in-Ok-clause-made g c = (
   goes_on c.args.p.now c.args.s c.args.ino c.args.clicks (bare g c) (all g c) c.in-Ok.t (made g c) c.args.tree.now.nodes,
   entry_free c.args.p.now.images.kept c.in-Ok.t (made g c).entry,
-  ap (λ (q : Procs). text_of q.images.kept c.args.s) (it_now g c)
+  ap (λ (k : Kept). text_of k c.args.s) (it_now g c).kept
       ∙ user_now c.args.p.now c.args.s c.args.ino c.args.clicks (bare g c) (all g c) c.in-Ok.t (made g c),
 )
 
 pub returns-in-Ok-clause-out : goal.returns-in-Ok-clause-out
 returns-in-Ok-clause-out g c = (
   zeros_text c.args.ino c.args.clicks (made g c).block,
-  ap (λ (q : Procs). shared q.images.kept c.in-Ok.t) (it_now g c)
+  ap (λ (k : Kept). shared k c.in-Ok.t) (it_now g c).kept
       ∙ text_now c.args.p.now c.args.s c.args.ino c.args.clicks (bare g c) (all g c) c.in-Ok.t (made g c),
   refl,
   refl,
@@ -70,13 +71,13 @@ returns-in-Ok-clause-out g c = (
 
 pub returns-in-Ok-clause-bare : goal.returns-in-Ok-clause-bare
 returns-in-Ok-clause-bare g c =
-    subst (λ (q : Procs). IsBare q c.args.s) (sym (it_now g c))
+    same_bare (it_now g c)
     (bare_made c.args.p.now c.args.s c.args.ino c.args.clicks (bare g c) (all g c) c.in-Ok.t (made g c))
 
 pub returns-in-Ok-clause-marks : goal.returns-in-Ok-clause-marks
 returns-in-Ok-clause-marks g c =
     c.mark_text.ensures.marks
-    ∙ sym (ap (λ (q : Procs). marks_of (texts_in q.images.kept)) (it_now g c)
+    ∙ sym (ap (λ (k : Kept). marks_of (texts_in k)) (it_now g c).kept
     ∙ marks_made c.args.p.now c.args.s c.args.ino c.args.clicks (bare g c) (all g c) c.in-Ok.t (made g c)
     c.args.tree.now.marks c.requires.marks)
 

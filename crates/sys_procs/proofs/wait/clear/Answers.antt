@@ -1,16 +1,15 @@
-use Rattle.std.proofs.Common.{◌≡◌, ◌∙◌, ap, sym, subst}
+use Rattle.std.proofs.Common.{◌∙◌, refl, ap, subst}
 use Rattle.u_area.specs.declared.area.UArea.{UArea}
 use Rattle.u_area.specs.Area.{IsSized}
 use Rattle.image_keep.specs.Kept.{half_of}
-use Rattle.sys_procs.specs.declared.procs.Procs.{Procs}
-use Rattle.sys_procs.specs.Handed.{AreProcs, board, handed}
+use Rattle.sys_procs.proofs.SameKept.{SameKept, same_handed, same_board, same_agree}
 use Rattle.sys_procs.proofs.Graves.{area_buried, cleared, state_cleared, board_cleared, agree_cleared}
 use Rattle.sys_procs.proofs.wait.clear.Goals as goal
 
 -- the three parts after the slot is free
-now : (c : goal.After-clear_slot) → ◌≡◌ {A = Procs}
+now : (c : goal.After-clear_slot) → SameKept
     (record c.args.p.now { rows = c.clear_row.new.self; table = c.clear_slot.new.table; images = c.reap-half.new.self }) (cleared c.args.p.now c.args.dead)
-now c = λ i. record c.args.p.now { rows = c.clear_row.ensures i; table = c.clear_slot.ensures.table i; images = c.reap-half.ensures.kept i }
+now c = record { rows = c.clear_row.ensures; table = c.clear_slot.ensures.table; kept = c.reap-half.ensures.kept; switches = refl }
 
 pub returns-clause-half : goal.returns-clause-half
 returns-clause-half c =
@@ -22,13 +21,13 @@ returns-clause-sized c =
 
 pub returns-clause-state : goal.returns-clause-state
 returns-clause-state c = λ fs.
-    ap (λ (p : Procs). handed p fs) (now c) ∙ state_cleared c.args.p.now c.args.dead c.requires.low c.requires.rows.long c.requires.images.slots fs
+    same_handed (now c) fs ∙ state_cleared c.args.p.now c.args.dead c.requires.low c.requires.rows.long c.requires.images.slots fs
 
 pub returns-clause-board : goal.returns-clause-board
-returns-clause-board c = ap board (now c) ∙ board_cleared c.args.p.now c.args.dead c.requires.low c.requires.rows.long c.requires.images.slots
+returns-clause-board c = same_board (now c) ∙ board_cleared c.args.p.now c.args.dead c.requires.low c.requires.rows.long c.requires.images.slots
 
 pub returns-clause-agree : goal.returns-clause-agree
 returns-clause-agree c =
-    subst (λ (p : Procs). AreProcs p) (sym (now c))
+    same_agree (now c)
     (agree_cleared c.args.p.now c.args.dead c.requires.low c.requires.rows.long c.requires.images.slots c.requires.above c.requires.agree
     c.requires.grave)

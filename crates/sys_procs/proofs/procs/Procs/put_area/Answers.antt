@@ -1,12 +1,13 @@
-use Rattle.std.proofs.Common.{◌≡◌, ◌∙◌, List, get_or, Option, None, sym, ap, subst, arith}
+use Rattle.std.proofs.Common.{◌≡◌, ◌∙◌, List, get_or, Option, None, refl, sym, ap, arith}
 use Rattle.std.specs.Option.{unwrap_or}
 use Rattle.u_area.specs.declared.area.UArea.{UArea}
-use Rattle.image_keep.specs.Kept.{Kept, image_of}
+use Rattle.image_keep.specs.Kept.{Kept, image_of, with_area}
 use Rattle.sys_procs.specs.declared.procs.Procs.{Procs}
 use Rattle.sys_procs.specs.Process.{Process, no_process}
 use Rattle.sys_procs.specs.World.{processes_in}
 use Rattle.sys_procs.specs.Agree.{board_of}
-use Rattle.sys_procs.specs.Handed.{handed, process_here, IsAlive}
+use Rattle.sys_procs.specs.Handed.{handed, process_here}
+use Rattle.sys_procs.proofs.SameKept.{SameKept, same_handed, same_alive}
 use Rattle.sys_procs.proofs.Slots.{fifty_processes}
 use Rattle.sys_procs.proofs.Alive.{area_here, put_here, SameSizes, sizes_stay, area_put, area_state, area_board, area_alive}
 use Rattle.sys_procs.proofs.procs.Procs.put_area.Goals as goal
@@ -23,10 +24,14 @@ set_area-requires-clause-sizes c =
     } in
     sizes_stay u c.area-area.result (image_of p.images.kept c.args.s) same c.area-area.ensures.sizes
 
+put : (c : goal.After-set_area) → SameKept (record c.args.self.now { images = c.set_area.new.self })
+    (record c.args.self.now { images = record c.args.self.now.images { kept = with_area c.args.self.now.images.kept c.args.s c.args.u.now } })
+put c = record { rows = refl; table = refl; kept = c.set_area.ensures; switches = refl }
+
 pub returns-clause-state : goal.returns-clause-state
 returns-clause-state c = λ fs.
     let p : Procs = c.args.self.now in
-    ap (λ (k : Kept). handed (record p { images = k }) fs) c.set_area.ensures
+    same_handed (put c) fs
     ∙ area_state p c.args.s c.args.u.now fs
     ∙ ap (λ (ps : List (Option Process)). record (handed p fs) { processes = ps }) (area_put p c.args.s c.args.u.now c.requires.alive c.area-area.ensures.holds.slots)
 
@@ -49,5 +54,5 @@ returns-clause-alive c =
     let p : Procs = c.args.self.now in
     let u : UArea = c.args.u.now in
     let same : SameSizes u (process_here p c.args.s).u = record { text = c.requires.text; «data» = c.requires.data_size; stack = c.requires.stack_size } in
-    subst (λ (k : Kept). IsAlive (record p { images = k }) c.args.s) (sym c.set_area.ensures)
+    same_alive (put c)
     (area_alive p c.args.s u c.requires.alive c.area-area.ensures.holds.slots same)
