@@ -284,12 +284,7 @@ impl Machine {
 
     /// Takes what an instruction comes to, where that isn't the next one, with the signal that is due then, and settles.
     #[inline(always)]
-    fn after_step<T: Trace>(
-        &mut self,
-        s: Slot,
-        outcome: Outcome,
-        trace: &mut T,
-    ) -> Turned
+    fn after_step<T: Trace>(&mut self, s: Slot, outcome: Outcome, trace: &mut T) -> Turned
         requires { IsUser s self.old.world }
         ensures answer { (m : System) → HasStepped m self.old.world s outcome
             → result ≡ turned (settled_after (turn_of m s (turn m s))) }
