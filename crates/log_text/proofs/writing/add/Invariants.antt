@@ -2,4 +2,4 @@ use Rattle.std.proofs.Common.{◌≡◌, ◌++◌, take}
 use Rattle.log_text.proofs.writing.add.Given as goal
 
 abbrev pub invariant-loop-byte : goal.invariant-loop-byte
-invariant-loop-byte l = l.text.items ≡ l.fn.text.items ++ take l.byte-index l.bytes
+invariant-loop-byte l = l.line.items ≡ l.fn.line.items ++ take l.byte-index l.bytes
