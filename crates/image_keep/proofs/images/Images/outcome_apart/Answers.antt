@@ -1,4 +1,4 @@
-use Rattle.std.proofs.Common.{◌≡◌, ◌∙◌, sym}
+use Rattle.std.proofs.Common.{◌∙◌, sym}
 use Rattle.image_keep.proofs.Executed.{outcome_same, kept_same}
 use Rattle.image_keep.proofs.images.Images.outcome_apart.Goals as goal
 
