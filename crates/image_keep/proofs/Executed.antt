@@ -18,23 +18,25 @@ use Rattle.image_keep.proofs.Frames.{with_image_area}
 use Rattle.image_keep.proofs.Reading.{starts_after}
 use Rattle.image_keep.proofs.Loans.{lent_back}
 
-module _ (k lent now left : ImagesState) (f : Fixed) (was is : ℕ) (a b : GName) (fixed : IsFixed k.kept f) (begins : lent ≡ k) (slot : was ≡ f.slot) (ended : left ≡ now)
+module _ (k lent now : ImagesState) (f : Fixed) (was is : ℕ) (a b : GName) (fixed : IsFixed k.kept f) (begins : lent ≡ k) (slot : was ≡ f.slot)
     (same : ◌≡◌ {A = Lent} (record { loan = a; slot = is; left = left_of now.kept is }) (record { loan = b; slot = was; left = left_of lent.kept was })) where
   abbrev image : Image
   image = image_of now.kept is
 
-  back : left.kept ≡ with_image k.kept f.slot image
-  back = kept_is ended ∙ lent_back k.kept lent.kept now.kept f.slot was is a b (kept_is begins) slot same
-
   begun : image_of lent.kept was ≡ image_of k.kept f.slot
   begun = ap (λ (x : ImagesState). image_of x.kept was) begins ∙ ap (image_of k.kept) slot
 
-  -- what is fixed stays so
-  pub fixed_after : KeepsForm (image_of lent.kept was) image → IsFixed left.kept f
-  fixed_after form =
-      let own : KeepsForm (image_of k.kept f.slot) image = subst (λ m. KeepsForm m image) begun form in
-      subst (λ x. IsFixed x f) (sym back)
-      (starts_after k.kept f.slot f.starts image fixed (record { text = ap length own.text; «data» = own.data; stack = own.stack }))
+  -- what is kept when the loan has ended
+  module _ (left : Kept) (ended : left ≡ now.kept) where
+    back : left ≡ with_image k.kept f.slot image
+    back = ended ∙ lent_back k.kept lent.kept now.kept f.slot was is a b (kept_is begins) slot same
+
+    -- what is fixed stays so
+    pub fixed_after : KeepsForm (image_of lent.kept was) image → IsFixed left f
+    fixed_after form =
+        let own : KeepsForm (image_of k.kept f.slot) image = subst (λ m. KeepsForm m image) begun form in
+        subst (λ x. IsFixed x f) (sym back)
+        (starts_after k.kept f.slot f.starts image fixed (record { text = ap length own.text; «data» = own.data; stack = own.stack }))
 
   module _ (r : List ℕ) (cc : ℕ) (regs' : Regs) (o : Outcome) (r_is : r ≡ (area_of k.kept f.slot).r) (cc_is : cc ≡ (area_of k.kept f.slot).cc)
       (step : stepped o (pdp.machine_of regs' image) ≡ instr (record { r = r; cc = cc; image = image_of lent.kept was })) where
@@ -44,10 +46,10 @@ module _ (k lent now left : ImagesState) (f : Fixed) (was is : ℕ) (a b : GName
     pub outcome_is : o ≡ (instr (machine_in k.kept f.slot)).outcome
     outcome_is = ap (λ (x : Stepped). x.outcome) instr_is
 
-    pub kept_after : (new : Kept) → new ≡ with_area left.kept f.slot (with_state (area_of left.kept f.slot) regs'.r regs'.cc) → new ≡ with_machine_in k.kept f.slot (instr (machine_in k.kept f.slot)).machine
-    kept_after new put =
+    pub kept_after : (left new : Kept) → left ≡ now.kept → new ≡ with_area left f.slot (with_state (area_of left f.slot) regs'.r regs'.cc) → new ≡ with_machine_in k.kept f.slot (instr (machine_in k.kept f.slot)).machine
+    kept_after left new ended put =
         put
-        ∙ ap (λ x. with_area x f.slot (with_state (area_of x f.slot) regs'.r regs'.cc)) back
+        ∙ ap (λ x. with_area x f.slot (with_state (area_of x f.slot) regs'.r regs'.cc)) (back left ended)
         ∙ ap (λ (u : UArea). with_area (with_image k.kept f.slot image) f.slot (with_state u regs'.r regs'.cc)) (with_image_area k.kept f.slot f.slot image)
         ∙ ap (λ (x : Stepped). with_machine_in k.kept f.slot x.machine) instr_is
 

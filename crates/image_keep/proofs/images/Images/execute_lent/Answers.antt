@@ -1,4 +1,4 @@
-use Rattle.std.proofs.Common.{sym, ap, ◌∙◌}
+use Rattle.std.proofs.Common.{rules, ◌∙◌, ap}
 use Rattle.u_area.specs.declared.area.UArea.{UArea}
 use Rattle.image_keep.specs.Lent.{Lent}
 use Rattle.image_keep.proofs.Executed.{fixed_after, outcome_is, kept_after}
@@ -9,16 +9,15 @@ set_registers_at-requires-clause-fixed c =
     let lent = c.space_at-space in
     let done = c.step-outcome in
     let loan = ap (λ (l : Lent). l.loan) done.ensures.rest ∙ lent.ensures.loan in
-    fixed_after c.args.self.now lent.result.images.now done.new.space.images.now c.self-1.given.0 c.args.fixed.now lent.result.slot done.new.space.slot _ _
-    c.requires lent.ensures.images lent.ensures.slot (c.self-1.given.1 (sym loan)) done.ensures.rest done.ensures.form
+    fixed_after c.args.self.now lent.result.images.now done.new.space.images.now c.args.fixed.now lent.result.slot done.new.space.slot _ _
+    c.requires lent.ensures.images lent.ensures.slot done.ensures.rest _ (search (rules, loan)) done.ensures.form
 
 pub returns-clause-outcome : goal.returns-clause-outcome
 returns-clause-outcome c =
     let lent = c.space_at-space in
     let done = c.step-outcome in
-    let loan = ap (λ (l : Lent). l.loan) done.ensures.rest ∙ lent.ensures.loan in
-    outcome_is c.args.self.now lent.result.images.now done.new.space.images.now c.self-1.given.0 c.args.fixed.now lent.result.slot done.new.space.slot _ _
-    c.requires lent.ensures.images lent.ensures.slot (c.self-1.given.1 (sym loan)) done.ensures.rest _ _ done.new.regs done.result
+    outcome_is c.args.self.now lent.result.images.now done.new.space.images.now c.args.fixed.now lent.result.slot done.new.space.slot _ _
+    c.requires lent.ensures.images lent.ensures.slot done.ensures.rest _ _ done.new.regs done.result
     (ap (λ (u : UArea). u.r) c.area_at-u.ensures) (ap (λ (u : UArea). u.cc) c.area_at-u.ensures) done.ensures.step
 
 pub returns-clause-kept : goal.returns-clause-kept
@@ -26,7 +25,7 @@ returns-clause-kept c =
     let lent = c.space_at-space in
     let done = c.step-outcome in
     let loan = ap (λ (l : Lent). l.loan) done.ensures.rest ∙ lent.ensures.loan in
-    kept_after c.args.self.now lent.result.images.now done.new.space.images.now c.self-1.given.0 c.args.fixed.now lent.result.slot done.new.space.slot _ _
-    c.requires lent.ensures.images lent.ensures.slot (c.self-1.given.1 (sym loan)) done.ensures.rest _ _ done.new.regs done.result
+    kept_after c.args.self.now lent.result.images.now done.new.space.images.now c.args.fixed.now lent.result.slot done.new.space.slot _ _
+    c.requires lent.ensures.images lent.ensures.slot done.ensures.rest _ _ done.new.regs done.result
     (ap (λ (u : UArea). u.r) c.area_at-u.ensures) (ap (λ (u : UArea). u.cc) c.area_at-u.ensures) done.ensures.step
-    _ c.set_registers_at.ensures.kept
+    _ _ (search (rules, loan)) c.set_registers_at.ensures.kept
