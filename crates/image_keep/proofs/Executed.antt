@@ -6,7 +6,6 @@ use Rattle.u_area.specs.declared.area.UArea.{UArea}
 use Rattle.pdp_step.specs.declared.outcome.Outcome.{Outcome}
 use Rattle.pdp_step.specs.declared.regs.Regs.{Regs}
 use Rattle.pdp_step.specs.Machine as pdp
-use Rattle.pdp_step.specs.Machine.{Machine}
 use Rattle.pdp_step.specs.Form.{KeepsForm}
 use Rattle.pdp_step.specs.Instruction.{Stepped, stepped, instr}
 use Rattle.image_keep.specs.declared.running.Fixed.{Fixed}

@@ -1,4 +1,4 @@
-use Rattle.std.proofs.Common.{◌<◌, ◌∙◌, ℕ, List, length, sym, ap, subst}
+use Rattle.std.proofs.Common.{◌∙◌, ℕ, List, length, sym, ap, subst}
 use Rattle.v6_base.specs.Image.{Image}
 use Rattle.v6_base.specs.Access.{load_word}
 use Rattle.image_keep.specs.Standing.{standing_image, StandsIn}
