@@ -1,6 +1,6 @@
 -- The tests of exec(II): those that leave the same world are one, which leaves that world where one of them refuses.
 use Rattle.std.proofs.Common.{◌≡◌, ◌∙◌, ◌==◌, ◌&&◌, ◌/◌, ℕ, Bool, true, false, not, List, Option, Some, None}
-use Rattle.std.proofs.Common.{if◌then◌else◌, Result, Ok, Err, IsSome, ◌*◌, ◌<◌, length, refl, sym, ap, arith}
+use Rattle.std.proofs.Common.{if◌then◌else◌, Result, Ok, Err, is_none, IsSome, ◌*◌, ◌<◌, length, refl, sym, ap, arith}
 use Rattle.std.specs.Option.{unwrap_or, option_map}
 use Rattle.std.proofs.Math.ListN.{get_or-map}
 use Rattle.std.specs.Prelude.{slice_index_or}
@@ -116,6 +116,26 @@ pub busy_refuses : {A : Type 0} (error : Option Errno) (is_program is_busy : Boo
 busy_refuses error is_program is_busy rest whole program busy =
     sym (λ i. then_do (unless_error (whole i)) (λ _. then_do (must ENOEXEC (program i)) (λ _.
     then_do (must ETXTBSY (not (busy i))) (λ _. rest))))
+
+-- where no image can have the sizes of the plan, or there is none
+pub unfit : {A : Type 0} (r : Result Plan Errno) (refused : Plan → Bool) (made : Plan → A) (e : Errno)
+    → Err e ≡ then_do r (λ plan. then_do (must ENOMEM (not (refused plan))) (λ fits. Ok plan))
+    → Err e ≡ then_do r (λ plan. then_do (must ENOMEM (not (refused plan))) (λ fits. Ok (made plan)))
+unfit (Err f) refused made e is = let same : e ≡ f = cc is in ap (λ x. Err x) same
+unfit (Ok plan) refused made e is = by (refused plan) is
+  where
+    by : (b : Bool) → Err e ≡ then_do (must ENOMEM (not b)) (λ fits. Ok plan)
+        → Err e ≡ then_do (must ENOMEM (not b)) (λ fits. Ok (made plan))
+    by true f = let same : e ≡ ENOMEM = cc f in ap (λ x. Err x) same
+    by false f = absurd (cc f)
+
+-- a file has clicks of a text where it has an entry
+pub no_entry : (texts : List (Option Text)) (ino : ℕ) → is_none (entry_clicks texts ino) ≡ is_none (entry_of texts ino)
+no_entry texts ino = by (entry_of texts ino)
+  where
+    by : (o : Option ℕ) → is_none (option_map (λ k. length (text_of texts k).bytes / 64) o) ≡ is_none o
+    by None = refl
+    by (Some k) = refl
 
 -- The program that a header of so many bytes comes to, or the refusal.
 abbrev pub program_in : World → ℕ → List (List ℕ) → Plan → Program
