@@ -21,8 +21,14 @@ deliver_after-ending-requires-clause-user g c =
     let first = c.come_to-ending in
     step_user w first.new.world s c.args.self.now.came (board_in w) first.result (slot_is w s run.user.ready) run.user.user first.ensures.come
 
-pub returns-in-Running-clause-answer : goal.returns-in-Running-clause-answer
-returns-in-Running-clause-answer g c p stepped =
+pub deliver_after-ending-requires-clause-above : goal.deliver_after-ending-requires-clause-above
+deliver_after-ending-requires-clause-above g c = (c.requires.user c.in-Running.fixed c.in-Running.is).user.ready.user
+
+pub end-requires-clause-user : goal.end-requires-clause-user
+end-requires-clause-user g c = (c.requires.user c.in-Running.fixed c.in-Running.is).user.ready.user
+
+pub returns-clause-answer : goal.returns-clause-answer
+returns-clause-answer g c p stepped =
     let s = c.in-Running.fixed.slot in
     let at : s ≡ slot_in c.args.self.now.stage = sym (ap slot_in c.in-Running.is) in
     let did = subst (λ r. HasStepped p c.args.self.now.world r c.args.self.now.came) (sym at) stepped in
@@ -33,8 +39,8 @@ returns-in-Running-clause-answer g c p stepped =
     subst (λ r. c.end.result ≡ turned (settled_after (turn_of p r (turn p r)))) at
     (c.end.ensures.answer ∙ ap turned (sym (turn_is p s (turn p s) last.result last.new.world (last.ensures.come p.board (begins_turn p s) begun))))
 
-pub returns-in-Running-clause-takes : goal.returns-in-Running-clause-takes
-returns-in-Running-clause-takes g c p stepped =
+pub returns-clause-takes : goal.returns-clause-takes
+returns-clause-takes g c p stepped =
     let s = c.in-Running.fixed.slot in
     let at : s ≡ slot_in c.args.self.now.stage = sym (ap slot_in c.in-Running.is) in
     let did = subst (λ r. HasStepped p c.args.self.now.world r c.args.self.now.came) (sym at) stepped in
@@ -45,11 +51,11 @@ returns-in-Running-clause-takes g c p stepped =
     subst (λ r. Takes (settled_after (turn_of p r (turn p r))) c.end.new.self.stage c.end.new.self.world) at
     (turn_takes p s (turn p s) last.result last.new.world (last.ensures.come p.board (begins_turn p s) begun) _ _ c.end.ensures.takes)
 
-pub returns-in-Running-clause-kernel : goal.returns-in-Running-clause-kernel
-returns-in-Running-clause-kernel g c = c.end.ensures.takes.kernel
+pub returns-clause-kernel : goal.returns-clause-kernel
+returns-clause-kernel g c = c.end.ensures.takes.kernel
 
-pub returns-in-Running-clause-items : goal.returns-in-Running-clause-items
-returns-in-Running-clause-items g c p stepped =
+pub returns-clause-items : goal.returns-clause-items
+returns-clause-items g c p stepped =
     let s = c.in-Running.fixed.slot in
     let w : World = c.args.self.now.world in
     let at : s ≡ slot_in c.args.self.now.stage = sym (ap slot_in c.in-Running.is) in
@@ -63,6 +69,6 @@ returns-in-Running-clause-items g c p stepped =
     (last.ensures.items p.board (begins_turn p s) _ begun (stepped_items p s c.args.self.now.came w did _ _ first.ensures.items))
     c.end.ensures.items)
 
-pub returns-in-Running-clause-frame : goal.returns-in-Running-clause-frame
-returns-in-Running-clause-frame g c =
+pub returns-clause-frame : goal.returns-clause-frame
+returns-clause-frame g c =
     g.met.T.Trace.goes_on _ _ _ c.come_to-ending.ensures.frame (g.met.T.Trace.goes_on _ _ _ c.deliver_after-ending.ensures.frame c.end.ensures.frame)
