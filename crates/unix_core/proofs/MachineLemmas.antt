@@ -24,7 +24,7 @@ use Rattle.unix_core.proofs.LoanLemmas.{area_core}
 use Rattle.unix_core.proofs.PutLemmas.{good_alive, IsLikeArea, with_images, with_kept, unix_put, good_put}
 
 -- what is fixed in a stage, and else this
-abbrev fixed_or : Fixed → Stage → Fixed
+abbrev pub fixed_or : Fixed → Stage → Fixed
 fixed_or f (stage.Running g) = g
 fixed_or f at = f
 

@@ -23,7 +23,7 @@ use Rattle.unix_core.specs.declared.machine.Stage.TheVariants as stage
 use Rattle.unix_core.specs.State.{KernelState}
 use Rattle.unix_core.specs.Parts.{system_at, turn_at, phase_of, slot_in, HasStepped, IsKernel, IsRunning, IsUser, Takes}
 use Rattle.unix_core.proofs.PutLemmas.{with_images}
-use Rattle.unix_core.proofs.MachineLemmas.{runs_kernel}
+use Rattle.unix_core.proofs.MachineLemmas.{fixed_or, runs_kernel}
 use Rattle.unix_core.proofs.TurnSteps.{user_slot, has_stepped, stepped_user, quiet_system, plain_answer, plain_goes, plain_next, plain_items}
 use Rattle.unix_core.proofs.PrivateLemmas.{fifty_slots, slot_private}
 use Rattle.unix_core.proofs.StayingLemmas.{turned_stays}
@@ -149,8 +149,10 @@ module _ (at : Stage) (w : World) (kernel : IsKernel at w) (holds : IsKept w.pro
         ap (λ s. settled_after (turn_of (system_at w) s (turn (system_at w) s))) slot
         ∙ sym (user_slot (system_at w) f.slot run.user.ready.runs run.user.ready.user)
 
-    pub far_user : IsUser (slot_in at) (with_images w x)
-    far_user = subst (λ s. IsUser s (with_images w x)) (sym slot) (step_user at w f is kernel holds x kept)
+    pub far_running : IsFixed x.kept f → (g : Fixed) → at ≡ stage.Running g → IsRunning g (with_images w x)
+    far_running fixed g same =
+        subst (λ (h : Fixed). IsRunning h (with_images w x)) (ap (fixed_or f) (sym is ∙ same))
+        (record { user = step_user at w f is kernel holds x kept; fixed = fixed })
 
     pub far_answer : (answer : Turned) → ((m : System) → HasStepped m (with_images w x) (slot_in at) o → answer ≡ turned (then_turn m)) → answer ≡ turned (turn_at w)
     far_answer answer each = each (system_at w) did ∙ ap turned own_turn

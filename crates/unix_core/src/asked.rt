@@ -1,12 +1,13 @@
 //! What a call asks for: its number and its arguments. `trap` in Lions' Commentary, `trap.c`; indirect calls, indir(II)
 //! of the manual.
 ghost use Rattle.std.specs.Prelude.{◌≡◌, ◌%◌, slice_index};
-ghost use Rattle.image_keep.specs.Kept.{Held, Has, HasImage, IsKept};
+ghost use Rattle.image_keep.specs.Kept.{Held, Has, IsKept};
+ghost use Rattle.image_keep.specs.Running.{IsFixed};
 ghost use Rattle.abstract_unix.specs.Calls.{word_at, arguments_at, named_call, asked};
 
+use crate::files::see_kept;
 use abstract_unix::Asked;
-use image_keep::Images;
-use v6_base::{Slot, Space};
+use image_keep::{Fixed, Images};
 
 /// What a word counts as that can't be read.
 const ONES: u16 = 0o177777;
@@ -19,38 +20,29 @@ const LAST_CALL: u16 = 0o104477;
 /// A number that is no call's.
 const NO_CALL: u8 = 63;
 
-/// A word of a memory. One that can't be read is all ones.
-fn word_in<S: Space>(space: &S, at: u16) -> u16
-    ensures { result ≡ word_at (S.image space.now) at }
+/// A word of the memory of the process of which this is fixed. One that can't be read is all ones.
+#[inline(always)]
+fn word_at(images: &Images, fixed: &Fixed, at: u16) -> u16
+    requires { IsFixed images.now.kept fixed.now }
+    ensures { (held : Held) → Has images.now.kept fixed.now.slot held → result ≡ word_at held.image at }
 {
-    match space.load_word(at) {
+    match images.word_at(fixed, at) {
         Ok(word) => word,
         Err(_) => ONES,
     }
 }
 
-/// A word of a process's memory.
-fn word_at(images: &mut Images, s: Slot, at: u16) -> u16
-    requires { HasImage images.old.kept s }
-    ensures word { (held : Held) → Has images.old.kept s held → result ≡ word_at held.image at }
-    ensures same { images.new.kept ≡ images.old.kept }
-{
-    let space = images.space(s);
-    word_in(&space, at)
-}
-
 /// The words that a call may take as its arguments, from an address on.
-fn arguments_at(images: &mut Images, s: Slot, at: u16) -> [u16; 4]
-    requires { HasImage images.old.kept s }
-    ensures words { (held : Held) → Has images.old.kept s held → result ≡ arguments_at held.image at }
-    ensures same { images.new.kept ≡ images.old.kept }
+#[inline(always)]
+fn arguments_at(images: &Images, fixed: &Fixed, at: u16) -> [u16; 4]
+    requires { IsFixed images.now.kept fixed.now }
+    ensures { (held : Held) → Has images.now.kept fixed.now.slot held → result ≡ arguments_at held.image at }
 {
-    let space = images.space(s);
     [
-        word_in(&space, at),
-        word_in(&space, at.wrapping_add(2)),
-        word_in(&space, at.wrapping_add(4)),
-        word_in(&space, at.wrapping_add(6)),
+        word_at(images, fixed, at),
+        word_at(images, fixed, at.wrapping_add(2)),
+        word_at(images, fixed, at.wrapping_add(4)),
+        word_at(images, fixed, at.wrapping_add(6)),
     ]
 }
 
@@ -66,24 +58,25 @@ fn named_call(word: u16) -> u8
 }
 
 /// What a call of this number asks for, where the PC has passed its word.
-pub(crate) fn ask(images: &mut Images, s: Slot, number: u8) -> Asked
-    requires { HasImage images.old.kept s }
-    ensures asked { (held : Held) → Has images.old.kept s held → result ≡ asked held.image (slice_index held.u.r 7) number }
-    ensures same { images.new.kept ≡ images.old.kept }
-    ensures holds { IsKept images.old.kept }
+#[inline(always)]
+pub(crate) fn ask(images: &Images, fixed: &Fixed, number: u8) -> Asked
+    requires { IsFixed images.now.kept fixed.now }
+    ensures asked { (held : Held) → Has images.now.kept fixed.now.slot held → result ≡ asked held.image (slice_index held.u.r 7) number }
+    ensures holds { IsKept images.now.kept }
 {
-    let pc = images.area(s).r[7];
+    see_kept(images);
+    let pc = images.area_at(fixed).r[7];
     if number != 0 {
         return Asked {
             number,
-            args: arguments_at(images, s, pc),
+            args: arguments_at(images, fixed, pc),
             is_indirect: false,
         };
     }
-    let at = word_at(images, s, pc);
+    let at = word_at(images, fixed, pc);
     Asked {
-        number: named_call(word_at(images, s, at)),
-        args: arguments_at(images, s, at.wrapping_add(2)),
+        number: named_call(word_at(images, fixed, at)),
+        args: arguments_at(images, fixed, at.wrapping_add(2)),
         is_indirect: true,
     }
 }

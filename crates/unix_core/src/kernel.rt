@@ -187,7 +187,7 @@ impl Kernel {
                     // left at once: joined with the other answers it is looked at anew each time
                     return Turned::Ran;
                 }
-                self.machine.step_out(trace)
+                self.machine.after_step(trace)
             }
             _ => self.machine.other_slot(trace),
         }

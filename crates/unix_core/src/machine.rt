@@ -11,7 +11,7 @@ ghost use Rattle.abstract_unix.specs.Unix.{Unix, System, Started, process_of};
 ghost use Rattle.abstract_unix.specs.Endings.{is_early};
 ghost use Rattle.abstract_unix.specs.Turn.{turned, ticked_by, turned_by, ending_of, turn, turn_of, settled, settled_after, pass_of};
 ghost use Rattle.abstract_unix.specs.Outside.{calls, charged, mode_of, tick_entry, timed_area, is_user_mode, tick_of, with_key, key_lines, typed_of};
-ghost use Rattle.unix_core.specs.Parts.{unix_of, board_in, system_at, turn_at, turn_end, phase_of, slot_in, is_over, IsGood, IsReady, IsUser, IsCovered, IsKernel, IsKnown, HasCome, HasStepped, Takes, delivers_where};
+ghost use Rattle.unix_core.specs.Parts.{unix_of, board_in, system_at, turn_at, turn_end, phase_of, slot_in, is_over, IsGood, IsReady, IsUser, IsRunning, IsCovered, IsKernel, IsKnown, HasCome, HasStepped, Takes, delivers_where};
 
 use crate::delivery::{deliver_after, deliver_due};
 use crate::files::see_procs;
@@ -282,31 +282,12 @@ impl Machine {
         }
     }
 
-    /// Takes what an instruction comes to, where that isn't the next one, with the signal that is due then, and settles.
-    #[inline(always)]
-    fn after_step<T: Trace>(&mut self, s: Slot, outcome: Outcome, trace: &mut T) -> Turned
-        requires { IsUser s self.old.world }
-        ensures answer { (m : System) → HasStepped m self.old.world s outcome
-            → result ≡ turned (settled_after (turn_of m s (turn m s))) }
-        ensures takes { (m : System) → HasStepped m self.old.world s outcome
-            → Takes (settled_after (turn_of m s (turn m s))) self.new.stage self.new.world }
-        ensures kernel { IsKernel self.new.stage self.new.world }
-        ensures rest { SameRest self.old.world.files.tree.nodes.blocks self.new.world.files.tree.nodes.blocks }
-        ensures items { (m : System) → HasStepped m self.old.world s outcome
-            → Took (T.taken trace.old) (settled_after (turn_of m s (turn m s))).items (T.taken trace.new) }
-        ensures frame { T.leads_to trace.old trace.new }
-    {
-        let ending = come_to(&mut self.world, s, outcome, trace);
-        let ending = deliver_after(&mut self.world, s, ending, trace);
-        self.end(s, ending, trace)
-    }
-
-    /// Takes what the last instruction came to. It stands out of line, beside the loop over slots, and what it takes stays in its
-    /// place: a copy of it would cost each slot.
+    /// Takes what the last instruction came to, where it wasn't just done, with the signal that is due then, and settles. It stands
+    /// out of line, beside the loop over slots, and what it takes stays in its place: a copy of it would cost each slot.
     #[inline(never)]
-    pub(crate) fn step_out<T: Trace>(&mut self, trace: &mut T) -> Turned
+    pub(crate) fn after_step<T: Trace>(&mut self, trace: &mut T) -> Turned
         requires running { (f : Fixed) × (self.old.stage ≡ Stage.Running f) }
-        requires user { IsUser (slot_in self.old.stage) self.old.world }
+        requires user { (f : Fixed) → self.old.stage ≡ Stage.Running f → IsRunning f self.old.world }
         ensures answer { (m : System) → HasStepped m self.old.world (slot_in self.old.stage) self.old.came
             → result ≡ turned (settled_after (turn_of m (slot_in self.old.stage) (turn m (slot_in self.old.stage)))) }
         ensures takes { (m : System) → HasStepped m self.old.world (slot_in self.old.stage) self.old.came
@@ -320,7 +301,9 @@ impl Machine {
         match &self.stage {
             Stage::Running(fixed) => {
                 let s = fixed.slot;
-                self.after_step(s, self.came, trace)
+                let ending = come_to(&mut self.world, fixed, self.came, trace);
+                let ending = deliver_after(&mut self.world, s, ending, trace);
+                self.end(s, ending, trace)
             }
             _ => unreachable!(),
         }

@@ -7,6 +7,7 @@ ghost use Rattle.image_keep.specs.Kept.{HasImage, area_of, with_area};
 ghost use Rattle.open_files.specs.Files.{AreOpen, HaveRoom};
 ghost use Rattle.sys_files.specs.Moving.{resumes};
 ghost use Rattle.sys_procs.specs.Resume.{resume_proc};
+ghost use Rattle.image_keep.specs.Running.{IsFixed};
 ghost use Rattle.abstract_unix.specs.Unix.{Unix, process_of};
 ghost use Rattle.abstract_unix.specs.Steps.{signals};
 ghost use Rattle.abstract_unix.specs.Calls.{world_of, words_passed, entered_area, given_area, refused_area, refuses, system_call, does_call, did_by, came_by, shares, forks, exits, grows_to, resumed, answers, handed_of, file_row, process_row, is_on_files};
@@ -21,7 +22,7 @@ use crate::onfiles::{do_on_files, resume_on_files};
 use crate::passing::pass_on;
 use crate::world::World;
 use abstract_unix::{Asked, Ending, FileCall, ProcessCall, SystemCall, do_process_call, sysent_of};
-use image_keep::Images;
+use image_keep::{Fixed, Images};
 use open_files::OpenTable;
 use pdp_step::{Kind, Outcome};
 use sig_core::{SIGBUS, SIGEMT, SIGINS, SIGIOT, SIGSEG, SIGSYS, SIGTRC};
@@ -42,14 +43,16 @@ const FIRST_SIGNAL: u16 = 100;
 const SETD: u16 = 0o170011;
 
 /// A call begins: C is cleared, and the PC passes so many words.
-fn enter(images: &mut Images, s: Slot, words: u8)
-    requires { HasImage images.old.kept s }
-    ensures { images.new.kept ≡ with_area images.old.kept s (entered_area words (area_of images.old.kept s)) }
+fn enter(images: &mut Images, fixed: &Fixed, words: u8)
+    requires { IsFixed images.old.kept fixed.now }
+    ensures { images.new.kept
+        ≡ with_area images.old.kept fixed.now.slot (entered_area words (area_of images.old.kept fixed.now.slot)) }
 {
-    let u = images.area(s);
+    let u = images.area_at(fixed);
+    let cc = u.cc - u.cc % 2;
     let mut r = u.r;
     r[7] = r[7].wrapping_add(2 * u16::from(words));
-    images.set_registers(s, &r, u.cc - u.cc % 2);
+    images.set_registers_at(fixed, &r, cc);
 }
 
 /// R0 and R1 take what a call gives.
@@ -330,27 +333,28 @@ fn words_passed(asked: &Asked, count: u8) -> u8
 
 /// A call by its number, where the PC has passed its word.
 #[inline(always)]
-fn call<T: Trace>(world: &mut World, s: Slot, number: u8, trace: &mut T) -> Ending
-    requires ready { IsReady world.old s }
-    requires user { is_user (process_of (unix_of world.old) s) ≡ true }
-    ensures come { HasCome (board_in world.old) (system_call number (unix_of world.old) s) result world.new }
+fn call<T: Trace>(world: &mut World, fixed: &Fixed, number: u8, trace: &mut T) -> Ending
+    requires fixed { IsFixed world.old.procs.images.kept fixed.now }
+    requires ready { IsReady world.old fixed.now.slot }
+    requires user { is_user (process_of (unix_of world.old) fixed.now.slot) ≡ true }
+    ensures come { HasCome (board_in world.old) (system_call number (unix_of world.old) fixed.now.slot) result world.new }
     ensures good { is_over result ≡ false → IsGood world.new }
     ensures covered { is_over result ≡ true → IsCovered world.new }
-    ensures runs { is_over result ≡ false → result ≢ Ending.Ended → world.new.procs.table.running ≡ Some s }
+    ensures runs { is_over result ≡ false → result ≢ Ending.Ended → world.new.procs.table.running ≡ Some fixed.now.slot }
     ensures call { result ≢ Ending.Next }
     ensures items { Took (T.taken trace.old) (logged (board_in world.old)
-        (system_call number (unix_of world.old) s).effects).items (T.taken trace.new) }
+        (system_call number (unix_of world.old) fixed.now.slot).effects).items (T.taken trace.new) }
     ensures frame { T.leads_to trace.old trace.new }
     ensures rest { SameRest world.old.files.tree.nodes.blocks world.new.files.tree.nodes.blocks }
 {
-    let asked = ask(&mut world.procs.images, s, number);
+    let asked = ask(&world.procs.images, fixed, number);
     let entry = sysent_of(asked.number);
     enter(
         &mut world.procs.images,
-        s,
+        fixed,
         words_passed(&asked, entry.count),
     );
-    does_call(world, s, entry.call, asked.args, trace)
+    does_call(world, fixed.slot, entry.call, asked.args, trace)
 }
 
 /// Whether an illegal instruction is passed by: SETD, of a process that does nothing about illegal ones.
@@ -393,25 +397,26 @@ fn fault<T: Trace>(world: &mut World, s: Slot, kind: Kind, trace: &mut T) -> End
 #[inline(always)]
 pub(crate) fn come_to<T: Trace>(
     world: &mut World,
-    s: Slot,
+    fixed: &Fixed,
     outcome: Outcome,
     trace: &mut T,
 ) -> Ending
-    requires ready { IsReady world.old s }
-    requires user { is_user (process_of (unix_of world.old) s) ≡ true }
-    ensures come { HasCome (board_in world.old) (comes_to (unix_of world.old) s outcome) result world.new }
+    requires fixed { IsFixed world.old.procs.images.kept fixed.now }
+    requires ready { IsReady world.old fixed.now.slot }
+    requires user { is_user (process_of (unix_of world.old) fixed.now.slot) ≡ true }
+    ensures come { HasCome (board_in world.old) (comes_to (unix_of world.old) fixed.now.slot outcome) result world.new }
     ensures good { is_over result ≡ false → IsGood world.new }
     ensures covered { is_over result ≡ true → IsCovered world.new }
-    ensures runs { is_over result ≡ false → result ≢ Ending.Ended → world.new.procs.table.running ≡ Some s }
+    ensures runs { is_over result ≡ false → result ≢ Ending.Ended → world.new.procs.table.running ≡ Some fixed.now.slot }
     ensures items { Took (T.taken trace.old) (logged (board_in world.old)
-        (comes_to (unix_of world.old) s outcome).effects).items (T.taken trace.new) }
+        (comes_to (unix_of world.old) fixed.now.slot outcome).effects).items (T.taken trace.new) }
     ensures frame { T.leads_to trace.old trace.new }
     ensures rest { SameRest world.old.files.tree.nodes.blocks world.new.files.tree.nodes.blocks }
 {
     match outcome {
         Outcome::Next => Ending::Next,
-        Outcome::Call(number) => call(world, s, number, trace),
-        Outcome::Fault(kind) => fault(world, s, kind, trace),
+        Outcome::Call(number) => call(world, fixed, number, trace),
+        Outcome::Fault(kind) => fault(world, fixed.slot, kind, trace),
     }
 }
 

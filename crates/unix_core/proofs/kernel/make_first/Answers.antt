@@ -1,4 +1,5 @@
-use Rattle.std.proofs.Common.{refl, lit<}
+use Rattle.std.proofs.Common.{refl, ap, lit<}
+use Rattle.sys_procs.specs.declared.procs.Procs.{Procs}
 use Rattle.unix_core.proofs.BootImageLemmas.{keeps_nothing, made_at, text_at, made_image, made_bare, made_cleared, filled_image, first_made}
 use Rattle.unix_core.proofs.kernel.make_first.Goals as goal
 
@@ -42,3 +43,6 @@ returns-clause-kept c =
     first_made c.args.procs.now.images.kept c.requires.empty c.requires.least c.replace.new.self.kept 1 0 refl refl
     (made_at c.args.procs.now.images.kept c.requires.empty c.requires.least c.replace.new.self.kept c.replace.ensures.kept)
     c.put_program.new.procs.images.kept c.put_program.ensures.kept c.area-u.result _ c.set_area.new.self.kept c.area-u.ensures.u c.set_area.ensures
+
+pub returns-clause-others : goal.returns-clause-others
+returns-clause-others c = ap (λ (p : Procs). record p { images = c.set_area.new.self }) c.put_program.ensures.others

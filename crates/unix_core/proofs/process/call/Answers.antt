@@ -1,7 +1,6 @@
-use Rattle.std.proofs.Common.{sym, subst}
+use Rattle.std.proofs.Common.{refl, subst}
 use Rattle.v6_base.specs.Trace.{Took}
 use Rattle.pick_rules.specs.Logged.{logged}
-use Rattle.image_keep.specs.Kept.{HasImage}
 use Rattle.unix_core.specs.declared.world.World.{World}
 use Rattle.abstract_unix.specs.declared.asked.Asked.{Asked}
 use Rattle.abstract_unix.specs.Steps.{Steps}
@@ -10,33 +9,25 @@ use Rattle.unix_core.specs.Parts.{unix_of, board_in, HasCome}
 use Rattle.unix_core.proofs.SystemLemmas.{asked_here, entered_ready, entered_user, entered_board, entered_call}
 use Rattle.unix_core.proofs.process.call.Goals as goal
 
-pub ask-asked-requires : goal.ask-asked-requires
-ask-asked-requires g c = c.requires.ready.good.running c.args.s c.requires.ready.runs c.requires.ready.user
-
-pub enter-requires : goal.enter-requires
-enter-requires g c =
-    subst (λ k. HasImage k c.args.s) (sym c.ask-asked.ensures.same)
-    (c.requires.ready.good.running c.args.s c.requires.ready.runs c.requires.ready.user)
-
 pub does_call-requires-clause-ready : goal.does_call-requires-clause-ready
 does_call-requires-clause-ready g c =
-    entered_ready c.args.world.now c.args.s c.requires.ready c.ask-asked.result c.sysent_of-entry.result _ _ _
-    c.ask-asked.ensures.same c.words_passed.ensures c.enter.ensures
+    entered_ready c.args.world.now c.args.fixed.now.slot c.requires.ready c.ask-asked.result c.sysent_of-entry.result _ _ c.enter.new.images
+    refl c.words_passed.ensures c.enter.ensures
 
 pub does_call-requires-clause-user : goal.does_call-requires-clause-user
 does_call-requires-clause-user g c =
-    entered_user c.args.world.now c.args.s c.requires.ready c.ask-asked.result c.sysent_of-entry.result _ _ _
-    c.ask-asked.ensures.same c.words_passed.ensures c.enter.ensures c.requires.user
+    entered_user c.args.world.now c.args.fixed.now.slot c.requires.ready c.ask-asked.result c.sysent_of-entry.result _ _ c.enter.new.images
+    refl c.words_passed.ensures c.enter.ensures c.requires.user
 
 pub returns-clause-come : goal.returns-clause-come
 returns-clause-come g c =
     let w : World = c.args.world.now in
-    let s = c.args.s in
+    let s = c.args.fixed.now.slot in
     let a : Asked = c.ask-asked.result in
     let asks = asked_here w s c.requires.ready c.ask-asked.ensures.holds c.args.number a c.ask-asked.ensures.asked in
-    let same = entered_board w s c.requires.ready a c.sysent_of-entry.result _ _ _ c.ask-asked.ensures.same c.words_passed.ensures
+    let same = entered_board w s c.requires.ready a c.sysent_of-entry.result _ _ c.enter.new.images refl c.words_passed.ensures
     c.enter.ensures in
-    let steps = entered_call w s c.requires.ready a c.sysent_of-entry.result _ _ _ c.ask-asked.ensures.same c.words_passed.ensures
+    let steps = entered_call w s c.requires.ready a c.sysent_of-entry.result _ _ c.enter.new.images refl c.words_passed.ensures
     c.enter.ensures c.args.number asks
     c.sysent_of-entry.ensures in
     subst (λ b. HasCome b (system_call c.args.number (unix_of w) s) c.does_call.result
@@ -47,12 +38,12 @@ returns-clause-come g c =
 pub returns-clause-items : goal.returns-clause-items
 returns-clause-items g c =
     let w : World = c.args.world.now in
-    let s = c.args.s in
+    let s = c.args.fixed.now.slot in
     let a : Asked = c.ask-asked.result in
     let asks = asked_here w s c.requires.ready c.ask-asked.ensures.holds c.args.number a c.ask-asked.ensures.asked in
-    let same = entered_board w s c.requires.ready a c.sysent_of-entry.result _ _ _ c.ask-asked.ensures.same c.words_passed.ensures
+    let same = entered_board w s c.requires.ready a c.sysent_of-entry.result _ _ c.enter.new.images refl c.words_passed.ensures
     c.enter.ensures in
-    let steps = entered_call w s c.requires.ready a c.sysent_of-entry.result _ _ _ c.ask-asked.ensures.same c.words_passed.ensures
+    let steps = entered_call w s c.requires.ready a c.sysent_of-entry.result _ _ c.enter.new.images refl c.words_passed.ensures
     c.enter.ensures c.args.number asks
     c.sysent_of-entry.ensures in
     subst (λ b. Took (g.T.Trace.taken c.args.trace.now)

@@ -10,7 +10,7 @@ use Rattle.unix_core.proofs.process.come_to.Goals as goal
 pub returns-in-Call-clause-come : goal.returns-in-Call-clause-come
 returns-in-Call-clause-come g c =
     let w : World = c.args.world.now in
-    subst (λ (o : Outcome). HasCome (board_in w) (comes_to (unix_of w) c.args.s o)
+    subst (λ (o : Outcome). HasCome (board_in w) (comes_to (unix_of w) c.args.fixed.now.slot o)
     c.call.result c.call.new.world) (sym c.in-Call.is)
     c.call.ensures.come
 
@@ -18,13 +18,13 @@ pub returns-in-Call-clause-items : goal.returns-in-Call-clause-items
 returns-in-Call-clause-items g c =
     let w : World = c.args.world.now in
     subst (λ (o : Outcome). Took (g.T.Trace.taken c.args.trace.now)
-    (logged (board_in w) (comes_to (unix_of w) c.args.s o).effects).items
+    (logged (board_in w) (comes_to (unix_of w) c.args.fixed.now.slot o).effects).items
     (g.T.Trace.taken c.call.new.trace)) (sym c.in-Call.is) c.call.ensures.items
 
 pub returns-in-Fault-clause-come : goal.returns-in-Fault-clause-come
 returns-in-Fault-clause-come g c =
     let w : World = c.args.world.now in
-    subst (λ (o : Outcome). HasCome (board_in w) (comes_to (unix_of w) c.args.s o)
+    subst (λ (o : Outcome). HasCome (board_in w) (comes_to (unix_of w) c.args.fixed.now.slot o)
     c.fault.result c.fault.new.world) (sym c.in-Fault.is)
     c.fault.ensures.come
 
@@ -32,7 +32,7 @@ pub returns-in-Fault-clause-items : goal.returns-in-Fault-clause-items
 returns-in-Fault-clause-items g c =
     let w : World = c.args.world.now in
     subst (λ (o : Outcome). Took (g.T.Trace.taken c.args.trace.now)
-    (logged (board_in w) (comes_to (unix_of w) c.args.s o).effects).items
+    (logged (board_in w) (comes_to (unix_of w) c.args.fixed.now.slot o).effects).items
     (g.T.Trace.taken c.fault.new.trace)) (sym c.in-Fault.is) c.fault.ensures.items
 
 pub returns-in-Fault-clause-good : goal.returns-in-Fault-clause-good

@@ -6,8 +6,8 @@ use Rattle.unix_core.proofs.process.enter.Goals as goal
 
 pub returns : goal.returns
 returns c =
-    c.set_registers.ensures
-    ∙ ap (λ n. with_area c.args.images.now.kept c.args.s (with_state (area_of c.args.images.now.kept c.args.s)
-    (slice_set c.area-u.result.r 7 ((slice_index c.area-u.result.r 7 + 2 * n) % 65536)) (c.area-u.result.cc - c.area-u.result.cc % 2))) c.from.ensures
-    ∙ ap (λ (u : UArea). with_area c.args.images.now.kept c.args.s (with_state (area_of c.args.images.now.kept c.args.s)
-    (slice_set u.r 7 ((slice_index u.r 7 + 2 * c.args.words) % 65536)) (u.cc - u.cc % 2))) c.area-u.ensures.u
+    c.set_registers_at.ensures.kept
+    ∙ ap (λ n. with_area c.args.images.now.kept c.args.fixed.now.slot (with_state (area_of c.args.images.now.kept c.args.fixed.now.slot)
+    (slice_set c.area_at-u.result.now.r 7 ((slice_index c.area_at-u.result.now.r 7 + 2 * n) % 65536)) (c.area_at-u.result.now.cc - c.area_at-u.result.now.cc % 2))) c.from.ensures
+    ∙ ap (λ (u : UArea). with_area c.args.images.now.kept c.args.fixed.now.slot (with_state (area_of c.args.images.now.kept c.args.fixed.now.slot)
+    (slice_set u.r 7 ((slice_index u.r 7 + 2 * c.args.words) % 65536)) (u.cc - u.cc % 2))) c.area_at-u.ensures

@@ -39,3 +39,10 @@ returns-clause-kept c =
     updated_covered m.world c.update_all.new.self c.update_all.ensures.store
     (kernel_covered m.stage m.world c.self.invariant (subst (λ (p : Phase). (p ≡ Started) ⊎ (p ≡ Stopped)) (ap (λ (v : KernelState). v.phase) (sym c.self.view_is)) c.requires)
     c.see_procs.ensures.rows c.see_procs.ensures.images)
+
+-- The bytes of both are as they were.
+pub returns-clause-core : goal.returns-clause-core
+returns-clause-core c = ap (λ (v : KernelState). v.core) c.self.view_is
+
+pub returns-clause-swap : goal.returns-clause-swap
+returns-clause-swap c = ap (λ (v : KernelState). v.swap) c.self.view_is

@@ -1,15 +1,18 @@
 use Rattle.std.proofs.Common.{◌≡◌, ◌∙◌, ap, subst}
 use Rattle.unix_core.specs.State.{KernelState}
-use Rattle.image_keep.specs.Holds.{AreRangesApart}
+use Rattle.image_keep.specs.Holds.{MemoryHolds}
 use Rattle.unix_core.specs.Memory.{kept_in}
 use Rattle.unix_core.proofs.Memories.{told}
 use Rattle.unix_core.proofs.kernel.Kernel.swap.Goals as goal
+
+pub returns-clause-bytes : goal.returns-clause-bytes
+returns-clause-bytes c = c.swap.ensures.bytes ∙ ap (λ (v : KernelState). v.swap) c.self.view_is
+
+pub returns-clause-holds : goal.returns-clause-holds
+returns-clause-holds c = subst (λ (v : KernelState). MemoryHolds v.core v.swap v.kept) c.self.view_is c.swap.ensures.holds
 
 pub returns-clause-told : goal.returns-clause-told
 returns-clause-told c = λ started.
     let m = c.self.inside.machine in
     subst (λ (v : KernelState). v.kept ≡ kept_in v.system) c.self.view_is
     (told m.stage m.world c.self.invariant (ap (λ (v : KernelState). v.phase) c.self.view_is ∙ started) c.see_procs.ensures.rows c.see_procs.ensures.images)
-
-pub returns-clause-apart : goal.returns-clause-apart
-returns-clause-apart c = subst AreRangesApart (ap (λ (v : KernelState). v.kept) c.self.view_is) c.swap.ensures.apart

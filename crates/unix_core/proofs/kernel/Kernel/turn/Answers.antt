@@ -1,7 +1,7 @@
 use Rattle.std.proofs.Common.{sym}
 use Rattle.v6_base.proofs.Took.{took_nothing}
 use Rattle.unix_core.proofs.TakenLemmas.{taken_answer, taken_next, taken_phase, taken_idle, taken_private, taken_texts}
-use Rattle.unix_core.proofs.TakenLemmas.{near_kernel, near_phase, near_answer, near_next, near_private, near_texts, near_items, far_user, far_answer, far_takes, far_items}
+use Rattle.unix_core.proofs.TakenLemmas.{near_kernel, near_phase, near_answer, near_next, near_private, near_texts, near_items, far_running, far_answer, far_takes, far_items}
 use Rattle.unix_core.proofs.kernel.Kernel.turn.Goals as goal
 
 pub execute-requires : goal.execute-requires
@@ -51,69 +51,69 @@ returns-then-execute-clause-items g c =
     (sym (c.execute.ensures.next.0 c.if-execute.true)) c.execute.ensures.fixed)
 
 -- It comes to something else.
-pub step_out-requires-clause-running : goal.step_out-requires-clause-running
-step_out-requires-clause-running g c = (c.in-Running.fixed, c.in-Running.is)
+pub after_step-requires-clause-running : goal.after_step-requires-clause-running
+after_step-requires-clause-running g c = (c.in-Running.fixed, c.in-Running.is)
 
-pub step_out-requires-clause-user : goal.step_out-requires-clause-user
-step_out-requires-clause-user g c =
+pub after_step-requires-clause-user : goal.after_step-requires-clause-user
+after_step-requires-clause-user g c =
     let m = c.self.inside.machine in
-    far_user m.stage m.world c.self.invariant c.see_kept.ensures c.args.self.now c.self.view_is c.requires c.in-Running.fixed c.in-Running.is c.execute.new.self c.execute.ensures.kept
-    c.execute.new.outcome (c.execute.ensures.outcome c.if-execute.false)
+    far_running m.stage m.world c.self.invariant c.see_kept.ensures c.args.self.now c.self.view_is c.requires c.in-Running.fixed c.in-Running.is c.execute.new.self c.execute.ensures.kept
+    c.execute.new.outcome (c.execute.ensures.outcome c.if-execute.false) c.execute.ensures.fixed
 
 pub returns-else-execute-clause-answer : goal.returns-else-execute-clause-answer
 returns-else-execute-clause-answer g c =
     let m = c.self.inside.machine in
     taken_answer m.stage m.world c.self.invariant c.see_kept.ensures c.args.self.now c.self.view_is c.requires
-    c.step_out.result (far_answer m.stage m.world c.self.invariant c.see_kept.ensures c.args.self.now c.self.view_is c.requires c.in-Running.fixed c.in-Running.is c.execute.new.self c.execute.ensures.kept
+    c.after_step.result (far_answer m.stage m.world c.self.invariant c.see_kept.ensures c.args.self.now c.self.view_is c.requires c.in-Running.fixed c.in-Running.is c.execute.new.self c.execute.ensures.kept
     c.execute.new.outcome (c.execute.ensures.outcome c.if-execute.false)
-    c.step_out.result c.step_out.ensures.answer)
+    c.after_step.result c.after_step.ensures.answer)
 
 pub returns-else-execute-clause-idle : goal.returns-else-execute-clause-idle
 returns-else-execute-clause-idle g c =
     let m = c.self.inside.machine in
     taken_idle m.stage m.world c.self.invariant c.see_kept.ensures c.args.self.now c.self.view_is c.requires
-    c.step_out.result (far_answer m.stage m.world c.self.invariant c.see_kept.ensures c.args.self.now c.self.view_is c.requires c.in-Running.fixed c.in-Running.is c.execute.new.self c.execute.ensures.kept
+    c.after_step.result (far_answer m.stage m.world c.self.invariant c.see_kept.ensures c.args.self.now c.self.view_is c.requires c.in-Running.fixed c.in-Running.is c.execute.new.self c.execute.ensures.kept
     c.execute.new.outcome (c.execute.ensures.outcome c.if-execute.false)
-    c.step_out.result c.step_out.ensures.answer)
+    c.after_step.result c.after_step.ensures.answer)
 
 pub returns-else-execute-clause-phase : goal.returns-else-execute-clause-phase
 returns-else-execute-clause-phase g c =
     let m = c.self.inside.machine in
     taken_phase m.stage m.world c.self.invariant c.see_kept.ensures c.args.self.now c.self.view_is c.requires
-    c.step_out.new.self.stage c.step_out.new.self.world (far_takes m.stage m.world c.self.invariant c.see_kept.ensures c.args.self.now c.self.view_is c.requires c.in-Running.fixed c.in-Running.is c.execute.new.self c.execute.ensures.kept
+    c.after_step.new.self.stage c.after_step.new.self.world (far_takes m.stage m.world c.self.invariant c.see_kept.ensures c.args.self.now c.self.view_is c.requires c.in-Running.fixed c.in-Running.is c.execute.new.self c.execute.ensures.kept
     c.execute.new.outcome (c.execute.ensures.outcome c.if-execute.false)
-    c.step_out.new.self.stage c.step_out.new.self.world c.step_out.ensures.takes)
+    c.after_step.new.self.stage c.after_step.new.self.world c.after_step.ensures.takes)
 
 pub returns-else-execute-clause-next : goal.returns-else-execute-clause-next
 returns-else-execute-clause-next g c =
     let m = c.self.inside.machine in
     taken_next m.stage m.world c.self.invariant c.see_kept.ensures c.args.self.now c.self.view_is c.requires
-    c.step_out.new.self.stage c.step_out.new.self.world (far_takes m.stage m.world c.self.invariant c.see_kept.ensures c.args.self.now c.self.view_is c.requires c.in-Running.fixed c.in-Running.is c.execute.new.self c.execute.ensures.kept
+    c.after_step.new.self.stage c.after_step.new.self.world (far_takes m.stage m.world c.self.invariant c.see_kept.ensures c.args.self.now c.self.view_is c.requires c.in-Running.fixed c.in-Running.is c.execute.new.self c.execute.ensures.kept
     c.execute.new.outcome (c.execute.ensures.outcome c.if-execute.false)
-    c.step_out.new.self.stage c.step_out.new.self.world c.step_out.ensures.takes)
+    c.after_step.new.self.stage c.after_step.new.self.world c.after_step.ensures.takes)
 
 pub returns-else-execute-clause-private : goal.returns-else-execute-clause-private
 returns-else-execute-clause-private g c =
     let m = c.self.inside.machine in
     taken_private m.stage m.world c.self.invariant c.see_kept.ensures c.args.self.now c.self.view_is c.requires
-    c.step_out.new.self.stage c.step_out.new.self.world (far_takes m.stage m.world c.self.invariant c.see_kept.ensures c.args.self.now c.self.view_is c.requires c.in-Running.fixed c.in-Running.is c.execute.new.self c.execute.ensures.kept
+    c.after_step.new.self.stage c.after_step.new.self.world (far_takes m.stage m.world c.self.invariant c.see_kept.ensures c.args.self.now c.self.view_is c.requires c.in-Running.fixed c.in-Running.is c.execute.new.self c.execute.ensures.kept
     c.execute.new.outcome (c.execute.ensures.outcome c.if-execute.false)
-    c.step_out.new.self.stage c.step_out.new.self.world c.step_out.ensures.takes)
+    c.after_step.new.self.stage c.after_step.new.self.world c.after_step.ensures.takes)
 
 pub returns-else-execute-clause-texts : goal.returns-else-execute-clause-texts
 returns-else-execute-clause-texts g c =
     let m = c.self.inside.machine in
     taken_texts m.stage m.world c.self.invariant c.see_kept.ensures c.args.self.now c.self.view_is c.requires
-    c.step_out.new.self.stage c.step_out.new.self.world (far_takes m.stage m.world c.self.invariant c.see_kept.ensures c.args.self.now c.self.view_is c.requires c.in-Running.fixed c.in-Running.is c.execute.new.self c.execute.ensures.kept
+    c.after_step.new.self.stage c.after_step.new.self.world (far_takes m.stage m.world c.self.invariant c.see_kept.ensures c.args.self.now c.self.view_is c.requires c.in-Running.fixed c.in-Running.is c.execute.new.self c.execute.ensures.kept
     c.execute.new.outcome (c.execute.ensures.outcome c.if-execute.false)
-    c.step_out.new.self.stage c.step_out.new.self.world c.step_out.ensures.takes)
+    c.after_step.new.self.stage c.after_step.new.self.world c.after_step.ensures.takes)
 
 pub returns-else-execute-clause-items : goal.returns-else-execute-clause-items
 returns-else-execute-clause-items g c =
     let m = c.self.inside.machine in
     far_items m.stage m.world c.self.invariant c.see_kept.ensures c.args.self.now c.self.view_is c.requires c.in-Running.fixed c.in-Running.is c.execute.new.self c.execute.ensures.kept
     c.execute.new.outcome (c.execute.ensures.outcome c.if-execute.false)
-    _ _ c.step_out.ensures.items
+    _ _ c.after_step.ensures.items
 
 -- No process executes an instruction.
 pub returns-in_default-clause-idle : goal.returns-in_default-clause-idle
