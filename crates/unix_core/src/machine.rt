@@ -309,6 +309,25 @@ impl Machine {
         }
     }
 
+    /// Takes a slot in which a process goes on with a call. It stands out of line: so a slot in which nobody runs saves no
+    /// registers.
+    #[inline(never)]
+    fn going_slot<T: Trace>(&mut self, s: Slot, trace: &mut T) -> Turned
+        requires kernel { IsKernel self.old.stage self.old.world }
+        requires resting { self.old.stage ≡ Stage.Resting }
+        requires runs { self.old.world.procs.table.running ≡ Some s }
+        requires user { 0 < s }
+        ensures answer { result ≡ turned (turn_at self.old.world) }
+        ensures takes { Takes (turn_at self.old.world) self.new.stage self.new.world }
+        ensures rest { SameRest self.old.world.files.tree.nodes.blocks self.new.world.files.tree.nodes.blocks }
+        ensures items { Took (T.taken trace.old)
+            (turn_at self.old.world).items (T.taken trace.new) }
+        ensures frame { T.leads_to trace.old trace.new }
+    {
+        let ending = self.go_on(s, trace);
+        self.end(s, ending, trace)
+    }
+
     /// Takes a slot in which no process just executes an instruction. It stands out of line, so that every other slot asks for
     /// the stage once.
     #[cold]
@@ -326,10 +345,7 @@ impl Machine {
         match self.world.procs.table.running {
             None => Turned::Idle,
             Some(0) => self.pass(trace),
-            Some(s) => {
-                let ending = self.go_on(s, trace);
-                self.end(s, ending, trace)
-            }
+            Some(s) => self.going_slot(s, trace),
         }
     }
 
