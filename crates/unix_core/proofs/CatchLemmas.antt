@@ -1,5 +1,5 @@
 -- A process goes on with its routine for a signal, after its stack has grown.
-use Rattle.std.proofs.Common.{◌≡◌, ◌∙◌, ℕ, Bool, [], refl, sym, ap, subst}
+use Rattle.std.proofs.Common.{◌≡◌, ◌∙◌, ℕ, Bool, [], refl, ap, subst}
 use Rattle.std.specs.Prelude.{Result, Ok, Err}
 use Rattle.v6_base.specs.Trace.{Taken, Took}
 use Rattle.v6_base.proofs.Took.{took_nothing}

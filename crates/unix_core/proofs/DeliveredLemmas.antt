@@ -1,5 +1,5 @@
 -- A tick delivers the signal that is due: it never ends the run of itself, and the tick comes to both logs.
-use Rattle.std.proofs.Common.{◌≡◌, ◌<◌, ◌+◌, ◌%◌, ◌^◌, ◌==◌, ◌&&◌, ◌∙◌, cond, ℕ, Bool, true, false, ◌++◌, length, Option, Some, None, Ok, Err, refl, sym, ap, subst, arith}
+use Rattle.std.proofs.Common.{◌≡◌, ◌<◌, ◌+◌, ◌%◌, ◌^◌, ◌==◌, ◌&&◌, ◌∙◌, cond, ℕ, Bool, true, false, ◌++◌, length, Option, Some, None, Ok, Err, refl, sym, ap, subst}
 use Rattle.v6_base.specs.Trace.{Took, Taken}
 use Rattle.v6_base.proofs.Took.{took_then, took_more}
 use Rattle.v6_base.specs.declared.entry.PanicKind.{PanicKind}
@@ -8,7 +8,7 @@ use Rattle.pick_rules.specs.declared.row.Mode.TheVariants.{User, Kernel, Idle}
 use Rattle.pick_rules.specs.declared.row.Second.{Second}
 use Rattle.pick_rules.specs.declared.row.Second.TheVariants.{No, Yes}
 use Rattle.pick_rules.specs.declared.table.Table.{Table}
-use Rattle.pick_rules.specs.Clock.{tick, told}
+use Rattle.pick_rules.specs.Clock.{told}
 use Rattle.pick_rules.specs.Board.{Board}
 use Rattle.pick_rules.specs.Logged.{Logged, Stop, logged, left_by}
 use Rattle.sig_core.specs.Signals.{handler_of, due}

@@ -1,5 +1,5 @@
 -- How a call ends: never as an instruction does that is just done, and only exit ends a process.
-use Rattle.std.proofs.Common.{◌≡◌, ◌≢◌, ◌∙◌, ℕ, Bool, true, false, nat_lt, if◌then◌else◌, Option, Some, None, sym}
+use Rattle.std.proofs.Common.{◌≢◌, ◌∙◌, ℕ, Bool, true, false, nat_lt, if◌then◌else◌, Option, Some, None, sym}
 use Rattle.v6_base.specs.declared.answer.Answer.{Answer}
 use Rattle.v6_base.specs.declared.answer.Answer.TheVariants.{Ret, Fail, Sleep}
 use Rattle.pick_rules.specs.Board.{Board}

@@ -1,5 +1,5 @@
 -- What comes from outside: what it leaves of the table, and of the log.
-use Rattle.std.proofs.Common.{◌≡◌, ℕ, Bool, true, false, List, [], ◌∷◌, ◌++◌, map, fold, None, refl, sym, ap, ◌∙◌, subst}
+use Rattle.std.proofs.Common.{◌≡◌, ℕ, Bool, true, false, List, [], ◌∷◌, ◌++◌, fold, None, refl, sym, ap, ◌∙◌, subst}
 use Rattle.v6_base.specs.Trace.{sent, Took, Taken}
 use Rattle.v6_base.proofs.Took.{took_then}
 use Rattle.v6_base.specs.declared.entry.Chan.{Chan}
@@ -7,7 +7,6 @@ use Rattle.v6_base.specs.declared.entry.Entry.TheVariants as line
 use Rattle.pick_rules.specs.declared.table.Table.{Table}
 use Rattle.pick_rules.specs.Table.{IsTable}
 use Rattle.pick_rules.specs.Board.{Board}
-use Rattle.pick_rules.specs.Effects.{Effect, Show}
 use Rattle.pick_rules.specs.Logged.{Logged, logged, left_by, board_after}
 use Rattle.pick_rules.proofs.Laws.{wakeup_kept}
 use Rattle.image_keep.specs.Kept.{Kept}
@@ -18,10 +17,8 @@ use Rattle.sys_procs.proofs.Agreement.{AreLike, agree_like, tables_same, wakeup_
 use Rattle.abstract_unix.specs.Unix.{Unix, System}
 use Rattle.unix_core.specs.Passing.{called_table}
 use Rattle.abstract_unix.specs.Turn.{happens, settled, settled_after}
-use Rattle.abstract_unix.specs.Outside as outside
 use Rattle.abstract_unix.specs.Outside.{wakes}
 use Rattle.unix_core.proofs.BoardLemmas.{logged_line}
-use Rattle.unix_core.proofs.LoggedLemmas.{after_items, logged_shown, logged_after}
 use Rattle.unix_core.proofs.TableLemmas.{RunsImage}
 
 -- An event has left this Unix and this log, and the kernel has settled.

@@ -9,7 +9,7 @@ use Rattle.sys_procs.specs.Process.{Process}
 use Rattle.sys_procs.proofs.Alive.{is_here}
 use Rattle.sys_procs.proofs.Slots.{own_row}
 use Rattle.sys_procs.proofs.Signalled.{used_row, agree_row}
-use Rattle.abstract_unix.specs.Unix.{Unix, process_of, with_process}
+use Rattle.abstract_unix.specs.Unix.{Unix, process_of}
 use Rattle.abstract_unix.specs.Delivery.{heeding, heeds}
 use Rattle.abstract_unix.specs.Turn.{is_user}
 use Rattle.abstract_unix.specs.Whole.{told_in, Owes, CanGoOn}

@@ -1,5 +1,5 @@
 -- A key makes a signal: it goes to all that have the console, and what belongs together still does.
-use Rattle.std.proofs.Common.{◌≡◌, ◌<◌, ◌∙◌, ℕ, Bool, true, false, cond, List, [], ◌∷◌, ◌++◌, length, map, fold, get_or, pos, Option, Some, None, refl, sym, ap, subst, arith}
+use Rattle.std.proofs.Common.{◌≡◌, ◌<◌, ◌∙◌, ℕ, Bool, true, false, cond, List, [], ◌∷◌, length, map, fold, get_or, pos, Option, Some, None, refl, sym, ap, subst, arith}
 use Rattle.std.specs.Int.{int_min}
 use Rattle.std.proofs.lemmas.List.{same_lists, get_or_default, length-map}
 use Rattle.std.proofs.lemmas.List.FromFn.{get_or-map-range_with_len, length-map-range_with_len}
@@ -31,7 +31,7 @@ use Rattle.abstract_unix.specs.Outside.{with_key, key_lines}
 use Rattle.abstract_unix.specs.Whole.{Told, told_by, told_in, Owes, CanGoOn}
 use Rattle.abstract_unix.proofs.GoingOnSteps.{key_goes_on}
 use Rattle.unix_core.specs.Parts.{unix_of, board_in, IsGood}
-use Rattle.unix_core.proofs.GoodLemmas.{told_of_slot, still_runs}
+use Rattle.unix_core.proofs.GoodLemmas.{still_runs}
 use Rattle.unix_core.proofs.LoggedLemmas.{logged_shown}
 
 -- Lines of signals leave who runs, and core.

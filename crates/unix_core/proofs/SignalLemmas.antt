@@ -1,10 +1,9 @@
 -- A signal has been sent to the process that runs: what the world is then.
-use Rattle.std.proofs.Common.{◌≡◌, ◌∙◌, ℕ, Bool, true, false, cond, List, [], ◌∷◌, map, None, Option, refl, sym, ap, subst}
+use Rattle.std.proofs.Common.{◌≡◌, ◌∙◌, ℕ, Bool, true, false, cond, List, [], ◌∷◌, map, refl, sym, ap, subst}
 use Rattle.v6_base.specs.Trace.{Item, Log, Taken, Took}
 use Rattle.v6_base.specs.declared.entry.Entry.TheVariants as line
-use Rattle.pick_rules.specs.Board.{Board}
 use Rattle.pick_rules.specs.Effects.{Show}
-use Rattle.pick_rules.specs.Logged.{Logged, Stop, logged, left_by}
+use Rattle.pick_rules.specs.Logged.{Logged, logged, left_by}
 use Rattle.fs_nodes.specs.FileSystem.{FileSystem}
 use Rattle.sig_core.specs.Signals.{is_signal}
 use Rattle.sys_procs.specs.declared.procs.Procs.{Procs}

@@ -23,7 +23,6 @@ use Rattle.sys_procs.specs.Agree.{kind_of_stat, board_of}
 use Rattle.sys_procs.proofs.Agreement.{IsLike, AreLike}
 use Rattle.swap_sched.proofs.Boards.{untimed}
 use Rattle.sys_procs.proofs.Tables.{untimed_setpri}
-use Rattle.abstract_unix.specs.Unix.{Unix}
 use Rattle.unix_core.specs.Passing.{trapped}
 use Rattle.abstract_unix.specs.Outside as outside
 use Rattle.abstract_unix.specs.Outside.{tick_entry, clock_after}

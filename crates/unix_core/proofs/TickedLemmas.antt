@@ -11,7 +11,6 @@ use Rattle.pick_rules.specs.Apply.{applied}
 use Rattle.pick_rules.specs.Effects.{Show}
 use Rattle.pick_rules.specs.Logged.{Logged, logged}
 use Rattle.image_keep.specs.Kept.{Kept}
-use Rattle.sig_core.specs.Signals.{due}
 use Rattle.sys_procs.specs.World.{clock_of}
 use Rattle.sys_procs.specs.Agree.{board_of}
 use Rattle.sys_procs.proofs.Agreement.{AreLike, agree_like, tables_same}

@@ -4,7 +4,7 @@ use Rattle.pick_rules.specs.Board.{Board}
 use Rattle.pick_rules.specs.Logged.{Stop, logged, left_by}
 use Rattle.pdp_step.specs.declared.outcome.Outcome.{Outcome}
 use Rattle.abstract_unix.specs.declared.ending.Ending.{Ending}
-use Rattle.abstract_unix.specs.declared.ending.Ending.TheVariants.{Trapped, Panic}
+use Rattle.abstract_unix.specs.declared.ending.Ending.TheVariants.{Trapped}
 use Rattle.abstract_unix.specs.Unix.{Unix, process_of}
 use Rattle.abstract_unix.specs.Steps.{Steps}
 use Rattle.abstract_unix.specs.Calls.{resumed}

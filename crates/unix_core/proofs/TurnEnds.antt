@@ -2,7 +2,7 @@
 use Rattle.std.proofs.Common.{◌≡◌, ◌≢◌, ◌∙◌, ℕ, Option, Some, None, refl, sym, ap, subst}
 use Rattle.v6_base.specs.Trace.{Taken, Took}
 use Rattle.pick_rules.specs.Board.{Board}
-use Rattle.pick_rules.specs.Logged.{Logged, Stop, logged, left_by}
+use Rattle.pick_rules.specs.Logged.{Stop, logged, left_by}
 use Rattle.abstract_unix.specs.declared.ending.Ending.{Ending}
 use Rattle.abstract_unix.specs.declared.ending.Ending.TheVariants.{Next, Trapped, Slept, Ended, Panic}
 use Rattle.abstract_unix.specs.Unix.{Unix}

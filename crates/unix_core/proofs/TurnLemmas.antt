@@ -18,7 +18,7 @@ use Rattle.abstract_unix.specs.declared.ends.Ends.{Ends}
 use Rattle.abstract_unix.specs.declared.ends.Ends.TheVariants as ends
 use Rattle.abstract_unix.specs.declared.ends.Ends.TheVariants.{AtEnd}
 use Rattle.unix_core.specs.declared.world.World.{World}
-use Rattle.abstract_unix.specs.Unix.{Unix, System, process_of}
+use Rattle.abstract_unix.specs.Unix.{Unix, System}
 use Rattle.abstract_unix.specs.Endings.{phase_after}
 use Rattle.abstract_unix.specs.Steps.{Steps}
 use Rattle.abstract_unix.specs.Calls.{resumed}

@@ -1,19 +1,18 @@
 -- A byte is typed: what the line shows of it, the signal that it makes, and who is woken then.
-use Rattle.std.proofs.Common.{◌≡◌, ◌∙◌, ℕ, Bool, List, [], ◌++◌, map, fold, None, refl, sym, ap, subst}
+use Rattle.std.proofs.Common.{◌≡◌, ◌∙◌, ℕ, Bool, List, ◌++◌, map, fold, None, refl, sym, ap, subst}
 use Rattle.std.proofs.lemmas.List.Sums.{fold-append}
 use Rattle.v6_base.specs.Trace.{Item, sent, Took, Taken}
 use Rattle.v6_base.proofs.Took.{took_then, took_more}
 use Rattle.v6_base.specs.declared.entry.Chan.TheVariants.{Keys}
 use Rattle.pick_rules.specs.declared.table.Table.{Table}
 use Rattle.pick_rules.specs.Table.{IsTable}
-use Rattle.pick_rules.specs.Board.{Board}
 use Rattle.pick_rules.specs.Effects.{Show}
 use Rattle.pick_rules.specs.Logged.{Logged, logged, board_after}
 use Rattle.tty_line.specs.declared.line.Keyed.{Keyed}
 use Rattle.tty_line.specs.declared.line.Keyed.TheVariants as key
 use Rattle.tty_line.specs.Terminal.{Terminal}
 use Rattle.tty_line.specs.Input.{Typed, typed}
-use Rattle.sys_procs.specs.World.{Clock, clock_of}
+use Rattle.sys_procs.specs.World.{clock_of}
 use Rattle.sys_procs.specs.Agree.{board_of}
 use Rattle.unix_core.specs.declared.world.World.{World}
 use Rattle.abstract_unix.specs.Unix.{Unix, System}

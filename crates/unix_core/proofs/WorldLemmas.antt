@@ -11,7 +11,6 @@ use Rattle.proc_tab.specs.Processes.{member_at}
 use Rattle.image_keep.specs.Kept.{Held, Kept, Has, keeping, clicks_of, area_of, image_of}
 use Rattle.image_keep.specs.Kept as kept
 use Rattle.image_keep.proofs.Frames.{SameTexts}
-use Rattle.open_files.specs.declared.file.OpenFile.{OpenFile}
 use Rattle.fs_nodes.specs.FileSystem.{IsFileSystem}
 use Rattle.sys_files.specs.Handed.{Handed, handed}
 use Rattle.sys_files.specs.Sound.{IsSound, IsKept}

@@ -1,4 +1,4 @@
-use Rattle.std.proofs.Common.{◌≡◌, ◌∙◌, ◌%◌, ℕ, List, slice_index, refl, sym, ap, subst}
+use Rattle.std.proofs.Common.{◌≡◌, ◌∙◌, ◌%◌, ℕ, List, slice_index, sym, ap, subst}
 use Rattle.u_area.specs.declared.area.UArea.{UArea}
 use Rattle.fs_laws.specs.Rest.{SameRest}
 use Rattle.image_keep.specs.Kept.{area_of}

@@ -4,8 +4,8 @@ use Rattle.v6_base.proofs.Took.{took_nothing}
 use Rattle.pick_rules.specs.Logged.{logged}
 use Rattle.sig_core.specs.Signals.{due}
 use Rattle.abstract_unix.specs.Unix.{Unix, process_of}
-use Rattle.abstract_unix.specs.Steps.{Steps, returns}
-use Rattle.abstract_unix.specs.Delivery.{delivers, delivers_if, delivers_due}
+use Rattle.abstract_unix.specs.Steps.{Steps}
+use Rattle.abstract_unix.specs.Delivery.{delivers_if, delivers_due}
 use Rattle.abstract_unix.specs.declared.ending.Ending.TheVariants.{Trapped}
 use Rattle.unix_core.specs.declared.world.World.{World}
 use Rattle.unix_core.specs.Parts.{unix_of, board_in, HasCome}

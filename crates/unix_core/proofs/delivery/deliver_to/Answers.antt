@@ -1,4 +1,4 @@
-use Rattle.std.proofs.Common.{◌≡◌, ◌≢◌, ◌∙◌, ◌%◌, ◌==◌, ℕ, Bool, true, false, if◌then◌else◌, Some, refl, sym, ap, subst}
+use Rattle.std.proofs.Common.{◌≡◌, ◌≢◌, ◌∙◌, ◌%◌, ◌==◌, ℕ, Bool, true, false, if◌then◌else◌, Some, sym, ap, subst}
 use Rattle.std.proofs.lemmas.Bool.{eq-eqb, eqb-true}
 use Rattle.v6_base.specs.Trace.{Took}
 use Rattle.fs_laws.specs.Rest.{SameRest}

@@ -1,4 +1,4 @@
-use Rattle.std.proofs.Common.{◌≡◌, ◌∙◌, sym, ap}
+use Rattle.std.proofs.Common.{◌∙◌, sym, ap}
 use Rattle.proc_tab.specs.declared.row.Row.{Row}
 use Rattle.u_area.specs.declared.area.UArea.{UArea}
 use Rattle.sig_core.specs.Signals.{due}

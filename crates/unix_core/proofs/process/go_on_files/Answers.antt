@@ -1,4 +1,4 @@
-use Rattle.std.proofs.Common.{◌≡◌, ◌∙◌, sym, subst}
+use Rattle.std.proofs.Common.{◌∙◌, sym, subst}
 use Rattle.v6_base.specs.Trace.{Took}
 use Rattle.v6_base.specs.declared.answer.Answer.{Answer}
 use Rattle.fs_laws.specs.Rest.{SameRest}
@@ -7,7 +7,7 @@ use Rattle.sys_files.specs.Did.{Did}
 use Rattle.sys_files.specs.Moving.{resumes}
 use Rattle.unix_core.specs.declared.world.World.{World}
 use Rattle.abstract_unix.specs.Unix.{process_of}
-use Rattle.abstract_unix.specs.Calls.{answers, did_by, handed_of}
+use Rattle.abstract_unix.specs.Calls.{answers, handed_of}
 use Rattle.unix_core.specs.Parts.{unix_of, board_in, HasCome}
 use Rattle.unix_core.proofs.ShowingLemmas.{with_table, passed_ready, passed_come, passed_items}
 use Rattle.unix_core.proofs.process.go_on_files.Goals as goal

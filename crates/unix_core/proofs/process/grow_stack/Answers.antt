@@ -1,4 +1,4 @@
-use Rattle.std.proofs.Common.{◌≡◌, ◌∙◌, Bool, true, false, refl, sym, ap}
+use Rattle.std.proofs.Common.{◌≡◌, ◌∙◌, Bool, true, false, ap}
 use Rattle.std.specs.Prelude.{Result, Ok}
 use Rattle.v6_base.specs.declared.entry.PanicKind.{PanicKind}
 use Rattle.unix_core.specs.declared.world.World.{World}

@@ -1,4 +1,4 @@
-use Rattle.std.proofs.Common.{◌≡◌, ◌∙◌, ℕ, true, false, sym, ap, subst}
+use Rattle.std.proofs.Common.{◌≡◌, ◌∙◌, ℕ, sym, ap, subst}
 use Rattle.v6_base.specs.Trace.{Took}
 use Rattle.pick_rules.specs.Logged.{logged}
 use Rattle.u_area.specs.declared.area.UArea.{UArea}

@@ -1,4 +1,4 @@
-use Rattle.std.proofs.Common.{◌≡◌, ◌∷◌, [], subst}
+use Rattle.std.proofs.Common.{subst}
 use Rattle.v6_base.specs.Trace.{Took}
 use Rattle.pick_rules.specs.Logged.{logged}
 use Rattle.abstract_unix.specs.Steps.{signals}

@@ -1,5 +1,4 @@
-use Rattle.std.proofs.Common.{◌∙◌, refl, ap}
-use Rattle.abstract_unix.specs.Outside as outside
+use Rattle.std.proofs.Common.{refl}
 use Rattle.unix_core.proofs.BootKernelLemmas.{kernel_good}
 use Rattle.unix_core.proofs.TypedLemmas.{line_good, typed_good, typed_next, typed_items}
 use Rattle.unix_core.proofs.machine.Machine.typed.Goals as goal
