@@ -14,5 +14,6 @@ returns-clause-form g c = subst IsDisk (sym c.finish.ensures.stored) c.finish.en
 pub returns-clause-written : goal.returns-clause-written
 returns-clause-written g c =
     let swap = c.swap-swap.result.now in
-    let holds = subst (λ l. SwapHolds l _) (sym c.swap-swap.ensures.bytes) c.swap-swap.ensures.holds.in_swap in
+    let kept = c.finish.new.self.kept in
+    let holds = subst (λ l. SwapHolds l kept) (sym c.swap-swap.ensures.bytes) c.swap-swap.ensures.holds.in_swap in
     (swap, subst (SwapHolds swap) c.finish.ensures.kept holds, c.write_disk.ensures.whole, c.write_disk.ensures.front)
