@@ -224,9 +224,9 @@ impl Table {
     /// Puts a byte to a place of core, or of the swap area, where there is such a place, and says whether it is put.
     pub fn deposit(&mut self, swap: bool, at: u32, byte: u8) -> Option<bool> {
         let all = if swap {
-            self.swap().len()
+            self.images.swap().len()
         } else {
-            self.core().len()
+            self.images.core().len()
         };
         if at as usize >= all {
             return None;

@@ -8,6 +8,6 @@ pub invariant_of-self : goal.invariant_of-self
 invariant_of-self c =
     let old = c.args.self.now in
     record {
-      tied = tied_machine old.kinds old.images.kept _ _ _ old.tied c.execute.ensures.kept;
-      plain = plain_machine old.images.kept _ _ _ old.plain c.execute.ensures.kept;
+      tied = tied_machine old.kinds old.images.kept _ _ _ old.tied c.execute-is_next.ensures.kept;
+      plain = plain_machine old.images.kept _ _ _ old.plain c.execute-is_next.ensures.kept;
     }
