@@ -43,6 +43,8 @@ class WithoutCompiler(Program):
     def test_refused(self):
         source = self.put("it.c", b"int main(void) { return 0; }\n")
         for words, wanted in (
+                (("--gcc", source), f"{self.folder}/cc1: no compiler there; tools/c/build-gcc.sh makes it, and --compiler names "
+                                    "its folder"),
                 ((source,), f"{self.folder}/cpp: no compiler there; tools/c/build.sh makes it, and --compiler names its folder"),
                 (("-o", source, source), f"{source}: the source itself, and the program would take its place"),
                 ((self.path("it.o"),), f"{self.path('it.o')}: neither a source in C, NAME.c, nor one in assembly, NAME.s"),
@@ -58,12 +60,13 @@ class WithoutCompiler(Program):
         self.assertEqual(self.call(cc.main, "--compiler", TOP, "-o", self.path("it"), wrong)[0], 1)
 
     def test_another_archive(self):
-        """build.sh builds of the archive alone whose sum it knows."""
-        wrong, folder = self.put("pcc.tar.gz", b"no archive"), self.path("made")
-        done = subprocess.run([os.path.join(TOOLS, "c", "build.sh"), "-a", wrong, folder], capture_output=True, text=True)
-        self.assertNotEqual(done.returncode, 0)
-        self.assertIn("pcc.tar.gz: FAILED", done.stdout)
-        self.assertEqual(os.listdir(self.folder), ["pcc.tar.gz"])
+        """build.sh and build-gcc.sh build of the archive alone whose sum they know."""
+        wrong, folder = self.put("it.tar.gz", b"no archive"), self.path("made")
+        for script in ("build.sh", "build-gcc.sh"):
+            done = subprocess.run([os.path.join(TOOLS, "c", script), "-a", wrong, folder], capture_output=True, text=True)
+            self.assertNotEqual(done.returncode, 0)
+            self.assertIn("it.tar.gz: FAILED", done.stdout)
+            self.assertEqual(os.listdir(self.folder), ["it.tar.gz"])
 
     def test_arguments_and_status(self):
         """main has their number and their addresses, and what it gives is the status."""
