@@ -334,7 +334,7 @@ class Programs(Program):
         image = self.put("image", read(os.path.join(TOP, "examples", "shell", "image")))
         self.assertEqual(self.call(disk_main, "--v6", V6, "put", image, self.path("it"), "/bin"), (0, "", ""))
         for clock in (2, 3):
-            script = self.put("script", f"run 9000\nclock {clock}\ntype it\nrun 400000\n".encode())
+            script = self.put("script", f"run 9000\nclock {clock}\ntype it\nrun 2000000\n".encode())
             self.assertEqual(v6("run", image, "3968", script, *map(self.path, ("term", "log", "final")))[0], 0)
             self.assertEqual(read(self.path("term")), b"# IT\r\n0 1 1\r\n# ")
 
