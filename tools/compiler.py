@@ -70,6 +70,8 @@ def gcc(compiler, source, out):
 class Compiler:
     """A compiler in a folder, pcc or GCC, and words for its preprocessor."""
 
+    parts = {}  # of the library, as a compiler has made them for these words
+
     def __init__(self, folder, words, make=pcc):
         self.folder, self.words, self.make = folder, words, make
 
@@ -89,6 +91,13 @@ class Compiler:
             raise CompileError(f"{path}: float or double: the PDP-11/40 has no floating point")
         return source
 
+    def part(self, path):
+        """The assembly of a file of the library, which is made once."""
+        key = self.make, self.folder, tuple(self.words), path
+        if key not in self.parts:
+            self.parts[key] = self.assembly(path)
+        return self.parts[key]
+
 
 class Program:
     """The sources in assembly that come to a program: [(name, source)]."""
@@ -96,9 +105,8 @@ class Program:
     def __init__(self, compiler):
         self.compiler, self.sources, self.count = compiler, [], 0
 
-    def compiled(self, path):
-        """The assembly of a file in C. The names that no other file may know have a number behind them."""
-        source = self.compiler.assembly(path)
+    def compiled(self, source):
+        """The assembly of a file in C in which the names that no other file may know have a number behind them."""
         own = labels_of(source) - names_of(source)
         self.count += 1
         return NAME.sub(lambda name: f"{name[0]}~{self.count}" if name[0] in own else name[0], source)
@@ -106,12 +114,12 @@ class Program:
     def add(self, name):
         if not name.endswith((".c", ".s")):
             raise CompileError(f"{name}: neither a source in C, NAME.c, nor one in assembly, NAME.s")
-        data = read_bytes(name)
-        self.sources.append((name, self.compiled(name) if name.endswith(".c") else data.decode("utf-8", "replace")))
+        source = read_bytes(name).decode("utf-8", "replace")
+        self.sources.append((name, self.compiled(self.compiler.assembly(name)) if name.endswith(".c") else source))
 
     def whole(self):
         """All that the program needs: its start, its files, their part of the library, and what has room in the bss alone."""
-        found = Library(self.compiled).wanted(self.sources)
+        found = Library(lambda path: self.compiled(self.compiler.part(path))).wanted(self.sources)
         sources, room = found[:1] + self.sources + found[1:], {}
         placed = set().union(*(labels_of(source) for _, source in sources))
         for _, source in sources:
