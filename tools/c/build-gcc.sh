@@ -1,8 +1,8 @@
 #!/bin/sh
 # Builds the second compiler that tools/cc.py can drive: GCC 12.2.0's compiler of C for the PDP-11, of Debian's package
 # `gcc-12-source`, which has its source, with the change of gcc.patch. It needs make, patch, compilers of C and C++, flex, xz,
-# and what the packages libgmp-dev, libmpfr-dev, libmpc-dev and zlib1g-dev have; 1 GB of disk while it works, and some ten
-# minutes of a processor, or with -q some half of that, for a compiler that is slower itself.
+# and what the packages libgmp-dev, libmpfr-dev, libmpc-dev and zlib1g-dev have; 1 GB of disk while it works, and a quarter of
+# an hour of a processor or more, or with -q less, for a compiler that is slower itself.
 #
 #     tools/c/build-gcc.sh [-a ARCHIVE] [-j JOBS] [-q] [FOLDER]
 #
