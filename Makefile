@@ -19,8 +19,8 @@ install:
 	install -m 755 bin/v6 $(root)/lib/v6/bin/v6
 	install -m 644 tools/*.py $(root)/lib/v6/tools
 	install -d $(root)/lib/v6/tools/c/include $(root)/lib/v6/tools/c/lib
-	install -m 755 tools/c/build.sh $(root)/lib/v6/tools/c
-	install -m 644 tools/c/pcc.patch $(root)/lib/v6/tools/c
+	install -m 755 tools/c/build.sh tools/c/build-gcc.sh $(root)/lib/v6/tools/c
+	install -m 644 tools/c/pcc.patch tools/c/gcc.patch $(root)/lib/v6/tools/c
 	install -m 644 tools/c/include/* $(root)/lib/v6/tools/c/include
 	install -m 644 tools/c/lib/* $(root)/lib/v6/tools/c/lib
 	ln -sf ../lib/v6/bin/v6 $(root)/bin/v6

@@ -5,7 +5,7 @@ import os
 import sys
 
 sys.path.insert(0, os.path.dirname(os.path.abspath(__file__)))
-from compiler import HOME, CompileError, Compiler, Program, program_of
+from compiler import HOME, CompileError, Compiler, Program, gcc, pcc, program_of
 from files import guarded, put_out, same_file
 from program import add_version
 
@@ -15,13 +15,14 @@ def compile_all(options):
         if same_file(name, options.out):
             raise CompileError(f"{name}: the source itself, and the program would take its place")
     words = [f"-I{name}" for name in options.folders] + [f"-D{name}" for name in options.defined]
+    compiler = Compiler(options.compiler, words, gcc if options.gcc else pcc)
     if options.assembly:
-        program = Program(Compiler(options.compiler, words))
+        program = Program(compiler)
         for name in options.sources:
             program.add(name)
         put_out(options.out, "".join(f"{source.rstrip()}\n" for _, source in program.sources).encode("latin-1"))
     else:
-        data, _ = program_of(options.sources, options.compiler, words, options.symbols, options.shared)
+        data, _ = program_of(options.sources, compiler, options.symbols, options.shared)
         put_out(options.out, data, 0o755)
 
 
@@ -34,6 +35,7 @@ def main(words):
     parser.add_argument("-s", dest="symbols", action="store_true", help="with a table of symbols")
     parser.add_argument("-I", dest="folders", metavar="FOLDER", action="append", default=[], help="where headers are, too")
     parser.add_argument("-D", dest="defined", metavar="NAME[=TEXT]", action="append", default=[], help="a name of the preprocessor")
+    parser.add_argument("--gcc", action="store_true", help="with GCC, which tools/c/build-gcc.sh makes, in the place of pcc")
     parser.add_argument("--compiler", metavar="FOLDER", default=HOME, help="where tools/c/build.sh has put the compiler")
     add_version(parser)
     return guarded("cc.py", lambda: compile_all(parser.parse_args(words)), CompileError)

@@ -14,7 +14,7 @@ _v6() {
         case $word in -*) words='--disk --from --help --output --script --to -o' ;; esac ;;
     v6-look | look.py) case $word in -*) words='--help --log --symbols --v6 -c' ;; esac ;;
     v6-as | as.py) case $word in -*) words='--disassemble --help -l -n -o -s' ;; esac ;;
-    v6-cc | cc.py) case $word in -*) words='--compiler --help -D -I -S -n -o -s' ;; esac ;;
+    v6-cc | cc.py) case $word in -*) words='--compiler --gcc --help -D -I -S -n -o -s' ;; esac ;;
     v6-run | run.py) case $word in -*) words='--core --disk --help --log --term --v6' ;; esac ;;
     v6-trace | trace.py) case $word in -*) words='--from --help --process --to --v6' ;; esac ;;
     v6-try | try.py) case $word in -*) words='--core --disk --file --final --help --slots --v6 --with -t' ;; esac ;;

@@ -11,12 +11,16 @@ from common import TOOLS, TOP, V6, Case, read, tool, v6
 cc, disk_main = tool("cc"), tool("disk").main
 EXAMPLE = os.path.join(TOP, "examples", "c")
 HERE = os.path.isfile(os.path.join(cc.HOME, "ccom"))
+WITH_GCC = os.path.isfile(os.path.join(cc.HOME, "cc1"))
+wants_gcc = unittest.skipUnless(WITH_GCC, f"no GCC in {cc.HOME}: tools/c/build-gcc.sh makes it")
 wants_compiler = unittest.skipUnless(HERE, f"no compiler of C in {cc.HOME}: tools/c/build.sh makes it")
 MAIN = "\t.globl\t_main\n_main:\n"
 WORD = 0xFFFF
 
 
 class Program(Case):
+    options = ()
+
     def run_it(self, *words, typed=b""):
         """The status of a program under try.py, what it prints, and what try.py says."""
         done = subprocess.run([sys.executable, os.path.join(TOOLS, "try.py"), "--v6", V6, *words], input=typed,
@@ -25,7 +29,8 @@ class Program(Case):
 
     def made(self, source, name="it.c", *options):
         """The program of a source."""
-        self.assertEqual(self.call(cc.main, *options, "-o", self.path("it"), self.put(name, source.encode())), (0, "", ""))
+        words = (*self.options, *options, "-o", self.path("it"), self.put(name, source.encode()))
+        self.assertEqual(self.call(cc.main, *words), (0, "", ""))
         return self.path("it")
 
 
@@ -38,6 +43,8 @@ class WithoutCompiler(Program):
     def test_refused(self):
         source = self.put("it.c", b"int main(void) { return 0; }\n")
         for words, wanted in (
+                (("--gcc", source), f"{self.folder}/cc1: no compiler there; tools/c/build-gcc.sh makes it, and --compiler names "
+                                    "its folder"),
                 ((source,), f"{self.folder}/cpp: no compiler there; tools/c/build.sh makes it, and --compiler names its folder"),
                 (("-o", source, source), f"{source}: the source itself, and the program would take its place"),
                 ((self.path("it.o"),), f"{self.path('it.o')}: neither a source in C, NAME.c, nor one in assembly, NAME.s"),
@@ -53,12 +60,13 @@ class WithoutCompiler(Program):
         self.assertEqual(self.call(cc.main, "--compiler", TOP, "-o", self.path("it"), wrong)[0], 1)
 
     def test_another_archive(self):
-        """build.sh builds of the archive alone whose sum it knows."""
-        wrong, folder = self.put("pcc.tar.gz", b"no archive"), self.path("made")
-        done = subprocess.run([os.path.join(TOOLS, "c", "build.sh"), "-a", wrong, folder], capture_output=True, text=True)
-        self.assertNotEqual(done.returncode, 0)
-        self.assertIn("pcc.tar.gz: FAILED", done.stdout)
-        self.assertEqual(os.listdir(self.folder), ["pcc.tar.gz"])
+        """build.sh and build-gcc.sh build of the archive alone whose sum they know."""
+        wrong, folder = self.put("it.tar.gz", b"no archive"), self.path("made")
+        for script in ("build.sh", "build-gcc.sh"):
+            done = subprocess.run([os.path.join(TOOLS, "c", script), "-a", wrong, folder], capture_output=True, text=True)
+            self.assertNotEqual(done.returncode, 0)
+            self.assertIn("it.tar.gz: FAILED", done.stdout)
+            self.assertEqual(os.listdir(self.folder), ["it.tar.gz"])
 
     def test_arguments_and_status(self):
         """main has their number and their addresses, and what it gives is the status."""
@@ -187,8 +195,9 @@ class Examples(Program):
             self.assertEqual(read(self.path(name)), read(os.path.join(EXAMPLE, "bin", name)), name)
 
 
-@wants_compiler
-class Compiled(Program):
+class Programs(Program):
+    """Programs that either compiler makes, and what they print."""
+
     def prints(self, source, wanted, *words, typed=b""):
         self.assertEqual(self.run_it(self.made(source), *words, typed=typed), (0, wanted, ""))
 
@@ -201,6 +210,22 @@ class Compiled(Program):
         """Expressions at random come to what the rules of C say."""
         for seed in range(3):
             self.prints(*expressions.program(random.Random(seed), 40, 3))
+
+    def test_longs_compared(self):
+        """The order of longs, and of longs and 0, by each operator, also where only their low words differ, by the highest bit."""
+        values = [0, 1, 32767, 32768, 65535, 65536, 98304, 2147483647, -1, -2, -32768, -32769, -65536, -98304, -2147483647]
+        orders = (lambda a, b: a < b), (lambda a, b: a <= b), (lambda a, b: a > b), (lambda a, b: a >= b)
+        wanted = "".join("".join(str(sum(2**n for n, order in enumerate(orders) if order(a, b))) + ("" if b else "z")
+                                 for b in values) + "\n" for a in values)
+        self.prints(f"#include <stdio.h>\nlong values[] = {{ {', '.join(f'{value}L' for value in values)} }};\n"
+                    "int main(void) { int i, j, n;\n"
+                    f"for (i = 0; i < {len(values)}; i++) {{ for (j = 0; j < {len(values)}; j++) {{\n"
+                    "long a = values[i], b = values[j]; n = 0;\n"
+                    "if (a < b) n += 1; if (a <= b) n += 2; if (a > b) n += 4; if (a >= b) n += 8; printf(\"%d\", n);\n"
+                    "if (b == 0) { n -= (a < 0) + 2 * (a <= 0) + 4 * (a > 0) + 8 * (a >= 0);\n"
+                    "if (a < 0) n++; if (a <= 0) n += 2; if (a > 0) n += 4; if (a >= 0) n += 8;\n"
+                    "if (a < 0) n--; if (!(a > 0)) n -= 2; if (a > 0) n -= 4; if (!(a < 0)) n -= 8;\n"
+                    "putchar(n ? 'w' : 'z'); } }\nputchar(10); } return 0; }\n", wanted)
 
     def test_statements(self):
         self.prints(read(os.path.join(TOP, "tools", "tests", "statements.c")).decode(),
@@ -249,7 +274,7 @@ class Compiled(Program):
                   'file = fopen("new", "a"); fputs("end", file); fclose(file);\n'
                   'file = fopen("new", "r"); c = getc(file); ungetc(c, file); while (fgets(line, 20, file) && line[0] != 46)\n'
                   'printf("%s", line); putchar(10); fclose(file);\n'
-                  'struct stat s; printf("%d %u %d\\n", stat("new", &s), s.size_low, fopen("none", "r") == NULL);\n'
+                  'struct stat s; printf("%d ", stat("new", &s)); printf("%u %d\\n", s.size_low, fopen("none", "r") == NULL);\n'
                   'while ((c = getchar()) != EOF) putchar(c + 1);', "first\nsecond.............\n0 616 1\nbc", typed=b"ab")
 
     def test_calls(self):
@@ -309,7 +334,7 @@ class Compiled(Program):
         image = self.put("image", read(os.path.join(TOP, "examples", "shell", "image")))
         self.assertEqual(self.call(disk_main, "--v6", V6, "put", image, self.path("it"), "/bin"), (0, "", ""))
         for clock in (2, 3):
-            script = self.put("script", f"run 9000\nclock {clock}\ntype it\nrun 400000\n".encode())
+            script = self.put("script", f"run 9000\nclock {clock}\ntype it\nrun 2000000\n".encode())
             self.assertEqual(v6("run", image, "3968", script, *map(self.path, ("term", "log", "final")))[0], 0)
             self.assertEqual(read(self.path("term")), b"# IT\r\n0 1 1\r\n# ")
 
@@ -323,6 +348,9 @@ class Compiled(Program):
                     "sizeof(int32_t), sizeof(size_t), sizeof(struct stat), offsetof(struct two, l), UINT_MAX);\n"
                     'printf("%d\\n", true + (bool)0x100 + !false); return 0; }\n', "1 1 2 4 2 36 2 65535\n3\n")
 
+
+@wants_compiler
+class Compiled(Programs):
     def test_options(self):
         """A name of the preprocessor, a folder of headers, a table of symbols, and assembly in the place of a program."""
         os.mkdir(self.path("more"))
@@ -391,6 +419,32 @@ class Compiled(Program):
         script = self.put("script", b"run 9000\ntype it\nrun 20000\ntype x\nrun 20000\n")
         self.assertEqual(v6("run", image, "3968", script, *map(self.path, ("term", "log", "final")))[0], 0)
         self.assertEqual(read(self.path("term")), b"# IT\r\n? X\r\nX\r\n# ")
+
+
+@wants_gcc
+class CompiledByGcc(Programs):
+    options = ("--gcc",)
+
+    def test_examples(self):
+        """The programs of examples/c."""
+        for name, typed, wanted in (("wc", b"a b\n" * 500, "    500    1000    2000\n"), ("sort", b"b\na\nc\n", "a\nb\nc\n"),
+                                    ("forth", b": to5 6 1 do i . loop ; to5\n7 -2 / .\n", "1 2 3 4 5  ok\n-3  ok\n")):
+            source = read(os.path.join(EXAMPLE, "src", name + ".c")).decode()
+            self.assertEqual(self.run_it(self.made(source), typed=typed)[:2], (0, wanted), name)
+        grep = self.made(read(os.path.join(EXAMPLE, "src", "grep.c")).decode())
+        self.assertEqual(self.run_it("--file", os.path.join(EXAMPLE, "text"), grep, "-n", "^the.*[dx]$", "text")[0], 0)
+
+    def test_wrong(self):
+        for source, why in (("int main(void) { return x; }\n", "it.c:1:25: error: 'x' undeclared"),
+                            ("int none(void); int main(void) { return none(); }\n", "none: neither in the program nor in the library\n"),
+                            ("double d; int main(void) { return d * 2; }\n",
+                             "it.c: float or double: the PDP-11/40 has no floating point\n")):
+            status, out, said = self.call(cc.main, "--gcc", "-o", self.path("it"), self.put("it.c", source.encode()))
+            self.assertEqual((status, out, os.path.exists(self.path("it"))), (1, "", False))
+            self.assertIn(why, said.replace(self.folder + "/", "").replace("\u2018", "'").replace("\u2019", "'"))
+
+
+del Programs  # is no class of tests by itself
 
 
 if __name__ == "__main__":

@@ -16,10 +16,10 @@ ENVIRONMENT = {**{key: value for key, value in os.environ.items() if key != "V6"
 class Words(Case):
     def test_help_and_version(self):
         program = hashlib.sha256(read(os.path.join(TOP, "bin", "v6"))).hexdigest()[:12]
-        for name in ("as", "cc", "console", "disk", "look", "row", "run", "trace", "try"):
+        for name in ("as", "cc", "console", "disk", "log", "look", "row", "run", "trace", "try"):
             self.assertEqual(self.call(tool(name).main, "--version"),
                              (0, f"{name}.py of the repository whose bin/v6 is {program}\n", ""))
-        for name in ("as", "cc", "console", "disk", "look", "manpages", "row", "run", "trace", "try"):
+        for name in ("as", "cc", "console", "disk", "log", "look", "manpages", "row", "run", "trace", "try"):
             status, said, _ = self.call(tool(name).main, "--help")
             self.assertEqual((status, said.split()[:2]), (0, ["usage:", name + ".py"]))
         self.assertFalse(os.path.exists("--help"))
@@ -40,7 +40,7 @@ class Install(Case):
         self.make("install", "PREFIX=/usr")
         found = self.files()
         for name in ("usr/bin/v6", "usr/bin/v6-console", "usr/bin/v6-try", "usr/lib/v6/tools/volume.py",
-                     "usr/share/man/man1/v6.1",
+                     "usr/lib/v6/tools/c/build-gcc.sh", "usr/share/man/man1/v6.1",
                      "usr/share/man/man5/v6log.5", "usr/share/bash-completion/completions/v6-disk"):
             self.assertIn(name, found)
         self.assertEqual(read(self.path("usr/bin/v6")), read(os.path.join(TOP, "bin", "v6")))
@@ -74,7 +74,8 @@ class Install(Case):
     @unittest.skipUnless(shutil.which("bash"), "bash isn't there")
     def test_completion(self):
         for words, wanted in (("v6 ch", "check"), ("v6-disk re", "repair"), ("v6-console x --sc", "--script"),
-                              ("v6-cc --co", "--compiler"), ("v6-trace --pr", "--process"), ("v6-look x --sy", "--symbols")):
+                              ("v6-cc --co", "--compiler"), ("v6-cc --g", "--gcc"),
+                              ("v6-trace --pr", "--process"), ("v6-look x --sy", "--symbols")):
             *_, last = words.split()
             script = (f"source {TOP}/tools/completion.bash; COMP_WORDS=({words}); COMP_CWORD={len(words.split()) - 1}; _v6; "
                       "echo ${COMPREPLY[@]}")

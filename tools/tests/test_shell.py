@@ -176,6 +176,15 @@ class Shell(Case):
             told = file.read().split("```\n")[1]
         self.assertEqual(read(os.path.join(SHELL, "term")), told.replace("\n", "\r\n").encode())
 
+    def test_the_first_listing(self):
+        """What the README of the repository says that the first command prints is the beginning of it, but for some lines."""
+        told = read(os.path.join(TOP, "README.md")).decode().split("```\n")[3]
+        first, more = told.split(" " * 25 + "(and seventeen lines more)\n")
+        lines = read(os.path.join(SHELL, "term")).decode().split("\r\n")
+        start, end = first.split("\n")[:-1], more.split("\n")[:-1]
+        self.assertEqual(lines[: len(start)], start)
+        self.assertEqual(lines[len(start) + 17 : len(start) + 17 + len(end)], end)
+
     def test_a_first_evening(self):
         """The program and the dialogue of docs/tools/README.md."""
         with open(os.path.join(TOP, "docs", "tools", "README.md"), encoding="ascii") as file:
