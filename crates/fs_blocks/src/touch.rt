@@ -63,6 +63,9 @@ impl Volume {
             return Err(Errno::EFBIG);
         }
         see_addresses(&node.addr);
+        if !is_large(node.mode) && bn < 8 && node.addr[bn as usize] != 0 {
+            return Ok(node.addr[bn as usize]);
+        }
         let names = path(is_large(node.mode), bn as u16);
         let mut block = 0;
         for name in names.as_slice() {

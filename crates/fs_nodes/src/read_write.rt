@@ -14,7 +14,7 @@ ghost use Rattle.fs_nodes.specs.Moves.{file_of, Ends, Moves};
 
 use crate::nodes::Nodes;
 use crate::pieces::{Moved, read_pieces, read_pieces_kernel, write_pieces, write_pieces_kernel};
-use crate::table::{carry_inode, inode_of};
+use crate::table::{carry_inode, inode_of, place};
 use fs_blocks::Volume;
 use fs_codec::{DiskNode, is_device};
 use v6_base::Space;
@@ -162,10 +162,10 @@ impl Nodes {
         ensures references { self.new.references ≡ self.old.references }
         ensures rest { SameRest self.old.blocks self.new.blocks }
     {
-        let mut node = inode_of(&self.volume, &self.table, ino);
-        let moved = read_file(&mut self.volume, &mut node, offset, space, at, count, time);
-        carry_inode(&self.volume, &mut self.table, ino, &node);
-        moved
+        let k = place(&self.table, ino);
+        let entry = &mut self.table[k];
+        entry.is_changed = true;
+        read_file(&mut self.volume, &mut entry.node, offset, space, at, count, time)
     }
 
     /// Reads bytes of a file into the kernel's own memory, as many as it has room for, of which there are 65,535 at most, and
@@ -209,10 +209,10 @@ impl Nodes {
         ensures references { self.new.references ≡ self.old.references }
         ensures rest { SameRest self.old.blocks self.new.blocks }
     {
-        let mut node = inode_of(&self.volume, &self.table, ino);
-        let moved = write_file(&mut self.volume, &mut node, offset, space, at, count, time);
-        carry_inode(&self.volume, &mut self.table, ino, &node);
-        moved
+        let k = place(&self.table, ino);
+        let entry = &mut self.table[k];
+        entry.is_changed = true;
+        write_file(&mut self.volume, &mut entry.node, offset, space, at, count, time)
     }
 
     /// Writes bytes of the kernel's own memory, of which there are 65,535 at most, into a file, and sets both times, where
