@@ -93,6 +93,9 @@ impl<W: Write + Drop> Write for BufferedWriter<W> {
                 return Ok(1);
             }
         }
+        if self.buffer.try_extend_from_slice(piece).is_ok() {
+            return Ok(piece.len());
+        }
         self.write_piece(piece)
     }
 
