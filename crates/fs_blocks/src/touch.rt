@@ -15,7 +15,7 @@ ghost use Rattle.fs_blocks.specs.Touch.{TakesPath};
 use crate::touch_gains::gain;
 use crate::touch_reads::{block_of, see_addresses};
 use crate::volume::Volume;
-use bmap_path::{BlockName, path};
+use bmap_path::{BlockName, SMALL_BLOCKS, path};
 use fs_codec::{DiskNode, is_large};
 use v6_base::Errno;
 
@@ -63,10 +63,11 @@ impl Volume {
             return Err(Errno::EFBIG);
         }
         see_addresses(&node.addr);
-        if !is_large(node.mode) && bn < 8 && node.addr[bn as usize] != 0 {
+        let large = is_large(node.mode);
+        if !large && bn < u32::from(SMALL_BLOCKS) && node.addr[bn as usize] != 0 {
             return Ok(node.addr[bn as usize]);
         }
-        let names = path(is_large(node.mode), bn as u16);
+        let names = path(large, bn as u16);
         let mut block = 0;
         for name in names.as_slice() {
             block = take(self, node, *name)?;
