@@ -38,6 +38,26 @@ fn take(volume: &mut Volume, node: &mut DiskNode, name: BlockName) -> Result<u16
     taken
 }
 
+/// The address of block `bn` of a file, where what the file lacks on the way to it is taken first.
+#[inline(never)]
+fn take_path(volume: &mut Volume, node: &mut DiskNode, bn: u16) -> Result<u16, Errno>
+    requires file { is_device node.old.mode ≡ false }
+    requires apart { IsApart (disk volume.old.state) (addresses (disk volume.old.state) (fields_of node.old)) }
+    requires low { bn ≤ 32767 }
+    ensures takes { TakesPath volume.old.state (fields_of node.old) bn volume.new.state (fields_of node.new) (is_ok result) }
+    ensures answer { MatchResult result
+        (λ b. (b ≡ address (disk volume.new.state) (fields_of node.new) (Data bn)) × (b ≢ 0))
+        (λ e. e ≡ Errno.ENOSPC) }
+{
+    see_addresses(&node.addr);
+    let names = path(is_large(node.mode), bn);
+    let mut block = 0;
+    for name in names.as_slice() {
+        block = take(volume, node, *name)?;
+    }
+    Ok(block)
+}
+
 impl Volume {
     /// The address of block `bn` of a file that is no device: the file's bytes from `512 * bn` on. What the file
     /// lacks on the way to it is taken first, a block that is to have an address before the block at that address. A
@@ -63,15 +83,12 @@ impl Volume {
             return Err(Errno::EFBIG);
         }
         see_addresses(&node.addr);
-        let large = is_large(node.mode);
-        if !large && bn < u32::from(SMALL_BLOCKS) && node.addr[bn as usize] != 0 {
-            return Ok(node.addr[bn as usize]);
+        if !is_large(node.mode) && bn < u32::from(SMALL_BLOCKS) {
+            let block = node.addr[bn as usize];
+            if block != 0 {
+                return Ok(block);
+            }
         }
-        let names = path(large, bn as u16);
-        let mut block = 0;
-        for name in names.as_slice() {
-            block = take(self, node, *name)?;
-        }
-        Ok(block)
+        take_path(self, node, bn as u16)
     }
 }
