@@ -1,6 +1,7 @@
 //! Calls on files: the parts that each is handed are lent to it, and put back. What it shows goes to the kernel's tape.
-ghost use Rattle.std.specs.Prelude.{◌≡◌, true};
+ghost use Rattle.std.specs.Prelude.{◌≡◌, ℕ, List, true, false};
 ghost use Rattle.fs_laws.specs.Rest.{SameRest};
+ghost use Rattle.sys_files.specs.Handed.{Handed};
 ghost use Rattle.sys_files.specs.Descriptors.{close_all};
 ghost use Rattle.sys_files.specs.Moving.{resumes};
 ghost use Rattle.sys_files.specs.Core.{core_file, is_written};
@@ -50,9 +51,30 @@ pub(crate) fn do_on_files(world: &mut World, s: Slot, call: FileCall, args: [u16
         )
     };
     see_numbers(&u.files);
-    world.procs.images.set_area(s, &u);
+    if changes_area(call, answer) {
+        world.procs.images.set_area(s, &u);
+    }
     world.procs.rows.set_row(s, row);
     answer
+}
+
+/// Whether a call on files may have changed the u area of its process: it has where it sleeps, and it may have where it opens or
+/// closes files, or enters a directory.
+#[inline]
+#[tactic(auto, using(crate::proofs::StillAreas::row_is_still))]
+fn changes_area(call: FileCall, answer: Answer) -> bool
+    ensures { result ≡ false → (h : Handed) (slot : ℕ) (args : List ℕ) (now : ℕ) → (file_row call h slot args now).answer ≡ answer
+        → (file_row call h slot args now).state.u ≡ h.u }
+{
+    match call {
+        FileCall::Open
+        | FileCall::Close
+        | FileCall::Creat
+        | FileCall::Chdir
+        | FileCall::Dup
+        | FileCall::Pipe => true,
+        _ => matches!(answer, Answer::Sleep { .. }),
+    }
 }
 
 /// Goes on with a call on files: a read of the console, or a read or a write of a pipe.
