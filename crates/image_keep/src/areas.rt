@@ -46,6 +46,31 @@ pub(crate) fn put_state(areas: &mut [UArea], s: usize, r: &[u16; 8], cc: u8)
     u.cc = cc;
 }
 
+/// Puts R0 and R1 into a slot's u area.
+#[inline(always)]
+pub(crate) fn put_results(areas: &mut [UArea], s: usize, r0: u16, r1: u16)
+    requires { s < length areas.old }
+    ensures areas { areas.new ≡ slice_set areas.old s (results_area r0 r1 (area_at areas.old s)) }
+    ensures long { length areas.new ≡ length areas.old }
+{
+    let u = &mut areas[s];
+    u.r[0] = r0;
+    u.r[1] = r1;
+}
+
+/// Puts PC and condition codes into a slot's u area.
+#[inline(always)]
+pub(crate) fn put_pc(areas: &mut [UArea], s: usize, pc: u16, cc: u8)
+    requires slot { s < length areas.old }
+    requires codes { cc < 16 }
+    ensures areas { areas.new ≡ slice_set areas.old s (pc_area pc cc (area_at areas.old s)) }
+    ensures long { length areas.new ≡ length areas.old }
+{
+    let u = &mut areas[s];
+    u.r[7] = pc;
+    u.cc = cc;
+}
+
 /// Gives a slot's image the u area of another one.
 pub(crate) fn copy_area(areas: &mut [UArea], from: usize, to: usize)
     requires from { from < length areas.old }

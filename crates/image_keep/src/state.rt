@@ -4,7 +4,7 @@ ghost use Rattle.v6_base.specs.Access.{load_word};
 ghost use Rattle.image_keep.specs.Kept.{HasImage, IsKept, area_of, image_of, with_area};
 ghost use Rattle.image_keep.specs.Running.{IsFixed, with_state, state_bytes};
 
-use crate::areas::{area_ref, put_state};
+use crate::areas::{area_ref, put_pc, put_state};
 use crate::images::Images;
 use crate::memory::see_bytes;
 use crate::running::Fixed;
@@ -15,6 +15,22 @@ use v6_base::{Slot, Trap};
 
 /// The bytes of the registers and of the processor status word.
 pub(crate) const STATE_SIZE: usize = 18;
+
+/// Where PC stands, the last of the registers, in front of the processor status word.
+const PC: usize = PS - 2;
+
+/// The bytes of two words.
+#[inline(always)]
+pub(crate) fn two_words(first: u16, second: u16) -> [u8; 4]
+    ensures { result ≡ bytes_of (first ∷ second ∷ []) }
+{
+    [
+        (first % 256) as u8,
+        (first / 256) as u8,
+        (second % 256) as u8,
+        (second / 256) as u8,
+    ]
+}
 
 /// The bytes with which a u area begins.
 #[inline(always)]
@@ -98,6 +114,20 @@ impl Images {
         ensures { result.now ≡ area_of self.now.kept fixed.now.slot }
     {
         area_ref(&self.areas, fixed.slot as usize)
+    }
+
+    /// Puts PC and condition codes into the u area of the process of which this is fixed.
+    #[inline(always)]
+    pub fn set_pc_at(&mut self, fixed: &Fixed, pc: u16, cc: u8)
+        requires fixed { IsFixed self.old.kept fixed.now }
+        requires codes { cc < 16 }
+        ensures kept { self.new.kept ≡ with_area self.old.kept fixed.now.slot (pc_area pc cc (area_of self.old.kept fixed.now.slot)) }
+        ensures fixed { IsFixed self.new.kept fixed.now }
+    {
+        self.memory.see_bytes();
+        let at = fixed.starts.image - AREA_SIZE + PC;
+        self.memory.put(at, &two_words(pc, UMODE + u16::from(cc)));
+        put_pc(&mut self.areas, fixed.slot as usize, pc, cc);
     }
 
     /// Puts registers and condition codes into the u area of the process of which this is fixed.

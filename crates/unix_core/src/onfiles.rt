@@ -6,6 +6,7 @@ ghost use Rattle.sys_files.specs.Descriptors.{close_all};
 ghost use Rattle.sys_files.specs.Moving.{resumes};
 ghost use Rattle.sys_files.specs.Core.{core_file, is_written};
 ghost use Rattle.image_keep.specs.Kept.{area_of};
+ghost use Rattle.image_keep.specs.Running.{IsFixed};
 ghost use Rattle.abstract_unix.specs.Unix.{process_of};
 ghost use Rattle.abstract_unix.specs.Calls.{handed_of, with_handed, file_row, is_on_files};
 ghost use Rattle.abstract_unix.specs.Turn.{is_user};
@@ -14,30 +15,38 @@ ghost use Rattle.unix_core.specs.Parts.{unix_of, board_in, IsReady, IsReadyToSho
 use crate::files::{see_count, see_nodes, see_numbers, see_table};
 use crate::world::World;
 use abstract_unix::{FileCall, do_file_call};
+use image_keep::Fixed;
 use sys_files::{close_all, resume_file, write_core};
 use v6_base::{Answer, Slot};
 
 /// Does a call on files by its row.
-pub(crate) fn do_on_files(world: &mut World, s: Slot, call: FileCall, args: [u16; 4]) -> Answer
-    requires ready { IsReady world.old s }
-    requires user { is_user (process_of (unix_of world.old) s) ≡ true }
+pub(crate) fn do_on_files(
+    world: &mut World,
+    fixed: &Fixed,
+    call: FileCall,
+    args: [u16; 4],
+) -> Answer
+    requires fixed { IsFixed world.old.procs.images.kept fixed.now }
+    requires ready { IsReady world.old fixed.now.slot }
+    requires user { is_user (process_of (unix_of world.old) fixed.now.slot) ≡ true }
     ensures answer { result ≡ (file_row call
-        (handed_of (unix_of world.old) (process_of (unix_of world.old) s)) s args world.old.procs.table.now).answer }
-    ensures unix { unix_of world.new ≡ with_handed (unix_of world.old) s (file_row call
-        (handed_of (unix_of world.old) (process_of (unix_of world.old) s)) s args world.old.procs.table.now).state }
-    ensures shown { IsReadyToShow world.old world.new s (file_row call
-        (handed_of (unix_of world.old) (process_of (unix_of world.old) s)) s args world.old.procs.table.now).items }
+        (handed_of (unix_of world.old) (process_of (unix_of world.old) fixed.now.slot)) fixed.now.slot args world.old.procs.table.now).answer }
+    ensures unix { unix_of world.new ≡ with_handed (unix_of world.old) fixed.now.slot (file_row call
+        (handed_of (unix_of world.old) (process_of (unix_of world.old) fixed.now.slot)) fixed.now.slot args world.old.procs.table.now).state }
+    ensures shown { IsReadyToShow world.old world.new fixed.now.slot (file_row call
+        (handed_of (unix_of world.old) (process_of (unix_of world.old) fixed.now.slot)) fixed.now.slot args world.old.procs.table.now).items }
     ensures rest { SameRest world.old.files.tree.nodes.blocks world.new.files.tree.nodes.blocks }
 {
     see_count(&args);
     see_nodes(&world.files.tree.nodes);
     see_table(&world.files.table);
     world.tape.clear();
+    let s = fixed.slot;
     let now = world.procs.table.now;
     let mut u = world.procs.images.area(s);
     let mut row = *world.procs.rows.row(s);
     let answer = {
-        let mut space = world.procs.images.space(s);
+        let mut space = world.procs.images.space_at(fixed);
         do_file_call(
             call,
             &mut world.files,
