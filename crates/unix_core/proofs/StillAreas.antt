@@ -1,6 +1,6 @@
 -- A call on files that doesn't sleep leaves the u area of its process as it was, where it opens and closes no file and enters no
 -- directory.
-use Rattle.std.proofs.Common.{◌≡◌, ◌==◌, ◌%◌, ℕ, Bool, true, false, not, cond, nat_lt, List, [], ◌∷◌, length, is_some, Option, Some, None, Result, Ok, Err, if◌then◌else◌, slice_index, refl, sym, subst}
+use Rattle.std.proofs.Common.{◌≡◌, ◌==◌, ◌%◌, ℕ, Bool, true, false, not, cond, nat_lt, List, [], ◌∷◌, length, is_some, Option, Some, None, Result, Ok, Err, if◌then◌else◌, slice_index, refl, sym, ap, ◌∙◌, subst}
 use Rattle.std.specs.Prelude.{⊤}
 use Rattle.std.proofs.lemmas.Bool.{false≢true}
 use Rattle.v6_base.specs.Image.{Image}
@@ -27,6 +27,8 @@ use Rattle.tty_line.specs.Output.{after_shown}
 use Rattle.tty_line.specs.declared.line.Took.{Took}
 use Rattle.tty_line.specs.declared.line.Took.TheVariants.{Done, Wait, Fault}
 use Rattle.sig_core.specs.Signals.{due}
+use Rattle.image_keep.specs.Kept.{Kept, area_of, with_area}
+use Rattle.image_keep.proofs.Frames.{area_back}
 use Rattle.sys_files.specs.Handed.{Handed, r0, node_at, file_of, is_console, is_null, with_inodes}
 use Rattle.sys_files.specs.Did.{Did, fails, returns, check, must, need, unless_due, until_end, then_named, finds, by_made, makes}
 use Rattle.sys_files.specs.Descriptors.{open_entry}
@@ -243,3 +245,7 @@ row_is_still call answer is awake h slot args now same =
     by (Ret x y) is same = same
     by (Fail e) is same = same
     by (Sleep pri chan) is same = absurd (false≢true (sym is))
+
+-- A u area that is what it was need not be put back.
+pub still_put : (k : Kept) (s : ℕ) (u : UArea) → u ≡ area_of k s → k ≡ with_area k s u
+still_put k s u is = sym (ap (with_area k s) is ∙ area_back k s)

@@ -5,7 +5,7 @@ ghost use Rattle.sys_files.specs.Handed.{Handed};
 ghost use Rattle.sys_files.specs.Descriptors.{close_all};
 ghost use Rattle.sys_files.specs.Moving.{resumes};
 ghost use Rattle.sys_files.specs.Core.{core_file, is_written};
-ghost use Rattle.image_keep.specs.Kept.{area_of};
+ghost use Rattle.image_keep.specs.Kept.{HasImage, HasSizes, area_of, image_of, with_area};
 ghost use Rattle.image_keep.specs.Running.{IsFixed};
 ghost use Rattle.abstract_unix.specs.Unix.{process_of};
 ghost use Rattle.abstract_unix.specs.Calls.{handed_of, with_handed, file_row, is_on_files};
@@ -15,8 +15,9 @@ ghost use Rattle.unix_core.specs.Parts.{unix_of, board_in, IsReady, IsReadyToSho
 use crate::files::{see_count, see_nodes, see_numbers, see_table};
 use crate::world::World;
 use abstract_unix::{FileCall, do_file_call};
-use image_keep::Fixed;
+use image_keep::{Fixed, Images};
 use sys_files::{close_all, resume_file, write_core};
+use u_area::UArea;
 use v6_base::{Answer, Slot};
 
 /// Does a call on files by its row.
@@ -60,9 +61,7 @@ pub(crate) fn do_on_files(
         )
     };
     see_numbers(&u.files);
-    if changes_area(call, answer) {
-        world.procs.images.set_area(s, &u);
-    }
+    put_back(&mut world.procs.images, s, &u, changes_area(call, answer));
     world.procs.rows.set_row(s, row);
     answer
 }
@@ -83,6 +82,20 @@ fn changes_area(call: FileCall, answer: Answer) -> bool
         | FileCall::Dup
         | FileCall::Pipe => true,
         _ => matches!(answer, Answer::Sleep { .. }),
+    }
+}
+
+/// Puts the u area of a process that has made a call back, where it may have changed.
+#[inline(always)]
+#[tactic(auto, using(crate::proofs::StillAreas::still_put))]
+fn put_back(images: &mut Images, s: Slot, u: &UArea, changed: bool)
+    requires image { HasImage images.old.kept s }
+    requires sizes { HasSizes u.now (image_of images.old.kept s) }
+    requires still { changed ≡ false → u.now ≡ area_of images.old.kept s }
+    ensures { images.new.kept ≡ with_area images.old.kept s u.now }
+{
+    if changed {
+        images.set_area(s, u);
     }
 }
 
