@@ -47,6 +47,7 @@ pub mod RunsRead
 pub mod Lent
 pub mod Vacant
 pub mod Registers
+pub mod RegisterWords
 pub mod SharedFacts
 pub mod Depositing
 pub mod Deposited

@@ -1,5 +1,5 @@
 -- What stays fixed of a process while it executes instructions, and the registers and condition codes at the front of its u area.
-use Rattle.std.specs.Prelude.{ℕ, ◌+◌, ◌%◌, List, [], ◌∷◌, ◌++◌}
+use Rattle.std.specs.Prelude.{ℕ, ◌+◌, ◌%◌, List, [], ◌∷◌, ◌++◌, slice_set}
 use Rattle.std.proofs.Math.Nat.{mod-lt}
 use Rattle.std.proofs.Common.{lit<}
 use Rattle.fs_codec.specs.Bytes.{bytes_of}
@@ -17,6 +17,13 @@ IsFixed k f = AreStarts k f.slot f.starts
 -- a u area with other registers and condition codes
 abbrev pub with_state : UArea → List ℕ → ℕ → UArea
 with_state u r cc = record u { r = r; cc = cc % 16; codes = mod-lt cc (lit< tt) }
+
+-- a u area with other R0 and R1, and one with another PC and other condition codes
+abbrev pub with_results : UArea → ℕ → ℕ → UArea
+with_results u r0 r1 = record u { r = slice_set (slice_set u.r 0 r0) 1 r1 }
+
+abbrev pub with_pc : UArea → ℕ → ℕ → UArea
+with_pc u pc cc = with_state u (slice_set u.r 7 pc) cc
 
 -- what an instruction of a process works on, and what is kept of the process with what that has become
 abbrev pub machine_in : Kept → ℕ → Machine

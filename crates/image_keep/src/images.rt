@@ -5,7 +5,7 @@ ghost use Rattle.image_keep.specs.Growth.{most_clicks};
 ghost use Rattle.image_keep.specs.Area.{no_area};
 ghost use Rattle.image_keep.specs.Memory.{no_row};
 ghost use Rattle.image_keep.specs.Places.{swap_fit, with_grave_at};
-ghost use Rattle.image_keep.specs.Running.{with_state};
+ghost use Rattle.image_keep.specs.Running.{with_results, with_state};
 ghost use Rattle.u_area.specs.Area.{IsSized};
 
 use crate::areas::{area_at, put_area, put_results, put_state};
@@ -164,7 +164,7 @@ impl Images {
     #[inline(always)]
     pub fn set_results(&mut self, s: Slot, r0: u16, r1: u16)
         requires { HasImage self.old.kept s }
-        ensures { self.new.kept ≡ with_area self.old.kept s (results_area r0 r1 (area_of self.old.kept s)) }
+        ensures { self.new.kept ≡ with_area self.old.kept s (with_results (area_of self.old.kept s) r0 r1) }
     {
         self.memory.see_bytes();
         let row = row_of(&self.rows, s as usize);

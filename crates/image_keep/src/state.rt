@@ -1,8 +1,9 @@
 //! The process that executes instructions: its registers, at the front of its u area.
-ghost use Rattle.std.specs.Prelude.{◌≡◌, ◌<◌, ◌↔◌, IsTrue};
+ghost use Rattle.std.specs.Prelude.{◌≡◌, ◌<◌, ◌↔◌, [], ◌∷◌, IsTrue};
 ghost use Rattle.v6_base.specs.Access.{load_word};
+ghost use Rattle.fs_codec.specs.Bytes.{bytes_of};
 ghost use Rattle.image_keep.specs.Kept.{HasImage, IsKept, area_of, image_of, with_area};
-ghost use Rattle.image_keep.specs.Running.{IsFixed, with_state, state_bytes};
+ghost use Rattle.image_keep.specs.Running.{IsFixed, with_pc, with_state, state_bytes};
 
 use crate::areas::{area_ref, put_pc, put_state};
 use crate::images::Images;
@@ -21,6 +22,7 @@ const PC: usize = PS - 2;
 
 /// The bytes of two words.
 #[inline(always)]
+#[tactic(auto, unfolding(fs_codec::specs::Bytes::bytes_of))]
 pub(crate) fn two_words(first: u16, second: u16) -> [u8; 4]
     ensures { result ≡ bytes_of (first ∷ second ∷ []) }
 {
@@ -121,7 +123,7 @@ impl Images {
     pub fn set_pc_at(&mut self, fixed: &Fixed, pc: u16, cc: u8)
         requires fixed { IsFixed self.old.kept fixed.now }
         requires codes { cc < 16 }
-        ensures kept { self.new.kept ≡ with_area self.old.kept fixed.now.slot (pc_area pc cc (area_of self.old.kept fixed.now.slot)) }
+        ensures kept { self.new.kept ≡ with_area self.old.kept fixed.now.slot (with_pc (area_of self.old.kept fixed.now.slot) pc cc) }
         ensures fixed { IsFixed self.new.kept fixed.now }
     {
         self.memory.see_bytes();
