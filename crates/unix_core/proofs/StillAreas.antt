@@ -1,7 +1,7 @@
 -- A call on files that doesn't sleep leaves the u area of its process as it was, where it opens and closes no file and enters no
 -- directory.
-use Rattle.std.proofs.Common.{◌≡◌, ◌==◌, ◌%◌, ℕ, Bool, true, false, not, cond, nat_lt, List, [], ◌∷◌, length, is_some, Option, Some, None, Result, Ok, Err, if◌then◌else◌, slice_index, refl, sym, ap, ◌∙◌, subst}
-use Rattle.std.specs.Prelude.{⊤}
+use Rattle.std.proofs.Common.{◌≡◌, ◌≢◌, ◌+◌, ◌-◌, ◌/◌, ◌%◌, ◌==◌, ℕ, Bool, true, false, not, cond, nat_lt, List, [], ◌∷◌, length, is_some, Option, Some, None, Result, Ok, Err, if◌then◌else◌, slice_index, refl, sym, ap, ◌∙◌, subst}
+use Rattle.std.specs.Prelude.{⊤, ℤ, bit_and}
 use Rattle.std.proofs.lemmas.Bool.{false≢true}
 use Rattle.v6_base.specs.Image.{Image}
 use Rattle.v6_base.specs.Trace.{Item}
@@ -11,13 +11,13 @@ use Rattle.v6_base.specs.declared.answer.Answer.TheVariants.{Ret, Fail, Sleep}
 use Rattle.v6_base.specs.declared.entry.Chan.{Chan}
 use Rattle.v6_base.specs.declared.errno.Errno.{Errno}
 use Rattle.v6_base.specs.declared.errno.Errno.TheVariants.{EINTR, EPERM, EBADF, EFAULT, EEXIST, ENOTTY, ENODEV, EMLINK, ESPIPE}
-use Rattle.fs_codec.specs.Bytes.{bytes_of}
+use Rattle.fs_codec.specs.Bytes.{bytes_of, entry_bytes}
 use Rattle.fs_codec.specs.Modes.{is_device, is_character_device}
 use Rattle.fs_laws.specs.Pieces.{Moving}
 use Rattle.fs_tree.specs.declared.made.Made.{Made}
 use Rattle.fs_tree.specs.declared.made.Made.TheVariants as made
-use Rattle.fs_tree.specs.Name.{readable}
-use Rattle.fs_tree.specs.Finding.{Finding}
+use Rattle.fs_tree.specs.Name.{name_at, readable}
+use Rattle.fs_tree.specs.Finding.{Finding, remove_in}
 use Rattle.u_area.specs.declared.area.UArea.{UArea}
 use Rattle.pipe_ends.specs.Reads.{PipeRead}
 use Rattle.pipe_ends.specs.Writes.{PipeWrite}
@@ -29,11 +29,11 @@ use Rattle.tty_line.specs.declared.line.Took.TheVariants.{Done, Wait, Fault}
 use Rattle.sig_core.specs.Signals.{due}
 use Rattle.image_keep.specs.Kept.{Kept, area_of, with_area}
 use Rattle.image_keep.proofs.Frames.{area_back}
-use Rattle.sys_files.specs.Handed.{Handed, r0, node_at, file_of, is_console, is_null, with_inodes}
-use Rattle.sys_files.specs.Did.{Did, fails, returns, check, must, need, unless_due, until_end, then_named, finds, by_made, makes}
+use Rattle.sys_files.specs.Handed.{Handed, r0, node_at, file_of, is_console, is_null, user_of, with_inodes, with_changed}
+use Rattle.sys_files.specs.Did.{Did, fails, returns, is_done, check, must, need, unless_due, until_end, then_named, finds, by_made, makes}
 use Rattle.sys_files.specs.Descriptors.{open_entry}
 use Rattle.sys_files.specs.Piping.{pipe_at, pipe_read, with_pipe_read, ends_read, reads_pipe, pipe_write, with_pipe_write, ends_write, writes_pipe}
-use Rattle.sys_files.specs.Making.{entry_written, writes_entry, makes_new, is_super_user, may_link, makes_any, mknod_at, enters_again, links_to, link_file, removes, unlink_file}
+use Rattle.sys_files.specs.Making.{new_in, with_links, with_device, enters_new, entry_written, writes_entry, makes_new, is_super_user, may_link, makes_any, mknod_at, enters_again, links_to, link_file, removes, unlink_file}
 use Rattle.sys_files.specs.Moving.{gives_count, read_of, with_read, line_read, with_line_read, takes_line, reads_line, reads_from, read_file_of, write_of, with_moved, shows_bytes, writes_to, write_file_of}
 use Rattle.sys_files.specs.Modes.{of_terminal, words_at, sets_modes, tells_modes}
 use Rattle.sys_files.specs.Names.{is_owner, changes_mode}
@@ -52,7 +52,7 @@ abbrev Still : UArea → Did → Type 0
 Still u did = Same u did.state.u did.answer
 
 -- the calls that open and close files, or enter a directory
-abbrev moves_area : FileCall → Bool
+abbrev pub moves_area : FileCall → Bool
 moves_area file.Open = true
 moves_area file.Close = true
 moves_area file.Creat = true
@@ -176,25 +176,32 @@ module _ (u : UArea) where
 
   devices : (h : Handed) (name mode device now : ℕ) → h.u ≡ u → Still u (mknod_at h name mode device now)
   devices h name mode device now same =
-      checks h (must EPERM (is_super_user h)) _ same (λ may.
-      makes_one h name (makes_any mode device now) same (λ l dir offset bytes q.
-      named l _ _ q (λ m ino r.
-      enters_name m dir offset _ now _ r (λ x y. y))))
+      checks h (must EPERM (is_super_user h)) _ same (λ may. makes_one h name (makes_any mode device now) same by)
+    where
+      by : (l : Handed) (dir offset : ℕ) (bytes : List ℕ) → l.u ≡ u → Still u (makes_any mode device now l dir offset bytes)
+      by l dir offset bytes q =
+          let next : Handed → ℕ → Did = λ m ino. is_done (with_device m ino device) in
+          named l (new_in l.inodes (bit_and mode 0o167777) (user_of l.u) now)
+          (λ m ino. until_end ino (enters_new m dir offset bytes ino now next)) q (λ m ino r.
+          enters_name m dir offset (entry_bytes (record { ino = ino; name = bytes })) now (λ x. next (with_links x ino 1 now) ino) r (λ x y. y))
 
   links : (h : Handed) (name new now : ℕ) → h.u ≡ u → Still u (link_file h name new now)
   links h name new now same =
       by_name h name (links_to new now) same (λ l ino q.
       checks l (must EMLINK (nat_lt (node_at l ino).nlink 127)) _ q (λ few.
       checks l (must EPERM (may_link l ino)) _ q (λ may.
-      makes_one l new (enters_again ino now) q (λ m dir offset bytes r. enters_name m dir offset _ now _ r (λ x y. y)))))
+      makes_one l new (enters_again ino now) q (λ m dir offset bytes r.
+      enters_name m dir offset (entry_bytes (record { ino = ino; name = bytes })) now
+      (λ x. is_done (with_links x ino ((node_at x ino).nlink + 1) now)) r (λ x y. y)))))
 
   unlinks : (h : Handed) (name now : ℕ) → h.u ≡ u → Still u (unlink_file h name now)
-  unlinks h name now same = named h _ (removes now) same by
+  unlinks h name now same =
+      named h (remove_in h.inodes h.marks (user_of h.u) h.u.dir (name_at h.image name)) (removes now) same by
     where
       by : (l : Handed) (entry : ℕ × ℕ × ℕ) → l.u ≡ u → Still u (removes now l entry)
       by l (dir, offset, ino) q =
           checks l (must EPERM (may_link l ino)) _ q (λ may.
-          enters_name l dir offset (0 ∷ 0 ∷ []) now _ q (λ x y. y))
+          enters_name l dir offset (0 ∷ 0 ∷ []) now (λ x. is_done (with_links x ino ((node_at x ino).nlink - 1) now)) q (λ x y. y))
 
   -- modes, owners and what is told of a file or a terminal
   told : (h : Handed) (at : ℕ) (odd : Bool) → h.u ≡ u
@@ -211,7 +218,11 @@ module _ (u : UArea) where
   row file.Chmod is h slot a now same =
       by_name h (slice_index a 0) (changes_mode (slice_index a 1) now) same (λ l ino q. checks l (must EPERM (is_owner l ino)) _ q (λ may. q))
   row file.Chown is h slot a now same =
-      checks h (must EPERM (is_super_user h)) _ same (λ may. by_name h (slice_index a 0) _ same (λ l ino q. q))
+      let owner = slice_index a 1 in
+      checks h (must EPERM (is_super_user h)) _ same (λ may.
+      by_name h (slice_index a 0)
+      (λ l ino. is_done (with_changed l ino (record (node_at l ino) { uid = owner % 256; gid = owner / 256; modtime = now }))) same
+      (λ l ino q. q))
   row file.Stat is h slot a now same =
       by_name h (slice_index a 0) (λ l ino. tells_status l ino (slice_index a 1)) same (λ l ino q. stored l _ q)
   row file.Seek is h slot a now same =
@@ -229,22 +240,28 @@ module _ (u : UArea) where
   row file.Dup is h slot a now same = absurd (false≢true (sym is))
   row file.Pipe is h slot a now same = absurd (false≢true (sym is))
 
--- A call that doesn't sleep
-abbrev sleeps : Answer → Bool
-sleeps (Sleep pri chan) = true
-sleeps (Ret a b) = false
-sleeps (Fail e) = false
-
-pub row_is_still : (call : FileCall) (answer : Answer) → moves_area call ≡ false → sleeps answer ≡ false
+pub row_is_still : (call : FileCall) (answer : Answer) → moves_area call ≡ false → ((pri : ℤ) (chan : Chan) → answer ≢ Sleep pri chan)
     → (h : Handed) (slot : ℕ) (args : List ℕ) (now : ℕ) → (file_row call h slot args now).answer ≡ answer
     → (file_row call h slot args now).state.u ≡ h.u
 row_is_still call answer is awake h slot args now same =
     by answer awake (subst (Same h.u (file_row call h slot args now).state.u) same (row h.u call is h slot args now refl))
   where
-    by : (a : Answer) → sleeps a ≡ false → Same h.u (file_row call h slot args now).state.u a → (file_row call h slot args now).state.u ≡ h.u
+    by : (a : Answer) → ((pri : ℤ) (chan : Chan) → a ≢ Sleep pri chan) → Same h.u (file_row call h slot args now).state.u a
+        → (file_row call h slot args now).state.u ≡ h.u
     by (Ret x y) is same = same
     by (Fail e) is same = same
-    by (Sleep pri chan) is same = absurd (false≢true (sym is))
+    by (Sleep pri chan) is same = absurd (is pri chan refl)
+
+-- a call that is none of these
+pub stays_put : (call : FileCall) → call ≢ file.Open → call ≢ file.Close → call ≢ file.Creat → call ≢ file.Chdir → call ≢ file.Dup → call ≢ file.Pipe
+    → moves_area call ≡ false
+stays_put file.Open a b c d e f = absurd (a refl)
+stays_put file.Close a b c d e f = absurd (b refl)
+stays_put file.Creat a b c d e f = absurd (c refl)
+stays_put file.Chdir a b c d e f = absurd (d refl)
+stays_put file.Dup a b c d e f = absurd (e refl)
+stays_put file.Pipe a b c d e f = absurd (f refl)
+stays_put call a b c d e f = refl
 
 -- A u area that is what it was need not be put back.
 pub still_put : (k : Kept) (s : ℕ) (u : UArea) → u ≡ area_of k s → k ≡ with_area k s u

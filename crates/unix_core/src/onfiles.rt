@@ -69,7 +69,6 @@ pub(crate) fn do_on_files(
 /// Whether a call on files may have changed the u area of its process: it has where it sleeps, and it may have where it opens or
 /// closes files, or enters a directory.
 #[inline]
-#[tactic(auto, using(crate::proofs::StillAreas::row_is_still))]
 fn changes_area(call: FileCall, answer: Answer) -> bool
     ensures { result ≡ false → (h : Handed) (slot : ℕ) (args : List ℕ) (now : ℕ) → (file_row call h slot args now).answer ≡ answer
         → (file_row call h slot args now).state.u ≡ h.u }
