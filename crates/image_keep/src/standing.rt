@@ -186,6 +186,27 @@ pub(crate) fn program_word(core: &[u8], f: &Standing, pc: usize) -> Option<u16>
     Some(word_in(core, f.code + pc))
 }
 
+/// The four words of the program from an address on, where it is even and all of them are within.
+#[inline(always)]
+#[tactic(auto, using(crate::proofs::StandingParts::programs))]
+pub(crate) fn program_words(core: &[u8], f: &Standing, pc: usize) -> Option<[u16; 4]>
+    requires { 0 < f.now.code_len → StandsIn (length core.now) f.now }
+    ensures near { IfSome result (λ _. 0 < f.now.code_len) }
+    ensures words { IfSome result (λ words. (k : ℕ) → k < 4 → load_word (standing_image core.now f.now) (pc + 2 * k) ≡ Ok (slice_index words k)) }
+    ensures low { IfSome result (λ _. pc + 6 < 65536) }
+{
+    if pc % 2 == 1 || pc + 6 >= f.code_len {
+        return None;
+    }
+    let at = f.code + pc;
+    Some([
+        word_in(core, at),
+        word_in(core, at + 2),
+        word_in(core, at + 4),
+        word_in(core, at + 6),
+    ])
+}
+
 /// The byte of the program at an address, where it is within.
 #[inline(always)]
 #[tactic(auto, using(crate::proofs::StandingParts::programs))]
