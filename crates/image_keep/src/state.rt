@@ -1,9 +1,8 @@
 //! The process that executes instructions: its registers, at the front of its u area.
 ghost use Rattle.std.specs.Prelude.{◌≡◌, ◌<◌, ◌↔◌, [], ◌∷◌, IsTrue};
-ghost use Rattle.v6_base.specs.Access.{load_word};
 ghost use Rattle.fs_codec.specs.Bytes.{bytes_of};
 ghost use Rattle.image_keep.specs.Kept.{HasImage, IsKept, area_of, image_of, with_area};
-ghost use Rattle.image_keep.specs.Running.{IsFixed, with_pc, with_state, state_bytes};
+ghost use Rattle.image_keep.specs.Running.{IsFixed, with_pc, with_state, state_bytes, word_or, words_or};
 
 use crate::areas::{area_ref, put_pc, put_state};
 use crate::images::Images;
@@ -12,7 +11,7 @@ use crate::running::Fixed;
 use crate::standing::{Standing, instruction_word, program_words};
 use fs_codec::{put_word, put_words};
 use u_area::{AREA_SIZE, PS, REGISTERS, UArea, UMODE};
-use v6_base::{Slot, Trap};
+use v6_base::Slot;
 
 /// The bytes of the registers and of the processor status word.
 pub(crate) const STATE_SIZE: usize = 18;
