@@ -54,6 +54,7 @@ pub mod Deposited
 pub mod ByteSet
 pub mod Executed
 pub mod StandingParts
+pub mod ProgramWords
 pub mod StandingState
 pub mod NearParts
 pub mod AtPc

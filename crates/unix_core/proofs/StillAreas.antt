@@ -4,7 +4,6 @@ use Rattle.std.proofs.Common.{◌≡◌, ◌≢◌, ◌+◌, ◌-◌, ◌/◌, �
 use Rattle.std.specs.Prelude.{⊤, ℤ, bit_and}
 use Rattle.std.proofs.lemmas.Bool.{false≢true}
 use Rattle.v6_base.specs.Image.{Image}
-use Rattle.v6_base.specs.Trace.{Item}
 use Rattle.v6_base.specs.Copy.{store_bytes}
 use Rattle.v6_base.specs.declared.answer.Answer.{Answer}
 use Rattle.v6_base.specs.declared.answer.Answer.TheVariants.{Ret, Fail, Sleep}
@@ -13,7 +12,6 @@ use Rattle.v6_base.specs.declared.errno.Errno.{Errno}
 use Rattle.v6_base.specs.declared.errno.Errno.TheVariants.{EINTR, EPERM, EBADF, EFAULT, EEXIST, ENOTTY, ENODEV, EMLINK, ESPIPE}
 use Rattle.fs_codec.specs.Bytes.{bytes_of, entry_bytes}
 use Rattle.fs_codec.specs.Modes.{is_device, is_character_device}
-use Rattle.fs_laws.specs.Pieces.{Moving}
 use Rattle.fs_tree.specs.declared.made.Made.{Made}
 use Rattle.fs_tree.specs.declared.made.Made.TheVariants as made
 use Rattle.fs_tree.specs.Name.{name_at, readable}
@@ -30,7 +28,7 @@ use Rattle.sig_core.specs.Signals.{due}
 use Rattle.image_keep.specs.Kept.{Kept, area_of, with_area}
 use Rattle.image_keep.proofs.Frames.{area_back}
 use Rattle.sys_files.specs.Handed.{Handed, r0, node_at, file_of, is_console, is_null, user_of, with_inodes, with_changed}
-use Rattle.sys_files.specs.Did.{Did, fails, returns, is_done, check, must, need, unless_due, until_end, then_named, finds, by_made, makes}
+use Rattle.sys_files.specs.Did.{Did, fails, returns, is_done, check, must, need, unless_due, until_end, then_named, finds, by_made}
 use Rattle.sys_files.specs.Descriptors.{open_entry}
 use Rattle.sys_files.specs.Piping.{pipe_at, pipe_read, with_pipe_read, ends_read, reads_pipe, pipe_write, with_pipe_write, ends_write, writes_pipe}
 use Rattle.sys_files.specs.Making.{new_in, with_links, with_device, enters_new, entry_written, writes_entry, makes_new, is_super_user, may_link, makes_any, mknod_at, enters_again, links_to, link_file, removes, unlink_file}

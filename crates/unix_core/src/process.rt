@@ -45,8 +45,9 @@ const SETD: u16 = 0o170011;
 /// A call begins: C is cleared, and the PC passes so many words.
 fn enter(images: &mut Images, fixed: &Fixed, words: u8)
     requires { IsFixed images.old.kept fixed.now }
-    ensures { images.new.kept
+    ensures kept { images.new.kept
         ≡ with_area images.old.kept fixed.now.slot (entered_area words (area_of images.old.kept fixed.now.slot)) }
+    ensures fixed { IsFixed images.new.kept fixed.now }
 {
     let u = images.area_at(fixed);
     let pc = u.r[7].wrapping_add(2 * u16::from(words));
