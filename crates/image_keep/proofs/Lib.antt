@@ -47,12 +47,14 @@ pub mod RunsRead
 pub mod Lent
 pub mod Vacant
 pub mod Registers
+pub mod RegisterWords
 pub mod SharedFacts
 pub mod Depositing
 pub mod Deposited
 pub mod ByteSet
 pub mod Executed
 pub mod StandingParts
+pub mod ProgramWords
 pub mod StandingState
 pub mod NearParts
 pub mod AtPc

@@ -2,7 +2,7 @@
 ghost use Rattle.std.specs.Prelude.{◌≡◌, ◌<◌, length, slice_set};
 ghost use Rattle.image_keep.specs.Areas.{area_at, textless_area};
 ghost use Rattle.image_keep.specs.Growth.{area_resized};
-ghost use Rattle.image_keep.specs.Running.{with_state};
+ghost use Rattle.image_keep.specs.Running.{with_pc, with_results, with_state};
 
 use u_area::UArea;
 
@@ -43,6 +43,31 @@ pub(crate) fn put_state(areas: &mut [UArea], s: usize, r: &[u16; 8], cc: u8)
 {
     let u = &mut areas[s];
     u.r = *r;
+    u.cc = cc;
+}
+
+/// Puts R0 and R1 into a slot's u area.
+#[inline(always)]
+pub(crate) fn put_results(areas: &mut [UArea], s: usize, r0: u16, r1: u16)
+    requires { s < length areas.old }
+    ensures areas { areas.new ≡ slice_set areas.old s (with_results (area_at areas.old s) r0 r1) }
+    ensures long { length areas.new ≡ length areas.old }
+{
+    let u = &mut areas[s];
+    u.r[0] = r0;
+    u.r[1] = r1;
+}
+
+/// Puts PC and condition codes into a slot's u area.
+#[inline(always)]
+pub(crate) fn put_pc(areas: &mut [UArea], s: usize, pc: u16, cc: u8)
+    requires slot { s < length areas.old }
+    requires codes { cc < 16 }
+    ensures areas { areas.new ≡ slice_set areas.old s (with_pc (area_at areas.old s) pc cc) }
+    ensures long { length areas.new ≡ length areas.old }
+{
+    let u = &mut areas[s];
+    u.r[7] = pc;
     u.cc = cc;
 }
 

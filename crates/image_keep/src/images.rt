@@ -5,10 +5,10 @@ ghost use Rattle.image_keep.specs.Growth.{most_clicks};
 ghost use Rattle.image_keep.specs.Area.{no_area};
 ghost use Rattle.image_keep.specs.Memory.{no_row};
 ghost use Rattle.image_keep.specs.Places.{swap_fit, with_grave_at};
-ghost use Rattle.image_keep.specs.Running.{with_state};
+ghost use Rattle.image_keep.specs.Running.{with_results, with_state};
 ghost use Rattle.u_area.specs.Area.{IsSized};
 
-use crate::areas::{area_at, put_area, put_state};
+use crate::areas::{area_at, put_area, put_results, put_state};
 use crate::making::made_area;
 use crate::memory::Memory;
 use crate::parts::{
@@ -16,7 +16,7 @@ use crate::parts::{
     row_of, set_row,
 };
 use crate::row::{Row, State};
-use crate::state::state_bytes;
+use crate::state::{state_bytes, two_words};
 use map_fit::Holes;
 use std::alloc::{AllocError, Global};
 use std::marker::Model;
@@ -157,6 +157,20 @@ impl Images {
         let at = place_click(self.core, place_of(row));
         self.memory.put(64 * at, &front);
         put_area(&mut self.areas, s as usize, u);
+    }
+
+    /// Puts R0 and R1 into the u area of a slot with an image: its first four bytes are written, and the rest stands there as
+    /// it was.
+    #[inline(always)]
+    pub fn set_results(&mut self, s: Slot, r0: u16, r1: u16)
+        requires { HasImage self.old.kept s }
+        ensures { self.new.kept ≡ with_area self.old.kept s (with_results (area_of self.old.kept s) r0 r1) }
+    {
+        self.memory.see_bytes();
+        let row = row_of(&self.rows, s as usize);
+        let at = place_click(self.core, place_of(row));
+        self.memory.put(64 * at, &two_words(r0, r1));
+        put_results(&mut self.areas, s as usize, r0, r1);
     }
 
     /// Puts registers and condition codes into the u area of a slot with an image: its first 18 bytes are written, and the

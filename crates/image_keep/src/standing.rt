@@ -3,7 +3,7 @@ ghost use Rattle.std.specs.Prelude.{◌≡◌, ℕ, ◌+◌, ◌*◌, ◌%◌, �
 ghost use Rattle.v6_base.specs.Access.{load_byte, load_word, store_byte, store_word};
 ghost use Rattle.v6_base.specs.Words.{word_set};
 ghost use Rattle.core_mem.specs.Bytes.{part, over};
-ghost use Rattle.image_keep.specs.Running.{state_bytes, with_state};
+ghost use Rattle.image_keep.specs.Running.{state_bytes, with_state, words_or};
 ghost use Rattle.image_keep.specs.Standing.{IsNear, standing_image, StandsIn, IsPlace, IsWordPlace, address};
 
 use crate::memory::word_in;
@@ -184,6 +184,26 @@ pub(crate) fn program_word(core: &[u8], f: &Standing, pc: usize) -> Option<u16>
         return None;
     }
     Some(word_in(core, f.code + pc))
+}
+
+/// The four words of the program from an address on, where it is even and all of them are within.
+#[inline(always)]
+pub(crate) fn program_words(core: &[u8], f: &Standing, pc: usize) -> Option<[u16; 4]>
+    requires stands { 0 < f.now.code_len → StandsIn (length core.now) f.now }
+    requires address { pc < 65536 }
+    ensures near { IfSome result (λ _. 0 < f.now.code_len) }
+    ensures words { IfSome result (λ words. (other : ℕ) → words ≡ words_or (standing_image core.now f.now) pc other) }
+{
+    if pc % 2 == 1 || pc + 6 >= f.code_len {
+        return None;
+    }
+    let at = f.code + pc;
+    Some([
+        word_in(core, at),
+        word_in(core, at + 2),
+        word_in(core, at + 4),
+        word_in(core, at + 6),
+    ])
 }
 
 /// The byte of the program at an address, where it is within.

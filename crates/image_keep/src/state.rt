@@ -1,20 +1,37 @@
 //! The process that executes instructions: its registers, at the front of its u area.
-ghost use Rattle.std.specs.Prelude.{◌≡◌, ◌<◌, ◌↔◌, IsTrue};
-ghost use Rattle.v6_base.specs.Access.{load_word};
+ghost use Rattle.std.specs.Prelude.{◌≡◌, ◌<◌, ◌↔◌, [], ◌∷◌, IsTrue};
+ghost use Rattle.fs_codec.specs.Bytes.{bytes_of};
 ghost use Rattle.image_keep.specs.Kept.{HasImage, IsKept, area_of, image_of, with_area};
-ghost use Rattle.image_keep.specs.Running.{IsFixed, with_state, state_bytes};
+ghost use Rattle.image_keep.specs.Running.{IsFixed, with_pc, with_state, state_bytes, word_or, words_or};
 
-use crate::areas::{area_ref, put_state};
+use crate::areas::{area_ref, put_pc, put_state};
 use crate::images::Images;
 use crate::memory::see_bytes;
 use crate::running::Fixed;
-use crate::standing::{Standing, instruction_word};
+use crate::standing::{Standing, instruction_word, program_words};
 use fs_codec::{put_word, put_words};
 use u_area::{AREA_SIZE, PS, REGISTERS, UArea, UMODE};
-use v6_base::{Slot, Trap};
+use v6_base::Slot;
 
 /// The bytes of the registers and of the processor status word.
 pub(crate) const STATE_SIZE: usize = 18;
+
+/// Where PC stands, the last of the registers, in front of the processor status word.
+const PC: usize = PS - 2;
+
+/// The bytes of two words.
+#[inline(always)]
+#[tactic(auto, unfolding(fs_codec::specs::Bytes::bytes_of))]
+pub(crate) fn two_words(first: u16, second: u16) -> [u8; 4]
+    ensures { result ≡ bytes_of (first ∷ second ∷ []) }
+{
+    [
+        (first % 256) as u8,
+        (first / 256) as u8,
+        (second % 256) as u8,
+        (second / 256) as u8,
+    ]
+}
 
 /// The bytes with which a u area begins.
 #[inline(always)]
@@ -64,31 +81,59 @@ impl Images {
         fixed.slot == s && fixed.starts == self.starts(s)
     }
 
-    /// A word of the process of which this is fixed. It is looked for first where instructions are read from in core.
-    ///
-    /// # Errors
-    ///
-    /// `Odd`: the address is odd. `Segment`: it is in none of the parts.
+    /// A word of the process of which this is fixed, or another one where that can't be read: its address is odd, or in none of
+    /// the parts. It is looked for first where instructions are read from in core.
     #[inline(always)]
-    pub fn word_at(&self, fixed: &Fixed, at: u16) -> Result<u16, Trap>
+    pub fn word_or(&self, fixed: &Fixed, at: u16, other: u16) -> u16
         requires { IsFixed self.now.kept fixed.now }
-        ensures { result ≡ load_word (image_of self.now.kept fixed.now.slot) at }
+        ensures { result ≡ word_or (image_of self.now.kept fixed.now.slot) at other }
     {
         self.memory.see_bytes();
         match instruction_word(self.memory.core_bytes(), &fixed.standing, usize::from(at)) {
-            Some(word) => Ok(word as u16),
-            None => self.any_word_at(fixed, at),
+            Some(word) => word as u16,
+            None => self.any_word_or(fixed, at, other),
         }
     }
 
     // The same wherever it is.
     #[cold]
     #[inline(never)]
-    fn any_word_at(&self, fixed: &Fixed, at: u16) -> Result<u16, Trap>
+    fn any_word_or(&self, fixed: &Fixed, at: u16, other: u16) -> u16
         requires { IsFixed self.now.kept fixed.now }
-        ensures { result ≡ load_word (image_of self.now.kept fixed.now.slot) at }
+        ensures { result ≡ word_or (image_of self.now.kept fixed.now.slot) at other }
     {
-        self.load_word(fixed.index, &fixed.starts, at)
+        match self.load_word(fixed.index, &fixed.starts, at) {
+            Ok(word) => word,
+            Err(_) => other,
+        }
+    }
+
+    /// Four words of the process of which this is fixed, one after another, each as `word_or` gives it.
+    #[inline(always)]
+    pub fn words_or(&self, fixed: &Fixed, at: u16, other: u16) -> [u16; 4]
+        requires { IsFixed self.now.kept fixed.now }
+        ensures { result ≡ words_or (image_of self.now.kept fixed.now.slot) at other }
+    {
+        self.memory.see_bytes();
+        match program_words(self.memory.core_bytes(), &fixed.standing, usize::from(at)) {
+            Some(words) => words,
+            None => self.any_words_or(fixed, at, other),
+        }
+    }
+
+    // The same wherever they are.
+    #[cold]
+    #[inline(never)]
+    fn any_words_or(&self, fixed: &Fixed, at: u16, other: u16) -> [u16; 4]
+        requires { IsFixed self.now.kept fixed.now }
+        ensures { result ≡ words_or (image_of self.now.kept fixed.now.slot) at other }
+    {
+        [
+            self.any_word_or(fixed, at, other),
+            self.any_word_or(fixed, at.wrapping_add(2), other),
+            self.any_word_or(fixed, at.wrapping_add(4), other),
+            self.any_word_or(fixed, at.wrapping_add(6), other),
+        ]
     }
 
     /// The u area of the process of which this is fixed, with its registers.
@@ -98,6 +143,20 @@ impl Images {
         ensures { result.now ≡ area_of self.now.kept fixed.now.slot }
     {
         area_ref(&self.areas, fixed.slot as usize)
+    }
+
+    /// Puts PC and condition codes into the u area of the process of which this is fixed.
+    #[inline(always)]
+    pub fn set_pc_at(&mut self, fixed: &Fixed, pc: u16, cc: u8)
+        requires fixed { IsFixed self.old.kept fixed.now }
+        requires codes { cc < 16 }
+        ensures kept { self.new.kept ≡ with_area self.old.kept fixed.now.slot (with_pc (area_of self.old.kept fixed.now.slot) pc cc) }
+        ensures fixed { IsFixed self.new.kept fixed.now }
+    {
+        self.memory.see_bytes();
+        let at = fixed.starts.image - AREA_SIZE + PC;
+        self.memory.put(at, &two_words(pc, UMODE + u16::from(cc)));
+        put_pc(&mut self.areas, fixed.slot as usize, pc, cc);
     }
 
     /// Puts registers and condition codes into the u area of the process of which this is fixed.

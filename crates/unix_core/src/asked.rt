@@ -26,10 +26,7 @@ fn word_at(images: &Images, fixed: &Fixed, at: u16) -> u16
     requires { IsFixed images.now.kept fixed.now }
     ensures { (held : Held) → Has images.now.kept fixed.now.slot held → result ≡ word_at held.image at }
 {
-    match images.word_at(fixed, at) {
-        Ok(word) => word,
-        Err(_) => ONES,
-    }
+    images.word_or(fixed, at, ONES)
 }
 
 /// The words that a call may take as its arguments, from an address on.
@@ -38,12 +35,7 @@ fn arguments_at(images: &Images, fixed: &Fixed, at: u16) -> [u16; 4]
     requires { IsFixed images.now.kept fixed.now }
     ensures { (held : Held) → Has images.now.kept fixed.now.slot held → result ≡ arguments_at held.image at }
 {
-    [
-        word_at(images, fixed, at),
-        word_at(images, fixed, at.wrapping_add(2)),
-        word_at(images, fixed, at.wrapping_add(4)),
-        word_at(images, fixed, at.wrapping_add(6)),
-    ]
+    images.words_or(fixed, at, ONES)
 }
 
 /// The call that a word names.

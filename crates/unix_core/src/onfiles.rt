@@ -1,10 +1,12 @@
 //! Calls on files: the parts that each is handed are lent to it, and put back. What it shows goes to the kernel's tape.
-ghost use Rattle.std.specs.Prelude.{◌≡◌, true};
+ghost use Rattle.std.specs.Prelude.{◌≡◌, ℕ, List, true, false};
 ghost use Rattle.fs_laws.specs.Rest.{SameRest};
+ghost use Rattle.sys_files.specs.Handed.{Handed};
 ghost use Rattle.sys_files.specs.Descriptors.{close_all};
 ghost use Rattle.sys_files.specs.Moving.{resumes};
 ghost use Rattle.sys_files.specs.Core.{core_file, is_written};
-ghost use Rattle.image_keep.specs.Kept.{area_of};
+ghost use Rattle.image_keep.specs.Kept.{HasImage, HasSizes, area_of, image_of, with_area};
+ghost use Rattle.image_keep.specs.Running.{IsFixed};
 ghost use Rattle.abstract_unix.specs.Unix.{process_of};
 ghost use Rattle.abstract_unix.specs.Calls.{handed_of, with_handed, file_row, is_on_files};
 ghost use Rattle.abstract_unix.specs.Turn.{is_user};
@@ -13,30 +15,39 @@ ghost use Rattle.unix_core.specs.Parts.{unix_of, board_in, IsReady, IsReadyToSho
 use crate::files::{see_count, see_nodes, see_numbers, see_table};
 use crate::world::World;
 use abstract_unix::{FileCall, do_file_call};
+use image_keep::{Fixed, Images};
 use sys_files::{close_all, resume_file, write_core};
+use u_area::UArea;
 use v6_base::{Answer, Slot};
 
 /// Does a call on files by its row.
-pub(crate) fn do_on_files(world: &mut World, s: Slot, call: FileCall, args: [u16; 4]) -> Answer
-    requires ready { IsReady world.old s }
-    requires user { is_user (process_of (unix_of world.old) s) ≡ true }
+pub(crate) fn do_on_files(
+    world: &mut World,
+    fixed: &Fixed,
+    call: FileCall,
+    args: [u16; 4],
+) -> Answer
+    requires fixed { IsFixed world.old.procs.images.kept fixed.now }
+    requires ready { IsReady world.old fixed.now.slot }
+    requires user { is_user (process_of (unix_of world.old) fixed.now.slot) ≡ true }
     ensures answer { result ≡ (file_row call
-        (handed_of (unix_of world.old) (process_of (unix_of world.old) s)) s args world.old.procs.table.now).answer }
-    ensures unix { unix_of world.new ≡ with_handed (unix_of world.old) s (file_row call
-        (handed_of (unix_of world.old) (process_of (unix_of world.old) s)) s args world.old.procs.table.now).state }
-    ensures shown { IsReadyToShow world.old world.new s (file_row call
-        (handed_of (unix_of world.old) (process_of (unix_of world.old) s)) s args world.old.procs.table.now).items }
+        (handed_of (unix_of world.old) (process_of (unix_of world.old) fixed.now.slot)) fixed.now.slot args world.old.procs.table.now).answer }
+    ensures unix { unix_of world.new ≡ with_handed (unix_of world.old) fixed.now.slot (file_row call
+        (handed_of (unix_of world.old) (process_of (unix_of world.old) fixed.now.slot)) fixed.now.slot args world.old.procs.table.now).state }
+    ensures shown { IsReadyToShow world.old world.new fixed.now.slot (file_row call
+        (handed_of (unix_of world.old) (process_of (unix_of world.old) fixed.now.slot)) fixed.now.slot args world.old.procs.table.now).items }
     ensures rest { SameRest world.old.files.tree.nodes.blocks world.new.files.tree.nodes.blocks }
 {
     see_count(&args);
     see_nodes(&world.files.tree.nodes);
     see_table(&world.files.table);
     world.tape.clear();
+    let s = fixed.slot;
     let now = world.procs.table.now;
     let mut u = world.procs.images.area(s);
     let mut row = *world.procs.rows.row(s);
     let answer = {
-        let mut space = world.procs.images.space(s);
+        let mut space = world.procs.images.space_at(fixed);
         do_file_call(
             call,
             &mut world.files,
@@ -50,9 +61,41 @@ pub(crate) fn do_on_files(world: &mut World, s: Slot, call: FileCall, args: [u16
         )
     };
     see_numbers(&u.files);
-    world.procs.images.set_area(s, &u);
+    put_back(&mut world.procs.images, s, &u, changes_area(call, answer));
     world.procs.rows.set_row(s, row);
     answer
+}
+
+/// Whether a call on files may have changed the u area of its process: it has where it sleeps, and it may have where it opens or
+/// closes files, or enters a directory.
+#[inline]
+fn changes_area(call: FileCall, answer: Answer) -> bool
+    ensures { result ≡ false → (h : Handed) (slot : ℕ) (args : List ℕ) (now : ℕ) → (file_row call h slot args now).answer ≡ answer
+        → (file_row call h slot args now).state.u ≡ h.u }
+{
+    match call {
+        FileCall::Open
+        | FileCall::Close
+        | FileCall::Creat
+        | FileCall::Chdir
+        | FileCall::Dup
+        | FileCall::Pipe => true,
+        _ => matches!(answer, Answer::Sleep { .. }),
+    }
+}
+
+/// Puts the u area of a process that has made a call back, where it may have changed.
+#[inline(always)]
+#[tactic(auto, using(crate::proofs::StillAreas::still_put))]
+fn put_back(images: &mut Images, s: Slot, u: &UArea, changed: bool)
+    requires image { HasImage images.old.kept s }
+    requires sizes { HasSizes u.now (image_of images.old.kept s) }
+    requires still { changed ≡ false → u.now ≡ area_of images.old.kept s }
+    ensures { images.new.kept ≡ with_area images.old.kept s u.now }
+{
+    if changed {
+        images.set_area(s, u);
+    }
 }
 
 /// Goes on with a call on files: a read of the console, or a read or a write of a pipe.

@@ -45,14 +45,14 @@ const SETD: u16 = 0o170011;
 /// A call begins: C is cleared, and the PC passes so many words.
 fn enter(images: &mut Images, fixed: &Fixed, words: u8)
     requires { IsFixed images.old.kept fixed.now }
-    ensures { images.new.kept
+    ensures kept { images.new.kept
         ≡ with_area images.old.kept fixed.now.slot (entered_area words (area_of images.old.kept fixed.now.slot)) }
+    ensures fixed { IsFixed images.new.kept fixed.now }
 {
     let u = images.area_at(fixed);
+    let pc = u.r[7].wrapping_add(2 * u16::from(words));
     let cc = u.cc - u.cc % 2;
-    let mut r = u.r;
-    r[7] = r[7].wrapping_add(2 * u16::from(words));
-    images.set_registers_at(fixed, &r, cc);
+    images.set_pc_at(fixed, pc, cc);
 }
 
 /// R0 and R1 take what a call gives.
@@ -60,11 +60,7 @@ fn give(images: &mut Images, s: Slot, r0: u16, r1: u16)
     requires { HasImage images.old.kept s }
     ensures { images.new.kept ≡ with_area images.old.kept s (given_area r0 r1 (area_of images.old.kept s)) }
 {
-    let u = images.area(s);
-    let mut r = u.r;
-    r[0] = r0;
-    r[1] = r1;
-    images.set_registers(s, &r, u.cc);
+    images.set_results(s, r0, r1);
 }
 
 /// A call is refused: C is set, and R0 takes the number of the error.
@@ -147,26 +143,27 @@ fn conclude<T: Trace>(world: &mut World, s: Slot, answer: Answer, trace: &mut T)
 #[inline(never)]
 fn call_files<T: Trace>(
     world: &mut World,
-    s: Slot,
+    fixed: &Fixed,
     call: FileCall,
     args: [u16; 4],
     trace: &mut T,
 ) -> Ending
-    requires ready { IsReady world.old s }
-    requires user { is_user (process_of (unix_of world.old) s) ≡ true }
-    ensures come { HasCome (board_in world.old) (did_by (unix_of world.old) s (file_row call
-        (handed_of (unix_of world.old) (process_of (unix_of world.old) s)) s args world.old.procs.table.now)) result world.new }
-    ensures ready { IsReady world.new s }
+    requires fixed { IsFixed world.old.procs.images.kept fixed.now }
+    requires ready { IsReady world.old fixed.now.slot }
+    requires user { is_user (process_of (unix_of world.old) fixed.now.slot) ≡ true }
+    ensures come { HasCome (board_in world.old) (did_by (unix_of world.old) fixed.now.slot (file_row call
+        (handed_of (unix_of world.old) (process_of (unix_of world.old) fixed.now.slot)) fixed.now.slot args world.old.procs.table.now)) result world.new }
+    ensures ready { IsReady world.new fixed.now.slot }
     ensures covered { is_over result ≡ true → IsCovered world.new }
-    ensures items { Took (T.taken trace.old) (logged (board_in world.old) (did_by (unix_of world.old) s (file_row call
-        (handed_of (unix_of world.old) (process_of (unix_of world.old) s)) s args world.old.procs.table.now)).effects).items
+    ensures items { Took (T.taken trace.old) (logged (board_in world.old) (did_by (unix_of world.old) fixed.now.slot (file_row call
+        (handed_of (unix_of world.old) (process_of (unix_of world.old) fixed.now.slot)) fixed.now.slot args world.old.procs.table.now)).effects).items
         (T.taken trace.new) }
     ensures frame { T.leads_to trace.old trace.new }
     ensures rest { SameRest world.old.files.tree.nodes.blocks world.new.files.tree.nodes.blocks }
 {
-    let answer = do_on_files(world, s, call, args);
+    let answer = do_on_files(world, fixed, call, args);
     pass_on(&world.tape, &mut world.procs.table, trace);
-    conclude(world, s, answer, trace)
+    conclude(world, fixed.slot, answer, trace)
 }
 
 /// A call on processes, which has been entered.
@@ -295,29 +292,31 @@ fn grow_stack<T: Trace>(world: &mut World, s: Slot, sp: u16, trace: &mut T) -> E
 #[inline(always)]
 fn does_call<T: Trace>(
     world: &mut World,
-    s: Slot,
+    fixed: &Fixed,
     call: SystemCall,
     args: [u16; 4],
     trace: &mut T,
 ) -> Ending
-    requires ready { IsReady world.old s }
-    requires user { is_user (process_of (unix_of world.old) s) ≡ true }
-    ensures come { HasCome (board_in world.old) (does_call (unix_of world.old) s call args) result world.new }
+    requires fixed { IsFixed world.old.procs.images.kept fixed.now }
+    requires ready { IsReady world.old fixed.now.slot }
+    requires user { is_user (process_of (unix_of world.old) fixed.now.slot) ≡ true }
+    ensures come { HasCome (board_in world.old) (does_call (unix_of world.old) fixed.now.slot call args) result world.new }
     ensures good { is_over result ≡ false → IsGood world.new }
     ensures covered { is_over result ≡ true → IsCovered world.new }
-    ensures runs { is_over result ≡ false → result ≢ Ending.Ended → world.new.procs.table.running ≡ Some s }
+    ensures runs { is_over result ≡ false → result ≢ Ending.Ended → world.new.procs.table.running ≡ Some fixed.now.slot }
     ensures call { result ≢ Ending.Next }
     ensures items { Took (T.taken trace.old) (logged (board_in world.old)
-        (does_call (unix_of world.old) s call args).effects).items (T.taken trace.new) }
+        (does_call (unix_of world.old) fixed.now.slot call args).effects).items (T.taken trace.new) }
     ensures frame { T.leads_to trace.old trace.new }
     ensures rest { SameRest world.old.files.tree.nodes.blocks world.new.files.tree.nodes.blocks }
 {
+    let s = fixed.slot;
     match call {
         SystemCall::Indirect => Ending::Trapped,
         SystemCall::Exit => exit(world, s, trace),
         SystemCall::Fork => fork(world, s, trace),
         SystemCall::Unknown => fail(world, s, Errno::ENOSYS, trace),
-        SystemCall::OnFiles(on_files) => call_files(world, s, on_files, args, trace),
+        SystemCall::OnFiles(on_files) => call_files(world, fixed, on_files, args, trace),
         SystemCall::OnProcesses(on_processes) => {
             call_processes(world, s, on_processes, args, trace)
         }
@@ -354,7 +353,7 @@ fn call<T: Trace>(world: &mut World, fixed: &Fixed, number: u8, trace: &mut T) -
         fixed,
         words_passed(&asked, entry.count),
     );
-    does_call(world, fixed.slot, entry.call, asked.args, trace)
+    does_call(world, fixed, entry.call, asked.args, trace)
 }
 
 /// Whether an illegal instruction is passed by: SETD, of a process that does nothing about illegal ones.

@@ -12,12 +12,12 @@ use Rattle.unix_core.proofs.process.call.Goals as goal
 pub does_call-requires-clause-ready : goal.does_call-requires-clause-ready
 does_call-requires-clause-ready g c =
     entered_ready c.args.world.now c.args.fixed.now.slot c.requires.ready c.ask-asked.result c.sysent_of-entry.result _ _ c.enter.new.images
-    refl c.words_passed.ensures c.enter.ensures
+    refl c.words_passed.ensures c.enter.ensures.kept
 
 pub does_call-requires-clause-user : goal.does_call-requires-clause-user
 does_call-requires-clause-user g c =
     entered_user c.args.world.now c.args.fixed.now.slot c.requires.ready c.ask-asked.result c.sysent_of-entry.result _ _ c.enter.new.images
-    refl c.words_passed.ensures c.enter.ensures c.requires.user
+    refl c.words_passed.ensures c.enter.ensures.kept c.requires.user
 
 pub returns-clause-come : goal.returns-clause-come
 returns-clause-come g c =
@@ -26,9 +26,9 @@ returns-clause-come g c =
     let a : Asked = c.ask-asked.result in
     let asks = asked_here w s c.requires.ready c.ask-asked.ensures.holds c.args.number a c.ask-asked.ensures.asked in
     let same = entered_board w s c.requires.ready a c.sysent_of-entry.result _ _ c.enter.new.images refl c.words_passed.ensures
-    c.enter.ensures in
+    c.enter.ensures.kept in
     let steps = entered_call w s c.requires.ready a c.sysent_of-entry.result _ _ c.enter.new.images refl c.words_passed.ensures
-    c.enter.ensures c.args.number asks
+    c.enter.ensures.kept c.args.number asks
     c.sysent_of-entry.ensures in
     subst (λ b. HasCome b (system_call c.args.number (unix_of w) s) c.does_call.result
     c.does_call.new.world) same
@@ -42,9 +42,9 @@ returns-clause-items g c =
     let a : Asked = c.ask-asked.result in
     let asks = asked_here w s c.requires.ready c.ask-asked.ensures.holds c.args.number a c.ask-asked.ensures.asked in
     let same = entered_board w s c.requires.ready a c.sysent_of-entry.result _ _ c.enter.new.images refl c.words_passed.ensures
-    c.enter.ensures in
+    c.enter.ensures.kept in
     let steps = entered_call w s c.requires.ready a c.sysent_of-entry.result _ _ c.enter.new.images refl c.words_passed.ensures
-    c.enter.ensures c.args.number asks
+    c.enter.ensures.kept c.args.number asks
     c.sysent_of-entry.ensures in
     subst (λ b. Took (g.T.Trace.taken c.args.trace.now)
     (logged b (system_call c.args.number (unix_of w) s).effects).items

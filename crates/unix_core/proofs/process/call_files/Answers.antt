@@ -20,7 +20,7 @@ pass_on-requires-clause-slots g c = c.do_on_files-answer.ensures.shown.slots
 pub conclude-requires : goal.conclude-requires
 conclude-requires g c =
     let w : World = c.args.world.now in
-    let s = c.args.s in
+    let s = c.args.fixed.now.slot in
     let e = c.do_on_files-answer.ensures in
     let did : Did = file_row c.args.call (handed_of (unix_of w) (process_of (unix_of w) s)) s c.args.args w.procs.table.now in
     passed_ready w c.do_on_files-answer.new.world s did.state did.items e.shown e.unix c.pass_on.new.table c.pass_on.ensures.table
@@ -28,7 +28,7 @@ conclude-requires g c =
 pub returns-clause-come : goal.returns-clause-come
 returns-clause-come g c =
     let w : World = c.args.world.now in
-    let s = c.args.s in
+    let s = c.args.fixed.now.slot in
     let new : World = c.do_on_files-answer.new.world in
     let e = c.do_on_files-answer.ensures in
     let did : Did = file_row c.args.call (handed_of (unix_of w) (process_of (unix_of w) s)) s c.args.args w.procs.table.now in
@@ -40,7 +40,7 @@ returns-clause-come g c =
 pub returns-clause-items : goal.returns-clause-items
 returns-clause-items g c =
     let w : World = c.args.world.now in
-    let s = c.args.s in
+    let s = c.args.fixed.now.slot in
     let new : World = c.do_on_files-answer.new.world in
     let e = c.do_on_files-answer.ensures in
     let did : Did = file_row c.args.call (handed_of (unix_of w) (process_of (unix_of w) s)) s c.args.args w.procs.table.now in
