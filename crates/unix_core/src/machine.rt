@@ -193,6 +193,7 @@ impl Machine {
     }
 
     /// Settles, after an event.
+    #[inline(always)]
     fn settle<T: Trace>(&mut self, trace: &mut T)
         requires { IsGood self.old.world }
         ensures kernel { IsKernel self.new.stage self.new.world }
