@@ -17,7 +17,7 @@ use Rattle.image_keep.specs.Kept.{Kept, HasImage, HasSizes, area_of}
 use Rattle.image_keep.specs.Memory.{Stock, row_at, place_at, clicks_in, kept_of, IsSound}
 use Rattle.image_keep.specs.Counts.{IsCounted}
 use Rattle.image_keep.specs.Starts.{AreStarts}
-use Rattle.image_keep.specs.Running.{with_pc, with_results, with_state, state_bytes}
+use Rattle.image_keep.specs.Running.{with_pc, with_results, state_bytes}
 use Rattle.image_keep.proofs.Frames.{alive_image}
 use Rattle.image_keep.proofs.Moves.{fits_in}
 use Rattle.image_keep.proofs.Own.{area_read}

@@ -161,7 +161,7 @@ impl Images {
 
     /// Puts registers and condition codes into the u area of the process of which this is fixed.
     #[inline(always)]
-    pub fn set_registers_at(&mut self, fixed: &Fixed, r: &[u16; 8], cc: u8)
+    pub(crate) fn set_registers_at(&mut self, fixed: &Fixed, r: &[u16; 8], cc: u8)
         requires fixed { IsFixed self.old.kept fixed.now }
         requires codes { cc < 16 }
         ensures kept { self.new.kept ≡ with_area self.old.kept fixed.now.slot (with_state (area_of self.old.kept fixed.now.slot) r.now cc) }

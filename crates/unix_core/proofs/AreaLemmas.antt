@@ -1,13 +1,11 @@
 -- The u area of the process that runs is another one, which names the same files and the same directory.
-use Rattle.std.proofs.Common.{◌≡◌, ◌∙◌, ◌%◌, ◌==◌, ℕ, List, get_or, Some, None, true, refl, sym, ap, subst, arith}
+use Rattle.std.proofs.Common.{◌≡◌, ◌∙◌, ◌==◌, ℕ, get_or, Some, None, true, refl, sym, ap, subst}
 use Rattle.std.specs.Prelude.{unwrap_or}
 use Rattle.std.proofs.lemmas.List.{get_or-set_same}
 use Rattle.std.proofs.lemmas.Bool.{eqb-true}
 use Rattle.u_area.specs.declared.area.UArea.{UArea}
-use Rattle.u_area.proofs.AreaLemmas.{one_area}
 use Rattle.image_keep.specs.Kept.{Kept, with_area, area_of}
 use Rattle.image_keep.specs.State.{ImagesState}
-use Rattle.image_keep.specs.Running.{with_state}
 use Rattle.sys_procs.proofs.Alive.{area_here}
 use Rattle.unix_core.specs.declared.world.World.{World}
 use Rattle.sys_procs.specs.Process.{Process, no_process}
@@ -20,13 +18,6 @@ use Rattle.abstract_unix.specs.Calls as calls
 use Rattle.unix_core.specs.Parts.{unix_of, board_in, IsReady, HasCome}
 use Rattle.unix_core.proofs.WorldLemmas.{ready_alive, slot_is}
 use Rattle.unix_core.proofs.PutLemmas.{IsLikeArea, with_images, with_kept, unix_put, board_put, good_put}
-
--- An area with other registers and its own codes.
-pub given_is : (u : UArea) (r : List ℕ) → with_state u r u.cc ≡ record u { r = r }
-given_is u r =
-    let fits = u.codes in
-    let same : u.cc % 16 ≡ u.cc = omega (arith, fits) in
-    one_area (with_state u r u.cc) (record u { r = r }) refl same refl refl refl refl refl refl refl refl refl refl refl refl refl refl refl refl refl
 
 -- the u area of who runs
 pub own_area : (w : World) (s : ℕ) → IsReady w s → area_of w.procs.images.kept s ≡ (process_of (unix_of w) s).u

@@ -128,6 +128,7 @@ fn turned(ending: Ending) -> Turned
 
 impl Machine {
     /// Sees what the next slot finds, when the kernel has settled.
+    #[inline(always)]
     fn refresh(&mut self)
         requires good { IsGood self.old.world }
         requires settled { (s : ℕ) → self.old.world.procs.table.running ≡ Some s → settle self.old.world.procs.table ≡ None }
@@ -155,6 +156,7 @@ impl Machine {
     }
 
     /// Sees whether a process that runs executes instructions, and what then stays fixed of it.
+    #[inline(always)]
     fn enter_user(&mut self, s: Slot)
         requires ready { IsReady self.old.world s }
         requires settled { settle self.old.world.procs.table ≡ None }
@@ -193,6 +195,7 @@ impl Machine {
     }
 
     /// Settles, after an event.
+    #[inline(always)]
     fn settle<T: Trace>(&mut self, trace: &mut T)
         requires { IsGood self.old.world }
         ensures kernel { IsKernel self.new.stage self.new.world }

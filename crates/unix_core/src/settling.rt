@@ -88,6 +88,7 @@ fn gives_up(running: Option<Slot>, rows: &[TableRow; 50], runrun: bool) -> bool
 }
 
 /// Settles: who must gives up, and with nobody running there is a choice.
+#[inline(always)]
 pub(crate) fn settle<T: Trace>(table: &mut Table, trace: &mut T)
     requires { IsTable table.old }
     ensures board { (k : Kept) → board_of table.new k ≡ (settled (board_of table.old k)).board }

@@ -1,4 +1,4 @@
-use Rattle.std.proofs.Common.{◌∙◌, sym}
+use Rattle.std.proofs.Common.{◌∙◌}
 use Rattle.image_keep.specs.Kept.{image_in}
 use Rattle.abstract_unix.specs.Calls.{word_at}
 use Rattle.unix_core.proofs.AskedLemmas.{word_is}

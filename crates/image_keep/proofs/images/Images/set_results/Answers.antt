@@ -12,7 +12,7 @@ use Rattle.image_keep.specs.Running.{with_results}
 use Rattle.image_keep.proofs.AreaSet.{AreaSet, known}
 use Rattle.image_keep.proofs.KeptForm.{kept_holds}
 use Rattle.image_keep.proofs.Told.{area_told}
-use Rattle.image_keep.proofs.AreasKept.{image_low, seat, area_known, areas_described}
+use Rattle.image_keep.proofs.AreasKept.{image_low, area_known, areas_described}
 use Rattle.image_keep.proofs.RegisterWords.{results_set, results_sizes}
 use Rattle.std.specs.Vec.{with_items}
 use Rattle.std.proofs.lemmas.List.{with_items_is}
