@@ -187,7 +187,7 @@ impl Images {
     }
 
     // The same for any instruction.
-    #[inline(never)]
+    #[inline(always)]
     fn execute_any(&mut self, fixed: &Fixed) -> bool
         requires { IsFixed self.old.kept fixed.now }
         ensures outcome { IsTrue result → (instr (machine_in self.old.kept fixed.now.slot)).outcome ≡ Next }

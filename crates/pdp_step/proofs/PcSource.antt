@@ -1,9 +1,7 @@
 -- Words with PC as their source: what it holds is where the program goes on.
-use Rattle.std.proofs.Common.{◌≡◌, ◌≢◌, ℕ, zero, suc, ◌+◌, ◌/◌, ◌%◌, ◌<◌, ◌≤◌, Result, Ok, List, length, refl, sym, ap, ◌∙◌, subst, arith}
+use Rattle.std.proofs.Common.{◌≡◌, ◌≢◌, ℕ, zero, suc, ◌/◌, ◌%◌, ◌<◌, ◌≤◌, Result, Ok, length, refl, sym, ap, ◌∙◌, subst, arith}
 use Rattle.pdp_decode.specs.declared.instr.Width.TheVariants.{Word}
-use Rattle.pdp_decode.specs.declared.instr.Mode.{Mode}
 use Rattle.pdp_decode.specs.declared.instr.Mode.TheVariants.{Register, Decrement}
-use Rattle.pdp_decode.specs.declared.instr.Reg.{Reg}
 use Rattle.pdp_decode.specs.declared.instr.Reg.TheVariants.{Pc}
 use Rattle.pdp_decode.specs.declared.instr.Operand.{Operand}
 use Rattle.pdp_decode.specs.declared.instr.Instr.TheVariants.{Mov, Cmp, Bit, Bic, Bis, Add, Sub, Tst, Rti}
@@ -11,11 +9,11 @@ use Rattle.pdp_decode.specs.declared.addressing.Addressing.TheVariants as way
 use Rattle.pdp_decode.specs.Decode.{mode_of, reg_of, operand_of, plain_of, basic_of, single_of, low_of, decode_of}
 use Rattle.pdp_decode.specs.Handlers.{IsAddressed}
 use Rattle.v6_base.specs.Access.{then_do}
-use Rattle.pdp_step.specs.Machine.{Machine, reg_in}
+use Rattle.pdp_step.specs.Machine.{Machine}
 use Rattle.pdp_step.specs.Operands.{InRegister, Stop, value_at, formed, fetched}
 use Rattle.pdp_step.specs.Parts.{at_pc, IsSource}
 use Rattle.pdp_step.proofs.Banks.{held_back}
-use Rattle.pdp_step.proofs.RowEnds.{found, read_at}
+use Rattle.pdp_step.proofs.RowEnds.{found}
 
 -- a register that isn't PC has a lower number
 low_reg : (n : ℕ) → n < 7 → reg_of n ≢ Pc
