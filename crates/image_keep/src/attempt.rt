@@ -12,7 +12,7 @@ use crate::standing::{Standing, instruction_word, reg, set_state};
 use pdp_decode::{Dispatch, Handler};
 use pdp_step::{
     Processor, perform, perform_any, perform_apart, perform_between, perform_bytes,
-    perform_extended, perform_stepping,
+    perform_extended, perform_rare, perform_stepping,
 };
 use u_area::UArea;
 
@@ -252,6 +252,33 @@ fn step_row(
     ensures stands { StandsWith core.new area.new standing.now }
 {
     perform_stepping(&mut processor(core, area, standing), handler, pc, word).is_ok()
+}
+
+/// The same for some words that have no handler.
+#[inline(always)]
+pub(crate) fn attempt_rare(core: &mut [u8], area: &mut UArea, standing: &Standing) -> bool
+    requires { IsAtHand standing.now core.old area.old }
+    ensures { Attempted standing.now core.old core.new area.old area.new result }
+{
+    let pc = usize::from(reg(area, 7));
+    match instruction_word(core, standing, pc) {
+        Some(word) => rare_row(core, area, standing, pc + 2, word),
+        None => false,
+    }
+}
+
+// The row of such a word.
+#[inline(always)]
+fn rare_row(core: &mut [u8], area: &mut UArea, standing: &Standing, pc: usize, word: u32) -> bool
+    requires stands { StandsWith core.old area.old standing.now }
+    requires word { word < 65536 }
+    requires room { pc ≤ 65538 }
+    ensures row { IsTrue result → IsRowDone (standing_machine core.old area.old standing.now) pc word (standing_machine core.new area.new standing.now) }
+    ensures missed { result ≡ false → standing_machine core.new area.new standing.now ≡ standing_machine core.old area.old standing.now }
+    ensures around { around core.new area.new standing.now ≡ around core.old area.old standing.now }
+    ensures stands { StandsWith core.new area.new standing.now }
+{
+    perform_rare(&mut processor(core, area, standing), pc, word).is_ok()
 }
 
 /// The same for any instruction, by no handler.

@@ -35,6 +35,19 @@ fn attempt_in(
     memory.attempt(&mut areas[s], standing, again, dispatch)
 }
 
+/// The same for some words that have no handler.
+#[inline(always)]
+fn attempt_rare_in(memory: &mut Memory, areas: &mut [UArea], s: usize, standing: &Standing) -> bool
+    requires slot { s < length areas.old }
+    requires at_hand { IsAtHand standing.now memory.old.core (area_at areas.old s) }
+    ensures did { Attempted standing.now memory.old.core memory.new.core (area_at areas.old s) (area_at areas.new s) result }
+    ensures swap { memory.new.swap ≡ memory.old.swap }
+    ensures areas { areas.new ≡ slice_set areas.old s (area_at areas.new s) }
+    ensures long { length areas.new ≡ length areas.old }
+{
+    memory.attempt_rare(&mut areas[s], standing)
+}
+
 /// The same for any instruction, by no handler.
 #[inline(always)]
 fn attempt_any_in(memory: &mut Memory, areas: &mut [UArea], s: usize, standing: &Standing) -> bool
@@ -90,7 +103,24 @@ impl Images {
         ensures kept { self.new.kept ≡ with_machine_in self.old.kept fixed.now.slot (instr (machine_in self.old.kept fixed.now.slot)).machine }
         ensures fixed { IsFixed self.new.kept fixed.now }
     {
-        let came = self.outcome_apart(fixed);
+        if let Some(n) = self.call_near(fixed) {
+            *outcome = Outcome::Call(n);
+            return false;
+        }
+        self.execute_rare(fixed) || self.execute_any(fixed) || self.execute_lent(fixed, outcome)
+    }
+
+    // The same over the memory of the process, which is lent for it, with the registers in its u area.
+    #[inline(never)]
+    fn execute_lent(&mut self, fixed: &Fixed, outcome: &mut Outcome) -> bool
+        requires { IsFixed self.old.kept fixed.now }
+        ensures next { IsTrue result ↔ (instr (machine_in self.old.kept fixed.now.slot)).outcome ≡ Next }
+        ensures outcome { result ≡ false → outcome.new ≡ (instr (machine_in self.old.kept fixed.now.slot)).outcome }
+        ensures same { IsTrue result → outcome.new ≡ outcome.old }
+        ensures kept { self.new.kept ≡ with_machine_in self.old.kept fixed.now.slot (instr (machine_in self.old.kept fixed.now.slot)).machine }
+        ensures fixed { IsFixed self.new.kept fixed.now }
+    {
+        let came = self.step_lent(fixed);
         if came == Outcome::Next {
             return true;
         }
@@ -98,26 +128,9 @@ impl Images {
         false
     }
 
-    // What the instruction comes to that is done so: a system call is looked for first.
+    // What an instruction comes to there.
     #[inline(always)]
-    fn outcome_apart(&mut self, fixed: &Fixed) -> Outcome
-        requires { IsFixed self.old.kept fixed.now }
-        ensures outcome { result ≡ (instr (machine_in self.old.kept fixed.now.slot)).outcome }
-        ensures kept { self.new.kept ≡ with_machine_in self.old.kept fixed.now.slot (instr (machine_in self.old.kept fixed.now.slot)).machine }
-        ensures fixed { IsFixed self.new.kept fixed.now }
-    {
-        if let Some(n) = self.call_near(fixed) {
-            return Outcome::Call(n);
-        }
-        if self.execute_any(fixed) {
-            return Outcome::Next;
-        }
-        self.execute_lent(fixed)
-    }
-
-    // The same over the memory of the process, which is lent for it, with the registers in its u area.
-    #[inline(never)]
-    fn execute_lent(&mut self, fixed: &Fixed) -> Outcome
+    fn step_lent(&mut self, fixed: &Fixed) -> Outcome
         requires { IsFixed self.old.kept fixed.now }
         ensures outcome { result ≡ (instr (machine_in self.old.kept fixed.now.slot)).outcome }
         ensures kept { self.new.kept ≡ with_machine_in self.old.kept fixed.now.slot (instr (machine_in self.old.kept fixed.now.slot)).machine }
@@ -155,8 +168,26 @@ impl Images {
         )
     }
 
+    // The same for some words that have no handler.
+    #[inline(always)]
+    fn execute_rare(&mut self, fixed: &Fixed) -> bool
+        requires { IsFixed self.old.kept fixed.now }
+        ensures outcome { IsTrue result → (instr (machine_in self.old.kept fixed.now.slot)).outcome ≡ Next }
+        ensures done { IsTrue result → self.new.kept ≡ with_machine_in self.old.kept fixed.now.slot (instr (machine_in self.old.kept fixed.now.slot)).machine }
+        ensures kept { result ≡ false → self.new.kept ≡ self.old.kept }
+        ensures fixed { IsFixed self.new.kept fixed.now }
+    {
+        self.memory.see_bytes();
+        attempt_rare_in(
+            &mut self.memory,
+            &mut self.areas,
+            fixed.index,
+            &fixed.standing,
+        )
+    }
+
     // The same for any instruction.
-    #[inline(never)]
+    #[inline(always)]
     fn execute_any(&mut self, fixed: &Fixed) -> bool
         requires { IsFixed self.old.kept fixed.now }
         ensures outcome { IsTrue result → (instr (machine_in self.old.kept fixed.now.slot)).outcome ≡ Next }

@@ -6,7 +6,7 @@ ghost use Rattle.v6_base.specs.Image.{AreBytes};
 ghost use Rattle.image_keep.specs.Attempted.{IsAtHand, Attempted, Called};
 ghost use Rattle.image_keep.specs.Line.{line_of};
 
-use crate::attempt::{attempt, attempt_any, attempt_call};
+use crate::attempt::{attempt, attempt_any, attempt_call, attempt_rare};
 use crate::standing::Standing;
 use core_mem::Core;
 use pdp_decode::Dispatch;
@@ -364,6 +364,16 @@ impl Memory {
         ensures swap { self.new.swap ≡ self.old.swap }
     {
         attempt(self.core.bytes_mut(), area, standing, again, dispatch)
+    }
+
+    /// The same for some words that have no handler.
+    #[inline(always)]
+    pub(crate) fn attempt_rare(&mut self, area: &mut UArea, standing: &Standing) -> bool
+        requires { IsAtHand standing.now self.old.core area.old }
+        ensures did { Attempted standing.now self.old.core self.new.core area.old area.new result }
+        ensures swap { self.new.swap ≡ self.old.swap }
+    {
+        attempt_rare(self.core.bytes_mut(), area, standing)
     }
 
     /// The same for any instruction, by no handler.

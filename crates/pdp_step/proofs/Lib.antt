@@ -8,3 +8,4 @@ pub mod RowEnds
 pub mod PcRows
 pub mod AnyMode
 pub mod TableRows
+pub mod PcSource

@@ -26,7 +26,7 @@ use std::marker::PhantomData;
 
 // Puts what is moved to the destination, which isn't read.
 #[inline(always)]
-fn put_moved<P: Processor, W: Size, D: AddressingMode>(
+pub fn put_moved<P: Processor, W: Size, D: AddressingMode>(
     p: &mut P,
     from: usize,
     word: u32,
@@ -80,7 +80,7 @@ pub fn move_to<P: Processor, W: Size, S: AddressingMode, D: AddressingMode>(
 
 // Reads the destination, and keeps the codes alone of what is made of it.
 #[inline(always)]
-fn test_with<P: Processor, W: Size, D: AddressingMode, A: Alteration>(
+pub fn test_with<P: Processor, W: Size, D: AddressingMode, A: Alteration>(
     p: &mut P,
     from: usize,
     word: u32,
@@ -141,7 +141,7 @@ pub fn compare<P: Processor, W: Size, S: AddressingMode, D: AddressingMode, O: O
 
 // Reads the destination, and puts there what is made of it.
 #[inline(always)]
-fn alter_with<P: Processor, W: Size, D: AddressingMode, A: Alteration>(
+pub fn alter_with<P: Processor, W: Size, D: AddressingMode, A: Alteration>(
     p: &mut P,
     from: usize,
     word: u32,

@@ -271,6 +271,7 @@ fn pop_status<P: Processor>(p: &mut P, first: usize, second: usize) -> Result<()
 #[inline(always)]
 pub fn resume<P: Processor>(p: &mut P, pc: usize) -> Result<(), Halt>
     ensures row { Ends result (P.machine p.new) (finished (P.machine p.old).image (go (resumed (at_pc (P.machine p.old) pc)))) }
+    ensures kept { IsMissed result → P.machine p.new ≡ P.machine p.old }
     ensures image { IsMissed result → (P.machine p.new).image ≡ (P.machine p.old).image }
     ensures missed { IsMissed result → P.MayMiss }
     ensures trapped { IsTrapped result → P.MayTrap }

@@ -6,7 +6,7 @@ use pdp_step::Kind::{Illegal, Segment};
 use pdp_step::Outcome::{Call, Fault, Next};
 use v6_base::Place::{Core, Swap};
 
-static INSTRUCTIONS: [Scene; 3] = [
+static INSTRUCTIONS: [Scene; 4] = [
     Scene {
         // MOV #123,@#100; INC @#100; TRAP 24. Slot 1 has clicks 1 to 19, and slot 2 clicks 20 to 38: its u area begins at byte
         // 1,216, with R7 at 1,230, its data at 2,240.
@@ -60,6 +60,65 @@ static INSTRUCTIONS: [Scene; 3] = [
             Puts(1, 8, [0o337, 0o013, 0, 0o100], true),
             Executes(1, Fault(Segment { sp: 0o177776 })),
             Has(false, 14, 8),
+        ],
+    },
+    Scene {
+        // MOV PC,-(SP); ADD, SUB PC,R1; TST PC; CMP, BIS, BIC, BIT PC,R1; RTI. The codes are at byte 16. RTI takes PC from where
+        // the first has put it, and the codes from the word behind, which is the first, at address 0.
+        name: "the program counter as a source, and a return",
+        core: 64,
+        steps: &[
+            Makes(1, 2, 1, Some(Core(1))),
+            Puts(1, 0, [0o346, 0o021, 0o301, 0o141], true),
+            Puts(1, 4, [0o301, 0o341, 0o307, 0o013], true),
+            Puts(1, 8, [0o301, 0o041, 0o301, 0o121], true),
+            Puts(1, 12, [0o301, 0o101, 0o301, 0o061], true),
+            Puts(1, 16, [2, 0, 0, 0], true),
+            Executes(1, Next),
+            Has(false, 12, 0o376),
+            Has(false, 13, 0o377),
+            Has(false, 14, 2),
+            Has(false, 16, 0),
+            Loads(1, 0o177776, Ok(2)),
+            Executes(1, Next),
+            Has(false, 2, 4),
+            Has(false, 3, 0),
+            Has(false, 14, 4),
+            Has(false, 16, 0),
+            // 4 less 6
+            Executes(1, Next),
+            Has(false, 2, 0o376),
+            Has(false, 3, 0o377),
+            Has(false, 14, 6),
+            Has(false, 16, 0o11),
+            Executes(1, Next),
+            Has(false, 14, 8),
+            Has(false, 16, 0),
+            // 10 less -2 borrows
+            Executes(1, Next),
+            Has(false, 2, 0o376),
+            Has(false, 14, 10),
+            Has(false, 16, 1),
+            // 177776 has all bits of 14
+            Executes(1, Next),
+            Has(false, 2, 0o376),
+            Has(false, 14, 12),
+            Has(false, 16, 0o11),
+            // those of 16 go
+            Executes(1, Next),
+            Has(false, 2, 0o360),
+            Has(false, 3, 0o377),
+            Has(false, 14, 14),
+            Has(false, 16, 0o11),
+            Executes(1, Next),
+            Has(false, 2, 0o360),
+            Has(false, 14, 16),
+            Has(false, 16, 1),
+            Executes(1, Next),
+            Has(false, 12, 2),
+            Has(false, 13, 0),
+            Has(false, 14, 2),
+            Has(false, 16, 6),
         ],
     },
     Scene {
