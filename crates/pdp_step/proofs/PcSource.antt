@@ -1,7 +1,7 @@
 -- Words with PC as their source: what it holds is where the program goes on.
 use Rattle.std.proofs.Common.{◌≡◌, ◌≢◌, ℕ, zero, suc, ◌/◌, ◌%◌, ◌<◌, ◌≤◌, Result, Ok, length, refl, sym, ap, ◌∙◌, subst, arith}
 use Rattle.pdp_decode.specs.declared.instr.Width.TheVariants.{Word}
-use Rattle.pdp_decode.specs.declared.instr.Mode.TheVariants.{Register, Decrement}
+use Rattle.pdp_decode.specs.declared.instr.Mode.TheVariants.{Register}
 use Rattle.pdp_decode.specs.declared.instr.Reg.TheVariants.{Pc}
 use Rattle.pdp_decode.specs.declared.instr.Operand.{Operand}
 use Rattle.pdp_decode.specs.declared.instr.Instr.TheVariants.{Mov, Cmp, Bit, Bic, Bis, Add, Sub, Tst, Rti}

@@ -9,7 +9,7 @@ ghost use Rattle.pdp_step.specs.Rows.{moved, compared, joined};
 ghost use Rattle.pdp_step.specs.Instruction.{go, row_of};
 ghost use Rattle.pdp_step.specs.After.{finished};
 ghost use Rattle.pdp_step.specs.Parts.{at_pc, IsMissed, IsTrapped, Ends};
-ghost use Rattle.pdp_step.specs.PcWords.{IsRare};
+ghost use Rattle.pdp_step.specs.PcWords.{IsOfPc, IsRare};
 
 use crate::addressing_mode::{AddressingMode, low_word, set_pc};
 use crate::alteration::With;
@@ -90,6 +90,29 @@ fn test_pc<P: Processor>(p: &mut P, pc: usize, word: u32) -> Result<(), Halt>
     Ok(())
 }
 
+// The words with PC as their source.
+#[inline(always)]
+fn perform_pc<P: Processor>(p: &mut P, pc: usize, word: u32) -> Result<(), Halt>
+    requires room { pc ≤ 65538 }
+    ensures row { Ends result (P.machine p.new) (finished (P.machine p.old).image (row_of (at_pc (P.machine p.old) pc) word (decode_of word))) }
+    ensures kept { IsMissed result → P.machine p.new ≡ P.machine p.old }
+    ensures missed { IsOfPc word → IsMissed result → P.MayMiss }
+    ensures trapped { IsTrapped result → P.MayTrap }
+    ensures rest { P.rest p.new ≡ P.rest p.old }
+{
+    match word {
+        0o010700..=0o010706 => move_pc::<P, Register>(p, pc, word),
+        0o010740..=0o010746 => move_pc::<P, Autodecrement>(p, pc, word),
+        0o020700..=0o020706 => compare_pc::<P, Comparison>(p, pc, word),
+        0o030700..=0o030706 => compare_pc::<P, BitTest>(p, pc, word),
+        0o040700..=0o040706 => join_pc::<P, BitClear>(p, pc, word),
+        0o050700..=0o050706 => join_pc::<P, BitSet>(p, pc, word),
+        0o060700..=0o060706 => join_pc::<P, Addition>(p, pc, word),
+        0o160700..=0o160706 => join_pc::<P, Subtraction>(p, pc, word),
+        _ => Err(Halt::Missed),
+    }
+}
+
 /// The row of some words that have no handler: MOV, CMP, BIT, BIC, BIS, ADD and SUB of PC and another register, MOV PC,-(R), TST
 /// of PC, and RTI. Where it misses, nothing has changed.
 #[inline(always)]
@@ -101,17 +124,12 @@ pub fn perform_rare<P: Processor>(p: &mut P, pc: usize, word: u32) -> Result<(),
     ensures trapped { IsTrapped result → P.MayTrap }
     ensures rest { P.rest p.new ≡ P.rest p.old }
 {
+    if word / 64 % 64 == 7 {
+        return perform_pc(p, pc, word);
+    }
     match word {
         0o000002 => resume(p, pc),
         0o005707 => test_pc(p, pc, word),
-        0o010700..=0o010706 => move_pc::<P, Register>(p, pc, word),
-        0o010740..=0o010746 => move_pc::<P, Autodecrement>(p, pc, word),
-        0o020700..=0o020706 => compare_pc::<P, Comparison>(p, pc, word),
-        0o030700..=0o030706 => compare_pc::<P, BitTest>(p, pc, word),
-        0o040700..=0o040706 => join_pc::<P, BitClear>(p, pc, word),
-        0o050700..=0o050706 => join_pc::<P, BitSet>(p, pc, word),
-        0o060700..=0o060706 => join_pc::<P, Addition>(p, pc, word),
-        0o160700..=0o160706 => join_pc::<P, Subtraction>(p, pc, word),
         _ => Err(Halt::Missed),
     }
 }

@@ -2,7 +2,7 @@ use Rattle.std.proofs.Common.{rules, ◌∙◌, ap}
 use Rattle.u_area.specs.declared.area.UArea.{UArea}
 use Rattle.image_keep.specs.Lent.{Lent}
 use Rattle.image_keep.proofs.Executed.{fixed_after, outcome_is, kept_after}
-use Rattle.image_keep.proofs.images.Images.execute_lent.Goals as goal
+use Rattle.image_keep.proofs.images.Images.step_lent.Goals as goal
 
 pub set_registers_at-requires-clause-fixed : goal.set_registers_at-requires-clause-fixed
 set_registers_at-requires-clause-fixed c =
