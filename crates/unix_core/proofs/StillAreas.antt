@@ -1,5 +1,5 @@
--- A call on files that doesn't sleep leaves the u area of its process as it was, where it opens and closes no file and enters no
--- directory.
+-- A call on files that doesn't sleep leaves the u area of its process as it was, where it opens and closes no file and enters
+-- no directory.
 use Rattle.std.proofs.Common.{◌≡◌, ◌≢◌, ◌+◌, ◌-◌, ◌/◌, ◌%◌, ◌==◌, ℕ, Bool, true, false, not, cond, nat_lt, List, [], ◌∷◌, length, is_some, Option, Some, None, Result, Ok, Err, if◌then◌else◌, slice_index, refl, sym, ap, ◌∙◌, subst}
 use Rattle.std.specs.Prelude.{⊤, ℤ, bit_and}
 use Rattle.std.proofs.lemmas.Bool.{false≢true}

@@ -66,12 +66,12 @@ pub(crate) fn do_on_files(
     answer
 }
 
-/// Whether a call on files may have changed the u area of its process: it has where it sleeps, and it may have where it opens or
-/// closes files, or enters a directory.
+/// Whether a call on files may have changed the u area of its process: one that sleeps has, and one that opens or closes
+/// files or enters a directory may have.
 #[inline]
 fn changes_area(call: FileCall, answer: Answer) -> bool
-    ensures { result ≡ false → (h : Handed) (slot : ℕ) (args : List ℕ) (now : ℕ) → (file_row call h slot args now).answer ≡ answer
-        → (file_row call h slot args now).state.u ≡ h.u }
+    ensures { result ≡ false → (h : Handed) (slot : ℕ) (args : List ℕ) (now : ℕ)
+        → (file_row call h slot args now).answer ≡ answer → (file_row call h slot args now).state.u ≡ h.u }
 {
     match call {
         FileCall::Open
