@@ -17,6 +17,8 @@ use Rattle.fs_codec.specs.Bytes.{bytes_of}
 use Rattle.fs_codec.specs.Modes.{is_device, is_directory, is_character_device}
 use Rattle.fs_codec.specs.Store.{Node, Store, node_numbered}
 use Rattle.fs_codec.specs.declared.modes.TheConstants.{IALLOC}
+use Rattle.u_area.specs.declared.layout.TheConstants.{CONSOLE_READ, PIPE_READ, PIPE_WRITE}
+use Rattle.u_area.specs.Pending.{IsPipeCall}
 use Rattle.fs_laws.specs.Numbers.{is_free_number, Draw, drawn, refill, draw, with_draw, new_node, with_node, without_node}
 use Rattle.fs_nodes.specs.FileSystem.{referenced}
 use Rattle.fs_laws.specs.Pieces.{Moving}
@@ -65,7 +67,7 @@ use Rattle.sys_files.proofs.PipeCounts.{reads_count, writes_count}
 abbrev pub asleep_for_keys : Handed → ℕ → ℕ → ℕ → Did
 asleep_for_keys h entry at count = record {
   answer = Sleep (pos 10) Keys;
-  state = record h { u = record h.u { pending = 1; call = entry ∷ at ∷ count ∷ 0 ∷ 0 ∷ 0 ∷ 0 ∷ 0 ∷ [] } };
+  state = record h { u = record h.u { pending = CONSOLE_READ; call = entry ∷ at ∷ count ∷ 0 ∷ 0 ∷ 0 ∷ 0 ∷ 0 ∷ [] } };
   items = [];
 }
 
@@ -94,7 +96,7 @@ pub record StepWalks (P : Handed → Type 0) (Q : Did → Type 0) (Few Known : �
   pub done : (h : Handed) (value : ℕ) → P h → Q (returns h value)
   pub lets_go : (ino : ℕ) (d : Did) → Q d → Q (until_end ino d)
   pub waits : (h : Handed) (entry at count : ℕ) → P h → Q (asleep_for_keys h entry at count)
-  pub waits_in_pipe : (h : Handed) (chan : Chan) (pending : ℕ) (words : List ℕ) → (pending ≡ 3) ⊎ (pending ≡ 4)
+  pub waits_in_pipe : (h : Handed) (chan : Chan) (pending : ℕ) (words : List ℕ) → IsPipeCall pending
       → IsOfPipe Known chan → P h
       → Q (asleep_in_pipe h chan pending words)
   pub wakes : (h : Handed) (a b : ℕ) (last : Bool) → P h → Q
@@ -445,8 +447,8 @@ module _ {P : Handed → Type 0} {Q : Did → Type 0} {Few Known : ℕ → Type 
       → Q (ends_read h ino entry at count answer)
   walk_ends_read h ino entry at count (piped.Done n) known p = k.done h n p
   walk_ends_read h ino entry at count (piped.Wait left) known p =
-      unless_due_walk h (asleep_in_pipe h (chan.Read ino) 3 (words_of entry at count 0)) p
-      (k.waits_in_pipe h (chan.Read ino) 3 (words_of entry at count 0) (inl refl) known p)
+      unless_due_walk h (asleep_in_pipe h (chan.Read ino) PIPE_READ (words_of entry at count 0)) p
+      (k.waits_in_pipe h (chan.Read ino) PIPE_READ (words_of entry at count 0) (inl refl) known p)
   walk_ends_read h ino entry at count piped.Broken known p = k.refused h EPIPE p
   walk_ends_read h ino entry at count (piped.Error e) known p = k.refused h e p
 
@@ -468,8 +470,8 @@ module _ {P : Handed → Type 0} {Q : Did → Type 0} {Few Known : ℕ → Type 
       → Q (ends_write h slot ino entry at count answer)
   walk_ends_write h ino entry at count (piped.Done n) known p = k.done h count p
   walk_ends_write h ino entry at count (piped.Wait left) known p =
-      unless_due_walk h (asleep_in_pipe h (chan.Write ino) 4 (words_of entry at count left)) p
-      (k.waits_in_pipe h (chan.Write ino) 4 (words_of entry at count left) (inr refl) known p)
+      unless_due_walk h (asleep_in_pipe h (chan.Write ino) PIPE_WRITE (words_of entry at count left)) p
+      (k.waits_in_pipe h (chan.Write ino) PIPE_WRITE (words_of entry at count left) (inr refl) known p)
   walk_ends_write h ino entry at count piped.Broken known p = k.breaks h p
   walk_ends_write h ino entry at count (piped.Error e) known p = k.refused h e p
 
@@ -737,8 +739,8 @@ module _ {P : Handed → Type 0} {Q : Did → Type 0} {Few Known : ℕ → Type 
       (opens_pipe (with_inodes h found.inodes) ino within.0 (subst (λ n. ino ≤ n) (sym same) within.1) there))
 
   -- A call in which a process slept goes on: in a pipe where it has an end of one.
-  goes_by : (h : Handed) (now : ℕ) (b c : Bool) → (h.u.pending == 1) ≡ b → (h.u.pending == 3) ≡ c
-      → ((h.u.pending == 1) ≡ false → (file_of h (slice_index h.u.call 0)).kind.pipe ≡ true) → P (without_pending h)
+  goes_by : (h : Handed) (now : ℕ) (b c : Bool) → (h.u.pending == CONSOLE_READ) ≡ b → (h.u.pending == PIPE_READ) ≡ c
+      → ((h.u.pending == CONSOLE_READ) ≡ false → (file_of h (slice_index h.u.call 0)).kind.pipe ≡ true) → P (without_pending h)
       → Q (cond b (resume_read h)
       (cond c (reads_pipe (without_pending h) (slice_index h.u.call 0) (slice_index h.u.call 1) (slice_index h.u.call 2) now)
       (writes_pipe (without_pending h) slot (slice_index h.u.call 0) (slice_index h.u.call 1) (slice_index h.u.call 2)
@@ -747,7 +749,7 @@ module _ {P : Handed → Type 0} {Q : Did → Type 0} {Few Known : ℕ → Type 
   goes_by h now false true e f has p = walk_reads_pipe (without_pending h) _ _ _ now (has e) p
   goes_by h now false false e f has p = walk_writes_pipe (without_pending h) _ _ _ _ now (has e) p
 
-  pub walk_resume : (h : Handed) (now : ℕ) → ((h.u.pending == 1) ≡ false → (file_of h (slice_index h.u.call 0)).kind.pipe ≡ true)
+  pub walk_resume : (h : Handed) (now : ℕ) → ((h.u.pending == CONSOLE_READ) ≡ false → (file_of h (slice_index h.u.call 0)).kind.pipe ≡ true)
       → P (without_pending h) → Q (resumes h slot now)
   walk_resume h now has p =
-      unless_due_walk (without_pending h) _ p (goes_by h now (h.u.pending == 1) (h.u.pending == 3) refl refl has p)
+      unless_due_walk (without_pending h) _ p (goes_by h now (h.u.pending == CONSOLE_READ) (h.u.pending == PIPE_READ) refl refl has p)

@@ -1,5 +1,5 @@
 -- One walk over the rows of calls on files, for each fact that says what stays.
-use Rattle.std.proofs.Common.{◌≡◌, ◌<◌, ◌≤◌, ◌⊎◌, ◌+◌, ◌-◌, ◌/◌, ◌%◌, ◌==◌, ◌&&◌, ◌++◌, ℕ, zero, suc, Bool, true, false, not, nat_lt, cond, List, [], ◌∷◌, length, map, pos, is_some, IfSome, Option, Some, None, Result, Ok, Err, if◌then◌else◌, slice_index, refl, sym, ap, ◌∙◌, subst, inl, inr, arith, length-append}
+use Rattle.std.proofs.Common.{◌≡◌, ◌<◌, ◌≤◌, ◌+◌, ◌-◌, ◌/◌, ◌%◌, ◌==◌, ◌&&◌, ◌++◌, ℕ, zero, suc, Bool, true, false, not, nat_lt, cond, List, [], ◌∷◌, length, map, pos, is_some, IfSome, Option, Some, None, Result, Ok, Err, if◌then◌else◌, slice_index, refl, sym, ap, ◌∙◌, subst, inl, inr, arith, length-append}
 use Rattle.std.specs.List.{All}
 use Rattle.std.proofs.lemmas.Bool.{false≢true, eq-eqb}
 use Rattle.std.proofs.lemmas.List.{append-nil, map-append}
@@ -20,6 +20,8 @@ use Rattle.fs_codec.specs.Bytes.{bytes_of}
 use Rattle.fs_codec.specs.Modes.{is_device, is_directory, is_character_device}
 use Rattle.fs_codec.specs.Store.{Node}
 use Rattle.fs_codec.specs.declared.modes.TheConstants.{IALLOC}
+use Rattle.u_area.specs.declared.layout.TheConstants.{CONSOLE_READ, PIPE_READ, PIPE_WRITE}
+use Rattle.u_area.specs.Pending.{IsPipeCall}
 use Rattle.fs_laws.specs.Pieces.{Moving}
 use Rattle.fs_tree.specs.declared.made.Made.{Made}
 use Rattle.fs_tree.specs.declared.made.Made.TheVariants as made
@@ -65,7 +67,7 @@ use Rattle.sys_files.proofs.PipedLemmas.{pipe_lengths, left_of, write_leaves}
 abbrev pub asleep_for_keys : Handed → ℕ → ℕ → ℕ → Did
 asleep_for_keys h entry at count = record {
   answer = Sleep (pos 10) Keys;
-  state = record h { u = record h.u { pending = 1; call = entry ∷ at ∷ count ∷ 0 ∷ 0 ∷ 0 ∷ 0 ∷ 0 ∷ [] } };
+  state = record h { u = record h.u { pending = CONSOLE_READ; call = entry ∷ at ∷ count ∷ 0 ∷ 0 ∷ 0 ∷ 0 ∷ 0 ∷ [] } };
   items = [];
 }
 
@@ -90,7 +92,7 @@ pub record Walks (P : Handed → Type 0) (Q : Did → Type 0) (Few Named : ℕ �
   pub done : (h : Handed) (a b : ℕ) → P h → Q (record { answer = Ret a b; state = h; items = [] })
   pub lets_go : (ino : ℕ) (d : Did) → Q d → Q (until_end ino d)
   pub waits : (h : Handed) (entry at count : ℕ) → P h → Q (asleep_for_keys h entry at count)
-  pub waits_in_pipe : (h : Handed) (chan : Chan) (pending entry at count left : ℕ) → (pending ≡ 3) ⊎ (pending ≡ 4)
+  pub waits_in_pipe : (h : Handed) (chan : Chan) (pending entry at count left : ℕ) → IsPipeCall pending
       → IsOfFiles Named chan
       → IsAwaiting h entry count left → P h → Q (asleep_in_pipe h chan pending (words_of entry at count left))
   pub tells : (entries : List Entry) (d : Did) → length entries ≤ 3 → All (IsLineOf Named slot) entries → d.items ≡ [] → Q d
@@ -382,7 +384,7 @@ module _ {P : Handed → Type 0} {Q : Did → Type 0} {Few Named : ℕ → Type 
       told_woken woken chan [] d named (omega arith) no_line none
       (subst Q (ap (λ (l : List Item). record { answer = d.answer; state = d.state; items = l }) none) q)
 
-  waits_woken : (woken : Bool) (on chan : Chan) (h : Handed) (pending entry at count left : ℕ) → (pending ≡ 3) ⊎ (pending ≡ 4)
+  waits_woken : (woken : Bool) (on chan : Chan) (h : Handed) (pending entry at count left : ℕ) → IsPipeCall pending
       → IsOfFiles Named on
       → IsOfFiles Named chan → IsAwaiting h entry count left → P h
       → Q (after (cond woken (Log (Wake on) ∷ []) []) (waits_in_pipe h chan pending (words_of entry at count left)))
@@ -400,7 +402,7 @@ module _ {P : Handed → Type 0} {Q : Did → Type 0} {Few Named : ℕ → Type 
   read_ends woken h ino entry at count (piped.Done n) name awaits p =
       quiet_woken woken (channel.Write ino) (returns h n) name refl (k.done h n (r1 h) p)
   read_ends woken h ino entry at count (piped.Wait left) name awaits p =
-      waits_woken woken (channel.Write ino) (Read ino) h 3 entry at count 0 (inl refl) name name awaits p
+      waits_woken woken (channel.Write ino) (Read ino) h PIPE_READ entry at count 0 (inl refl) name name awaits p
   read_ends woken h ino entry at count piped.Broken name awaits p =
       quiet_woken woken (channel.Write ino) (fails h EPIPE) name refl (k.refused h EPIPE p)
   read_ends woken h ino entry at count (piped.Error e) name awaits p =
@@ -412,7 +414,7 @@ module _ {P : Handed → Type 0} {Q : Did → Type 0} {Few Named : ℕ → Type 
   write_ends woken h ino entry at count (piped.Done n) name awaits p =
       quiet_woken woken (Read ino) (returns h count) name refl (k.done h count (r1 h) p)
   write_ends woken h ino entry at count (piped.Wait left) name awaits p =
-      waits_woken woken (Read ino) (channel.Write ino) h 4 entry at count left (inr refl) name name awaits p
+      waits_woken woken (Read ino) (channel.Write ino) h PIPE_WRITE entry at count left (inr refl) name name awaits p
   write_ends woken h ino entry at count piped.Broken name awaits p =
       told_woken woken (Read ino) (Signal slot SIGPIPE ∷ []) (breaks h slot) name (omega arith)
       (All-cons (IsLineOf Named slot) (Signal slot SIGPIPE) [] (inr refl) no_line) refl
@@ -607,9 +609,9 @@ module _ {P : Handed → Type 0} {Q : Did → Type 0} {Few Named : ℕ → Type 
       k.done last fd next_fd (k.around _ last.inodes last.files last.pipes last.line (k.moved l last.u.files l.u.dir q))))))
 
   -- A call goes on in which a process slept: what it waits for in a pipe is there.
-  pub walk_resume : (h : Handed) (now : ℕ) → ((h.u.pending == 1) ≡ false → AwaitsPipe Named h) → P (without_pending h)
+  pub walk_resume : (h : Handed) (now : ℕ) → ((h.u.pending == CONSOLE_READ) ≡ false → AwaitsPipe Named h) → P (without_pending h)
       → Q (resumes h slot now)
-  walk_resume h now waiting p = unless_due_walk rest (goes_on h slot now) p (by (h.u.pending == 1) (h.u.pending == 3) refl)
+  walk_resume h now waiting p = unless_due_walk rest (goes_on h slot now) p (by (h.u.pending == CONSOLE_READ) (h.u.pending == PIPE_READ) refl)
     where
       rest : Handed
       rest = without_pending h
@@ -617,7 +619,7 @@ module _ {P : Handed → Type 0} {Q : Did → Type 0} {Few Named : ℕ → Type 
       word : ℕ → ℕ
       word i = slice_index h.u.call i
 
-      by : (console reads : Bool) → (h.u.pending == 1) ≡ console
+      by : (console reads : Bool) → (h.u.pending == CONSOLE_READ) ≡ console
           → Q (cond console (resume_read h)
           (cond reads (reads_pipe rest (word 0) (word 1) (word 2) now)
           (writes_pipe rest slot (word 0) (word 1) (word 2) (word 3) now)))
