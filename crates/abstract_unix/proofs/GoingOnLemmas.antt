@@ -8,7 +8,7 @@ use Rattle.v6_base.specs.declared.answer.Answer.TheVariants.{Ret, Fail, Sleep}
 use Rattle.open_files.specs.declared.file.OpenFile.{OpenFile}
 use Rattle.open_files.specs.declared.file.FileKind.{FileKind}
 use Rattle.open_files.specs.Files.{file_at, times, changed, with_more, shared}
-use Rattle.u_area.specs.declared.layout.TheConstants.{NOTHING_PENDING, CONSOLE_READ}
+use Rattle.u_area.specs.declared.layout.TheConstants.{NOTHING_PENDING, LINE_READ}
 use Rattle.u_area.specs.Pending.{is_on_files, IsPipeCall}
 use Rattle.u_area.proofs.PendingLemmas.{on_files_cases}
 use Rattle.sys_files.specs.Handed.{Handed}
@@ -172,8 +172,8 @@ handed_goes_on u s can is lives on = by (on_files_cases n on)
         let own = handed_pends u s can is lives waits in
         record { file = own.end.file; there = own.end.there; pipe = own.end.pipe; left = own.left }
 
-    by : (n ≡ CONSOLE_READ) ⊎ IsPipeCall n → sound.CanGoOn (handed_of u (process_of u s))
-    by (inl console) = inl console
+    by : (n ≡ LINE_READ) ⊎ IsPipeCall n → sound.CanGoOn (handed_of u (process_of u s))
+    by (inl line) = inl line
     by (inr waits) = inr (waits, at waits)
 
 -- 2. A call on files of the process of a slot. An entry that another process names has one number more at least.

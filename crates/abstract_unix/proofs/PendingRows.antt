@@ -19,7 +19,7 @@ use Rattle.tty_line.specs.Output.{shows, after_shown}
 use Rattle.tty_line.specs.declared.line.Took.{Took}
 use Rattle.tty_line.specs.declared.line.Took.TheVariants as took
 use Rattle.sig_core.specs.Signals.{due}
-use Rattle.u_area.specs.declared.layout.TheConstants.{NOTHING_PENDING, CONSOLE_READ, PIPE_READ, PIPE_WRITE}
+use Rattle.u_area.specs.declared.layout.TheConstants.{NOTHING_PENDING, LINE_READ, PIPE_READ, PIPE_WRITE}
 use Rattle.u_area.specs.declared.area.UArea.{UArea}
 use Rattle.u_area.specs.Pending.{is_on_files, IsPipeCall}
 use Rattle.u_area.proofs.PendingLemmas.{on_pipe}
@@ -85,7 +85,7 @@ holds_line h entry at count took.Wait free =
     holds_either (is_some (due h.row h.u)) _ _ (holds_free _ free)
     (record { pends = λ waits. keys waits; user = λ awake. absurd (cc awake) })
   where
-    keys : {P : Type 0} → IsPipeCall CONSOLE_READ → P
+    keys : {P : Type 0} → IsPipeCall LINE_READ → P
     keys (inl three) = absurd (omega (arith, three))
     keys (inr four) = absurd (omega (arith, four))
 holds_line h entry at count took.Fault free = holds_free _ free
@@ -261,7 +261,7 @@ row_user call h slot args now free awake = (row_holds call h slot args now free)
 -- A process goes on with a call on files.
 resume_holds : (h : Handed) (slot now : ℕ) → is_on_files h.u.pending ≡ true → Pends h → Holds (resumes h slot now)
 resume_holds h slot now on pends =
-    holds_either (is_some (due (without_pending h).row (without_pending h).u)) _ _ (holds_free _ refl) (by (h.u.pending == CONSOLE_READ) refl (h.u.pending == PIPE_READ))
+    holds_either (is_some (due (without_pending h).row (without_pending h).u)) _ _ (holds_free _ refl) (by (h.u.pending == LINE_READ) refl (h.u.pending == PIPE_READ))
   where
     entry : ℕ
     entry = slice_index h.u.call 0
@@ -278,9 +278,9 @@ resume_holds h slot now on pends =
     rest : Handed
     rest = without_pending h
 
-    by : (a : Bool) → (h.u.pending == CONSOLE_READ) ≡ a → (b : Bool)
+    by : (a : Bool) → (h.u.pending == LINE_READ) ≡ a → (b : Bool)
         → Holds (cond a (resume_read h) (cond b (reads_pipe rest entry at count now) (writes_pipe rest slot entry at count left now)))
-    by true console b = holds_reads_line rest entry at count refl
+    by true line b = holds_reads_line rest entry at count refl
     by false other true = holds_reads_pipe rest entry at count now refl (pends (on_pipe h.u.pending on other)).end
     by false other false =
         let held = pends (on_pipe h.u.pending on other) in

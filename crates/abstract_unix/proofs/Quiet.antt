@@ -11,7 +11,7 @@ use Rattle.v6_base.specs.declared.entry.Chan.{Chan}
 use Rattle.v6_base.specs.declared.entry.Chan.TheVariants.{RunIn, RunOut, Tout, Keys, Wait, Read, Write}
 use Rattle.v6_base.specs.declared.entry.Entry.{Entry}
 use Rattle.v6_base.specs.declared.entry.Entry.TheVariants.{Wake, Signal}
-use Rattle.u_area.specs.declared.layout.TheConstants.{NOTHING_PENDING, CONSOLE_READ}
+use Rattle.u_area.specs.declared.layout.TheConstants.{NOTHING_PENDING, LINE_READ}
 use Rattle.u_area.specs.declared.area.UArea.{UArea}
 use Rattle.u_area.specs.Pending.{IsPipeCall}
 use Rattle.fs_tree.specs.Name.{readable}
@@ -219,7 +219,7 @@ calm_walks old s = record {
 }
 
 -- A call in which a process slept goes on: until it sleeps again no call is waited in.
-pub resume_calm : (h : Handed) (s now : ℕ) → ((h.u.pending == CONSOLE_READ) ≡ false
+pub resume_calm : (h : Handed) (s now : ℕ) → ((h.u.pending == LINE_READ) ≡ false
     → (file_of h (slice_index h.u.call 0)).kind.pipe ≡ true) → HasNumbers h
     → Calm (without_pending h).u s (resumes h s now)
 resume_calm h s now has numbers =

@@ -2,7 +2,7 @@
 -- open have numbers that a channel may have, and who waits in a pipe can go on.
 use Rattle.std.proofs.Common.{◌≡◌, ◌≤◌, ◌==◌, ◌∙◌, ℕ, true, false, length, get_or, Some, None, unwrap_or, slice_index, ap}
 use Rattle.open_files.specs.Files.{file_at}
-use Rattle.u_area.specs.declared.layout.TheConstants.{CONSOLE_READ}
+use Rattle.u_area.specs.declared.layout.TheConstants.{LINE_READ}
 use Rattle.u_area.specs.Pending.{is_on_files, IsPipeCall}
 use Rattle.u_area.proofs.PendingLemmas.{on_pipe}
 use Rattle.sys_files.specs.Handed.{no_file, file_of}
@@ -28,7 +28,7 @@ tidy_numbers u s tidy = record { count = tidy.count; pipes = tidy.pipes }
 -- Who waits in a call on files, and not for keys, has an end of a pipe.
 pub tidy_end : (u : Unix) (s : ℕ) → IsTidy u → get_or u.processes s None ≡ Some (process_of u s)
     → (process_of u s).is_zombie ≡ false
-    → is_on_files (process_of u s).u.pending ≡ true → ((process_of u s).u.pending == CONSOLE_READ) ≡ false
+    → is_on_files (process_of u s).u.pending ≡ true → ((process_of u s).u.pending == LINE_READ) ≡ false
     → (file_of (handed_of u (process_of u s)) (slice_index (process_of u s).u.call 0)).kind.pipe ≡ true
 tidy_end u s tidy there lives on other =
     by (on_pipe (process_of u s).u.pending on other)

@@ -18,7 +18,7 @@ use Rattle.sig_core.specs.declared.numbers.TheConstants.{SIGSEG, SIGSYS, SIGINS,
 use Rattle.sig_core.specs.Signals.{handler_of, due}
 use Rattle.sig_core.specs.declared.psig.Delivered.TheVariants.{Ends, Caught}
 use Rattle.sig_core.specs.Delivery.{Delivery, makes_core, signal_stack, delivery, caught, pushed}
-use Rattle.u_area.specs.declared.layout.TheConstants.{NOTHING_PENDING, CONSOLE_READ}
+use Rattle.u_area.specs.declared.layout.TheConstants.{NOTHING_PENDING, LINE_READ}
 use Rattle.u_area.specs.declared.area.UArea.{UArea}
 use Rattle.u_area.specs.Pending.{is_on_files}
 use Rattle.open_files.specs.Files.{file_at, times, shared}
@@ -358,7 +358,7 @@ module _ (s : ℕ) where
       by : (b : Bool) → is_on_files (process_of u s).u.pending ≡ b
           → Leaves s (cond b (did_by u s did) (came_by u s (resume_proc (world_of u) s)))
       by true on =
-          let has : (h.u.pending == CONSOLE_READ) ≡ false → _ = tidy_end u s r.tidy r.there r.lives on in
+          let has : (h.u.pending == LINE_READ) ≡ false → _ = tidy_end u s r.tidy r.there r.lives on in
           let calm : Calm (without_pending h).u s did = resume_calm h s u.clock.time has (tidy_numbers u s r.tidy) in
           leaves_runs (did_by u s did)
           (runs_did s u did (walk_resume (counted_walks h s) h u.clock.time has (runs_counted s u r)) calm.numbers

@@ -9,7 +9,7 @@ use Rattle.pick_rules.specs.Lawful.{Seen}
 use Rattle.log_laws.proofs.Fitting.{Apt}
 use Rattle.log_laws.proofs.Seats.{Seats, with_seat, InTurn, InCall, Paused, busy_agrees}
 use Rattle.log_laws.proofs.Lines.{seat_stays}
-use Rattle.u_area.specs.declared.layout.TheConstants.{NOTHING_PENDING, CONSOLE_READ}
+use Rattle.u_area.specs.declared.layout.TheConstants.{NOTHING_PENDING, LINE_READ}
 use Rattle.u_area.specs.declared.area.UArea.{UArea}
 use Rattle.u_area.specs.Pending.{is_on_files}
 use Rattle.sys_files.specs.Handed.{Handed, file_of}
@@ -125,7 +125,7 @@ module _ (s : ℕ) (seen : Seen) where
       old : UArea
       old = record (process_of u s).u { pending = NOTHING_PENDING; call = replicate 8 0 }
 
-      at_end : is_on_files (process_of u s).u.pending ≡ true → ((process_of u s).u.pending == CONSOLE_READ) ≡ false
+      at_end : is_on_files (process_of u s).u.pending ≡ true → ((process_of u s).u.pending == LINE_READ) ≡ false
           → (file_of (handed_of u (process_of u s)) (slice_index (process_of u s).u.call 0)).kind.pipe ≡ true
       at_end on other =
           tidy_end u s tidy (runner_there u.processes u.clock u.texts u.limit s seen.board t)

@@ -13,7 +13,7 @@ use Rattle.sys_files.specs.Handed.{Handed, r0, node_at, file_of, is_console}
 use Rattle.sig_core.specs.Signals.{due}
 use Rattle.sys_files.specs.Did.{Did, fails, check, must}
 use Rattle.sys_files.specs.Descriptors.{open_entry}
-use Rattle.u_area.specs.declared.layout.TheConstants.{CONSOLE_READ, PIPE_READ, NOTHING_PENDING}
+use Rattle.u_area.specs.declared.layout.TheConstants.{LINE_READ, PIPE_READ, NOTHING_PENDING}
 use Rattle.u_area.specs.declared.area.UArea.{UArea}
 use Rattle.tty_line.specs.declared.line.Took.{Took}
 use Rattle.tty_line.specs.declared.line.Took.TheVariants.{Done, Wait, Fault}
@@ -108,13 +108,13 @@ read_place h entry at count now = ((file_of h entry).offset + (read_of h entry a
 
 -- A sleep leaves another call that goes on, unless a signal is due.
 kept_waits : (old h : Handed) (entry at count : ℕ) → IsKept old h
-    → IsKept old (record h { u = record h.u { pending = CONSOLE_READ; call = entry ∷ at ∷ count ∷ 0 ∷ 0 ∷ 0 ∷ 0 ∷ 0 ∷ [] } })
+    → IsKept old (record h { u = record h.u { pending = LINE_READ; call = entry ∷ at ∷ count ∷ 0 ∷ 0 ∷ 0 ∷ 0 ∷ 0 ∷ [] } })
     → IsKept old (waits_for_keys h entry at count).state
 kept_waits old h entry at count same waits = by (is_some (due h.row h.u))
   where
     by : (b : Bool) → IsKept old (cond {A = Did} b (fails h EINTR) (record {
       answer = Sleep (pos 10) Keys;
-      state = record h { u = record h.u { pending = CONSOLE_READ; call = entry ∷ at ∷ count ∷ 0 ∷ 0 ∷ 0 ∷ 0 ∷ 0 ∷ [] } };
+      state = record h { u = record h.u { pending = LINE_READ; call = entry ∷ at ∷ count ∷ 0 ∷ 0 ∷ 0 ∷ 0 ∷ 0 ∷ [] } };
       items = [];
     })).state
     by true = same
@@ -192,24 +192,24 @@ kept_by h slot now false false false sound = pipe_write_kept h sound NOTHING_PEN
 
 pub resumes_kept : (h : Handed) (slot now : ℕ) → IsSound h → IsKept h (resumes h slot now).state
 resumes_kept h slot now sound =
-    kept_by h slot now (is_some (due h.row (without_pending h).u)) (h.u.pending == CONSOLE_READ) (h.u.pending == PIPE_READ) sound
+    kept_by h slot now (is_some (due h.row (without_pending h).u)) (h.u.pending == LINE_READ) (h.u.pending == PIPE_READ) sound
 
 -- What a call comes to that is taken up again, by its tests.
 pub resume_broken : (h : Handed) (slot now : ℕ) → is_some (due h.row (without_pending h).u) ≡ true
     → fails (without_pending h) EINTR ≡ resumes h slot now
-resume_broken h slot now broken = sym (ap (λ b. resumed_by h slot now b (h.u.pending == CONSOLE_READ) (h.u.pending == PIPE_READ)) broken)
+resume_broken h slot now broken = sym (ap (λ b. resumed_by h slot now b (h.u.pending == LINE_READ) (h.u.pending == PIPE_READ)) broken)
 
 module _ (h : Handed) (slot now : ℕ) (calm : is_some (due h.row (without_pending h).u) ≡ false) where
-  resumed_as : (console reads : Bool) → (h.u.pending == CONSOLE_READ) ≡ console → (h.u.pending == PIPE_READ) ≡ reads
+  resumed_as : (console reads : Bool) → (h.u.pending == LINE_READ) ≡ console → (h.u.pending == PIPE_READ) ≡ reads
       → on_by h slot now console reads ≡ resumes h slot now
   resumed_as console reads first third =
-      sym (ap (λ b. resumed_by h slot now b (h.u.pending == CONSOLE_READ) (h.u.pending == PIPE_READ)) calm ∙ ap
+      sym (ap (λ b. resumed_by h slot now b (h.u.pending == LINE_READ) (h.u.pending == PIPE_READ)) calm ∙ ap
       (λ b. on_by h slot now b (h.u.pending == PIPE_READ)) first
       ∙ ap (on_by h slot now console) third)
 
-  pub resume_console : h.u.pending ≡ CONSOLE_READ → resume_read h ≡ resumes h slot now
-  resume_console is = resumed_as true (h.u.pending == PIPE_READ) (eq-eqb h.u.pending CONSOLE_READ is) refl
+  pub resume_console : h.u.pending ≡ LINE_READ → resume_read h ≡ resumes h slot now
+  resume_console is = resumed_as true (h.u.pending == PIPE_READ) (eq-eqb h.u.pending LINE_READ is) refl
 
-  pub resume_piped : (reads : Bool) → (h.u.pending == CONSOLE_READ) ≡ false → (h.u.pending == PIPE_READ) ≡ reads
+  pub resume_piped : (reads : Bool) → (h.u.pending == LINE_READ) ≡ false → (h.u.pending == PIPE_READ) ≡ reads
       → piped_on h slot now reads ≡ resumes h slot now
   resume_piped reads other is = resumed_as false reads other is

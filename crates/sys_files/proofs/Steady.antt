@@ -11,7 +11,7 @@ use Rattle.v6_base.specs.declared.entry.Chan.TheVariants.{Keys, Read, Write}
 use Rattle.v6_base.specs.declared.entry.Entry.TheVariants.{Wake}
 use Rattle.v6_base.proofs.Copies.{SameLengths, then_lengths, same_lengths}
 use Rattle.proc_tab.specs.declared.row.Row.{Row}
-use Rattle.u_area.specs.declared.layout.TheConstants.{CONSOLE_READ, NOTHING_PENDING}
+use Rattle.u_area.specs.declared.layout.TheConstants.{LINE_READ, NOTHING_PENDING}
 use Rattle.u_area.specs.declared.area.UArea.{UArea}
 use Rattle.u_area.proofs.AreaLemmas.{one_area}
 use Rattle.open_files.specs.declared.file.Closed.{Closed}
@@ -146,7 +146,7 @@ confined_walks old slot = record {
   };
   waits = λ h entry at count s. record {
     fits = fits_none slot;
-    steady = steady_pending old h CONSOLE_READ (entry ∷ at ∷ count ∷ 0 ∷ 0 ∷ 0 ∷ 0 ∷ 0 ∷ []) s;
+    steady = steady_pending old h LINE_READ (entry ∷ at ∷ count ∷ 0 ∷ 0 ∷ 0 ∷ 0 ∷ 0 ∷ []) s;
   };
   waits_in_pipe = λ h chan pending entry at count left kind named awaits s. record {
     fits = fits_none slot;
@@ -181,7 +181,7 @@ pub any_named : (h : Handed) → PipesNamed (λ ino. Unit {0}) h
 any_named h = record { file = λ entry pipe. tt; pipe = λ entry pipe. tt }
 
 -- A call goes on in which a process slept.
-pub resume_confined : (h : Handed) (slot now : ℕ) → ((h.u.pending == CONSOLE_READ) ≡ false → AwaitsPipe (λ ino. Unit {0}) h)
+pub resume_confined : (h : Handed) (slot now : ℕ) → ((h.u.pending == LINE_READ) ≡ false → AwaitsPipe (λ ino. Unit {0}) h)
     → Confined slot h (resumes h slot now)
 resume_confined h slot now waiting =
     walk_resume (confined_walks h slot) h now waiting (steady_pending h h NOTHING_PENDING (replicate 8 0) (steady_same h))

@@ -17,7 +17,7 @@ use Rattle.fs_codec.specs.Bytes.{bytes_of}
 use Rattle.fs_codec.specs.Modes.{is_device, is_directory, is_character_device}
 use Rattle.fs_codec.specs.Store.{Node, Store, node_numbered}
 use Rattle.fs_codec.specs.declared.modes.TheConstants.{IALLOC}
-use Rattle.u_area.specs.declared.layout.TheConstants.{CONSOLE_READ, PIPE_READ, PIPE_WRITE}
+use Rattle.u_area.specs.declared.layout.TheConstants.{LINE_READ, PIPE_READ, PIPE_WRITE}
 use Rattle.u_area.specs.Pending.{IsPipeCall}
 use Rattle.fs_laws.specs.Numbers.{is_free_number, Draw, drawn, refill, draw, with_draw, new_node, with_node, without_node}
 use Rattle.fs_nodes.specs.FileSystem.{referenced}
@@ -67,7 +67,7 @@ use Rattle.sys_files.proofs.PipeCounts.{reads_count, writes_count}
 abbrev pub asleep_for_keys : Handed → ℕ → ℕ → ℕ → Did
 asleep_for_keys h entry at count = record {
   answer = Sleep (pos 10) Keys;
-  state = record h { u = record h.u { pending = CONSOLE_READ; call = entry ∷ at ∷ count ∷ 0 ∷ 0 ∷ 0 ∷ 0 ∷ 0 ∷ [] } };
+  state = record h { u = record h.u { pending = LINE_READ; call = entry ∷ at ∷ count ∷ 0 ∷ 0 ∷ 0 ∷ 0 ∷ 0 ∷ [] } };
   items = [];
 }
 
@@ -739,8 +739,8 @@ module _ {P : Handed → Type 0} {Q : Did → Type 0} {Few Known : ℕ → Type 
       (opens_pipe (with_inodes h found.inodes) ino within.0 (subst (λ n. ino ≤ n) (sym same) within.1) there))
 
   -- A call in which a process slept goes on: in a pipe where it has an end of one.
-  goes_by : (h : Handed) (now : ℕ) (b c : Bool) → (h.u.pending == CONSOLE_READ) ≡ b → (h.u.pending == PIPE_READ) ≡ c
-      → ((h.u.pending == CONSOLE_READ) ≡ false → (file_of h (slice_index h.u.call 0)).kind.pipe ≡ true) → P (without_pending h)
+  goes_by : (h : Handed) (now : ℕ) (b c : Bool) → (h.u.pending == LINE_READ) ≡ b → (h.u.pending == PIPE_READ) ≡ c
+      → ((h.u.pending == LINE_READ) ≡ false → (file_of h (slice_index h.u.call 0)).kind.pipe ≡ true) → P (without_pending h)
       → Q (cond b (resume_read h)
       (cond c (reads_pipe (without_pending h) (slice_index h.u.call 0) (slice_index h.u.call 1) (slice_index h.u.call 2) now)
       (writes_pipe (without_pending h) slot (slice_index h.u.call 0) (slice_index h.u.call 1) (slice_index h.u.call 2)
@@ -749,7 +749,7 @@ module _ {P : Handed → Type 0} {Q : Did → Type 0} {Few Known : ℕ → Type 
   goes_by h now false true e f has p = walk_reads_pipe (without_pending h) _ _ _ now (has e) p
   goes_by h now false false e f has p = walk_writes_pipe (without_pending h) _ _ _ _ now (has e) p
 
-  pub walk_resume : (h : Handed) (now : ℕ) → ((h.u.pending == CONSOLE_READ) ≡ false → (file_of h (slice_index h.u.call 0)).kind.pipe ≡ true)
+  pub walk_resume : (h : Handed) (now : ℕ) → ((h.u.pending == LINE_READ) ≡ false → (file_of h (slice_index h.u.call 0)).kind.pipe ≡ true)
       → P (without_pending h) → Q (resumes h slot now)
   walk_resume h now has p =
-      unless_due_walk (without_pending h) _ p (goes_by h now (h.u.pending == CONSOLE_READ) (h.u.pending == PIPE_READ) refl refl has p)
+      unless_due_walk (without_pending h) _ p (goes_by h now (h.u.pending == LINE_READ) (h.u.pending == PIPE_READ) refl refl has p)

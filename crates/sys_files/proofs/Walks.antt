@@ -20,7 +20,7 @@ use Rattle.fs_codec.specs.Bytes.{bytes_of}
 use Rattle.fs_codec.specs.Modes.{is_device, is_directory, is_character_device}
 use Rattle.fs_codec.specs.Store.{Node}
 use Rattle.fs_codec.specs.declared.modes.TheConstants.{IALLOC}
-use Rattle.u_area.specs.declared.layout.TheConstants.{CONSOLE_READ, PIPE_READ, PIPE_WRITE}
+use Rattle.u_area.specs.declared.layout.TheConstants.{LINE_READ, PIPE_READ, PIPE_WRITE}
 use Rattle.u_area.specs.Pending.{IsPipeCall}
 use Rattle.fs_laws.specs.Pieces.{Moving}
 use Rattle.fs_tree.specs.declared.made.Made.{Made}
@@ -67,7 +67,7 @@ use Rattle.sys_files.proofs.PipedLemmas.{pipe_lengths, left_of, write_leaves}
 abbrev pub asleep_for_keys : Handed → ℕ → ℕ → ℕ → Did
 asleep_for_keys h entry at count = record {
   answer = Sleep (pos 10) Keys;
-  state = record h { u = record h.u { pending = CONSOLE_READ; call = entry ∷ at ∷ count ∷ 0 ∷ 0 ∷ 0 ∷ 0 ∷ 0 ∷ [] } };
+  state = record h { u = record h.u { pending = LINE_READ; call = entry ∷ at ∷ count ∷ 0 ∷ 0 ∷ 0 ∷ 0 ∷ 0 ∷ [] } };
   items = [];
 }
 
@@ -609,9 +609,9 @@ module _ {P : Handed → Type 0} {Q : Did → Type 0} {Few Named : ℕ → Type 
       k.done last fd next_fd (k.around _ last.inodes last.files last.pipes last.line (k.moved l last.u.files l.u.dir q))))))
 
   -- A call goes on in which a process slept: what it waits for in a pipe is there.
-  pub walk_resume : (h : Handed) (now : ℕ) → ((h.u.pending == CONSOLE_READ) ≡ false → AwaitsPipe Named h) → P (without_pending h)
+  pub walk_resume : (h : Handed) (now : ℕ) → ((h.u.pending == LINE_READ) ≡ false → AwaitsPipe Named h) → P (without_pending h)
       → Q (resumes h slot now)
-  walk_resume h now waiting p = unless_due_walk rest (goes_on h slot now) p (by (h.u.pending == CONSOLE_READ) (h.u.pending == PIPE_READ) refl)
+  walk_resume h now waiting p = unless_due_walk rest (goes_on h slot now) p (by (h.u.pending == LINE_READ) (h.u.pending == PIPE_READ) refl)
     where
       rest : Handed
       rest = without_pending h
@@ -619,7 +619,7 @@ module _ {P : Handed → Type 0} {Q : Did → Type 0} {Few Named : ℕ → Type 
       word : ℕ → ℕ
       word i = slice_index h.u.call i
 
-      by : (console reads : Bool) → (h.u.pending == CONSOLE_READ) ≡ console
+      by : (console reads : Bool) → (h.u.pending == LINE_READ) ≡ console
           → Q (cond console (resume_read h)
           (cond reads (reads_pipe rest (word 0) (word 1) (word 2) now)
           (writes_pipe rest slot (word 0) (word 1) (word 2) (word 3) now)))

@@ -8,7 +8,7 @@ use Rattle.v6_base.specs.declared.errno.Errno.{Errno}
 use Rattle.v6_base.specs.declared.errno.Errno.TheVariants.{EBADF, EFAULT, ESPIPE}
 use Rattle.fs_codec.specs.Modes.{is_device}
 use Rattle.fs_codec.specs.Store.{Node}
-use Rattle.u_area.specs.declared.layout.TheConstants.{NOTHING_PENDING, CONSOLE_READ, PIPE_READ}
+use Rattle.u_area.specs.declared.layout.TheConstants.{NOTHING_PENDING, LINE_READ, PIPE_READ}
 use Rattle.fs_laws.specs.Numbers.{with_node}
 use Rattle.fs_laws.specs.Pieces.{Moving, read_file, write_file}
 use Rattle.fs_nodes.specs.Copy.{put_into, get_from}
@@ -47,7 +47,7 @@ gives_count h count (Some e) = fails h e
 abbrev pub waits_for_keys : Handed → ℕ → ℕ → ℕ → Did
 waits_for_keys h entry at count = unless_due h (record {
   answer = Sleep (pos 10) Keys;
-  state = record h { u = record h.u { pending = CONSOLE_READ; call = entry ∷ at ∷ count ∷ 0 ∷ 0 ∷ 0 ∷ 0 ∷ 0 ∷ [] } };
+  state = record h { u = record h.u { pending = LINE_READ; call = entry ∷ at ∷ count ∷ 0 ∷ 0 ∷ 0 ∷ 0 ∷ 0 ∷ [] } };
   items = [];
 })
 
@@ -136,7 +136,7 @@ goes_on h slot now =
     let entry = slice_index h.u.call 0 in
     let at = slice_index h.u.call 1 in
     let count = slice_index h.u.call 2 in
-    if h.u.pending == CONSOLE_READ then resume_read h
+    if h.u.pending == LINE_READ then resume_read h
     else (if h.u.pending == PIPE_READ then reads_pipe rest entry at count now
     else writes_pipe rest slot entry at count (slice_index h.u.call 3) now)
 

@@ -2,7 +2,7 @@
 use Rattle.std.specs.Prelude.{◌≡◌, ◌⊎◌, ℕ, Bool, true, false, ◌+◌, ◌<◌, ◌≤◌, ◌==◌, if◌then◌else◌, List, Option, Some, None, count_by, slice_index}
 use Rattle.open_files.specs.declared.file.OpenFile.{OpenFile}
 use Rattle.open_files.specs.Files.{file_at, times, AreOpen, HaveRoom}
-use Rattle.u_area.specs.declared.layout.TheConstants.{CONSOLE_READ}
+use Rattle.u_area.specs.declared.layout.TheConstants.{LINE_READ}
 use Rattle.u_area.specs.Pending.{IsPipeCall}
 use Rattle.sys_files.specs.Handed.{Handed}
 use Rattle.sys_files.specs.Pipes.{ArePipes}
@@ -38,7 +38,7 @@ pub record IsInPipe (h : Handed) : Type 0 where
 
 -- The call in which a process slept can go on.
 abbrev pub CanGoOn : Handed → Type 0
-CanGoOn h = (h.u.pending ≡ CONSOLE_READ) ⊎ (IsPipeCall h.u.pending × IsInPipe h)
+CanGoOn h = (h.u.pending ≡ LINE_READ) ⊎ (IsPipeCall h.u.pending × IsInPipe h)
 
 -- A file of which another process has a number too stays open in its entry, of the same inode and kind.
 pub record StaysOpen (files : List (Option OpenFile)) (entry : ℕ) (file : OpenFile) : Type 0 where

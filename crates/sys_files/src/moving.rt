@@ -27,7 +27,7 @@ use open_files::{OpenFile, OpenTable};
 use proc_tab::Row;
 use sig_core::due;
 use tty_line::Line;
-use u_area::{CONSOLE_READ, NOTHING_PENDING, PIPE_READ, UArea};
+use u_area::{LINE_READ, NOTHING_PENDING, PIPE_READ, UArea};
 use v6_base::{Answer, Chan, Errno, Slot, Space, Trace};
 
 /// The priority at which a process waits for keys: `TTIPRI` in Lions' Commentary, `tty.h`.
@@ -62,7 +62,7 @@ fn wait_for_keys(u: &mut UArea, row: &Row, entry: u16, at: u16, count: u16) -> A
     if due(row, u).is_some() {
         return Answer::Fail(Errno::EINTR);
     }
-    u.pending = CONSOLE_READ;
+    u.pending = LINE_READ;
     u.call = [entry, at, count, 0, 0, 0, 0, 0];
     Answer::Sleep {
         pri: TTIPRI,
@@ -236,7 +236,7 @@ pub fn resume_file<S: Space, T: Trace>(
     if due(row, u).is_some() {
         return Answer::Fail(Errno::EINTR);
     }
-    if pending == CONSOLE_READ {
+    if pending == LINE_READ {
         return read_line(&mut f.line, call[0], u, row, space, call[1], call[2]);
     }
     let transfer = Transfer {

@@ -1,6 +1,6 @@
 use Rattle.std.proofs.Common.{rules, ◌≡◌, ◌∙◌, ◌==◌, ℕ, true, false, refl, sym, ap, subst}
 use Rattle.std.specs.Prelude.{unwrap_or}
-use Rattle.u_area.specs.declared.layout.TheConstants.{CONSOLE_READ}
+use Rattle.u_area.specs.declared.layout.TheConstants.{LINE_READ}
 use Rattle.u_area.specs.declared.area.UArea.{UArea}
 use Rattle.u_area.specs.Pending.{is_on_files}
 use Rattle.u_area.proofs.PendingLemmas.{on_pipe}
@@ -30,7 +30,7 @@ module _ (w : World) (s : ℕ) (ready : IsReady w s) (pending : is_on_files (are
   its_pends : Pends (given w s)
   its_pends = handed_pends (unix_of w) s ready.good.pending (slot_is w s ready) (is_living w s ready)
 
-  awaits : ((given w s).u.pending == CONSOLE_READ) ≡ false → AwaitsPipe (λ ino. Unit {0}) (given w s)
+  awaits : ((given w s).u.pending == LINE_READ) ≡ false → AwaitsPipe (λ ino. Unit {0}) (given w s)
   awaits other =
       let end = its_pends (on_pipe (given w s).u.pending (pends_on w s ready pending) other) in
       record {
