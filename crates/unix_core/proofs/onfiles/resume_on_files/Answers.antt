@@ -1,18 +1,14 @@
-use Rattle.std.proofs.Common.{rules, ◌≡◌, ◌∙◌, ◌==◌, ℕ, true, false, refl, sym, ap, subst}
-use Rattle.std.specs.Prelude.{unwrap_or}
-use Rattle.u_area.specs.declared.layout.TheConstants.{LINE_READ}
+use Rattle.std.proofs.Common.{rules, ◌≡◌, ◌∙◌, ℕ, true, refl, sym, ap, subst}
 use Rattle.u_area.specs.declared.area.UArea.{UArea}
 use Rattle.u_area.specs.Pending.{is_on_files}
-use Rattle.u_area.proofs.PendingLemmas.{on_pipe}
 use Rattle.image_keep.specs.Kept.{Kept, area_of, image_of, with_area}
-use Rattle.sys_files.specs.Handed.{Handed, handed, no_file}
-use Rattle.sys_files.proofs.Walks.{AwaitsPipe}
+use Rattle.sys_files.specs.Handed.{Handed, handed}
 use Rattle.sys_files.specs.Moving.{resumes}
 use Rattle.sys_files.specs.Sound.{CanGoOn}
 use Rattle.sys_files.proofs.Steady.{Confined, resume_confined}
 use Rattle.unix_core.specs.declared.world.World.{World}
 use Rattle.abstract_unix.specs.Unix.{process_of}
-use Rattle.abstract_unix.proofs.PendingRows.{Pends, resume_pends}
+use Rattle.abstract_unix.proofs.PendingRows.{Pends, awaited, resume_pends}
 use Rattle.abstract_unix.proofs.GoingOnLemmas.{handed_goes_on, handed_pends}
 use Rattle.unix_core.specs.Parts.{unix_of, IsReady}
 use Rattle.unix_core.proofs.AreaLemmas.{own_area}
@@ -30,20 +26,8 @@ module _ (w : World) (s : ℕ) (ready : IsReady w s) (pending : is_on_files (are
   its_pends : Pends (given w s)
   its_pends = handed_pends (unix_of w) s ready.good.pending (slot_is w s ready) (is_living w s ready)
 
-  awaits : ((given w s).u.pending == LINE_READ) ≡ false → AwaitsPipe (λ ino. Unit {0}) (given w s)
-  awaits other =
-      let end = its_pends (on_pipe (given w s).u.pending (pends_on w s ready pending) other) in
-      record {
-        awaits = record {
-          pipe = ap (λ o. (unwrap_or o no_file).kind.pipe) end.end.there ∙ end.end.pipe;
-          named = end.end.named;
-          few = end.left;
-        };
-        named = tt;
-      }
-
   confined : Confined s (given w s) (resumes (given w s) s w.procs.table.now)
-  confined = resume_confined (given w s) s w.procs.table.now awaits
+  confined = resume_confined (given w s) s w.procs.table.now (awaited (given w s) (pends_on w s ready pending) its_pends)
 
 pub area-u-requires : goal.area-u-requires
 area-u-requires c = c.requires.ready.good.running c.args.s c.requires.ready.runs c.requires.ready.user
