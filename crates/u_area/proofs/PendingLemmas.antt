@@ -3,7 +3,6 @@ use Rattle.std.proofs.Common.{◌≡◌, ◌==◌, ◌||◌, ◌⊎◌, inl, inr
 use Rattle.std.proofs.lemmas.Bool.{eqb-true, eq-eqb}
 use Rattle.u_area.specs.declared.layout.TheConstants.{LINE_READ, PIPE_READ, PIPE_WRITE}
 use Rattle.u_area.specs.Pending.{IsPipeCall, is_on_files}
-use Rattle.u_area.proofs.PendingLemmas.{on_files_cases, on_pipe}
 
 -- it is a read of a line, or a read or a write of a pipe
 pub on_files_cases : (n : ℕ) → is_on_files n ≡ true → (n ≡ LINE_READ) ⊎ IsPipeCall n

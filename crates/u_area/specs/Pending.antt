@@ -1,7 +1,6 @@
 -- Which calls can be pending, by the constants of the layout.
 use Rattle.std.specs.Prelude.{◌≡◌, ◌⊎◌, ℕ, Bool, ◌||◌, ◌==◌}
 use Rattle.u_area.specs.declared.layout.TheConstants.{LINE_READ, PIPE_READ, PIPE_WRITE}
-use Rattle.u_area.specs.Pending.{IsPipeCall, is_on_files}
 
 -- a read or a write of a pipe
 abbrev pub IsPipeCall : ℕ → Type 0
