@@ -66,7 +66,7 @@ opens_more : (h : Handed) (ino : ℕ) (kind : FileKind) (i : ℕ) → 0 < slice_
 opens_more h ino kind i referred =
     check_more h i (need EMFILE (free_number h.u.files)) _
     (λ fd. check_more h i (need ENFILE (free_entry h.files)) _
-    (λ entry. check_more h i (must ENXIO (can_open (node_at h ino))) _ (λ can.
+    (λ entry. check_more h i (must ENXIO (can_open h (node_at h ino))) _ (λ can.
     let more = once_more h.inodes.references ino i (referred_low h.inodes.references ino referred) in
     omega (arith, more))))
 

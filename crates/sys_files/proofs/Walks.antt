@@ -17,7 +17,7 @@ use Rattle.v6_base.specs.declared.errno.Errno.{Errno}
 use Rattle.v6_base.specs.declared.errno.Errno.TheVariants.{EINTR, EPERM, EBADF, EFAULT, EEXIST, ENOTDIR, EISDIR, ENFILE, EMFILE, ENOTTY, ENODEV, ENXIO, ESPIPE, EMLINK, EPIPE}
 use Rattle.v6_base.proofs.Copies.{SameLengths, same_lengths, bytes_lengths}
 use Rattle.fs_codec.specs.Bytes.{bytes_of}
-use Rattle.fs_codec.specs.Modes.{is_device, is_directory, is_character_device}
+use Rattle.fs_codec.specs.Modes.{is_device, is_directory}
 use Rattle.fs_codec.specs.Store.{Node}
 use Rattle.fs_codec.specs.declared.modes.TheConstants.{IALLOC}
 use Rattle.fs_laws.specs.Pieces.{Moving}
@@ -37,6 +37,7 @@ use Rattle.pipe_ends.specs.declared.ends.Piped.{Piped}
 use Rattle.pipe_ends.specs.declared.ends.Piped.TheVariants as piped
 use Rattle.pipe_ends.specs.Reads.{PipeRead}
 use Rattle.pipe_ends.specs.Writes.{PipeWrite}
+use Rattle.tty_line.specs.Terminal as terminal
 use Rattle.tty_line.specs.Terminal.{Terminal}
 use Rattle.tty_line.specs.declared.line.Took.{Took}
 use Rattle.tty_line.specs.declared.line.Took.TheVariants.{Done, Wait, Fault}
@@ -44,19 +45,20 @@ use Rattle.tty_line.specs.Output.{shows, after_shown}
 use Rattle.tty_line.specs.Reading.{Reading}
 use Rattle.sig_core.specs.declared.numbers.TheConstants.{SIGPIPE}
 use Rattle.sig_core.specs.Signals.{due, posted}
-use Rattle.sys_files.specs.Handed.{Handed, r0, r1, node_at, file_of, user_of, is_console, is_null, with_inodes, with_changed}
+use Rattle.sys_files.specs.Handed.{Handed, r0, r1, node_at, file_of, user_of, line_of, line_at, with_line, keys_of, with_inodes, with_changed, let_go}
 use Rattle.sys_files.specs.Did.{Did, fails, returns, is_done, check, must, need, unless_due, until_end, then_named, finds, by_made, makes}
-use Rattle.sys_files.specs.Descriptors.{open_entry, dup_file, without_marks, with_roused, pipe_roused, is_gone_with, with_gone, is_closed_by, released, told_by, dropped, close_file}
+use Rattle.sys_files.specs.Descriptors.{open_entry, dup_file, without_marks, with_roused, pipe_roused, is_gone_with, with_gone, is_line_open, Closing, closes_line, released, told_by, dropped, close_file}
 use Rattle.sys_files.specs.Pipes.{pipe_of, with_pipe, without_pipe}
 use Rattle.sys_files.specs.Piping.{reading_end, with_end, finds_place, with_ends, opens_ends, pipe_new, after, waits_in_pipe, words_of, pipe_at, ends_at, pipe_read, with_pipe_read, ends_read, reads_pipe, breaks, pipe_write, with_pipe_write, ends_write, writes_pipe}
-use Rattle.sys_files.specs.Opening.{last_failure, open_tests, can_open, with_opened, opens, opens_named, open_file}
+use Rattle.sys_files.specs.Opening.{last_failure, open_tests, can_open, with_tty, with_opened, opens, opens_named, open_file}
 use Rattle.sys_files.specs.Making.{new_in, entry_written, writes_entry, with_links, enters_new, makes_node, opens_for_writing, with_no_blocks, opens_again, makes_file, creat_file, with_device, is_super_user, makes_any, mknod_at, may_link, enters_again, links_to, link_file, empties, removes, unlink_file}
-use Rattle.sys_files.specs.Moving.{with_moved, gives_count, read_of, with_read, line_read, with_line_read, takes_line, reads_line, reads_from, read_file_of, without_pending, resume_read, goes_on, resumes, shows_bytes, write_of, writes_to, write_file_of, seek_to}
-use Rattle.sys_files.specs.Modes.{of_terminal, words_at, sets_modes, stty_set, tells_modes, gtty_get}
+use Rattle.sys_files.specs.Moving.{with_moved, gives_count, read_of, with_read, line_read, with_line_read, takes_line, reads_line, reads_by, reads_from, read_file_of, without_pending, resume_read, goes_on, resumes, writes_line, writes_by, write_of, writes_to, write_file_of, seek_to}
+use Rattle.sys_files.specs.Modes.{terminal_line, of_terminal, words_at, sets_modes, stty_set, tells_modes, gtty_get}
 use Rattle.sys_files.specs.Names.{with_directory, enters_directory, chdir_to, is_owner, changes_mode, chmod_to, chown_to, sync_all}
 use Rattle.sys_files.specs.Status.{status_bytes, with_stored, tells_status, stat_file, stat_open}
 use Rattle.sys_files.proofs.Bounds.{IsOfFiles, IsLineOf}
 use Rattle.sys_files.proofs.Lengths.{line_lengths, read_lengths}
+use Rattle.sys_files.proofs.LineLemmas.{line_is_0}
 use Rattle.sys_files.proofs.NumberLemmas.{number_low}
 use Rattle.sys_files.proofs.OwedLemmas.{counted}
 use Rattle.sys_files.proofs.PipedLemmas.{pipe_lengths, left_of, write_leaves}
@@ -97,8 +99,8 @@ pub record Walks (P : Handed → Type 0) (Q : Did → Type 0) (Few Named : ℕ �
       → Q (record d { items = map Log entries })
   pub showing : (line : Terminal) (image : Image) (at count : ℕ) (d : Did) → Few count → Q d
       → Q (record d { items = sent 0 (shows line (readable image at count)) })
-  pub around : (h : Handed) (inodes : Inodes) (files : List (Option OpenFile)) (pipes : List Pipe) (console : Terminal) → P h
-      → P (record h { inodes = inodes; files = files; pipes = pipes; line = console })
+  pub around : (h : Handed) (inodes : Inodes) (files : List (Option OpenFile)) (pipes : List Pipe) (line : Terminal) → P h
+      → P (record h { inodes = inodes; files = files; pipes = pipes; line = line })
   pub moved : (h : Handed) (numbers : List ℕ) (dir : ℕ) → P h → P (record h { u = record h.u { files = numbers; dir = dir } })
   pub terminal : (h : Handed) (tty : ℕ) → P h → P (record h { row = record h.row { tty = tty } })
   pub signalled : (h : Handed) → P h → P (record h { row = posted h.row SIGPIPE })
@@ -201,20 +203,24 @@ module _ {P : Handed → Type 0} {Q : Did → Type 0} {Few Named : ℕ → Type 
 
   -- An inode is opened.
   opened : (h : Handed) (ino : ℕ) (kind : FileKind) (fd entry : ℕ) → P h → P (with_opened h ino kind fd entry)
-  opened h ino kind fd entry p = by (is_console (node_at h ino) && (h.row.tty == 0))
+  opened h ino kind fd entry p = by (line_of h (node_at h ino))
     where
       next : Handed
       next = with_opened h ino kind fd entry
 
-      by : (b : Bool) → P (record next { row = cond b (record h.row { tty = 1 }) h.row })
-      by true = k.around _ next.inodes next.files next.pipes next.line (k.moved _ next.u.files h.u.dir (k.terminal h 1 p))
-      by false = k.around _ next.inodes next.files next.pipes next.line (k.moved h next.u.files h.u.dir p)
+      taken : (l : ℕ) (b : Bool) → P (record next { row = cond b (record h.row { tty = l + 1 }) h.row })
+      taken l true = k.around _ next.inodes next.files next.pipes next.line (k.moved _ next.u.files h.u.dir (k.terminal h (l + 1) p))
+      taken l false = k.around _ next.inodes next.files next.pipes next.line (k.moved h next.u.files h.u.dir p)
+
+      by : (line : Option ℕ) → P (record next { row = with_tty h.row line })
+      by None = k.around _ next.inodes next.files next.pipes next.line (k.moved h next.u.files h.u.dir p)
+      by (Some l) = taken l (h.row.tty == 0)
 
   walk_opens : (h : Handed) (ino : ℕ) (kind : FileKind) → P h → Q (opens h ino kind)
   walk_opens h ino kind p =
       checks h (need EMFILE (free_number h.u.files)) _ p (λ fd.
       checks h (need ENFILE (free_entry h.files)) _ p (λ entry.
-      checks h (must ENXIO (can_open (node_at h ino))) _ p (λ can.
+      checks h (must ENXIO (can_open h (node_at h ino))) _ p (λ can.
       k.done (with_opened h ino kind fd entry) fd (r1 h) (opened h ino kind fd entry p))))
 
   -- Bytes are read, and written.
@@ -233,22 +239,21 @@ module _ {P : Handed → Type 0} {Q : Did → Type 0} {Few Named : ℕ → Type 
       by true = k.refused h EINTR p
       by false = q
 
-  walk_line : (h : Handed) (entry at count : ℕ) (took : Took) → P h → Q (takes_line h entry at count took)
-  walk_line h entry at count (Done n) p = k.done h n (r1 h) p
-  walk_line h entry at count Wait p = unless_due_walk h (asleep_for_keys h entry at count) p (k.waits h entry at count p)
-  walk_line h entry at count Fault p = k.refused h EFAULT p
+  walk_line : (h : Handed) (l entry at count : ℕ) (took : Took) → P h → Q (takes_line h l entry at count took)
+  walk_line h l entry at count (Done n) p = k.done h n (r1 h) p
+  walk_line h l entry at count Wait p = unless_due_walk h (asleep_for_keys h entry at count) p (k.waits h entry at count p)
+  walk_line h l entry at count Fault p = k.refused h EFAULT p
 
-  walk_reads_line : (h : Handed) (entry at count : ℕ) → P h → Q (reads_line h entry at count)
-  walk_reads_line h entry at count p =
-      let reading : Reading = line_read h at count in
-      walk_line (with_line_read h reading) entry at count reading.took
+  walk_reads_line : (h : Handed) (l entry at count : ℕ) → P h → Q (reads_line h l entry at count)
+  walk_reads_line h l entry at count p =
+      let reading : Reading = line_read h l at count in
+      walk_line (with_line_read h l reading) l entry at count reading.took
       (k.stored (record h { line = reading.terminal }) reading.image (line_lengths h.line h.image at count)
       (k.around h h.inodes h.files h.pipes reading.terminal p))
 
-  read_by : (h : Handed) (entry at count now : ℕ) (console : Bool) → P h
-      → Q (cond console (reads_line (with_read h entry (read_of h entry at count now)) entry at count)
-      (gives_count (with_read h entry (read_of h entry at count now)) (read_of h entry at count now).done (read_of h entry at count now).error))
-  read_by h entry at count now console p = by console
+  read_by : (h : Handed) (entry at count now : ℕ) (line : Option ℕ) → P h
+      → Q (reads_by (with_read h entry (read_of h entry at count now)) line entry at count (read_of h entry at count now))
+  read_by h entry at count now line p = by line
     where
       m : Moving Image
       m = read_of h entry at count now
@@ -256,9 +261,9 @@ module _ {P : Handed → Type 0} {Q : Did → Type 0} {Few Named : ℕ → Type 
       after : P (with_read h entry m)
       after = k.stored (with_moved h entry m) m.memory (read_lengths h entry at count now) (after_moved h entry m p)
 
-      by : (console : Bool) → Q (cond console (reads_line (with_read h entry m) entry at count) (gives_count (with_read h entry m) m.done m.error))
-      by true = walk_reads_line (with_read h entry m) entry at count after
-      by false = walk_count (with_read h entry m) m.done m.error after
+      by : (line : Option ℕ) → Q (reads_by (with_read h entry m) line entry at count m)
+      by (Some l) = walk_reads_line (with_read h entry m) l entry at count after
+      by None = walk_count (with_read h entry m) m.done m.error after
 
   shown_by : (h : Handed) (image : Image) (at count : ℕ) (all : Bool) → Few count → P h
       → Q (record (cond all (returns (record h { line = after_shown h.line (readable image at count) }) count)
@@ -272,14 +277,15 @@ module _ {P : Handed → Type 0} {Q : Did → Type 0} {Few Named : ℕ → Type 
       k.showing h.line image at count (fails after EFAULT) few
       (k.refused after EFAULT (k.around h h.inodes h.files h.pipes after.line p))
 
-  write_by : (h : Handed) (entry at count now : ℕ) (console : Bool) → Few count → P h
-      → Q (cond console (shows_bytes (with_moved h entry (write_of h entry at count now)) count (readable h.image at count))
-      (gives_count (with_moved h entry (write_of h entry at count now))
-      (if is_device (node_at h (file_of h entry).ino).mode then count else (write_of h entry at count now).done) (write_of h entry at count now).error))
-  write_by h entry at count now true few p =
-      shown_by (with_moved h entry (write_of h entry at count now)) h.image at count (length (readable h.image at count) == count) few
-      (after_moved h entry (write_of h entry at count now) p)
-  write_by h entry at count now false few p =
+  write_by : (h : Handed) (entry at count now : ℕ) (line : Option ℕ) → ((l : ℕ) → line ≡ Some l → l ≡ 0) → Few count → P h
+      → Q (writes_by (with_moved h entry (write_of h entry at count now)) line (is_device (node_at h (file_of h entry).ino).mode)
+      at count (write_of h entry at count now))
+  write_by h entry at count now (Some l) there few p =
+      let after : Handed = with_moved h entry (write_of h entry at count now) in
+      subst (λ n. Q (writes_line after n count (readable h.image at count))) (sym (there l refl))
+      (shown_by after h.image at count (length (readable h.image at count) == count) few
+      (after_moved h entry (write_of h entry at count now) p))
+  write_by h entry at count now None there few p =
       walk_count (with_moved h entry (write_of h entry at count now)) _ _ (after_moved h entry (write_of h entry at count now) p)
 
   -- Bytes are put into the image.
@@ -295,11 +301,10 @@ module _ {P : Handed → Type 0} {Q : Did → Type 0} {Few Named : ℕ → Type 
   walk_told h at true p = k.refused h EFAULT p
   walk_told h at false p = walk_stored h _ (bytes_lengths h.image h.image at (bytes_of h.line.modes) (same_lengths h.image)) p
 
-  walk_terminal : (h : Handed) (does : Did) → P h → Q does → Q (of_terminal h does)
+  walk_terminal : (h : Handed) (does : ℕ → Did) → P h → ((l : ℕ) → Q (does l)) → Q (of_terminal h does)
   walk_terminal h does p goes =
       checks h (open_entry h (r0 h)) _ p (λ entry.
-      checks h (must ENOTTY (is_character_device (node_at h (file_of h entry).ino).mode)) _ p (λ is.
-      checks h (must ENODEV (not (is_null (node_at h (file_of h entry).ino)))) _ p (λ is. goes)))
+      checks h (terminal_line h (node_at h (file_of h entry).ino)) does p goes)
 
   -- A number lets its file go.
   roused : (h : Handed) (file : OpenFile) → P h → P (with_roused h file)
@@ -345,6 +350,36 @@ module _ {P : Handed → Type 0} {Q : Did → Type 0} {Few Named : ℕ → Type 
   closes_by h a b ino false true named p = answers h a b (Wake Keys ∷ []) (omega arith) (wake_line Keys [] tt no_line) p
   closes_by h a b ino false false named p = k.done h a b p
 
+  line_closes : (h : Handed) (a b : ℕ) (file : OpenFile) (line : Option ℕ) → (file.kind.pipe ≡ true → Named file.ino) → P h
+      → Q (record {
+        answer = Ret a b;
+        state = let_go (closes_line h line).state file.ino;
+        items = pipe_roused file ++ (closes_line h line).items;
+      })
+  line_closes h a b file None named p =
+      closes_by (let_go h file.ino) a b file.ino file.kind.pipe false named
+      (k.around h (let_go h file.ino).inodes h.files h.pipes h.line p)
+  line_closes h a b file (Some l) named p = by (is_line_open h l)
+    where
+      shut : Handed
+      shut = with_line h l (terminal.closed (line_at h l))
+
+      closing : Bool → Closing
+      closing open =
+          if open then record { state = h; items = [] } else record { state = shut; items = Log (Wake (keys_of l)) ∷ [] }
+
+      by : (open : Bool) → Q (record {
+        answer = Ret a b;
+        state = let_go (closing open).state file.ino;
+        items = pipe_roused file ++ (closing open).items;
+      })
+      by true =
+          closes_by (let_go h file.ino) a b file.ino file.kind.pipe false named
+          (k.around h (let_go h file.ino).inodes h.files h.pipes h.line p)
+      by false =
+          closes_by (let_go shut file.ino) a b file.ino file.kind.pipe true named
+          (k.around h (let_go h file.ino).inodes h.files h.pipes shut.line p)
+
   pub walk_released : (h : Handed) (a b : ℕ) (told : Closed) → IsNamedBy Named told → P h
       → Q (record { answer = Ret a b; state = (released h told).state; items = (released h told).items })
   walk_released h a b (Still file) named p =
@@ -353,9 +388,7 @@ module _ {P : Handed → Type 0} {Q : Did → Type 0} {Few Named : ℕ → Type 
       (closes_by (with_roused h file) a b file.ino file.kind.pipe false named (roused h file p))
   walk_released h a b (Last file) named p =
       let rest : Handed = with_gone (with_roused h file) file in
-      let last : Handed = (released h (Last file)).state in
-      closes_by last a b file.ino file.kind.pipe (is_closed_by rest file) named
-      (k.around rest last.inodes rest.files rest.pipes last.line (gone (with_roused h file) file (roused h file p)))
+      line_closes rest a b file (line_of rest (node_at rest file.ino)) named (gone (with_roused h file) file (roused h file p))
 
   -- Pipes are read and written. What a call on a pipe comes to has one line of its own at most.
   told_after : (first rest : List Entry) (d : Did) → length first ≤ 1 → length rest ≤ 1 → All (IsLineOf Named slot) first
@@ -455,7 +488,7 @@ module _ {P : Handed → Type 0} {Q : Did → Type 0} {Few Named : ℕ → Type 
       by : (entry : ℕ) → open_entry h (r0 h) ≡ Ok entry → (pipe : Bool) → (file_of h entry).kind.pipe ≡ pipe
           → Q (cond pipe (reads_pipe h entry at count now) (reads_from h entry at count now))
       by entry is true pipe = walk_reads_pipe h entry at count now (named.pipe entry pipe) pipe (is_named h (r0 h) entry is) p
-      by entry is false pipe = read_by h entry at count now (is_console (node_at h (file_of h entry).ino)) p
+      by entry is false pipe = read_by h entry at count now (line_of h (node_at h (file_of h entry).ino)) p
 
   -- 4, write
   pub walk_write : (h : Handed) (at count now : ℕ) → Few count → PipesNamed Named h → P h → Q (write_file_of h slot at count now)
@@ -467,7 +500,8 @@ module _ {P : Handed → Type 0} {Q : Did → Type 0} {Few Named : ℕ → Type 
           → Q (cond pipe (writes_pipe h slot entry at count count now) (writes_to h entry at count now))
       by entry is true pipe =
           walk_writes_pipe h entry at count count now (named.pipe entry pipe) pipe (is_named h (r0 h) entry is) (omega arith) p
-      by entry is false pipe = write_by h entry at count now (is_console (node_at h (file_of h entry).ino)) few p
+      by entry is false pipe = write_by h entry at count now (line_of h (node_at h (file_of h entry).ino))
+      (line_is_0 h (node_at h (file_of h entry).ino)) few p
 
   -- 5, open
   pub walk_open : (h : Handed) (name mode : ℕ) → P h → Q (open_file h name mode)
@@ -573,13 +607,13 @@ module _ {P : Handed → Type 0} {Q : Did → Type 0} {Few Named : ℕ → Type 
   -- 31, stty, and 32, gtty
   pub walk_stty : (h : Handed) (at : ℕ) → P h → Q (stty_set h at)
   walk_stty h at p =
-      walk_terminal h (check h (need EFAULT (words_at h at)) (sets_modes h)) p
-      (checks h (need EFAULT (words_at h at)) (sets_modes h) p (λ bytes.
-      closes_by (sets_modes h bytes).state (r0 h) (r1 h) 0 false true (λ none. absurd (false≢true none))
-      (k.around h h.inodes h.files h.pipes (sets_modes h bytes).state.line p)))
+      walk_terminal h (λ l. check h (need EFAULT (words_at h at)) (sets_modes h l)) p (λ l.
+      checks h (need EFAULT (words_at h at)) (sets_modes h l) p (λ bytes.
+      closes_by (sets_modes h l bytes).state (r0 h) (r1 h) 0 false true (λ none. absurd (false≢true none))
+      (k.around h h.inodes h.files h.pipes (sets_modes h l bytes).state.line p)))
 
   pub walk_gtty : (h : Handed) (at : ℕ) → P h → Q (gtty_get h at)
-  walk_gtty h at p = walk_terminal h (tells_modes h at) p (walk_told h at (at % 2 == 1) p)
+  walk_gtty h at p = walk_terminal h (λ l. tells_modes h l at) p (λ l. walk_told h at (at % 2 == 1) p)
 
   -- 36, sync
   pub walk_sync : (h : Handed) (now : ℕ) → P h → Q (sync_all h now)
@@ -617,11 +651,11 @@ module _ {P : Handed → Type 0} {Q : Did → Type 0} {Few Named : ℕ → Type 
       word : ℕ → ℕ
       word i = slice_index h.u.call i
 
-      by : (console reads : Bool) → (h.u.pending == 1) ≡ console
-          → Q (cond console (resume_read h)
+      by : (typed reads : Bool) → (h.u.pending == 1) ≡ typed
+          → Q (cond typed (resume_read h)
           (cond reads (reads_pipe rest (word 0) (word 1) (word 2) now)
           (writes_pipe rest slot (word 0) (word 1) (word 2) (word 3) now)))
-      by true reads is = walk_reads_line rest _ _ _ p
+      by true reads is = walk_reads_line rest 0 _ _ _ p
       by false true is =
           let a = waiting is in walk_reads_pipe rest (word 0) (word 1) (word 2) now a.named a.awaits.pipe a.awaits.named p
       by false false is =

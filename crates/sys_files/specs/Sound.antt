@@ -34,7 +34,7 @@ pub record IsInPipe (h : Handed) : Type 0 where
   pub pipe : file.kind.pipe ≡ true
   pub left : slice_index h.u.call 3 ≤ slice_index h.u.call 2
 
--- The call in which a process slept can go on: 1 is a read of the console, 3 a read and 4 a write of a pipe.
+-- The call in which a process slept can go on: 1 is a read of a line, 3 a read and 4 a write of a pipe.
 abbrev pub CanGoOn : Handed → Type 0
 CanGoOn h = (h.u.pending ≡ 1) ⊎ ((h.u.pending ≡ 3 ⊎ h.u.pending ≡ 4) × IsInPipe h)
 

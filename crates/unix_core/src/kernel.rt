@@ -213,8 +213,8 @@ impl Kernel {
         self.machine.tick(trace)
     }
 
-    /// Takes a byte that is typed at the console: `klrint` in Lions' Commentary, `kl.c`; tty(IV) of the manual. A key that makes a
-    /// signal, 0177 or 034 by the low seven bits, sends it to all that have the console.
+    /// Takes a byte that is typed on line 0, the console: `klrint` in Lions' Commentary, `kl.c`; tty(IV) of the manual. A key that makes a
+    /// signal, 0177 or 034 by the low seven bits, sends it to all that have line 0.
     pub fn typed<T: Trace>(&mut self, b: u8, trace: &mut T)
         requires { self.old.phase ≡ Started }
         ensures phase { self.new.phase ≡ Started }

@@ -23,7 +23,7 @@ use image_keep::Fixed;
 use pdp_step::Outcome;
 use pick_rules::{Mode, Second};
 use swap_sched::pass;
-use sys_procs::signal_console;
+use sys_procs::signal_line;
 use tty_line::Keyed;
 use u_area::UArea;
 use v6_base::{Chan, Entry, PanicKind, Slot, Trace};
@@ -448,30 +448,30 @@ impl Machine {
         }
     }
 
-    /// Sends the signal that a key makes, if it makes one, to all that have the console.
+    /// Sends the signal that a key of line 0 makes, if it makes one, to all that have the line.
     fn send_key<T: Trace>(&mut self, keyed: Keyed, trace: &mut T)
         requires { IsGood self.old.world }
         ensures good { IsGood self.new.world }
-        ensures unix { unix_of self.new.world ≡ with_key keyed (unix_of self.old.world) }
+        ensures unix { unix_of self.new.world ≡ with_key 0 keyed (unix_of self.old.world) }
         ensures board { board_in self.new.world
-            ≡ (logged {W = Unix} (board_in self.old.world) (map Show (key_lines keyed (unix_of self.old.world)))).board }
-        ensures items { Took (T.taken trace.old) (key_lines keyed (unix_of self.old.world)) (T.taken trace.new) }
+            ≡ (logged {W = Unix} (board_in self.old.world) (map Show (key_lines 0 keyed (unix_of self.old.world)))).board }
+        ensures items { Took (T.taken trace.old) (key_lines 0 keyed (unix_of self.old.world)) (T.taken trace.new) }
         ensures frame { T.leads_to trace.old trace.new }
         ensures files { self.new.world.files ≡ self.old.world.files }
     {
         if let Keyed::Signal(sig) = keyed {
-            signal_console(&mut self.world.procs, sig, trace);
+            signal_line(&mut self.world.procs, 0, sig, trace);
         }
     }
 
-    /// Takes a byte that is typed at the console, and sends the signal that it makes.
+    /// Takes a byte that is typed on line 0, and sends the signal that it makes.
     pub(crate) fn typed<T: Trace>(&mut self, byte: u8, trace: &mut T)
         requires kernel { IsKernel self.old.stage self.old.world }
         requires started { phase_of self.old.stage ≡ Started }
-        ensures takes { Takes (settled_after (typed_of (system_at self.old.world) byte)) self.new.stage self.new.world }
+        ensures takes { Takes (settled_after (typed_of (system_at self.old.world) 0 byte)) self.new.stage self.new.world }
         ensures rest { SameRest self.old.world.files.tree.nodes.blocks self.new.world.files.tree.nodes.blocks }
         ensures items { Took (T.taken trace.old)
-            (settled_after (typed_of (system_at self.old.world) byte)).items (T.taken trace.new) }
+            (settled_after (typed_of (system_at self.old.world) 0 byte)).items (T.taken trace.new) }
         ensures frame { T.leads_to trace.old trace.new }
     {
         let keyed = self.world.files.line.typed(byte, trace);

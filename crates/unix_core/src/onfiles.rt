@@ -98,7 +98,7 @@ fn put_back(images: &mut Images, s: Slot, u: &UArea, changed: bool)
     }
 }
 
-/// Goes on with a call on files: a read of the console, or a read or a write of a pipe.
+/// Goes on with a call on files: a read of a line, or a read or a write of a pipe.
 pub(crate) fn resume_on_files(world: &mut World, s: Slot) -> Answer
     requires ready { IsReady world.old s }
     requires pending { is_on_files (area_of world.old.procs.images.kept s).pending ≡ true }

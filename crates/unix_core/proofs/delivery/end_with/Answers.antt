@@ -11,7 +11,7 @@ use Rattle.unix_core.specs.declared.world.World.{World}
 use Rattle.abstract_unix.specs.declared.ending.Ending.TheVariants.{Panic}
 use Rattle.open_files.specs.Files.{times}
 use Rattle.abstract_unix.specs.Unix.{Unix, process_of}
-use Rattle.abstract_unix.specs.Calls.{closes_all, handed_of, with_handed}
+use Rattle.abstract_unix.specs.Calls.{in_order, closes_all, handed_of, with_handed}
 use Rattle.sys_files.specs.Handed.{Handed}
 use Rattle.sys_procs.specs.Process.{Process}
 use Rattle.abstract_unix.proofs.NeverWaiting.{close_pending}
@@ -37,7 +37,7 @@ module _ (w new : World) (s : ℕ) (t : Table) (shown : IsReadyToShow w new s (c
   closed_unix : unix_of (with_table new t) ≡ with_handed (unix_of w) s (closes_all (unix_of w) s).state
   closed_unix = passed_unix w new s (closes_all (unix_of w) s).state (closes_all (unix_of w) s).items shown state t is
 
-  closed_board : board_in (with_table new t) ≡ (logged {W = Unix} (board_in w) (map Show (closes_all (unix_of w) s).items)).board
+  closed_board : board_in (with_table new t) ≡ (logged {W = Unix} (board_in w) (map Show (in_order (closes_all (unix_of w) s).items))).board
   closed_board = passed_board w new s (closes_all (unix_of w) s).state (closes_all (unix_of w) s).items shown state t is
 
   -- it goes on with no call
