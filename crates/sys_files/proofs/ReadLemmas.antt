@@ -206,7 +206,7 @@ module _ (h : Handed) (slot now : ℕ) (calm : is_some (due h.row (without_pendi
   resumed_as typed reads first third =
       sym (ap (λ b. resumed_by h slot now b (h.u.pending == 1) (h.u.pending == 3)) calm ∙ ap
       (λ b. on_by h slot now b (h.u.pending == 3)) first
-      ∙ ap (on_by h slot now console) third)
+      ∙ ap (on_by h slot now typed) third)
 
   pub resume_typed : h.u.pending ≡ 1 → resume_read h ≡ resumes h slot now
   resume_typed is = resumed_as true (h.u.pending == 3) (eq-eqb h.u.pending 1 is) refl

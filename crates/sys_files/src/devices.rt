@@ -1,5 +1,5 @@
 //! The devices that can be opened: tty(IV), null(IV).
-ghost use Rattle.std.specs.Prelude.{◌≡◌, ◌<◌, slice_index};
+ghost use Rattle.std.specs.Prelude.{◌≡◌, ◌<◌, IfSome, slice_index};
 ghost use Rattle.fs_codec.specs.Store.{Node};
 ghost use Rattle.fs_nodes.specs.FileSystem.{Shows};
 ghost use Rattle.sys_files.specs.Handed.{Handed, line_of, keys_of, is_null, node_in};
@@ -17,7 +17,8 @@ const NULL: u16 = 8 * 256 + 2;
 
 /// The number of the terminal line that an inode is: the character devices 0, 0, which is the console, 0, 1 and so on.
 pub(crate) fn line_of(inode: &DiskNode) -> Option<u8>
-    ensures { (h : Handed) (node : Node) → Shows inode.now node → result ≡ line_of h node }
+    ensures line { (h : Handed) (node : Node) → Shows inode.now node → result ≡ line_of h node }
+    ensures there { IfSome result (λ l. l < LINES) }
 {
     let device = inode.addr[0];
     if is_character_device(inode.mode) && device < LINES {
@@ -36,7 +37,8 @@ pub(crate) fn is_null(inode: &DiskNode) -> bool
 /// The number of the terminal line that the inode of a number is, which is referred to.
 pub(crate) fn line_at(nodes: &Nodes, ino: u16) -> Option<u8>
     requires referenced { 0 < slice_index nodes.now.references ino }
-    ensures { (h : Handed) → result ≡ line_of h (node_in nodes.now.store ino) }
+    ensures line { (h : Handed) → result ≡ line_of h (node_in nodes.now.store ino) }
+    ensures there { IfSome result (λ l. l < LINES) }
 {
     line_of(&inode_of(nodes, ino))
 }

@@ -10,7 +10,7 @@ use Rattle.sys_files.specs.Moving.{reads_line}
 use Rattle.sys_files.specs.Piping.{reads_pipe, writes_pipe}
 use Rattle.sys_files.proofs.DoesLemmas.{does_kept, does_by}
 use Rattle.sys_files.proofs.MovingLemmas.{pending_changed}
-use Rattle.sys_files.proofs.ReadLemmas.{resumes_kept, resume_broken, resume_console, resume_piped}
+use Rattle.sys_files.proofs.ReadLemmas.{resumes_kept, resume_broken, resume_typed, resume_piped}
 use Rattle.sys_files.proofs.moving.resume_file.Goals as goal
 
 pub returns-then-is_some-clause-does : goal.returns-then-is_some-clause-does
@@ -23,14 +23,14 @@ returns-then-is_some-clause-does g c =
     (λ (v : UArea). did_with (record h { u = v }) (Fail EINTR)) (sym same))
     (resumes_kept h c.args.slot c.args.now c.requires.sound)
 
-pub returns-then-pending-eq-CONSOLE_READ-clause-does : goal.returns-then-pending-eq-CONSOLE_READ-clause-does
-returns-then-pending-eq-CONSOLE_READ-clause-does g c =
+pub returns-then-pending-eq-LINE_READ-clause-does : goal.returns-then-pending-eq-LINE_READ-clause-does
+returns-then-pending-eq-LINE_READ-clause-does g c =
     let h : Handed = handed c.args.f.now c.args.u.now c.args.row.now (g.S.Space.image c.args.space.now) in
     let same = pending_changed c.args.u.now 0 (replicate 8 0) _ in
     let calm = ap (λ (v : UArea). is_some (due c.args.row.now v)) (sym same) ∙ ap is_some (sym c.due.ensures)
     ∙ sym c.is_some.ensures ∙ c.if-is_some.false in
-    does_kept (sym (resume_console h c.args.slot c.args.now calm c.if-pending-eq-CONSOLE_READ.true)
-    ∙ sym (ap (λ (v : UArea). reads_line (record h { u = v }) (slice_index h.u.call 0) (slice_index h.u.call 1)
+    does_kept (sym (resume_typed h c.args.slot c.args.now calm c.if-pending-eq-LINE_READ.true)
+    ∙ sym (ap (λ (v : UArea). reads_line (record h { u = v }) 0 (slice_index h.u.call 0) (slice_index h.u.call 1)
     (slice_index h.u.call 2)) same)
     ∙ c.read_line.ensures.did _ refl refl refl refl) (resumes_kept h c.args.slot c.args.now c.requires.sound)
 
@@ -44,7 +44,7 @@ returns-then-pending-eq-PIPE_READ-clause-does g c =
     does_by (reads_pipe (record h { u = record h.u { pending = 0; call = replicate 8 0; codes = _ } }) (call 0) (call 1)
     (call 2) c.args.now)
     (ap (λ (v : UArea). reads_pipe (record h { u = v }) (call 0) (call 1) (call 2) c.args.now) same
-    ∙ resume_piped h c.args.slot c.args.now calm true (ne_eqb h.u.pending 1 c.if-pending-eq-CONSOLE_READ.false)
+    ∙ resume_piped h c.args.slot c.args.now calm true (ne_eqb h.u.pending 1 c.if-pending-eq-LINE_READ.false)
     (eq-eqb h.u.pending 3 c.if-pending-eq-PIPE_READ.true))
     c.read_pipe.ensures.answer c.read_pipe.ensures.state c.read_pipe.ensures.items
     (resumes_kept h c.args.slot c.args.now c.requires.sound)
@@ -59,7 +59,7 @@ returns-clause-does g c =
     does_by (writes_pipe (record h { u = record h.u { pending = 0; call = replicate 8 0; codes = _ } }) c.args.slot (call 0)
     (call 1) (call 2) (call 3) c.args.now)
     (ap (λ (v : UArea). writes_pipe (record h { u = v }) c.args.slot (call 0) (call 1) (call 2) (call 3) c.args.now) same
-    ∙ resume_piped h c.args.slot c.args.now calm false (ne_eqb h.u.pending 1 c.if-pending-eq-CONSOLE_READ.false)
+    ∙ resume_piped h c.args.slot c.args.now calm false (ne_eqb h.u.pending 1 c.if-pending-eq-LINE_READ.false)
     (ne_eqb h.u.pending 3 c.if-pending-eq-PIPE_READ.false))
     c.write_pipe.ensures.answer c.write_pipe.ensures.state c.write_pipe.ensures.items
     (resumes_kept h c.args.slot c.args.now c.requires.sound)
