@@ -9,7 +9,7 @@ use Rattle.fs_codec.specs.declared.modes.TheConstants.{ISUID, ISGID}
 use Rattle.fs_tree.specs.Finding.{Finding, with_reference, find_in}
 use Rattle.u_area.specs.declared.area.UArea.{UArea}
 use Rattle.v6_base.specs.declared.errno.Errno.{Errno}
-use Rattle.sys_files.proofs.StepWalks.{put_back_count, finding_count}
+use Rattle.sys_files.proofs.NodeCounts.{put_back_count, finding_count}
 use Rattle.sys_procs.specs.declared.program.Program.{Program}
 use Rattle.sys_procs.specs.Process.{Process, no_process, image_of}
 use Rattle.sys_procs.specs.World.{World, process_of, change, without_process, with_inodes, let_go}

@@ -28,7 +28,7 @@ use Rattle.sys_files.specs.Moving.{without_pending, resumes}
 use Rattle.sys_files.specs.Sound.{numbers_of}
 use Rattle.sys_files.proofs.CoreLemmas.{OverWith, core_keeps}
 use Rattle.sys_files.proofs.Counting.{IsCounted, counted_walks, close_all_counted}
-use Rattle.sys_files.proofs.StepWalks.{walk_resume}
+use Rattle.sys_files.proofs.Walks.{walk_resume}
 use Rattle.sys_procs.specs.Process.{Process, no_process, member_of, register, image_of}
 use Rattle.sys_procs.specs.World as world
 use Rattle.sys_procs.specs.World.{World, change, members}
@@ -56,11 +56,10 @@ use Rattle.abstract_unix.proofs.Sharing.{shared_numbers}
 use Rattle.abstract_unix.proofs.PipeNumbers.{shared_ends}
 use Rattle.abstract_unix.proofs.Dying.{closed_none}
 use Rattle.abstract_unix.proofs.Quiet.{HasNumbers, InCalm, same_call, other_inodes, Calm, CalmClosing, calm_walks, resume_calm, close_all_calm}
-use Rattle.abstract_unix.proofs.StepRows.{step_row}
+use Rattle.abstract_unix.proofs.FileRows.{walk_row}
 use Rattle.abstract_unix.proofs.Tidy.{IsTidy, tidy_numbers, tidy_end}
 use Rattle.abstract_unix.proofs.StillWorlds.{IsStill, still_row, still_resume, IsGone, gone_ended}
-use Rattle.abstract_unix.proofs.PendingRows.{Pends, row_pends, resume_pends, close_pends, core_pends}
-use Rattle.abstract_unix.proofs.NeverWaiting.{close_pending, core_pending}
+use Rattle.abstract_unix.proofs.PendingRows.{Pends, row_pends, resume_pends, close_user, core_user, close_pends, core_pends}
 use Rattle.abstract_unix.proofs.GoingOnLemmas.{AllWaited, user_waited, all_waited_put, world_goes_on, handed_pends, shared_goes_on}
 use Rattle.abstract_unix.proofs.WaitingRows.{row_waited, end_waited, resume_waited}
 use Rattle.abstract_unix.proofs.GoingOnSteps.{trapped_user}
@@ -245,7 +244,7 @@ module _ (s : ℕ) where
       let low = some_within u.processes s (process_of u s) r.there in
       let own = told_at u.processes s (process_of u s) r.there r.lives in
       let long : length c.state.u.files ≡ 15 = counted.long ∙ r.tidy.fifteen s (told_of (process_of u s)) own in
-      ended_tidy (with_handed u s c.state) status (user_held u c.state low (close_pending h ∙ free))
+      ended_tidy (with_handed u s c.state) status (user_held u c.state low (close_user h free))
       (λ entry. ap (λ l. times l entry) (held_files u c.state low) ∙ closed_none h entry long) now
 
   -- growth
@@ -297,10 +296,10 @@ module _ (s : ℕ) where
   leaves_call u (OnFiles call) args free r =
       let h : Handed = handed_of u (process_of u s) in
       let did : Did = file_row call h s args u.clock.time in
-      let calm : Calm h.u s did = step_row (calm_walks h.u s) call h args u.clock.time tt
+      let calm : Calm h.u s did = walk_row (calm_walks h.u s) call h args u.clock.time tt (λ moves. tt)
       (record { same = same_call h.u; numbers = tidy_numbers u s r.tidy }) in
       leaves_runs (did_by u s did)
-      (runs_did s u did (step_row (counted_walks h s) call h args u.clock.time tt (runs_counted s u r)) calm.numbers
+      (runs_did s u did (walk_row (counted_walks h s) call h args u.clock.time tt (λ moves. tt) (runs_counted s u r)) calm.numbers
       (row_pends call h s args u.clock.time free) r)
   leaves_call u (OnProcesses call) args free r =
       leaves_runs (came_by u s (process_row call (world_of u) s args))
@@ -409,7 +408,7 @@ module _ (s : ℕ) where
       let now = runs_handed s u core.state counted.state calm.state.numbers (core_pends h u.clock.time free) r in
       tidy_if (makes_core sig) (ends_after u s sig core) (exits_with u s (signal_status u s sig))
       (exits_tidy s (with_handed u s core.state) (signal_status u s sig + cond (is_written core.answer) dumped 0)
-      (user_held s u core.state (some_within u.processes s (process_of u s) r.there) (core_pending h u.clock.time ∙ free)) now)
+      (user_held s u core.state (some_within u.processes s (process_of u s) r.there) (core_user h u.clock.time free)) now)
       (exits_tidy s u (signal_status u s sig) free r)
 
   caught_tidy : (u : Unix) (sig : ℕ) → Runs s u → Runs s (catches u s sig).unix

@@ -36,12 +36,10 @@ pub mod Bounds
 pub mod Lengths
 pub mod PipedLemmas
 pub mod PipeKeptLemmas
+pub mod NodeCounts
 pub mod Walks
-pub mod PipeCounts
-pub mod StepWalks
 pub mod Counting
 pub mod Steady
-pub mod CoreSteady
 pub mod CoreLemmas
 pub mod PipeMovingLemmas
 pub mod PipeOpeningLemmas

@@ -14,7 +14,7 @@ use Rattle.abstract_unix.specs.Unix.{Unix, process_of}
 use Rattle.abstract_unix.specs.Calls.{in_order, closes_all, handed_of, with_handed}
 use Rattle.sys_files.specs.Handed.{Handed}
 use Rattle.sys_procs.specs.Process.{Process}
-use Rattle.abstract_unix.proofs.NeverWaiting.{close_pending}
+use Rattle.abstract_unix.proofs.PendingRows.{close_user}
 use Rattle.unix_core.proofs.AreaLemmas.{none_pending, own_put}
 use Rattle.unix_core.specs.Parts.{unix_of, board_in, IsReady, IsReadyToShow}
 use Rattle.unix_core.specs.Passing.{all_woken}
@@ -48,7 +48,7 @@ module _ (w new : World) (s : ℕ) (t : Table) (shown : IsReadyToShow w new s (c
       ap (λ (x : Unix). (process_of x s).u.pending) closed_unix
       ∙ ap (λ (x : Process). x.u.pending)
       (own_put (unix_of w) s p (record p { u = h.u; row = h.row; «data» = h.image.data; stack = h.image.stack }) (slot_is w s ready))
-      ∙ close_pending (handed_of (unix_of w) p) ∙ none
+      ∙ close_user (handed_of (unix_of w) p) none
 
 -- how an end is answered
 ended_goes : (o : Option (Stop its.World)) (r : Result (Unit {0}) PanicKind) → r ≡ ended_by o → r ≡ Ok tt → o ≡ None

@@ -1,17 +1,14 @@
-use Rattle.std.proofs.Common.{rules, ◌≡◌, ◌∙◌, ◌==◌, ◌||◌, ℕ, Bool, true, false, inl, inr, refl, sym, ap, subst}
-use Rattle.std.specs.Prelude.{unwrap_or}
-use Rattle.std.proofs.lemmas.Bool.{eqb-true}
+use Rattle.std.proofs.Common.{rules, ◌≡◌, ◌∙◌, ℕ, true, refl, sym, ap, subst}
 use Rattle.u_area.specs.declared.area.UArea.{UArea}
 use Rattle.image_keep.specs.Kept.{Kept, area_of, image_of, with_area}
-use Rattle.sys_files.specs.Handed.{Handed, handed, no_file}
-use Rattle.sys_files.proofs.Walks.{AwaitsPipe}
+use Rattle.sys_files.specs.Handed.{Handed, handed}
 use Rattle.sys_files.specs.Moving.{resumes}
 use Rattle.sys_files.specs.Sound.{CanGoOn}
 use Rattle.sys_files.proofs.Steady.{Confined, resume_confined}
 use Rattle.unix_core.specs.declared.world.World.{World}
 use Rattle.abstract_unix.specs.Unix.{process_of}
 use Rattle.abstract_unix.specs.Calls.{is_on_files}
-use Rattle.abstract_unix.proofs.PendingRows.{InPipe, Pends, resume_pends}
+use Rattle.abstract_unix.proofs.PendingRows.{Pends, awaited, resume_pends}
 use Rattle.abstract_unix.proofs.GoingOnLemmas.{handed_goes_on, handed_pends}
 use Rattle.unix_core.specs.Parts.{unix_of, IsReady}
 use Rattle.unix_core.proofs.AreaLemmas.{own_area}
@@ -25,34 +22,12 @@ use Rattle.unix_core.proofs.onfiles.resume_on_files.Goals as goal
 pends_on : (w : World) (s : ℕ) → IsReady w s → is_on_files (area_of w.procs.images.kept s).pending ≡ true → is_on_files (process_of (unix_of w) s).u.pending ≡ true
 pends_on w s ready is = ap (λ (u : UArea). is_on_files u.pending) (sym (own_area w s ready)) ∙ is
 
--- What goes on and is no read of the console waits in a pipe.
-in_pipe : (n : ℕ) → is_on_files n ≡ true → (n == 1) ≡ false → InPipe n
-in_pipe n on other = by (n == 1) (n == 3) (n == 4) other refl refl on
-  where
-    by : (a b c : Bool) → a ≡ false → (n == 3) ≡ b → (n == 4) ≡ c → (a || b || c) ≡ true → InPipe n
-    by true b c e f g is = absurd (cc e)
-    by false true c e f g is = inl (eqb-true n 3 f)
-    by false false true e f g is = inr (eqb-true n 4 g)
-    by false false false e f g is = absurd (cc is)
-
 module _ (w : World) (s : ℕ) (ready : IsReady w s) (pending : is_on_files (area_of w.procs.images.kept s).pending ≡ true) where
   its_pends : Pends (given w s)
   its_pends = handed_pends (unix_of w) s ready.good.pending (slot_is w s ready) (is_living w s ready)
 
-  awaits : ((given w s).u.pending == 1) ≡ false → AwaitsPipe (λ ino. Unit {0}) (given w s)
-  awaits other =
-      let end = its_pends (in_pipe (given w s).u.pending (pends_on w s ready pending) other) in
-      record {
-        awaits = record {
-          pipe = ap (λ o. (unwrap_or o no_file).kind.pipe) end.end.there ∙ end.end.pipe;
-          named = end.end.named;
-          few = end.left;
-        };
-        named = tt;
-      }
-
   confined : Confined s (given w s) (resumes (given w s) s w.procs.table.now)
-  confined = resume_confined (given w s) s w.procs.table.now awaits
+  confined = resume_confined (given w s) s w.procs.table.now (awaited (given w s) (pends_on w s ready pending) its_pends)
 
 pub area-u-requires : goal.area-u-requires
 area-u-requires c = c.requires.ready.good.running c.args.s c.requires.ready.runs c.requires.ready.user
