@@ -1,7 +1,7 @@
 -- What is so of the parts after a call on processes. Where it stops they belong together, or the call says what it has left; and
 -- a call that isn't exec leaves the texts, and with them which inodes are marked.
 use Rattle.std.proofs.Common.{◌≡◌, ◌≢◌, ◌⊎◌, ◌∙◌, ℕ, ◌==◌, Bool, true, false, cond, List, [], ◌∷◌, ◌++◌, map, length, Option, Some, None, slice_index, refl, sym, ap, inl, inr}
-use Rattle.std.specs.Prelude.{⊤, Result, Ok, Err, IfErr}
+use Rattle.std.specs.Prelude.{Result, Ok, Err, IfErr}
 use Rattle.v6_base.specs.Trace.{Taken, Log}
 use Rattle.v6_base.specs.declared.entry.Entry.TheVariants as line
 use Rattle.v6_base.specs.declared.answer.Answer.{Answer}

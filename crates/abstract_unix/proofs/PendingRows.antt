@@ -1,12 +1,14 @@
 -- What a call on files leaves of the call in which its process waits: who waits in a pipe has a number for the end.
-use Rattle.std.proofs.Common.{◌≡◌, ◌≤◌, ◌==◌, ◌∙◌, ◌||◌, ℕ, Bool, true, false, List, Option, Some, None, slice_index, refl, inl, inr, arith, [], ap}
-use Rattle.std.specs.Prelude.{◌⊎◌, unwrap_or}
-use Rattle.std.proofs.lemmas.Bool.{eqb-true}
+use Rattle.std.proofs.Common.{◌≡◌, ◌≤◌, ◌==◌, ◌∙◌, ℕ, Bool, true, false, List, Option, Some, None, slice_index, refl, inl, inr, arith, [], ap}
+use Rattle.std.specs.Prelude.{unwrap_or}
 use Rattle.v6_base.specs.declared.answer.Answer.{Answer}
 use Rattle.v6_base.specs.declared.answer.Answer.TheVariants.{Ret, Fail, Sleep}
 use Rattle.open_files.specs.declared.file.OpenFile.{OpenFile}
 use Rattle.open_files.specs.Files.{file_at, times}
+use Rattle.u_area.specs.declared.layout.TheConstants.{NOTHING_PENDING, LINE_READ}
 use Rattle.u_area.specs.declared.area.UArea.{UArea}
+use Rattle.u_area.specs.Pending.{is_on_files, IsPipeCall}
+use Rattle.u_area.proofs.PendingLemmas.{on_pipe}
 use Rattle.pipe_ends.specs.Writes.{waits}
 use Rattle.sys_files.specs.Handed.{Handed, no_file}
 use Rattle.sys_files.specs.Did.{Did, fails}
@@ -16,16 +18,12 @@ use Rattle.sys_files.specs.Piping.{waits_in_pipe}
 use Rattle.sys_files.specs.Moving.{resumes}
 use Rattle.abstract_unix.specs.declared.calls.FileCall.{FileCall}
 use Rattle.abstract_unix.specs.declared.calls.FileCall.TheVariants as file
-use Rattle.abstract_unix.specs.Calls.{file_row, is_on_files}
+use Rattle.abstract_unix.specs.Calls.{file_row}
 use Rattle.abstract_unix.proofs.FileRows.{walk_row}
 use Rattle.sys_files.proofs.Walks.{Walks, IsAwaiting, walk_closes, walk_resume, closes_all}
 use Rattle.sys_files.proofs.CoreLemmas.{core_keeps}
 
--- a pending call that is a read or a write of a pipe
-abbrev pub InPipe : ℕ → Type 0
-InPipe pending = (pending ≡ 3) ⊎ (pending ≡ 4)
-
-pub never_in_pipe : {P : Type 0} (n : ℕ) → n ≡ 0 → InPipe n → P
+pub never_in_pipe : {P : Type 0} (n : ℕ) → n ≡ NOTHING_PENDING → IsPipeCall n → P
 never_in_pipe n free (inl three) = absurd (omega (arith, free, three))
 never_in_pipe n free (inr four) = absurd (omega (arith, free, four))
 
@@ -42,7 +40,7 @@ pub record IsAtEnd (files : List (Option OpenFile)) (u : UArea) : Type 0 where
   pub left : slice_index u.call 3 ≤ slice_index u.call 2
 
 abbrev pub Pends : Handed → Type 0
-Pends h = InPipe h.u.pending → IsAtEnd h.files h.u
+Pends h = IsPipeCall h.u.pending → IsAtEnd h.files h.u
 
 -- a call whose answer is that its process sleeps
 abbrev pub is_sleep : Answer → Bool
@@ -53,12 +51,12 @@ is_sleep (Sleep pri chan) = true
 -- What a call leaves: who waits in a pipe is at an end of it, and who doesn't sleep waits for nothing.
 pub record Holds (d : Did) : Type 0 where
   pub pends : Pends d.state
-  pub user : is_sleep d.answer ≡ false → d.state.u.pending ≡ 0
+  pub user : is_sleep d.answer ≡ false → d.state.u.pending ≡ NOTHING_PENDING
 
-holds_free : (d : Did) → d.state.u.pending ≡ 0 → Holds d
+holds_free : (d : Did) → d.state.u.pending ≡ NOTHING_PENDING → Holds d
 holds_free d free = record { pends = never_in_pipe d.state.u.pending free; user = λ awake. free }
 
-never_in_pipe_for_keys : {P : Type 0} → InPipe 1 → P
+never_in_pipe_for_keys : {P : Type 0} → IsPipeCall LINE_READ → P
 never_in_pipe_for_keys (inl three) = absurd (omega (arith, three))
 never_in_pipe_for_keys (inr four) = absurd (omega (arith, four))
 
@@ -73,7 +71,7 @@ end_awaited h entry count left awaits = by (file_at h.files entry) refl awaits.p
 
 -- Each row of a call on files leaves it so, of a process that waits for nothing.
 pending_walks : (slot : ℕ)
-    → Walks (λ h. h.u.pending ≡ 0) Holds (λ count. Unit {0}) (λ ino. Unit {0}) (Unit {0}) slot
+    → Walks (λ h. h.u.pending ≡ NOTHING_PENDING) Holds (λ count. Unit {0}) (λ ino. Unit {0}) (Unit {0}) slot
 pending_walks slot = record {
   refused = λ h e free. holds_free (fails h e) free;
   done = λ h a b free. holds_free (record { answer = Ret a b; state = h; items = [] }) free;
@@ -105,35 +103,25 @@ pending_walks slot = record {
 }
 
 -- A call on files of a process in user mode.
-row_holds : (call : FileCall) (h : Handed) (slot : ℕ) (args : List ℕ) (now : ℕ) → h.u.pending ≡ 0
+row_holds : (call : FileCall) (h : Handed) (slot : ℕ) (args : List ℕ) (now : ℕ) → h.u.pending ≡ NOTHING_PENDING
     → Holds (file_row call h slot args now)
 row_holds call h slot args now free = walk_row (pending_walks slot) call h args now tt (λ moves. tt) free
 
-pub row_pends : (call : FileCall) (h : Handed) (slot : ℕ) (args : List ℕ) (now : ℕ) → h.u.pending ≡ 0
+pub row_pends : (call : FileCall) (h : Handed) (slot : ℕ) (args : List ℕ) (now : ℕ) → h.u.pending ≡ NOTHING_PENDING
     → Pends (file_row call h slot args now).state
 row_pends call h slot args now free = (row_holds call h slot args now free).pends
 
 -- a call that comes to an answer waits for nothing
-pub row_user : (call : FileCall) (h : Handed) (slot : ℕ) (args : List ℕ) (now : ℕ) → h.u.pending ≡ 0
+pub row_user : (call : FileCall) (h : Handed) (slot : ℕ) (args : List ℕ) (now : ℕ) → h.u.pending ≡ NOTHING_PENDING
     → is_sleep (file_row call h slot args now).answer ≡ false
-    → (file_row call h slot args now).state.u.pending ≡ 0
+    → (file_row call h slot args now).state.u.pending ≡ NOTHING_PENDING
 row_user call h slot args now free awake = (row_holds call h slot args now free).user awake
 
--- A process goes on with a call on files: one that is no read of the console waits in a pipe,
-in_pipe : (n : ℕ) → is_on_files n ≡ true → (n == 1) ≡ false → InPipe n
-in_pipe n on other = by (n == 1) (n == 3) (n == 4) other refl refl on
-  where
-    by : (a b c : Bool) → a ≡ false → (n == 3) ≡ b → (n == 4) ≡ c → (a || b || c) ≡ true → InPipe n
-    by true b c e f g is = absurd (cc e)
-    by false true c e f g is = inl (eqb-true n 3 f)
-    by false false true e f g is = inr (eqb-true n 4 g)
-    by false false false e f g is = absurd (cc is)
-
--- at an end that is there.
-pub awaited : (h : Handed) → is_on_files h.u.pending ≡ true → Pends h → (h.u.pending == 1) ≡ false
+-- A process goes on with a call on files: one that is no read of a line waits at an end that is there.
+pub awaited : (h : Handed) → is_on_files h.u.pending ≡ true → Pends h → (h.u.pending == LINE_READ) ≡ false
     → IsAwaiting h (slice_index h.u.call 0) (slice_index h.u.call 2) (slice_index h.u.call 3)
 awaited h on pends other =
-    let held = pends (in_pipe h.u.pending on other) in
+    let held = pends (on_pipe h.u.pending on other) in
     record {
       pipe = ap (λ o. (unwrap_or o no_file).kind.pipe) held.end.there ∙ held.end.pipe;
       named = held.end.named;
@@ -148,20 +136,20 @@ resume_pends h slot now on pends = (resume_holds h slot now on pends).pends
 
 pub resume_user : (h : Handed) (slot now : ℕ) → is_on_files h.u.pending ≡ true → Pends h
     → is_sleep (resumes h slot now).answer ≡ false
-    → (resumes h slot now).state.u.pending ≡ 0
+    → (resumes h slot now).state.u.pending ≡ NOTHING_PENDING
 resume_user h slot now on pends awake = (resume_holds h slot now on pends).user awake
 
 -- Files that are closed, and the file core: the process waits for nothing.
-pub close_user : (h : Handed) → h.u.pending ≡ 0 → (close_all h).state.u.pending ≡ 0
+pub close_user : (h : Handed) → h.u.pending ≡ NOTHING_PENDING → (close_all h).state.u.pending ≡ NOTHING_PENDING
 close_user h free =
-    closes_all (λ c. c.state.u.pending ≡ 0)
+    closes_all (λ c. c.state.u.pending ≡ NOTHING_PENDING)
     (λ c fd named is. (walk_closes (pending_walks 0) c.state fd 0 0 named tt is).user refl) h free
 
-pub core_user : (h : Handed) (now : ℕ) → h.u.pending ≡ 0 → (core_file h now).state.u.pending ≡ 0
-core_user h now free = (core_keeps (λ l. l.u.pending ≡ 0) (λ l inodes same is. is) h now free).state
+pub core_user : (h : Handed) (now : ℕ) → h.u.pending ≡ NOTHING_PENDING → (core_file h now).state.u.pending ≡ NOTHING_PENDING
+core_user h now free = (core_keeps (λ l. l.u.pending ≡ NOTHING_PENDING) (λ l inodes same is. is) h now free).state
 
-pub close_pends : (h : Handed) → h.u.pending ≡ 0 → Pends (close_all h).state
+pub close_pends : (h : Handed) → h.u.pending ≡ NOTHING_PENDING → Pends (close_all h).state
 close_pends h free = never_in_pipe (close_all h).state.u.pending (close_user h free)
 
-pub core_pends : (h : Handed) (now : ℕ) → h.u.pending ≡ 0 → Pends (core_file h now).state
+pub core_pends : (h : Handed) (now : ℕ) → h.u.pending ≡ NOTHING_PENDING → Pends (core_file h now).state
 core_pends h now free = never_in_pipe (core_file h now).state.u.pending (core_user h now free)

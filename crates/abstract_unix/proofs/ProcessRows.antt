@@ -20,6 +20,7 @@ use Rattle.proc_tab.specs.declared.child.Child.TheVariants.{NoChild, Living, Dea
 use Rattle.proc_tab.specs.Processes.{passes}
 use Rattle.proc_tab.specs.Children.{Tells, child, is_dead_child_of}
 use Rattle.proc_tab.proofs.SearchLemmas.{tells}
+use Rattle.u_area.specs.Pending.{is_on_files}
 use Rattle.image_keep.specs.Kept.{clicks_of}
 use Rattle.sig_core.specs.declared.numbers.TheConstants.{SIGKIL}
 use Rattle.sig_core.specs.Signals as signal
@@ -33,7 +34,7 @@ use Rattle.sys_procs.specs.Resume.{awake, resume_proc}
 use Rattle.sys_procs.specs.Signals.{asking, signal_set}
 use Rattle.abstract_unix.specs.declared.calls.ProcessCall.{ProcessCall}
 use Rattle.abstract_unix.specs.declared.calls.ProcessCall.TheVariants as process
-use Rattle.abstract_unix.specs.Calls.{process_row, is_on_files}
+use Rattle.abstract_unix.specs.Calls.{process_row}
 use Rattle.abstract_unix.specs.Turn.{is_user}
 
 -- a process that has the same image, text, files and directory, and that lives as the other does

@@ -10,7 +10,9 @@ use Rattle.v6_base.specs.declared.entry.Chan.{Chan}
 use Rattle.v6_base.specs.declared.entry.Chan.TheVariants.{RunIn, RunOut, Tout, Keys, Wait, Read, Write}
 use Rattle.v6_base.specs.declared.entry.Entry.{Entry}
 use Rattle.v6_base.specs.declared.entry.Entry.TheVariants.{Wake, Signal}
+use Rattle.u_area.specs.declared.layout.TheConstants.{NOTHING_PENDING, LINE_READ}
 use Rattle.u_area.specs.declared.area.UArea.{UArea}
+use Rattle.u_area.specs.Pending.{IsPipeCall}
 use Rattle.fs_tree.specs.Name.{readable}
 use Rattle.fs_tree.specs.Finding.{Inodes}
 use Rattle.open_files.specs.Files.{entry_of, with_more, with_offset}
@@ -79,7 +81,7 @@ same_call u = record { size = record { «data» = refl; stack = refl }; pending 
 -- it waits in a call, for a channel
 pub record Waits (old new : UArea) (pri : ℤ) (chan : Chan) : Type 0 where
   pub size : SameSize old new
-  pub pending : (new.pending == 0) ≡ false
+  pub pending : (new.pending == NOTHING_PENDING) ≡ false
   pub at : (s : ℕ) → IsSleep s chan pri
   pub on : IsChannel chan
 
@@ -116,9 +118,9 @@ dropped_calm old h fd p = record {
   numbers = record { count = p.numbers.count; pipes = pipes_left h (entry_of h.u.files fd) p.numbers.pipes };
 }
 
-not_user : (n pending : ℕ) → (pending ≡ 3) ⊎ (pending ≡ 4) → n ≡ pending → (n == 0) ≡ false
-not_user n pending (inl three) is = ap (λ m. m == 0) (is ∙ three)
-not_user n pending (inr four) is = ap (λ m. m == 0) (is ∙ four)
+not_user : (n pending : ℕ) → IsPipeCall pending → n ≡ pending → (n == NOTHING_PENDING) ≡ false
+not_user n pending (inl three) is = ap (λ m. m == NOTHING_PENDING) (is ∙ three)
+not_user n pending (inr four) is = ap (λ m. m == NOTHING_PENDING) (is ∙ four)
 
 -- and when it has ended.
 pub record Calm (old : UArea) (s : ℕ) (did : Did) : Type 0 where
@@ -144,7 +146,7 @@ lines_quiet s (e ∷ entries) all =
     by (inl (chan, is, of)) = subst (IsQuiet s) (sym is) (line_quiet s chan of)
     by (inr is) = inr is
 
-sleeps_so : (old new : UArea) (pending : ℕ) (chan : Chan) → SameSize old new → (pending ≡ 3) ⊎ (pending ≡ 4)
+sleeps_so : (old new : UArea) (pending : ℕ) (chan : Chan) → SameSize old new → IsPipeCall pending
     → new.pending ≡ pending → IsOfPipe IsInode chan
     → Waits old new (pos 1) chan
 sleeps_so old new pending RunIn same which is of = absurd of
@@ -237,7 +239,7 @@ calm_walks old s = record {
 
 -- A call in which a process slept goes on: until it sleeps again no call is waited in.
 pub resume_calm : (h : Handed) (s now : ℕ)
-    → ((h.u.pending == 1) ≡ false → IsAwaiting h (slice_index h.u.call 0) (slice_index h.u.call 2) (slice_index h.u.call 3))
+    → ((h.u.pending == LINE_READ) ≡ false → IsAwaiting h (slice_index h.u.call 0) (slice_index h.u.call 2) (slice_index h.u.call 3))
     → HasNumbers h
     → Calm (without_pending h).u s (resumes h s now)
 resume_calm h s now has numbers =

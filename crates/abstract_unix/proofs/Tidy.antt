@@ -2,9 +2,11 @@
 -- open have numbers that a channel may have, and who waits in a pipe can go on.
 use Rattle.std.proofs.Common.{◌≡◌, ◌≤◌, ◌==◌, ℕ, true, false, length, get_or, Some, None, slice_index}
 use Rattle.open_files.specs.Files.{file_at}
+use Rattle.u_area.specs.declared.layout.TheConstants.{LINE_READ}
+use Rattle.u_area.specs.Pending.{is_on_files}
 use Rattle.sys_files.specs.Sound.{numbers_of}
 use Rattle.abstract_unix.specs.Unix.{Unix, process_of}
-use Rattle.abstract_unix.specs.Calls.{handed_of, is_on_files}
+use Rattle.abstract_unix.specs.Calls.{handed_of}
 use Rattle.abstract_unix.specs.Whole.{Told, told_in, all_names, CanGoOn}
 use Rattle.abstract_unix.proofs.PipeNumbers.{HavePipes}
 use Rattle.sys_files.proofs.Walks.{IsAwaiting}
@@ -26,7 +28,7 @@ tidy_numbers u s tidy = record { count = tidy.count; pipes = tidy.pipes }
 -- Who waits in a call on files, and not for keys, has an end of a pipe.
 pub tidy_end : (u : Unix) (s : ℕ) → IsTidy u → get_or u.processes s None ≡ Some (process_of u s)
     → (process_of u s).is_zombie ≡ false
-    → is_on_files (process_of u s).u.pending ≡ true → ((process_of u s).u.pending == 1) ≡ false
+    → is_on_files (process_of u s).u.pending ≡ true → ((process_of u s).u.pending == LINE_READ) ≡ false
     → IsAwaiting (handed_of u (process_of u s)) (slice_index (process_of u s).u.call 0)
     (slice_index (process_of u s).u.call 2) (slice_index (process_of u s).u.call 3)
 tidy_end u s tidy there lives on other =

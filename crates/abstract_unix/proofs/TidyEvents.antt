@@ -11,6 +11,7 @@ use Rattle.pick_rules.specs.declared.row.Mode.TheVariants.{User, Kernel, Idle}
 use Rattle.pick_rules.specs.Lawful.{Seen}
 use Rattle.pick_rules.specs.Logged.{Stop, left_by}
 use Rattle.log_laws.proofs.Seats.{RunnerAt, Paused, Holds}
+use Rattle.u_area.specs.declared.layout.TheConstants.{NOTHING_PENDING}
 use Rattle.sys_files.specs.Sound.{numbers_of}
 use Rattle.open_files.specs.Files.{file_at}
 use Rattle.sys_procs.specs.Process.{Process, no_process}
@@ -171,8 +172,8 @@ tick_tidy u seen p tidy = by seen.board.table.running p.runner
         let at : get_or (set u.processes s (Some q)) s None ≡ Some q =
         get_or-set_same u.processes s (Some q) None (some_within u.processes s (process_of u s)
         (runs_at u s seen.board tidy t).there) in
-        let free : (process_of v s).u.pending ≡ 0 = ap (λ o. (unwrap_or o no_process).u.pending) at
-        ∙ eqb-true (process_of u s).u.pending 0 user in
+        let free : (process_of v s).u.pending ≡ NOTHING_PENDING = ap (λ o. (unwrap_or o no_process).u.pending) at
+        ∙ eqb-true (process_of u s).u.pending NOTHING_PENDING user in
         either_tidy (is_second u.clock) (delivers_due v s) (returns v) (due_tidy s v free k) k.tidy
 
     by : (o : Option ℕ) → RunnerAt (seats_of u) seen.board o → IsTidy (to o).unix

@@ -9,7 +9,9 @@ use Rattle.pick_rules.specs.Lawful.{Seen}
 use Rattle.log_laws.proofs.Fitting.{Apt}
 use Rattle.log_laws.proofs.Seats.{Seats, with_seat, InTurn, InCall, Paused, busy_agrees}
 use Rattle.log_laws.proofs.Lines.{seat_stays}
+use Rattle.u_area.specs.declared.layout.TheConstants.{NOTHING_PENDING, LINE_READ}
 use Rattle.u_area.specs.declared.area.UArea.{UArea}
+use Rattle.u_area.specs.Pending.{is_on_files}
 use Rattle.sys_files.specs.Handed.{Handed}
 use Rattle.sys_files.specs.Moving.{resumes}
 use Rattle.sys_procs.specs.Process.{Process, register, image_of}
@@ -32,7 +34,7 @@ use Rattle.abstract_unix.specs.declared.calls.SystemCall.TheVariants.{Indirect, 
 use Rattle.abstract_unix.specs.declared.calls.Sysent.{Sysent}
 use Rattle.abstract_unix.specs.Unix.{Unix, process_of, with_process}
 use Rattle.abstract_unix.specs.Steps.{Steps}
-use Rattle.abstract_unix.specs.Calls.{handed_of, world_of, with_area, entered_area, words_passed, asked, did_by, came_by, shares, forks, file_row, process_row, does_call, sysent_of, does_asked, system_call, is_on_files, resumed}
+use Rattle.abstract_unix.specs.Calls.{handed_of, world_of, with_area, entered_area, words_passed, asked, did_by, came_by, shares, forks, file_row, process_row, does_call, sysent_of, does_asked, system_call, resumed}
 use Rattle.abstract_unix.specs.Turn.{machine_of, with_machine, faults, comes_to, instruction, is_user, passes_setd, begins_turn, turn}
 use Rattle.abstract_unix.proofs.Sitting.{seat_for, seats_in, seats_of, found_in, runner_seat, runner_there, runner_alive, put_in, kept_in, changed_in}
 use Rattle.abstract_unix.proofs.Steps.{AptSteps, Begun, AptBegun, returns_apt, signals_apt, answers_apt, came_apt}
@@ -122,9 +124,9 @@ module _ (s : ℕ) (seen : Seen) where
   resumed_apt u tidy p t = by (is_on_files (process_of u s).u.pending) refl
     where
       old : UArea
-      old = record (process_of u s).u { pending = 0; call = replicate 8 0 }
+      old = record (process_of u s).u { pending = NOTHING_PENDING; call = replicate 8 0 }
 
-      at_end : is_on_files (process_of u s).u.pending ≡ true → ((process_of u s).u.pending == 1) ≡ false
+      at_end : is_on_files (process_of u s).u.pending ≡ true → ((process_of u s).u.pending == LINE_READ) ≡ false
           → IsAwaiting (handed_of u (process_of u s)) (slice_index (process_of u s).u.call 0)
           (slice_index (process_of u s).u.call 2) (slice_index (process_of u s).u.call 3)
       at_end on other =

@@ -10,7 +10,9 @@ use Rattle.v6_base.specs.declared.errno.Errno.{Errno}
 use Rattle.fs_codec.specs.Store.{Node}
 use Rattle.fs_codec.specs.declared.modes.TheConstants.{ISUID, ISGID}
 use Rattle.fs_tree.specs.Finding.{with_reference}
+use Rattle.u_area.specs.declared.layout.TheConstants.{NOTHING_PENDING}
 use Rattle.u_area.specs.declared.area.UArea.{UArea}
+use Rattle.u_area.specs.Pending.{is_on_files, IsPipeCall}
 use Rattle.seg_regs.specs.Sizes.{is_refused}
 use Rattle.pick_rules.specs.Effects as effect
 use Rattle.proc_tab.specs.Processes.{lowest}
@@ -32,8 +34,8 @@ use Rattle.sys_procs.specs.Signals.{is_reached, meant_in, signalled, signalled_i
 use Rattle.sys_procs.proofs.TestedSlots.{tests_processes}
 use Rattle.abstract_unix.specs.declared.calls.ProcessCall.{ProcessCall}
 use Rattle.abstract_unix.specs.declared.calls.ProcessCall.TheVariants as process
-use Rattle.abstract_unix.specs.Calls.{process_row, is_on_files}
-use Rattle.abstract_unix.proofs.PendingRows.{InPipe, is_sleep}
+use Rattle.abstract_unix.specs.Calls.{process_row}
+use Rattle.abstract_unix.proofs.PendingRows.{is_sleep}
 use Rattle.abstract_unix.proofs.ProcessRows.{Plain, gives, refuses, waits, changes, due, nice, wakes, dated, buries, plain_row, resume_plain}
 use Rattle.v6_base.specs.declared.entry.Entry.{Entry}
 use Rattle.abstract_unix.proofs.GoingOnLemmas.{WaitedIn, AllWaited, waited_same, all_waited_same, all_waited_then, like_waited, apart_waited, user_waited, dead_waited, gone_waited, all_waited_put}
@@ -49,17 +51,17 @@ set_either P xs s x d new old = elim (cases_lt s (length xs)) [
 
 -- who is in a slot, if anybody, waits for nothing
 abbrev IsFreeIn : Option Process → Type 0
-IsFreeIn o = (unwrap_or o no_process).u.pending ≡ 0
+IsFreeIn o = (unwrap_or o no_process).u.pending ≡ NOTHING_PENDING
 
 module _ (ps : List (Option Process)) (s : ℕ) where
   -- A world in which the process that calls waits for nothing, and in which who waits in a pipe waited in it before.
   pub record IsFree (w : World) : Type 0 where
     pub waited : AllWaited ps w.processes
-    pub free : (process_of w s).u.pending ≡ 0
+    pub free : (process_of w s).u.pending ≡ NOTHING_PENDING
 
   pub record IsEased (c : Comes) : Type 0 where
     pub waited : AllWaited ps c.state.processes
-    pub user : is_sleep c.answer ≡ false → (process_of c.state s).u.pending ≡ 0
+    pub user : is_sleep c.answer ≡ false → (process_of c.state s).u.pending ≡ NOTHING_PENDING
 
   eased : (c : Comes) → IsFree c.state → IsEased c
   eased c is = record { waited = is.waited; user = λ awake. is.free }
@@ -79,7 +81,7 @@ module _ (ps : List (Option Process)) (s : ℕ) where
   }
 
   -- the process that calls is changed, and waits for nothing still
-  change_free : (w : World) (rule : Process → Process) → IsFree w → (rule (process_of w s)).u.pending ≡ 0
+  change_free : (w : World) (rule : Process → Process) → IsFree w → (rule (process_of w s)).u.pending ≡ NOTHING_PENDING
       → IsFree (change w s rule)
   change_free w rule is free = record {
     waited = all_waited_then ps w.processes _ is.waited (all_waited_put w.processes s (Some (rule (process_of w s))) (user_waited _ _ free));
@@ -98,7 +100,7 @@ module _ (ps : List (Option Process)) (s : ℕ) where
   }
 
   -- a call that wants no place for an image: where it sleeps, its process waits in no pipe
-  apart : (n : ℕ) → is_on_files n ≡ false → InPipe n → ⊥
+  apart : (n : ℕ) → is_on_files n ≡ false → IsPipeCall n → ⊥
   apart n none (inl three) = let on = ap is_on_files three in cc (none, on)
   apart n none (inr four) = let on = ap is_on_files four in cc (none, on)
 
@@ -186,7 +188,7 @@ module _ (ps : List (Option Process)) (s : ℕ) where
       let begun : Process = record p { u = begun_area u program; «data» = read; stack = first_stack program.arguments } in
       group_pending node (as_owner node begun) ∙ owner_pending node begun
 
-  executes_eased : (w : World) (u : UArea) (program : Program) → IsFree w → u.pending ≡ 0 → IsEased (executes w s u program)
+  executes_eased : (w : World) (u : UArea) (program : Program) → IsFree w → u.pending ≡ NOTHING_PENDING → IsEased (executes w s u program)
   executes_eased w u program is none =
       let m = data_read w s program in
       let read : World = with_moved w program.ino m in
@@ -194,7 +196,7 @@ module _ (ps : List (Option Process)) (s : ℕ) where
       let begun = change_free read rule (same_free w read refl is) (begins_pending u (process_of read s) (node_at w program.ino) program m.memory.data ∙ none) in
       eased _ (same_free (change read s rule) _ refl begun)
 
-  begins_eased : (w : World) (u : UArea) (program : Program) → IsFree w → u.pending ≡ 0 → IsEased (begins_anew w s u program)
+  begins_eased : (w : World) (u : UArea) (program : Program) → IsFree w → u.pending ≡ NOTHING_PENDING → IsEased (begins_anew w s u program)
   begins_eased w u program is none =
       let places : World → Bool → Comes = λ placed new.
       does (effect.Image s (image_clicks program.plan) placed) (executes (reads_text new placed s program) s u program) in
@@ -310,7 +312,7 @@ module _ (ps : List (Option Process)) (s : ℕ) where
       plain_eased ps s now _ (resume_plain s w) is
     where
       awake_free : (qs : List (Option Process))
-          → (unwrap_or (get_or (set qs s (Some (awake (unwrap_or (get_or qs s None) no_process)))) s None) no_process).u.pending ≡ 0
+          → (unwrap_or (get_or (set qs s (Some (awake (unwrap_or (get_or qs s None) no_process)))) s None) no_process).u.pending ≡ NOTHING_PENDING
       awake_free qs =
           let q : Option Process = Some (awake (unwrap_or (get_or qs s None) no_process)) in
           elim (cases_lt s (length qs)) [
@@ -377,7 +379,7 @@ module _ (ps : List (Option Process)) (s : ℕ) where
       freed_waited (leaves w s status) (process_of w s).text (same_free ps s (change w s (ended status)) (leaves w s status) refl left)
 
 -- What each call leaves of a world whose process waits for nothing.
-module _ (w : World) (s : ℕ) (free : (process_of w s).u.pending ≡ 0) where
+module _ (w : World) (s : ℕ) (free : (process_of w s).u.pending ≡ NOTHING_PENDING) where
   begun : IsFree w.processes s w
   begun = record { waited = all_waited_same w.processes; free = free }
 
@@ -385,13 +387,13 @@ module _ (w : World) (s : ℕ) (free : (process_of w s).u.pending ≡ 0) where
   row_waited call args = (row_eased w.processes s call w args begun).waited
 
   pub process_user : (call : ProcessCall) (args : List ℕ) → is_sleep (process_row call w s args).answer ≡ false
-      → (process_of (process_row call w s args).state s).u.pending ≡ 0
+      → (process_of (process_row call w s args).state s).u.pending ≡ NOTHING_PENDING
   process_user call args awake = (row_eased w.processes s call w args begun).user awake
 
   pub fork_waited : AllWaited w.processes (fork_one w s).state.processes
   fork_waited = (fork_eased w.processes s w begun).waited
 
-  pub fork_user : is_sleep (fork_one w s).answer ≡ false → (process_of (fork_one w s).state s).u.pending ≡ 0
+  pub fork_user : is_sleep (fork_one w s).answer ≡ false → (process_of (fork_one w s).state s).u.pending ≡ NOTHING_PENDING
   fork_user awake = (fork_eased w.processes s w begun).user awake
 
   pub end_waited : (status : ℕ) → AllWaited w.processes (end_proc w s status).state.processes
@@ -401,7 +403,7 @@ module _ (w : World) (s : ℕ) (free : (process_of w s).u.pending ≡ 0) where
   grown_waited sp = (grown_eased w.processes s w sp begun).waited
 
   pub grown_user : (sp : ℕ) → is_sleep (grown_or_not w s (grow w s sp)).answer ≡ false
-      → (process_of (grown_or_not w s (grow w s sp)).state s).u.pending ≡ 0
+      → (process_of (grown_or_not w s (grow w s sp)).state s).u.pending ≡ NOTHING_PENDING
   grown_user sp awake = (grown_eased w.processes s w sp begun).user awake
 
 -- A sleep or a wait goes on, whatever was waited for.
@@ -409,5 +411,5 @@ pub resume_waited : (w : World) (s : ℕ) → AllWaited w.processes (resume_proc
 resume_waited w s = (resume_eased w.processes s w (all_waited_same w.processes)).waited
 
 pub resumed_user : (w : World) (s : ℕ) → is_sleep (resume_proc w s).answer ≡ false
-    → (process_of (resume_proc w s).state s).u.pending ≡ 0
+    → (process_of (resume_proc w s).state s).u.pending ≡ NOTHING_PENDING
 resumed_user w s awake = (resume_eased w.processes s w (all_waited_same w.processes)).user awake

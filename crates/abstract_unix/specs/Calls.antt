@@ -1,5 +1,5 @@
 -- The system calls that are built: section II of the UNIX Programmer's Manual; Lions' Commentary, `sysent` and `trap`.
-use Rattle.std.specs.Prelude.{ℕ, zero, suc, ◌+◌, ◌-◌, ◌*◌, ◌%◌, ◌==◌, ◌&&◌, ◌||◌, nat_lt, nat_le, Bool, true, false, if◌then◌else◌, List, [], ◌∷◌, ◌++◌, map, find, Option, Some, None, Result, Ok, Err, slice_index, slice_set}
+use Rattle.std.specs.Prelude.{ℕ, zero, suc, ◌+◌, ◌-◌, ◌*◌, ◌%◌, ◌==◌, ◌&&◌, nat_lt, nat_le, true, false, if◌then◌else◌, List, [], ◌∷◌, ◌++◌, map, find, Option, Some, None, Result, Ok, Err, slice_index, slice_set}
 use Rattle.std.specs.Option.{option_map, unwrap_or}
 use Rattle.v6_base.specs.declared.errno.Errno.TheVariants.{ENOSYS}
 use Rattle.v6_base.specs.Access.{load_word}
@@ -12,6 +12,7 @@ use Rattle.pick_rules.specs.Effects.{Show, lifted}
 use Rattle.open_files.specs.declared.file.OpenFile.{OpenFile}
 use Rattle.open_files.specs.Files.{shared}
 use Rattle.u_area.specs.declared.area.UArea.{UArea}
+use Rattle.u_area.specs.Pending.{is_on_files}
 use Rattle.sys_files.specs.declared.devices.TheConstants.{LINES}
 use Rattle.sys_files.specs.Handed.{Handed}
 use Rattle.sys_files.specs.Did.{Did}
@@ -338,10 +339,7 @@ system_call number u slot =
     let a : Asked = asked (image_of u.texts p) (register p 7) number in
     does_asked u slot a (sysent_of a.number)
 
--- A process that slept in a call goes on with it: 1 is a read of a line, 3 a read and 4 a write of a pipe, 5 a sleep, 6 a wait.
-abbrev pub is_on_files : ℕ → Bool
-is_on_files pending = (pending == 1) || (pending == 3) || (pending == 4)
-
+-- A process that slept in a call goes on with it.
 abbrev pub resumed : Unix → ℕ → Steps
 resumed u slot =
     if is_on_files (process_of u slot).u.pending then did_by u slot (resumes (handed_of u (process_of u slot)) slot u.clock.time)

@@ -13,6 +13,7 @@ use Rattle.sys_files.specs.Handed.{Handed, r0, node_at, file_of, line_of}
 use Rattle.sig_core.specs.Signals.{due}
 use Rattle.sys_files.specs.Did.{Did, fails, check, must}
 use Rattle.sys_files.specs.Descriptors.{open_entry}
+use Rattle.u_area.specs.declared.layout.TheConstants.{LINE_READ, PIPE_READ, NOTHING_PENDING}
 use Rattle.u_area.specs.declared.area.UArea.{UArea}
 use Rattle.tty_line.specs.declared.line.Took.{Took}
 use Rattle.tty_line.specs.declared.line.Took.TheVariants.{Done, Wait, Fault}
@@ -109,13 +110,13 @@ read_place h entry at count now = ((file_of h entry).offset + (read_of h entry a
 
 -- A sleep leaves another call that goes on, unless a signal is due.
 kept_waits : (old h : Handed) (l entry at count : ℕ) → IsKept old h
-    → IsKept old (record h { u = record h.u { pending = 1; call = entry ∷ at ∷ count ∷ 0 ∷ 0 ∷ 0 ∷ 0 ∷ 0 ∷ [] } })
+    → IsKept old (record h { u = record h.u { pending = LINE_READ; call = entry ∷ at ∷ count ∷ 0 ∷ 0 ∷ 0 ∷ 0 ∷ 0 ∷ [] } })
     → IsKept old (waits_for_keys h l entry at count).state
 kept_waits old h l entry at count same waits = by (is_some (due h.row h.u))
   where
     by : (b : Bool) → IsKept old (cond {A = Did} b (fails h EINTR) (record {
       answer = Sleep (pos 10) Keys;
-      state = record h { u = record h.u { pending = 1; call = entry ∷ at ∷ count ∷ 0 ∷ 0 ∷ 0 ∷ 0 ∷ 0 ∷ [] } };
+      state = record h { u = record h.u { pending = LINE_READ; call = entry ∷ at ∷ count ∷ 0 ∷ 0 ∷ 0 ∷ 0 ∷ 0 ∷ [] } };
       items = [];
     })).state
     by true = same
@@ -188,29 +189,29 @@ kept_by : (h : Handed) (slot now : ℕ) (broken typed reads : Bool) → IsSound 
     → IsKept h (resumed_by h slot now broken typed reads).state
 kept_by h slot now true typed reads sound = kept_same h (without_pending h) sound refl refl refl refl refl refl
 kept_by h slot now false true reads sound = resume_kept h sound
-kept_by h slot now false false true sound = pipe_read_kept h sound 0 (replicate 8 0) _ _ _ now
-kept_by h slot now false false false sound = pipe_write_kept h sound 0 (replicate 8 0) slot _ _ _ _ now
+kept_by h slot now false false true sound = pipe_read_kept h sound NOTHING_PENDING (replicate 8 0) _ _ _ now
+kept_by h slot now false false false sound = pipe_write_kept h sound NOTHING_PENDING (replicate 8 0) slot _ _ _ _ now
 
 pub resumes_kept : (h : Handed) (slot now : ℕ) → IsSound h → IsKept h (resumes h slot now).state
 resumes_kept h slot now sound =
-    kept_by h slot now (is_some (due h.row (without_pending h).u)) (h.u.pending == 1) (h.u.pending == 3) sound
+    kept_by h slot now (is_some (due h.row (without_pending h).u)) (h.u.pending == LINE_READ) (h.u.pending == PIPE_READ) sound
 
 -- What a call comes to that is taken up again, by its tests.
 pub resume_broken : (h : Handed) (slot now : ℕ) → is_some (due h.row (without_pending h).u) ≡ true
     → fails (without_pending h) EINTR ≡ resumes h slot now
-resume_broken h slot now broken = sym (ap (λ b. resumed_by h slot now b (h.u.pending == 1) (h.u.pending == 3)) broken)
+resume_broken h slot now broken = sym (ap (λ b. resumed_by h slot now b (h.u.pending == LINE_READ) (h.u.pending == PIPE_READ)) broken)
 
 module _ (h : Handed) (slot now : ℕ) (calm : is_some (due h.row (without_pending h).u) ≡ false) where
-  resumed_as : (typed reads : Bool) → (h.u.pending == 1) ≡ typed → (h.u.pending == 3) ≡ reads
+  resumed_as : (typed reads : Bool) → (h.u.pending == LINE_READ) ≡ typed → (h.u.pending == PIPE_READ) ≡ reads
       → on_by h slot now typed reads ≡ resumes h slot now
   resumed_as typed reads first third =
-      sym (ap (λ b. resumed_by h slot now b (h.u.pending == 1) (h.u.pending == 3)) calm ∙ ap
-      (λ b. on_by h slot now b (h.u.pending == 3)) first
+      sym (ap (λ b. resumed_by h slot now b (h.u.pending == LINE_READ) (h.u.pending == PIPE_READ)) calm ∙ ap
+      (λ b. on_by h slot now b (h.u.pending == PIPE_READ)) first
       ∙ ap (on_by h slot now typed) third)
 
-  pub resume_typed : h.u.pending ≡ 1 → resume_read h ≡ resumes h slot now
-  resume_typed is = resumed_as true (h.u.pending == 3) (eq-eqb h.u.pending 1 is) refl
+  pub resume_typed : h.u.pending ≡ LINE_READ → resume_read h ≡ resumes h slot now
+  resume_typed is = resumed_as true (h.u.pending == PIPE_READ) (eq-eqb h.u.pending LINE_READ is) refl
 
-  pub resume_piped : (reads : Bool) → (h.u.pending == 1) ≡ false → (h.u.pending == 3) ≡ reads
+  pub resume_piped : (reads : Bool) → (h.u.pending == LINE_READ) ≡ false → (h.u.pending == PIPE_READ) ≡ reads
       → piped_on h slot now reads ≡ resumes h slot now
   resume_piped reads other is = resumed_as false reads other is

@@ -11,6 +11,7 @@ use Rattle.v6_base.specs.declared.entry.Chan.TheVariants.{Keys, Read, Write}
 use Rattle.v6_base.specs.declared.entry.Entry.TheVariants.{Wake}
 use Rattle.v6_base.proofs.Copies.{SameLengths, then_lengths, same_lengths}
 use Rattle.proc_tab.specs.declared.row.Row.{Row}
+use Rattle.u_area.specs.declared.layout.TheConstants.{LINE_READ, NOTHING_PENDING}
 use Rattle.u_area.specs.declared.area.UArea.{UArea}
 use Rattle.u_area.proofs.AreaLemmas.{one_area}
 use Rattle.open_files.specs.declared.file.Closed.{Closed}
@@ -157,7 +158,7 @@ confined_walks old slot = record {
   };
   waits = λ h entry at count s. record {
     fits = fits_none slot;
-    steady = steady_pending old h 1 (entry ∷ at ∷ count ∷ 0 ∷ 0 ∷ 0 ∷ 0 ∷ 0 ∷ []) s;
+    steady = steady_pending old h LINE_READ (entry ∷ at ∷ count ∷ 0 ∷ 0 ∷ 0 ∷ 0 ∷ 0 ∷ []) s;
   };
   waits_in_pipe = λ h chan pending entry at count left which of awaits s. record {
     fits = fits_none slot;
@@ -195,10 +196,10 @@ confined_walks old slot = record {
 
 -- A call goes on in which a process slept.
 pub resume_confined : (h : Handed) (slot now : ℕ)
-    → ((h.u.pending == 1) ≡ false → IsAwaiting h (slice_index h.u.call 0) (slice_index h.u.call 2) (slice_index h.u.call 3))
+    → ((h.u.pending == LINE_READ) ≡ false → IsAwaiting h (slice_index h.u.call 0) (slice_index h.u.call 2) (slice_index h.u.call 3))
     → Confined slot h (resumes h slot now)
 resume_confined h slot now waiting =
-    walk_resume (confined_walks h slot) h now waiting (steady_pending h h 0 (replicate 8 0) (steady_same h))
+    walk_resume (confined_walks h slot) h now waiting (steady_pending h h NOTHING_PENDING (replicate 8 0) (steady_same h))
 
 -- A number lets its file go: three times at most is somebody woken, who waits for a pipe or for keys.
 roused_wakes : (ino : ℕ) (pipe : Bool) → AreWakes 2 (cond pipe (Log (Wake (Write ino)) ∷ Log (Wake (Read ino)) ∷ []) [])

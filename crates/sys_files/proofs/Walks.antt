@@ -1,6 +1,6 @@
 -- One walk over the rows of calls on files, for each fact that says what stays, what is shown, and which numbers, entries and
 -- pipes a step changes.
-use Rattle.std.proofs.Common.{◌≡◌, ◌⊎◌, ◌<◌, ◌≤◌, ◌∙◌, ◌+◌, ◌-◌, ◌/◌, ◌%◌, ◌^◌, ◌==◌, ◌&&◌, ℕ, Bool, true, false, not, nat_lt, cond, List, [], ◌∷◌, append-nil, length, slice_index, slice_set, pos, is_some, IfSome, Option, Some, None, Result, Ok, Err, if◌then◌else◌, refl, sym, ap, subst, inl, inr, arith, ◌++◌, map, length-append, fold}
+use Rattle.std.proofs.Common.{◌≡◌, ◌<◌, ◌≤◌, ◌∙◌, ◌+◌, ◌-◌, ◌/◌, ◌%◌, ◌^◌, ◌==◌, ◌&&◌, ℕ, Bool, true, false, not, nat_lt, cond, List, [], ◌∷◌, append-nil, length, slice_index, slice_set, pos, is_some, IfSome, Option, Some, None, Result, Ok, Err, if◌then◌else◌, refl, sym, ap, subst, inl, inr, arith, ◌++◌, map, length-append, fold}
 use Rattle.std.proofs.lemmas.Bool.{eqb-false, eq-eqb}
 use Rattle.v6_base.specs.Image.{Image}
 use Rattle.v6_base.specs.Trace.{Log, sent, Item}
@@ -17,6 +17,8 @@ use Rattle.fs_codec.specs.Bytes.{bytes_of}
 use Rattle.fs_codec.specs.Modes.{is_device, is_directory}
 use Rattle.fs_codec.specs.Store.{Node}
 use Rattle.fs_codec.specs.declared.modes.TheConstants.{IALLOC}
+use Rattle.u_area.specs.declared.layout.TheConstants.{LINE_READ, PIPE_READ, PIPE_WRITE}
+use Rattle.u_area.specs.Pending.{IsPipeCall}
 use Rattle.fs_laws.specs.Pieces.{Moving}
 use Rattle.fs_tree.specs.declared.made.Made.{Made}
 use Rattle.fs_tree.specs.declared.made.Made.TheVariants as made
@@ -70,7 +72,7 @@ use Rattle.sys_files.proofs.NodeCounts.{put_back_count, finding_count, making_co
 abbrev pub asleep_for_keys : Handed → ℕ → ℕ → ℕ → Did
 asleep_for_keys h entry at count = record {
   answer = Sleep (pos 10) Keys;
-  state = record h { u = record h.u { pending = 1; call = entry ∷ at ∷ count ∷ 0 ∷ 0 ∷ 0 ∷ 0 ∷ 0 ∷ [] } };
+  state = record h { u = record h.u { pending = LINE_READ; call = entry ∷ at ∷ count ∷ 0 ∷ 0 ∷ 0 ∷ 0 ∷ 0 ∷ [] } };
   items = [];
 }
 
@@ -102,7 +104,7 @@ pub record Walks (P : Handed → Type 0) (Q : Did → Type 0) (Few Known : ℕ �
   pub done : (h : Handed) (a b : ℕ) → P h → Q (record { answer = Ret a b; state = h; items = [] })
   pub lets_go : (ino : ℕ) (d : Did) → Q d → Q (until_end ino d)
   pub waits : (h : Handed) (entry at count : ℕ) → P h → Q (asleep_for_keys h entry at count)
-  pub waits_in_pipe : (h : Handed) (chan : Chan) (pending entry at count left : ℕ) → (pending ≡ 3) ⊎ (pending ≡ 4)
+  pub waits_in_pipe : (h : Handed) (chan : Chan) (pending entry at count left : ℕ) → IsPipeCall pending
       → IsOfPipe Known chan
       → IsAwaiting h entry count left → P h → Q (asleep_in_pipe h chan pending (words_of entry at count left))
   pub tells : (entries : List Entry) (d : Did) → length entries ≤ 3 → All (IsLineOf Known slot) entries → d.items ≡ [] → Q d
@@ -401,7 +403,7 @@ module _ {P : Handed → Type 0} {Q : Did → Type 0} {Few Known : ℕ → Type 
       told_woken woken chan [] d named (omega arith) no_line none
       (subst Q (ap (λ (l : List Item). record { answer = d.answer; state = d.state; items = l }) none) q)
 
-  waits_woken : (woken : Bool) (on chan : Chan) (h : Handed) (pending entry at count left : ℕ) → (pending ≡ 3) ⊎ (pending ≡ 4)
+  waits_woken : (woken : Bool) (on chan : Chan) (h : Handed) (pending entry at count left : ℕ) → IsPipeCall pending
       → IsOfFiles Known on → IsOfPipe Known chan → IsAwaiting h entry count left → P h
       → Q (after (cond woken (Log (Wake on) ∷ []) []) (waits_in_pipe h chan pending (words_of entry at count left)))
   waits_woken woken on chan h pending entry at count left kind named name awaits p = by (is_some (due h.row h.u))
@@ -418,7 +420,7 @@ module _ {P : Handed → Type 0} {Q : Did → Type 0} {Few Known : ℕ → Type 
   read_ends woken h ino entry at count (piped.Done n) name awaits p =
       quiet_woken woken (chan.Write ino) (returns h n) name refl (k.done h n (r1 h) p)
   read_ends woken h ino entry at count (piped.Wait left) name awaits p =
-      waits_woken woken (chan.Write ino) (chan.Read ino) h 3 entry at count 0 (inl refl) name name awaits p
+      waits_woken woken (chan.Write ino) (chan.Read ino) h PIPE_READ entry at count 0 (inl refl) name name awaits p
   read_ends woken h ino entry at count piped.Broken name awaits p =
       quiet_woken woken (chan.Write ino) (fails h EPIPE) name refl (k.refused h EPIPE p)
   read_ends woken h ino entry at count (piped.Error e) name awaits p =
@@ -430,7 +432,7 @@ module _ {P : Handed → Type 0} {Q : Did → Type 0} {Few Known : ℕ → Type 
   write_ends woken h ino entry at count (piped.Done n) name awaits p =
       quiet_woken woken (chan.Read ino) (returns h count) name refl (k.done h count (r1 h) p)
   write_ends woken h ino entry at count (piped.Wait left) name awaits p =
-      waits_woken woken (chan.Read ino) (chan.Write ino) h 4 entry at count left (inr refl) name name awaits p
+      waits_woken woken (chan.Read ino) (chan.Write ino) h PIPE_WRITE entry at count left (inr refl) name name awaits p
   write_ends woken h ino entry at count piped.Broken name awaits p =
       told_woken woken (chan.Read ino) (Signal slot SIGPIPE ∷ []) (breaks h slot) name (omega arith)
       (All-cons (IsLineOf Known slot) (Signal slot SIGPIPE) [] (inr refl) no_line) refl
@@ -717,9 +719,9 @@ module _ {P : Handed → Type 0} {Q : Did → Type 0} {Few Known : ℕ → Type 
 
   -- A call in which a process slept goes on: what it waits for in a pipe is there.
   pub walk_resume : (h : Handed) (now : ℕ)
-      → ((h.u.pending == 1) ≡ false → IsAwaiting h (slice_index h.u.call 0) (slice_index h.u.call 2) (slice_index h.u.call 3))
+      → ((h.u.pending == LINE_READ) ≡ false → IsAwaiting h (slice_index h.u.call 0) (slice_index h.u.call 2) (slice_index h.u.call 3))
       → P (without_pending h) → Q (resumes h slot now)
-  walk_resume h now waiting p = unless_due_walk rest _ p (by (h.u.pending == 1) (h.u.pending == 3) refl)
+  walk_resume h now waiting p = unless_due_walk rest _ p (by (h.u.pending == LINE_READ) (h.u.pending == PIPE_READ) refl)
     where
       rest : Handed
       rest = without_pending h
@@ -727,7 +729,7 @@ module _ {P : Handed → Type 0} {Q : Did → Type 0} {Few Known : ℕ → Type 
       word : ℕ → ℕ
       word i = slice_index h.u.call i
 
-      by : (typed reads : Bool) → (h.u.pending == 1) ≡ typed
+      by : (typed reads : Bool) → (h.u.pending == LINE_READ) ≡ typed
           → Q (cond typed (resume_read h) (cond reads (reads_pipe rest (word 0) (word 1) (word 2) now)
           (writes_pipe rest slot (word 0) (word 1) (word 2) (word 3) now)))
       by true reads is = walk_reads_line rest 0 _ _ _ p

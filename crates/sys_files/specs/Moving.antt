@@ -7,6 +7,7 @@ use Rattle.v6_base.specs.declared.errno.Errno.{Errno}
 use Rattle.v6_base.specs.declared.errno.Errno.TheVariants.{EBADF, EFAULT, ESPIPE}
 use Rattle.fs_codec.specs.Modes.{is_device}
 use Rattle.fs_codec.specs.Store.{Node}
+use Rattle.u_area.specs.declared.layout.TheConstants.{NOTHING_PENDING, LINE_READ, PIPE_READ}
 use Rattle.fs_laws.specs.Numbers.{with_node}
 use Rattle.fs_laws.specs.Pieces.{Moving, read_file, write_file}
 use Rattle.fs_nodes.specs.Copy.{put_into, get_from}
@@ -46,7 +47,7 @@ gives_count h count (Some e) = fails h e
 abbrev pub waits_for_keys : Handed → ℕ → ℕ → ℕ → ℕ → Did
 waits_for_keys h l entry at count = unless_due h (record {
   answer = Sleep (pos 10) (keys_of l);
-  state = record h { u = record h.u { pending = 1; call = entry ∷ at ∷ count ∷ 0 ∷ 0 ∷ 0 ∷ 0 ∷ 0 ∷ [] } };
+  state = record h { u = record h.u { pending = LINE_READ; call = entry ∷ at ∷ count ∷ 0 ∷ 0 ∷ 0 ∷ 0 ∷ 0 ∷ [] } };
   items = [];
 })
 
@@ -95,7 +96,7 @@ read_file_of h at count now =
 
 -- A process that waited for keys goes on with its read, of the entry, address and count that were kept. It may have to wait again.
 abbrev pub without_pending : Handed → Handed
-without_pending h = record h { u = record h.u { pending = 0; call = replicate 8 0 } }
+without_pending h = record h { u = record h.u { pending = NOTHING_PENDING; call = replicate 8 0 } }
 
 -- the line of a read that is gone on with: of one line, that one
 abbrev pub line_kept : Handed → ℕ
@@ -146,8 +147,8 @@ goes_on h slot now =
     let entry = slice_index h.u.call 0 in
     let at = slice_index h.u.call 1 in
     let count = slice_index h.u.call 2 in
-    if h.u.pending == 1 then resume_read h
-    else (if h.u.pending == 3 then reads_pipe rest entry at count now
+    if h.u.pending == LINE_READ then resume_read h
+    else (if h.u.pending == PIPE_READ then reads_pipe rest entry at count now
     else writes_pipe rest slot entry at count (slice_index h.u.call 3) now)
 
 abbrev pub resumes : Handed → ℕ → ℕ → Did

@@ -20,21 +20,18 @@ use crate::descriptors::{file_of, open_entry};
 use crate::devices::{keys_of, line_at};
 use crate::files::Files;
 use crate::inodes::see;
-use crate::piping::{PIPE_READ, Transfer, read_pipe, write_pipe};
+use crate::piping::{Transfer, read_pipe, write_pipe};
 use fs_codec::is_device;
 use fs_nodes::{Moved, Nodes};
 use open_files::{OpenFile, OpenTable};
 use proc_tab::Row;
 use sig_core::due;
 use tty_line::Line;
-use u_area::UArea;
+use u_area::{LINE_READ, NOTHING_PENDING, PIPE_READ, UArea};
 use v6_base::{Answer, Errno, Slot, Space, Trace};
 
 /// The priority at which a process waits for keys: `TTIPRI` in Lions' Commentary, `tty.h`.
 const TTIPRI: i8 = 10;
-
-/// The pending call that is a read of a line.
-const LINE_READ: u8 = 1;
 
 /// Says where the next read or write of an open file begins, when some bytes from its place on are done.
 fn move_on(table: &mut OpenTable, entry: u8, file: &OpenFile, done: u16)
@@ -241,7 +238,7 @@ pub fn resume_file<S: Space, T: Trace>(
 {
     let pending = u.pending;
     let call = u.call;
-    u.pending = 0;
+    u.pending = NOTHING_PENDING;
     u.call = [0; 8];
     if due(row, u).is_some() {
         return Answer::Fail(Errno::EINTR);

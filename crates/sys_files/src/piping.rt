@@ -25,16 +25,11 @@ use open_files::FileKind;
 use pipe_ends::{Pipe, Piped};
 use proc_tab::Row;
 use sig_core::{SIGPIPE, due, post};
-use u_area::UArea;
+use u_area::{PIPE_READ, PIPE_WRITE, UArea};
 use v6_base::{Answer, Chan, Entry, Errno, Slot, Space, Trace};
 
 /// The priority at which a process waits for a pipe: `PPIPE` in Lions' Commentary, `pipe.c`.
 const PPIPE: i8 = 1;
-
-/// The pending calls that are a read and a write of a pipe.
-pub(crate) const PIPE_READ: u8 = 3;
-
-pub(crate) const PIPE_WRITE: u8 = 4;
 
 /// The reading end of a pipe.
 const READING: FileKind = FileKind {

@@ -4,22 +4,20 @@ ghost use Rattle.v6_base.specs.Trace.{Took, Log};
 ghost use Rattle.v6_base.specs.Copy.{store_bytes};
 ghost use Rattle.fs_codec.specs.Bytes.{bytes_of};
 ghost use Rattle.u_area.specs.Area.{times};
+ghost use Rattle.u_area.specs.declared.layout.TheConstants.{SLEEP_CALL};
 ghost use Rattle.fs_laws.specs.Rest.{SameRest};
 ghost use Rattle.fs_nodes.specs.FileSystem.{FileSystem};
 ghost use Rattle.pick_rules.specs.Apply.{applied};
 ghost use Rattle.sys_procs.specs.World.{change};
 ghost use Rattle.sys_procs.specs.Handed.{Calls, AreProcs, IsAlive, handed, board, process_here, memory_here};
-ghost use Rattle.sys_procs.specs.Times.{time_now, set_time, pending_sleep, sleep_until, sleep_for, sleeping_until, tout_with, with_time, stored, times_to};
+ghost use Rattle.sys_procs.specs.Times.{time_now, set_time, sleep_until, sleep_for, sleeping_until, tout_with, with_time, stored, times_to};
 ghost use Rattle.sys_procs.specs.Done.{HasDone};
 
 use crate::procs::Procs;
 use fs_codec::put_words;
 use fs_tree::Tree;
-use u_area::UArea;
+use u_area::{SLEEP_CALL, UArea};
 use v6_base::{Answer, Chan, Entry, Errno, PanicKind, Slot, Space, Trace};
-
-/// Among the calls that can be pending this is sleep(II).
-pub(crate) const SLEEP: u8 = 5;
 
 /// What a process sleeps at until a time: `PSLEP` of `param.h` in Lions' Commentary.
 const PSLEP: i8 = 90;
@@ -117,14 +115,14 @@ fn tout_with(p: &Procs, until: u32) -> u32
 /// The u area of a process that sleeps until a time.
 fn sleeping(u: UArea, until: u32) -> UArea
     ensures { result ≡ record u {
-      pending = pending_sleep;
+      pending = SLEEP_CALL;
       call = 0 ∷ 0 ∷ 0 ∷ 0 ∷ until / 65536 ∷ until % 65536 ∷ 0 ∷ 0 ∷ [];
     } }
 {
     let high = (until / 65536) as u16;
     let low = (until % 65536) as u16;
     let mut u = u;
-    u.pending = SLEEP;
+    u.pending = SLEEP_CALL;
     u.call = [0, 0, 0, 0, high, low, 0, 0];
     u
 }

@@ -19,6 +19,7 @@ use Rattle.pick_rules.specs.Board.{Board}
 use Rattle.pick_rules.specs.Effects.{Effect, Show}
 use Rattle.pick_rules.specs.Logged.{Stop, left_by}
 use Rattle.swap_sched.specs.Pass.{pass, stop_over}
+use Rattle.u_area.specs.Pending.{is_on_files}
 use Rattle.sig_core.specs.declared.numbers.TheConstants.{SIGINS, SIGTRC, SIGIOT, SIGEMT, SIGBUS, SIGSEG, SIGSYS}
 use Rattle.sig_core.specs.Signals.{handler_of, due}
 use Rattle.sig_core.specs.Delivery.{makes_core, signal_stack}
@@ -50,7 +51,7 @@ use Rattle.abstract_unix.specs.declared.ending.Ending.TheVariants as ending
 use Rattle.abstract_unix.specs.Unix.{Unix, System, Started, process_of, with_process}
 use Rattle.abstract_unix.specs.Steps.{Steps, quietly, returns, signals, after_effects}
 use Rattle.abstract_unix.specs.Errors.{error_number}
-use Rattle.abstract_unix.specs.Calls.{in_order, handed_of, with_handed, world_of, with_world, with_area, entered_area, words_passed, asked, refused_area, refuses, answers, file_row, process_row, did_by, came_by, forks, closes_all, exits_with, grows, grown_by, does_call, sysent_of, does_asked, is_on_files, resumed}
+use Rattle.abstract_unix.specs.Calls.{in_order, handed_of, with_handed, world_of, with_world, with_area, entered_area, words_passed, asked, refused_area, refuses, answers, file_row, process_row, did_by, came_by, forks, closes_all, exits_with, grows, grown_by, does_call, sysent_of, does_asked, resumed}
 use Rattle.abstract_unix.specs.Delivery.{heeds, catches, signal_status, dumped, ends_by, delivers_if, delivers_due, ends_by_ending}
 use Rattle.abstract_unix.specs.Turn.{Happened, settled, stays, settles, calls_for_settling, settled_after, machine_of, with_machine, passes_setd, faults, comes_to, instruction, is_user, begins_turn, turn, end_effects, turn_of, pass_of, slot_of}
 use Rattle.abstract_unix.specs.Outside.{mode_of, timed, charged, ticked, is_as_trap, wakes, tick_effects, tick_delivery, delivers_to, tick_of, calls, with_key, key_lines, typed_of}

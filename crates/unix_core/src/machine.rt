@@ -25,7 +25,7 @@ use pick_rules::{Mode, Second};
 use swap_sched::pass;
 use sys_procs::signal_line;
 use tty_line::Keyed;
-use u_area::UArea;
+use u_area::{NOTHING_PENDING, UArea};
 use v6_base::{Chan, Entry, PanicKind, Slot, Trace};
 
 /// How far a run has come, and what the next slot finds.
@@ -164,7 +164,7 @@ impl Machine {
         ensures started { phase_of self.new.stage ≡ Started }
         ensures world { self.new.world ≡ self.old.world }
     {
-        if self.world.procs.images.area(s).pending != 0 {
+        if self.world.procs.images.area(s).pending != NOTHING_PENDING {
             self.rest();
         } else if !self.stays(s) {
             self.begin(s);
@@ -361,7 +361,7 @@ impl Machine {
             None => Mode::Idle,
             Some(0) => Mode::Kernel,
             Some(s) => {
-                if self.world.procs.images.area(s).pending == 0 {
+                if self.world.procs.images.area(s).pending == NOTHING_PENDING {
                     Mode::User
                 } else {
                     Mode::Kernel

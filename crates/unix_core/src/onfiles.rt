@@ -8,7 +8,8 @@ ghost use Rattle.sys_files.specs.Core.{core_file, is_written};
 ghost use Rattle.image_keep.specs.Kept.{HasImage, HasSizes, area_of, image_of, with_area};
 ghost use Rattle.image_keep.specs.Running.{IsFixed};
 ghost use Rattle.abstract_unix.specs.Unix.{process_of};
-ghost use Rattle.abstract_unix.specs.Calls.{handed_of, with_handed, file_row, is_on_files};
+ghost use Rattle.abstract_unix.specs.Calls.{handed_of, with_handed, file_row};
+ghost use Rattle.u_area.specs.Pending.{is_on_files};
 ghost use Rattle.abstract_unix.specs.Turn.{is_user};
 ghost use Rattle.unix_core.specs.Parts.{unix_of, board_in, IsReady, IsReadyToShow};
 

@@ -10,7 +10,8 @@ ghost use Rattle.sys_procs.specs.Resume.{resume_proc};
 ghost use Rattle.image_keep.specs.Running.{IsFixed};
 ghost use Rattle.abstract_unix.specs.Unix.{Unix, process_of};
 ghost use Rattle.abstract_unix.specs.Steps.{signals};
-ghost use Rattle.abstract_unix.specs.Calls.{world_of, words_passed, entered_area, given_area, refused_area, refuses, system_call, does_call, did_by, came_by, shares, forks, exits, grows_to, resumed, answers, handed_of, file_row, process_row, is_on_files};
+ghost use Rattle.abstract_unix.specs.Calls.{world_of, words_passed, entered_area, given_area, refused_area, refuses, system_call, does_call, did_by, came_by, shares, forks, exits, grows_to, resumed, answers, handed_of, file_row, process_row};
+ghost use Rattle.u_area.specs.Pending.{is_on_files};
 ghost use Rattle.abstract_unix.specs.Errors.{error_number};
 ghost use Rattle.abstract_unix.specs.Turn.{faults, comes_to, passes_setd, is_user};
 ghost use Rattle.unix_core.specs.Parts.{unix_of, board_in, IsGood, IsReady, HasCome, IsCovered, is_over};
@@ -27,14 +28,8 @@ use open_files::OpenTable;
 use pdp_step::{Kind, Outcome};
 use sig_core::{SIGBUS, SIGEMT, SIGINS, SIGIOT, SIGSEG, SIGSYS, SIGTRC};
 use sys_procs::{fork_one, grow, resume_proc, send_signal};
+use u_area::is_on_files;
 use v6_base::{Answer, Errno, PanicKind, Slot, Trace};
-
-/// The pending calls on files: a read of the console, a read and a write of a pipe.
-const PENDING_READ: u8 = 1;
-
-const PENDING_PIPE_READ: u8 = 3;
-
-const PENDING_PIPE_WRITE: u8 = 4;
 
 /// The first number of an error that makes a signal.
 const FIRST_SIGNAL: u16 = 100;
@@ -425,13 +420,6 @@ fn pending_of(images: &Images, s: Slot) -> u8
     ensures { result ≡ (area_of images.now.kept s).pending }
 {
     images.area(s).pending
-}
-
-/// Whether a pending call is one on files.
-fn is_on_files(pending: u8) -> bool
-    ensures { result ≡ is_on_files pending }
-{
-    pending == PENDING_READ || pending == PENDING_PIPE_READ || pending == PENDING_PIPE_WRITE
 }
 
 /// Goes on with a call on files.

@@ -1,6 +1,7 @@
 use Rattle.std.proofs.Common.{◌≡◌, ◌∙◌, ◌<◌, ℕ, length, map, Option, Some, None, refl, sym, ap, subst}
 use Rattle.std.specs.Prelude.{Result, Ok, Err}
 use Rattle.v6_base.specs.declared.entry.PanicKind.{PanicKind}
+use Rattle.u_area.specs.declared.layout.TheConstants.{NOTHING_PENDING}
 use Rattle.sys_procs.specs.Agree.{ended_by}
 use Rattle.sys_procs.specs.World as its
 use Rattle.v6_base.specs.Trace.{Took}
@@ -41,7 +42,7 @@ module _ (w new : World) (s : ℕ) (t : Table) (shown : IsReadyToShow w new s (c
   closed_board = passed_board w new s (closes_all (unix_of w) s).state (closes_all (unix_of w) s).items shown state t is
 
   -- it goes on with no call
-  closed_free : IsReady w s → (process_of (unix_of w) s).u.pending ≡ 0 → (process_of (unix_of (with_table new t)) s).u.pending ≡ 0
+  closed_free : IsReady w s → (process_of (unix_of w) s).u.pending ≡ NOTHING_PENDING → (process_of (unix_of (with_table new t)) s).u.pending ≡ NOTHING_PENDING
   closed_free ready none =
       let h : Handed = (closes_all (unix_of w) s).state in
       let p : Process = process_of (unix_of w) s in

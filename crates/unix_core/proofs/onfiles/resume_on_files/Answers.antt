@@ -1,5 +1,6 @@
 use Rattle.std.proofs.Common.{rules, ◌≡◌, ◌∙◌, ℕ, true, refl, sym, ap, subst}
 use Rattle.u_area.specs.declared.area.UArea.{UArea}
+use Rattle.u_area.specs.Pending.{is_on_files}
 use Rattle.image_keep.specs.Kept.{Kept, area_of, image_of, with_area}
 use Rattle.sys_files.specs.Handed.{Handed, handed}
 use Rattle.sys_files.specs.Moving.{resumes}
@@ -7,7 +8,6 @@ use Rattle.sys_files.specs.Sound.{CanGoOn}
 use Rattle.sys_files.proofs.Steady.{Confined, resume_confined}
 use Rattle.unix_core.specs.declared.world.World.{World}
 use Rattle.abstract_unix.specs.Unix.{process_of}
-use Rattle.abstract_unix.specs.Calls.{is_on_files}
 use Rattle.abstract_unix.proofs.PendingRows.{Pends, awaited, resume_pends}
 use Rattle.abstract_unix.proofs.GoingOnLemmas.{handed_goes_on, handed_pends}
 use Rattle.unix_core.specs.Parts.{unix_of, IsReady}
