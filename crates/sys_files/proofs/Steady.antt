@@ -168,8 +168,13 @@ confined_walks old slot = record {
   showing = λ line image at count d few c. record { fits = fits_shown slot line image at count few; steady = c.steady };
   inodes = λ h inodes same s. record { row = s.row; area = s.area; image = s.image; marks = s.marks };
   opened = λ h ino kind fd entry plain number free moves s. steady_moved old h _ (slice_set h.u.files fd (entry + 1)) h.u.dir s;
-  ends = λ h ino fd entry next_fd next_entry above within number free next_number next_free moves s.
-      steady_moved old h _ (slice_set (slice_set h.u.files fd (entry + 1)) next_fd (next_entry + 1)) h.u.dir s;
+  ends = λ h ino fd entry next_fd next_entry above within number free next_number next_free moves s. record {
+    row = s.row;
+    area = area_changed old.u h.u (slice_set (slice_set h.u.files fd (entry + 1)) next_fd (next_entry + 1)) h.u.dir
+        h.u.pending h.u.call s.area;
+    image = s.image;
+    marks = s.marks;
+  };
   given = λ h fd free named number moves s.
       steady_moved old h _ (slice_set h.u.files free (entry_of h.u.files fd + 1)) h.u.dir s;
   offset = λ h entry offset s. record { row = s.row; area = s.area; image = s.image; marks = s.marks };
