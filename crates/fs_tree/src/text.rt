@@ -29,7 +29,7 @@ fn refer_again(nodes: &mut Nodes, ino: u16)
 fn let_go(nodes: &mut Nodes, ino: u16, time: u32)
     requires referenced { 0 < slice_index nodes.old.references ino }
     ensures inodes { inodes_of nodes.new ≡ put_back (inodes_of nodes.old) ino }
-    ensures rest { SameRest nodes.old.blocks nodes.new.blocks }
+    ensures rest { SameRest nodes.old nodes.new }
 {
     see(nodes);
     nodes.put(ino, time);
@@ -57,7 +57,7 @@ impl Tree {
         requires referenced { 0 < slice_index self.old.nodes.references ino }
         ensures marks { self.new.marks ≡ without_mark self.old.marks ino }
         ensures inodes { inodes_of self.new.nodes ≡ put_back (inodes_of self.old.nodes) ino }
-        ensures rest { SameRest self.old.nodes.blocks self.new.nodes.blocks }
+        ensures rest { SameRest self.old.nodes self.new.nodes }
     {
         self.marks.remove(ino);
         let_go(&mut self.nodes, ino, time);

@@ -1,8 +1,8 @@
 -- A pipe: a file without a name, into which one end writes and from which the other reads. pipe(II); Lions' Commentary,
 -- `pipe.c`.
 use Rattle.std.specs.Prelude.{ℕ, List, [], slice_index, unwrap_or}
-use Rattle.fs_codec.specs.Store.{Node, Store, node_numbered}
-use Rattle.fs_laws.specs.Numbers.{with_node}
+use Rattle.fs_codec.specs.Store.{Node, Store}
+use Rattle.fs_laws.specs.Keys.{node_numbered, with_fields}
 use Rattle.pipe_ends.specs.declared.ends.Pipe.{Pipe}
 
 -- what stands for the file where there is none of this number
@@ -18,4 +18,4 @@ ends_of references p = slice_index references p.ino
 
 -- The file begins from its front again. It keeps its blocks and its times.
 abbrev pub begun_again : Store → Pipe → Store
-begun_again store p = with_node store p.ino (record (pipe_file store p) { size = 0 }) store.room
+begun_again store p = with_fields store p.ino (record (pipe_file store p) { size = 0 })

@@ -6,8 +6,9 @@ ghost use Rattle.v6_base.specs.Copy.{load_bytes};
 ghost use Rattle.v6_base.specs.declared.errno.Errno.TheVariants.{EACCES};
 ghost use Rattle.proc_tab.specs.declared.row.Row.{Row};
 ghost use Rattle.u_area.specs.Area.{area_bytes};
-ghost use Rattle.fs_codec.specs.Store.{Node, node_numbered};
+ghost use Rattle.fs_codec.specs.Store.{Node};
 ghost use Rattle.fs_laws.specs.Pieces.{write_file};
+ghost use Rattle.fs_laws.specs.Keys.{node_numbered, room_at};
 ghost use Rattle.fs_nodes.specs.Copy.{get_from};
 ghost use Rattle.fs_nodes.specs.FileSystem.{SameRest};
 ghost use Rattle.fs_tree.specs.Finding.{inodes_of};
@@ -97,7 +98,7 @@ fn write_part<S: Space>(
 ) -> Result<(), Errno>
     requires referenced { 0 < slice_index nodes.old.references ino }
     ensures written { (node : Node) → node_numbered nodes.old.store ino ≡ Some node → WritesEntry nodes.old.store ino
-        (write_file (get_from (S.image space.now) at) node nodes.old.store.room (tt {0}) offset count now)
+        (write_file (get_from (S.image space.now) at) node (room_at nodes.old.store ino) (tt {0}) offset count now)
         nodes.new.store result }
     ensures references { nodes.new.references ≡ nodes.old.references }
     ensures there { node_numbered nodes.old.store ino ≡ Some (node_in nodes.old.store ino) }
@@ -351,7 +352,7 @@ pub fn write_core<S: Space>(f: &mut Files, u: &UArea, space: &S, now: u32) -> bo
         ≡ (core_file (handed f.old u.now row (S.image space.now)) now).state }
     ensures kept { (row : Row)
         → IsKept (handed f.old u.now row (S.image space.now)) (handed f.new u.now row (S.image space.now)) }
-    ensures blocks { SameRest f.old.tree.nodes.blocks f.new.tree.nodes.blocks }
+    ensures blocks { SameRest f.old.tree.nodes f.new.tree.nodes }
 {
     u.uid == u.ruid && write_named(f, u, space, now).is_ok()
 }

@@ -1,6 +1,6 @@
 //! References to inodes that a call takes and gives back: `iget.c` in Lions' Commentary.
 ghost use Rattle.std.specs.Prelude.{◌≡◌, ◌<◌, slice_index};
-ghost use Rattle.fs_codec.specs.Store.{node_numbered};
+ghost use Rattle.fs_laws.specs.Keys.{node_numbered};
 ghost use Rattle.fs_nodes.specs.FileSystem.{SameRest, ShowsNode, IsFileSystem};
 ghost use Rattle.fs_tree.specs.Finding.{inodes_of, with_reference, put_back};
 
@@ -29,7 +29,7 @@ pub(crate) fn refer_again(nodes: &mut Nodes, ino: u16)
 pub(crate) fn let_go(nodes: &mut Nodes, ino: u16, now: u32)
     requires referenced { 0 < slice_index nodes.old.references ino }
     ensures inodes { inodes_of nodes.new ≡ put_back (inodes_of nodes.old) ino }
-    ensures rest { SameRest nodes.old.blocks nodes.new.blocks }
+    ensures rest { SameRest nodes.old nodes.new }
 {
     see(nodes);
     nodes.put(ino, now);

@@ -134,7 +134,7 @@ pub fn link_file<S: Space, T: Trace>(
         (link_file (handed f.old u.old row.old (S.image space.old)) (slice_index args 0) (slice_index args 1) now) }
     ensures frame { T.leads_to trace.old trace.new }
     ensures memory { S.rest space.new ≡ S.rest space.old }
-    ensures blocks { SameRest f.old.tree.nodes.blocks f.new.tree.nodes.blocks }
+    ensures blocks { SameRest f.old.tree.nodes f.new.tree.nodes }
 {
     let result = link(f, u, space, args[0], args[1], now);
     answer_of(u, result)
@@ -205,7 +205,7 @@ pub fn unlink_file<S: Space, T: Trace>(
         (unlink_file (handed f.old u.old row.old (S.image space.old)) (slice_index args 0) now) }
     ensures frame { T.leads_to trace.old trace.new }
     ensures memory { S.rest space.new ≡ S.rest space.old }
-    ensures blocks { SameRest f.old.tree.nodes.blocks f.new.tree.nodes.blocks }
+    ensures blocks { SameRest f.old.tree.nodes f.new.tree.nodes }
 {
     let result = unlink(f, u, space, args[0], now);
     answer_of(u, result)

@@ -139,7 +139,7 @@ pub fn mknod_at<S: Space, T: Trace>(
         (mknod_at (handed f.old u.old row.old (S.image space.old)) (slice_index args 0) (slice_index args 1) (slice_index args 2) now) }
     ensures frame { T.leads_to trace.old trace.new }
     ensures memory { S.rest space.new ≡ S.rest space.old }
-    ensures blocks { SameRest f.old.tree.nodes.blocks f.new.tree.nodes.blocks }
+    ensures blocks { SameRest f.old.tree.nodes f.new.tree.nodes }
 {
     let result = mknod(f, u, space, args[0], args[1], args[2], now);
     answer_of(u, result)

@@ -1,6 +1,6 @@
 //! The names that calls are given: `namei` in Lions' Commentary, `nami.c`.
 ghost use Rattle.std.specs.Prelude.{◌≡◌, ◌<◌, ◌≤◌, ℕ, IsSome, IfOk, slice_index};
-ghost use Rattle.fs_codec.specs.Store.{node_numbered};
+ghost use Rattle.fs_laws.specs.Keys.{node_numbered};
 ghost use Rattle.fs_nodes.specs.FileSystem.{IsFileSystem};
 ghost use Rattle.fs_tree.specs.Finding.{inodes_of, find_in};
 ghost use Rattle.fs_tree.specs.Name.{name_at};

@@ -138,7 +138,7 @@ pub fn stat_file<S: Space, T: Trace>(
         (stat_file (handed f.old u.old row.old (S.image space.old)) (slice_index args 0) (slice_index args 1)) }
     ensures frame { T.leads_to trace.old trace.new }
     ensures memory { S.rest space.new ≡ S.rest space.old }
-    ensures blocks { SameRest f.old.tree.nodes.blocks f.new.tree.nodes.blocks }
+    ensures blocks { SameRest f.old.tree.nodes f.new.tree.nodes }
 {
     let ino = match find_name(&mut f.tree, u, space, args[0]) {
         Ok(ino) => ino,
@@ -171,7 +171,7 @@ pub fn stat_open<S: Space, T: Trace>(
         (stat_open (handed f.old u.old row.old (S.image space.old)) (slice_index args 0)) }
     ensures frame { T.leads_to trace.old trace.new }
     ensures memory { S.rest space.new ≡ S.rest space.old }
-    ensures blocks { SameRest f.old.tree.nodes.blocks f.new.tree.nodes.blocks }
+    ensures blocks { SameRest f.old.tree.nodes f.new.tree.nodes }
 {
     let entry = match open_entry(f, u, u.r[0]) {
         Ok(entry) => entry,

@@ -8,8 +8,9 @@ use Rattle.v6_base.specs.Access.{then_do}
 use Rattle.v6_base.specs.declared.errno.Errno.{Errno}
 use Rattle.v6_base.specs.declared.errno.Errno.TheVariants.{ENOEXEC, ENOMEM, EACCES, ETXTBSY}
 use Rattle.fs_codec.specs.Modes.{file_type}
-use Rattle.fs_codec.specs.Store.{Node, Store, node_numbered}
+use Rattle.fs_codec.specs.Store.{Node, Store}
 use Rattle.fs_laws.specs.Pieces.{Moving}
+use Rattle.fs_laws.specs.Keys.{node_numbered}
 use Rattle.fs_nodes.specs.FileSystem.{FileSystem}
 use Rattle.fs_tree.specs.declared.user.Want.TheVariants.{Execute}
 use Rattle.fs_tree.specs.Permission.{permission}

@@ -17,7 +17,7 @@ pub(crate) fn refer_again(nodes: &mut Nodes, ino: u16)
     requires referenced { 0 < slice_index nodes.old.references ino }
     requires few { slice_index nodes.old.references ino < 65535 }
     ensures inodes { inodes_of nodes.new ≡ with_reference (inodes_of nodes.old) ino }
-    ensures rest { SameRest nodes.old.blocks nodes.new.blocks }
+    ensures rest { SameRest nodes.old nodes.new }
 {
     see(nodes);
     let _ = nodes.take(ino);
@@ -27,7 +27,7 @@ pub(crate) fn refer_again(nodes: &mut Nodes, ino: u16)
 pub(crate) fn let_go(nodes: &mut Nodes, ino: u16, now: u32)
     requires referenced { 0 < slice_index nodes.old.references ino }
     ensures inodes { inodes_of nodes.new ≡ put_back (inodes_of nodes.old) ino }
-    ensures rest { SameRest nodes.old.blocks nodes.new.blocks }
+    ensures rest { SameRest nodes.old nodes.new }
 {
     see(nodes);
     nodes.put(ino, now);

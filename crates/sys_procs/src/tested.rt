@@ -294,7 +294,7 @@ fn test_header(
         → handed p.now tree.new.nodes ≡ (tests_header (handed p.now tree.old.nodes) ino args m).world }
     ensures tested { IfOk result (IsTested (handed p.now tree.new.nodes)) }
     ensures marks { tree.new.marks ≡ tree.old.marks }
-    ensures blocks { SameRest tree.old.nodes.blocks tree.new.nodes.blocks }
+    ensures blocks { SameRest tree.old.nodes tree.new.nodes }
 {
     see(&tree.nodes);
     match judge_header(&p.images, &tree.nodes, ino, args, head, read) {
@@ -321,7 +321,7 @@ fn read_header(p: &Procs, tree: &mut Tree, ino: u16, args: Arguments) -> Result<
         (header_read (handed p.now tree.old.nodes) ino)).world }
     ensures tested { IfOk result (IsTested (handed p.now tree.new.nodes)) }
     ensures marks { tree.new.marks ≡ tree.old.marks }
-    ensures blocks { SameRest tree.old.nodes.blocks tree.new.nodes.blocks }
+    ensures blocks { SameRest tree.old.nodes tree.new.nodes }
 {
     see(&tree.nodes);
     let mut head = [0; 16];
@@ -342,7 +342,7 @@ fn test_file(p: &mut Procs, tree: &mut Tree, s: Slot, ino: u16, list: u16) -> Re
     ensures procs { p.new ≡ p.old }
     ensures tested { IfOk result (IsTested (handed p.new tree.new.nodes)) }
     ensures marks { tree.new.marks ≡ tree.old.marks }
-    ensures blocks { SameRest tree.old.nodes.blocks tree.new.nodes.blocks }
+    ensures blocks { SameRest tree.old.nodes tree.new.nodes }
 {
     match test_call(p, tree, s, ino, list) {
         Ok(args) => read_header(p, tree, ino, args),
@@ -372,7 +372,7 @@ pub(crate) fn test_program(
     ensures procs { p.new ≡ p.old }
     ensures tested { IfOk result (IsTested (handed p.new tree.new.nodes)) }
     ensures marks { tree.new.marks ≡ tree.old.marks }
-    ensures blocks { SameRest tree.old.nodes.blocks tree.new.nodes.blocks }
+    ensures blocks { SameRest tree.old.nodes tree.new.nodes }
 {
     let ino = find_program(p, tree, s, name)?;
     test_file(p, tree, s, ino, list)

@@ -6,8 +6,9 @@ use Rattle.v6_base.specs.Access.{then_do}
 use Rattle.v6_base.specs.declared.errno.Errno.{Errno}
 use Rattle.v6_base.specs.declared.errno.Errno.TheVariants.{ENOEXEC, ENOMEM, ENFILE, EACCES, ETXTBSY}
 use Rattle.fs_codec.specs.Modes.{file_type}
-use Rattle.fs_codec.specs.Store.{Node, Store, node_numbered}
+use Rattle.fs_codec.specs.Store.{Node, Store}
 use Rattle.fs_laws.specs.Pieces.{Moving}
+use Rattle.fs_laws.specs.Keys.{node_numbered}
 use Rattle.fs_nodes.specs.FileSystem.{IsFileSystem}
 use Rattle.fs_tree.specs.declared.user.User.{User}
 use Rattle.fs_tree.specs.declared.user.Want.TheVariants.{Execute}

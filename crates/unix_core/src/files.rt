@@ -1,8 +1,6 @@
 //! The inodes that the kernel and its process refer to.
 ghost use Rattle.std.specs.Prelude.{◌≡◌, ℕ, ◌+◌, ◌<◌, ◌≤◌, ◌==◌, if◌then◌else◌, IsSome, slice_index, replicate, length};
-ghost use Rattle.fs_codec.specs.Store.{node_numbered};
-ghost use Rattle.fs_laws.specs.Rest.{SameRest};
-ghost use Rattle.fs_nodes.specs.FileSystem.{IsFileSystem};
+ghost use Rattle.fs_nodes.specs.FileSystem.{IsFileSystem, SameRest};
 ghost use Rattle.fs_tree.specs.Finding.{inodes_of, put_back};
 ghost use Rattle.image_keep.specs.Kept.{IsKept};
 ghost use Rattle.proc_tab.specs.Processes.{AreProcesses};
@@ -87,7 +85,7 @@ pub(crate) fn take_root(nodes: &mut Nodes)
 pub(crate) fn let_go(nodes: &mut Nodes, ino: u16, time: u32)
     requires referred { 0 < slice_index nodes.old.references ino }
     ensures inodes { inodes_of nodes.new ≡ put_back (inodes_of nodes.old) ino }
-    ensures rest { SameRest nodes.old.blocks nodes.new.blocks }
+    ensures rest { SameRest nodes.old nodes.new }
 {
     see_nodes(nodes);
     nodes.put(ino, time);

@@ -1,6 +1,6 @@
 //! Calls on files: the parts that each is handed are lent to it, and put back. What it shows goes to the kernel's tape.
 ghost use Rattle.std.specs.Prelude.{◌≡◌, ℕ, List, true, false};
-ghost use Rattle.fs_laws.specs.Rest.{SameRest};
+ghost use Rattle.fs_nodes.specs.FileSystem.{SameRest};
 ghost use Rattle.sys_files.specs.Handed.{Handed};
 ghost use Rattle.sys_files.specs.Descriptors.{close_all};
 ghost use Rattle.sys_files.specs.Moving.{resumes};
@@ -36,7 +36,7 @@ pub(crate) fn do_on_files(
         (handed_of (unix_of world.old) (process_of (unix_of world.old) fixed.now.slot)) fixed.now.slot args world.old.procs.table.now).state }
     ensures shown { IsReadyToShow world.old world.new fixed.now.slot (file_row call
         (handed_of (unix_of world.old) (process_of (unix_of world.old) fixed.now.slot)) fixed.now.slot args world.old.procs.table.now).items }
-    ensures rest { SameRest world.old.files.tree.nodes.blocks world.new.files.tree.nodes.blocks }
+    ensures rest { SameRest world.old.files.tree.nodes world.new.files.tree.nodes }
 {
     see_count(&args);
     see_nodes(&world.files.tree.nodes);
@@ -107,7 +107,7 @@ pub(crate) fn resume_on_files(world: &mut World, s: Slot) -> Answer
         (resumes (handed_of (unix_of world.old) (process_of (unix_of world.old) s)) s world.old.procs.table.now).state }
     ensures shown { IsReadyToShow world.old world.new s
         (resumes (handed_of (unix_of world.old) (process_of (unix_of world.old) s)) s world.old.procs.table.now).items }
-    ensures rest { SameRest world.old.files.tree.nodes.blocks world.new.files.tree.nodes.blocks }
+    ensures rest { SameRest world.old.files.tree.nodes world.new.files.tree.nodes }
 {
     see_nodes(&world.files.tree.nodes);
     see_table(&world.files.table);
@@ -144,7 +144,7 @@ pub(crate) fn put_core(world: &mut World, s: Slot) -> bool
     ensures ready { IsReady world.new s }
     ensures user { is_user (process_of (unix_of world.new) s) ≡ true }
     ensures procs { world.new.procs ≡ world.old.procs }
-    ensures rest { SameRest world.old.files.tree.nodes.blocks world.new.files.tree.nodes.blocks }
+    ensures rest { SameRest world.old.files.tree.nodes world.new.files.tree.nodes }
 {
     see_nodes(&world.files.tree.nodes);
     see_table(&world.files.table);
@@ -162,7 +162,7 @@ pub(crate) fn close_files(world: &mut World, s: Slot)
         (close_all (handed_of (unix_of world.old) (process_of (unix_of world.old) s))).state }
     ensures shown { IsReadyToShow world.old world.new s
         (close_all (handed_of (unix_of world.old) (process_of (unix_of world.old) s))).items }
-    ensures rest { SameRest world.old.files.tree.nodes.blocks world.new.files.tree.nodes.blocks }
+    ensures rest { SameRest world.old.files.tree.nodes world.new.files.tree.nodes }
 {
     see_nodes(&world.files.tree.nodes);
     see_table(&world.files.table);

@@ -1,5 +1,6 @@
 use Rattle.std.proofs.Common.{true, false, IsSome, Bool, ℕ, cond}
-use Rattle.fs_codec.specs.Store.{Store, node_numbered}
+use Rattle.fs_codec.specs.Store.{Store}
+use Rattle.fs_laws.specs.Keys.{node_numbered}
 use Rattle.fs_tree.specs.Name.{is_rooted}
 use Rattle.fs_tree.proofs.walk.see_start.Goals as goal
 

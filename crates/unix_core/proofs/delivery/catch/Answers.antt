@@ -1,6 +1,6 @@
 use Rattle.std.proofs.Common.{◌≡◌, ◌∙◌, ◌%◌, ℕ, List, slice_index, sym, ap, subst}
+use Rattle.fs_nodes.specs.FileSystem.{SameRest}
 use Rattle.u_area.specs.declared.area.UArea.{UArea}
-use Rattle.fs_laws.specs.Rest.{SameRest}
 use Rattle.image_keep.specs.Kept.{area_of}
 use Rattle.image_keep.specs.State.{ImagesState}
 use Rattle.abstract_unix.specs.declared.ending.Ending.TheVariants.{Trapped}
@@ -80,7 +80,7 @@ returns-in-Ok-clause-items g c =
 
 pub returns-in-Ok-clause-rest : goal.returns-in-Ok-clause-rest
 returns-in-Ok-clause-rest g c =
-    subst (λ (x : World). SameRest c.args.world.now.files.tree.nodes.blocks x.files.tree.nodes.blocks) (sym c.tell-caught.ensures.others) c.grow.ensures.blocks
+    subst (λ (x : World). SameRest c.args.world.now.files.tree.nodes x.files.tree.nodes) (sym c.tell-caught.ensures.others) c.grow.ensures.blocks
 
 pub returns-in-Err-clause-come : goal.returns-in-Err-clause-come
 returns-in-Err-clause-come g c =
