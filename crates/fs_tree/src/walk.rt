@@ -100,7 +100,7 @@ pub(crate) fn see_start(nodes: &Nodes, dir: u16)
     requires { 0 < slice_index nodes.now.references dir }
     ensures { (bytes : List ℕ) → IsSome (node_numbered nodes.now.store (start_of dir bytes)) }
 {
-    let _ = nodes.refs(dir);
+    nodes.see();
 }
 
 /// Looks for a name, from a directory on.

@@ -25,11 +25,11 @@ ghost use Rattle.sys_files.specs.Core.{core_file, is_written};
 use crate::creating::truncate;
 use crate::entering::{Room, enter_new, find_to_make, make_inode};
 use crate::files::Files;
-use crate::inodes::{inode_of, let_go, see};
+use crate::inodes::inode_of;
 use crate::naming::user_of;
 use fs_codec::file_type;
 use fs_nodes::{Moved, Nodes};
-use fs_tree::{Made, Want};
+use fs_tree::{Made, Want, let_go};
 use u_area::{AREA_SIZE, UArea};
 use v6_base::{Errno, Fixed, Space};
 
@@ -80,7 +80,7 @@ fn write_area(nodes: &mut Nodes, ino: u16, u: &UArea, now: u32) -> Result<(), Er
     ensures inodes { inodes_of nodes.new ≡ (entry_written (inodes_of nodes.old) ino 0 (area_bytes u.now) now).inodes }
     ensures kept { SameReferences nodes.old nodes.new }
 {
-    see(nodes);
+    nodes.see();
     let mut bytes = [0; AREA_SIZE];
     u.store(&mut bytes);
     outcome_of(nodes.write_kernel(ino, 0, &bytes, now))
@@ -104,7 +104,7 @@ fn write_part<S: Space>(
     ensures there { node_numbered nodes.old.store ino ≡ Some (node_in nodes.old.store ino) }
     ensures kept { SameReferences nodes.old nodes.new }
 {
-    see(nodes);
+    nodes.see();
     outcome_of(nodes.write_at(ino, offset, space, at, count, now))
 }
 
@@ -259,7 +259,7 @@ fn write_over<S: Space>(
     ensures kept { SameReferences f.old.tree.nodes f.new.tree.nodes }
     ensures table { f.new.table ≡ f.old.table }
 {
-    see(&f.tree.nodes);
+    f.tree.nodes.see();
     test_plain(&f.tree.nodes, ino)?;
     f.tree.access(ino, user_of(u), Want::Write)?;
     truncate(&mut f.tree.nodes, ino, now);

@@ -16,12 +16,12 @@ ghost use Rattle.sys_files.specs.Entering.{HasEntry, SameReferences, did_with};
 
 use crate::entering::{Room, enter_new, find_to_make, make_inode};
 use crate::files::Files;
-use crate::inodes::{inode_of, let_go, see};
+use crate::inodes::inode_of;
 use crate::naming::user_of;
 use crate::opening::open_found;
 use fs_codec::is_directory;
 use fs_nodes::Nodes;
-use fs_tree::{Made, Want};
+use fs_tree::{Made, Want, let_go};
 use open_files::FileKind;
 use proc_tab::Row;
 use u_area::UArea;
@@ -58,7 +58,7 @@ pub(crate) fn truncate(nodes: &mut Nodes, ino: u16, now: u32)
     ensures inodes { inodes_of nodes.new ≡ truncated_in (inodes_of nodes.old) ino now }
     ensures kept { SameReferences nodes.old nodes.new }
 {
-    see(nodes);
+    nodes.see();
     nodes.truncate(ino, now);
 }
 
@@ -91,7 +91,7 @@ fn open_again(f: &mut Files, u: &mut UArea, row: &mut Row, ino: u16, now: u32) -
         → slice_index f.old.tree.nodes.references i ≤ slice_index f.new.tree.nodes.references i }
     ensures blocks { SameRest f.old.tree.nodes f.new.tree.nodes }
 {
-    see(&f.tree.nodes);
+    f.tree.nodes.see();
     if let Err(e) = f.tree.access(ino, user_of(u), Want::Write) {
         return Answer::Fail(e);
     }

@@ -17,7 +17,7 @@ ghost use Rattle.sys_files.specs.Descriptors.{open_entry, dup_file, is_of_consol
 
 use crate::devices::is_console_at;
 use crate::files::Files;
-use crate::inodes::let_go;
+use fs_tree::let_go;
 use open_files::{Closed, OpenFile, OpenTable};
 use proc_tab::Row;
 use u_area::UArea;

@@ -19,7 +19,6 @@ ghost use Rattle.sys_files.specs.Entering.{did_with};
 use crate::descriptors::{file_of, open_entry};
 use crate::devices::is_console_at;
 use crate::files::Files;
-use crate::inodes::see;
 use crate::piping::{PIPE_READ, Transfer, read_pipe, write_pipe};
 use fs_codec::is_device;
 use fs_nodes::{Moved, Nodes};
@@ -116,7 +115,7 @@ fn read_bytes<S: Space>(
     ensures memory { S.rest space.new ≡ S.rest space.old }
     ensures blocks { SameRest f.old.tree.nodes f.new.tree.nodes }
 {
-    see(&f.tree.nodes);
+    f.tree.nodes.see();
     let read = f
         .tree
         .nodes
@@ -385,7 +384,7 @@ fn write_bytes<S: Space>(
         (S.image space.now)) entry at count now) }
     ensures blocks { SameRest f.old.tree.nodes f.new.tree.nodes }
 {
-    see(&f.tree.nodes);
+    f.tree.nodes.see();
     let moved = f
         .tree
         .nodes

@@ -17,11 +17,11 @@ ghost use Rattle.sys_files.specs.Does.{Does};
 
 use crate::answers::done;
 use crate::files::Files;
-use crate::inodes::{inode_of, let_go, refer_again, see};
+use crate::inodes::inode_of;
 use crate::naming::{find_name, user_of};
 use fs_codec::{DiskNode, IALLOC, IFMT, ILARG, is_directory};
 use fs_nodes::Nodes;
-use fs_tree::Want;
+use fs_tree::{Want, let_go, refer_again};
 use proc_tab::Row;
 use u_area::UArea;
 use v6_base::{Answer, Errno, Slot, Space, Trace};
@@ -78,7 +78,7 @@ fn set_permissions(nodes: &mut Nodes, u: &UArea, ino: u16, mode: u16, now: u32)
     ensures references { nodes.new.references ≡ nodes.old.references }
     ensures rest { SameRest nodes.old nodes.new }
 {
-    see(nodes);
+    nodes.see();
     let old = inode_of(nodes, ino).mode;
     nodes.set_mode(ino, changed_mode(old, mode, is_super_user(u)), now);
 }
@@ -221,7 +221,7 @@ fn set_owner(nodes: &mut Nodes, ino: u16, owner: u16, now: u32)
     ensures references { nodes.new.references ≡ nodes.old.references }
     ensures rest { SameRest nodes.old nodes.new }
 {
-    see(nodes);
+    nodes.see();
     nodes.set_owner(ino, (owner % 256) as u8, (owner / 256) as u8, now);
 }
 

@@ -6,7 +6,6 @@ ghost use Rattle.fs_tree.specs.Finding.{inodes_of, find_in};
 ghost use Rattle.fs_tree.specs.Name.{name_at};
 ghost use Rattle.sys_files.specs.Handed.{user_of};
 
-use crate::inodes::see;
 use fs_tree::{NameBytes, Tree, User};
 use u_area::UArea;
 use v6_base::{Errno, Space};
@@ -44,6 +43,6 @@ pub(crate) fn find_name<S: Space>(
     ensures node { IfOk result (λ ino. IsSome (node_numbered tree.new.nodes.store ino)) }
     ensures referred { IfOk result (λ ino. 0 < slice_index tree.new.nodes.references ino) }
 {
-    see(&tree.nodes);
+    tree.nodes.see();
     tree.find(u.dir, user_of(u), NameBytes::at(space, name))
 }

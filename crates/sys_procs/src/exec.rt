@@ -14,7 +14,6 @@ ghost use Rattle.sys_procs.specs.inside.Begun.{fills, begins_in, user_in, group_
 ghost use Rattle.sys_procs.specs.Handed.{AreProcs, AreBare, Calls, IsAlive, IsBare, IsMarked, board, handed, process_here, memory_here};
 ghost use Rattle.sys_procs.specs.Done.{HasDone};
 
-use crate::inodes::{let_go, see as see_nodes};
 use crate::placing::{STACK, leave_place, place_image};
 use crate::procs::Procs;
 use crate::program::Program;
@@ -25,7 +24,7 @@ use crate::texts::{leave_text, take_text};
 use aout_head::Plan;
 use fs_codec::{ISGID, ISUID};
 use fs_nodes::Nodes;
-use fs_tree::Tree;
+use fs_tree::{Tree, let_go};
 use proc_tab::Row;
 use text_tab::TextId;
 use u_area::UArea;
@@ -139,7 +138,7 @@ fn read_bytes(nodes: &mut Nodes, program: &Program, part: &mut [u8], now: u32)
     ensures references { nodes.new.references ≡ nodes.old.references }
     ensures blocks { SameRest nodes.old nodes.new }
 {
-    let _ = nodes.refs(program.ino);
+    nodes.see();
     let _ = nodes.read_kernel(program.ino, HEADER, part, now);
 }
 
@@ -211,7 +210,7 @@ fn fill<S: Space>(nodes: &mut Nodes, space: &mut S, program: &Program, now: u32)
     ensures references { nodes.new.references ≡ nodes.old.references }
     ensures blocks { SameRest nodes.old nodes.new }
 {
-    let _ = nodes.refs(program.ino);
+    nodes.see();
     let count = program.plan.init as u16;
     let at = data_at(program.text_clicks);
     let _ = nodes.read_at(
@@ -336,7 +335,7 @@ fn begin_program<T: Trace>(
     ensures marks { IsMarked p.new tree.new.marks }
     ensures blocks { SameRest tree.old.nodes tree.new.nodes }
 {
-    see_nodes(&tree.nodes);
+    tree.nodes.see();
     let new = take_text(p, tree, s, program, trace)?;
     see_texts(&p.images);
     place_image(p, s, program.text_clicks, data_clicks(&program.plan), trace)?;

@@ -16,11 +16,10 @@ ghost use Rattle.sys_procs.specs.Exit.{leaves, dies, end_proc, exit_now};
 ghost use Rattle.sys_procs.specs.Handed.{AreProcs, Calls, IsAlive, IsMarked, board, handed};
 ghost use Rattle.sys_procs.specs.Done.{HasDone, HasEnded};
 
-use crate::inodes::let_go;
 use crate::procs::Procs;
 use crate::seen::see;
 use crate::texts::leave_text;
-use fs_tree::Tree;
+use fs_tree::{Tree, let_go};
 use pick_rules::{Stat, Table};
 use proc_tab::Rows;
 use u_area::UArea;

@@ -13,10 +13,9 @@ ghost use Rattle.sys_procs.specs.Seats.{with_image_row};
 ghost use Rattle.sys_procs.specs.Handed.{AreProcs, Calls, IsAlive, board, handed, process_here};
 ghost use Rattle.sys_procs.specs.Done.{HasDone};
 
-use crate::inodes::refer_again;
 use crate::procs::Procs;
 use crate::seen::see;
-use fs_tree::Tree;
+use fs_tree::{Tree, refer_again};
 use pick_rules::{Stat, Table, TableRow};
 use proc_tab::Rows;
 use u_area::UArea;

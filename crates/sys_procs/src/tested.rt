@@ -22,13 +22,12 @@ ghost use Rattle.image_keep.specs.Growth.{most_clicks};
 ghost use Rattle.sys_procs.specs.ExecFile.{is_busy_in, with_moved, header_read, tests_header, tests_file, tests, AreSized, IsTested};
 
 use crate::arguments::{Arguments, read_arguments};
-use crate::inodes::{let_go, see};
 use crate::procs::Procs;
 use crate::program::Program;
 use aout_head::{ExecFault, Plan, plan};
 use fs_codec::{file_type, word_at};
 use fs_nodes::{Moved, Nodes};
-use fs_tree::{NameBytes, Tree, User, Want};
+use fs_tree::{NameBytes, Tree, User, Want, let_go};
 use image_keep::Images;
 use seg_regs::Proto;
 use u_area::UArea;
@@ -71,7 +70,7 @@ fn find_name<S: Space>(tree: &mut Tree, u: &UArea, space: &S, name: u16) -> Resu
     ensures marks { tree.new.marks ≡ tree.old.marks }
     ensures blocks { tree.new.nodes.blocks ≡ tree.old.nodes.blocks }
 {
-    see(&tree.nodes);
+    tree.nodes.see();
     tree.find(u.dir, user_of(u), NameBytes::at(space, name))
 }
 
@@ -107,7 +106,7 @@ fn may_execute(tree: &Tree, ino: u16, who: User) -> Result<(), Errno>
     requires { 0 < slice_index tree.now.nodes.references ino }
     ensures { result ≡ permission (node_in tree.now.nodes.store ino) who Execute }
 {
-    see(&tree.nodes);
+    tree.nodes.see();
     tree.access(ino, who, Want::Execute)
 }
 
@@ -296,7 +295,7 @@ fn test_header(
     ensures marks { tree.new.marks ≡ tree.old.marks }
     ensures blocks { SameRest tree.old.nodes tree.new.nodes }
 {
-    see(&tree.nodes);
+    tree.nodes.see();
     match judge_header(&p.images, &tree.nodes, ino, args, head, read) {
         Ok(program) => Ok(program),
         Err(e) => {
@@ -323,7 +322,7 @@ fn read_header(p: &Procs, tree: &mut Tree, ino: u16, args: Arguments) -> Result<
     ensures marks { tree.new.marks ≡ tree.old.marks }
     ensures blocks { SameRest tree.old.nodes tree.new.nodes }
 {
-    see(&tree.nodes);
+    tree.nodes.see();
     let mut head = [0; 16];
     let read = tree.nodes.read_kernel(ino, 0, &mut head, p.table.now);
     test_header(p, tree, ino, args, &head, read)

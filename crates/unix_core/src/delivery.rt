@@ -16,7 +16,7 @@ ghost use Rattle.abstract_unix.specs.Turn.{is_user};
 ghost use Rattle.abstract_unix.specs.Delivery.{heeds, catches, dumped, ends_by, delivers, delivers_due, ends_turn};
 ghost use Rattle.unix_core.specs.Parts.{unix_of, board_in, IsGood, IsReady, HasCome, IsCovered, is_over};
 
-use crate::files::{see_covered, see_kept, see_nodes, see_table};
+use crate::files::{see_covered, see_kept, see_table};
 use crate::onfiles::{close_files, put_core};
 use crate::passing::pass_on;
 use crate::world::World;
@@ -112,7 +112,7 @@ fn catch<T: Trace>(world: &mut World, s: Slot, sig: u8, trace: &mut T) -> Ending
     ensures frame { T.leads_to trace.old trace.new }
     ensures rest { SameRest world.old.files.tree.nodes world.new.files.tree.nodes }
 {
-    see_nodes(&world.files.tree.nodes);
+    world.files.tree.nodes.see();
     see_table(&world.files.table);
     see_kept(&world.procs.images);
     let sp = world.procs.images.area(s).r[6].wrapping_sub(4);
@@ -143,7 +143,7 @@ pub(crate) fn end_with<T: Trace>(world: &mut World, s: Slot, status: u16, trace:
 {
     close_files(world, s);
     pass_on(&world.tape, &mut world.procs.table, trace);
-    see_nodes(&world.files.tree.nodes);
+    world.files.tree.nodes.see();
     see_table(&world.files.table);
     see_kept(&world.procs.images);
     let ended = end_proc(&mut world.procs, &mut world.files.tree, s, status, trace);

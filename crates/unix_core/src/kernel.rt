@@ -15,7 +15,7 @@ ghost use Rattle.abstract_unix.specs.Private.{AllUndisturbed, TickUndisturbed, O
 ghost use Rattle.abstract_unix.specs.Shared.{AllTextsStay, OtherTextsStay};
 ghost use Rattle.unix_core.specs.State.{KeepsRest};
 
-use crate::files::{ROOT, see_kept, see_nodes, see_procs};
+use crate::files::{ROOT, see_kept, see_procs};
 use crate::init::put_program;
 use crate::machine::{Machine, Stage};
 use crate::world::World;
@@ -113,7 +113,7 @@ impl Kernel {
         ensures blocks { result.blocks ≡ nodes.blocks }
         ensures phase { result.phase ≡ New }
     {
-        see_nodes(&nodes);
+        nodes.see();
         let tree = Tree::new(nodes);
         let files = Files {
             tree,
@@ -287,7 +287,7 @@ impl Kernel {
             .tree
             .nodes
             .update_all(self.machine.world.procs.table.now);
-        see_nodes(&self.machine.world.files.tree.nodes);
+        self.machine.world.files.tree.nodes.see();
         see_procs(&self.machine.world.procs);
     }
 }

@@ -12,7 +12,7 @@ ghost use Rattle.abstract_unix.specs.Calls.{handed_of, with_handed, file_row, is
 ghost use Rattle.abstract_unix.specs.Turn.{is_user};
 ghost use Rattle.unix_core.specs.Parts.{unix_of, board_in, IsReady, IsReadyToShow};
 
-use crate::files::{see_count, see_nodes, see_numbers, see_table};
+use crate::files::{see_count, see_numbers, see_table};
 use crate::world::World;
 use abstract_unix::{FileCall, do_file_call};
 use image_keep::{Fixed, Images};
@@ -39,7 +39,7 @@ pub(crate) fn do_on_files(
     ensures rest { SameRest world.old.files.tree.nodes world.new.files.tree.nodes }
 {
     see_count(&args);
-    see_nodes(&world.files.tree.nodes);
+    world.files.tree.nodes.see();
     see_table(&world.files.table);
     world.tape.clear();
     let s = fixed.slot;
@@ -109,7 +109,7 @@ pub(crate) fn resume_on_files(world: &mut World, s: Slot) -> Answer
         (resumes (handed_of (unix_of world.old) (process_of (unix_of world.old) s)) s world.old.procs.table.now).items }
     ensures rest { SameRest world.old.files.tree.nodes world.new.files.tree.nodes }
 {
-    see_nodes(&world.files.tree.nodes);
+    world.files.tree.nodes.see();
     see_table(&world.files.table);
     world.tape.clear();
     let now = world.procs.table.now;
@@ -146,7 +146,7 @@ pub(crate) fn put_core(world: &mut World, s: Slot) -> bool
     ensures procs { world.new.procs ≡ world.old.procs }
     ensures rest { SameRest world.old.files.tree.nodes world.new.files.tree.nodes }
 {
-    see_nodes(&world.files.tree.nodes);
+    world.files.tree.nodes.see();
     see_table(&world.files.table);
     let now = world.procs.table.now;
     let u = world.procs.images.area(s);
@@ -164,7 +164,7 @@ pub(crate) fn close_files(world: &mut World, s: Slot)
         (close_all (handed_of (unix_of world.old) (process_of (unix_of world.old) s))).items }
     ensures rest { SameRest world.old.files.tree.nodes world.new.files.tree.nodes }
 {
-    see_nodes(&world.files.tree.nodes);
+    world.files.tree.nodes.see();
     see_table(&world.files.table);
     world.tape.clear();
     let now = world.procs.table.now;

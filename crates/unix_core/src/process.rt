@@ -17,7 +17,7 @@ ghost use Rattle.unix_core.specs.Parts.{unix_of, board_in, IsGood, IsReady, HasC
 
 use crate::asked::ask;
 use crate::delivery::end_with;
-use crate::files::{see_covered, see_kept, see_nodes, see_procs, see_table};
+use crate::files::{see_covered, see_kept, see_procs, see_table};
 use crate::onfiles::{do_on_files, resume_on_files};
 use crate::passing::pass_on;
 use crate::world::World;
@@ -186,7 +186,7 @@ fn call_processes<T: Trace>(
     ensures frame { T.leads_to trace.old trace.new }
     ensures rest { SameRest world.old.files.tree.nodes world.new.files.tree.nodes }
 {
-    see_nodes(&world.files.tree.nodes);
+    world.files.tree.nodes.see();
     see_table(&world.files.table);
     see_kept(&world.procs.images);
     match do_process_call(
@@ -230,7 +230,7 @@ fn fork<T: Trace>(world: &mut World, s: Slot, trace: &mut T) -> Ending
     ensures rest { SameRest world.old.files.tree.nodes world.new.files.tree.nodes }
 {
     let u = world.procs.images.area(s);
-    see_nodes(&world.files.tree.nodes);
+    world.files.tree.nodes.see();
     see_table(&world.files.table);
     match fork_one(&mut world.procs, &mut world.files.tree, s, [0; 4], trace) {
         Ok(answer) => {
@@ -274,7 +274,7 @@ fn grow_stack<T: Trace>(world: &mut World, s: Slot, sp: u16, trace: &mut T) -> E
     ensures frame { T.leads_to trace.old trace.new }
     ensures rest { SameRest world.old.files.tree.nodes world.new.files.tree.nodes }
 {
-    see_nodes(&world.files.tree.nodes);
+    world.files.tree.nodes.see();
     see_table(&world.files.table);
     see_kept(&world.procs.images);
     let grown = grow(&mut world.procs, &mut world.files.tree, s, sp, trace);
@@ -465,7 +465,7 @@ fn go_on_waiting<T: Trace>(world: &mut World, s: Slot, trace: &mut T) -> Ending
     ensures frame { T.leads_to trace.old trace.new }
     ensures rest { SameRest world.old.files.tree.nodes world.new.files.tree.nodes }
 {
-    see_nodes(&world.files.tree.nodes);
+    world.files.tree.nodes.see();
     see_table(&world.files.table);
     see_kept(&world.procs.images);
     match resume_proc(&mut world.procs, &mut world.files.tree, s, trace) {

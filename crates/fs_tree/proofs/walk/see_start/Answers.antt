@@ -9,4 +9,4 @@ either store true dir root some = root
 either store false dir root some = some
 
 pub returns : goal.returns
-returns c = λ bytes. either c.args.nodes.now.store (is_rooted bytes) c.args.dir c.refs.ensures.form.root (c.refs.ensures.form.used c.args.dir c.requires)
+returns c = λ bytes. either c.args.nodes.now.store (is_rooted bytes) c.args.dir c.see.ensures.root (c.see.ensures.used c.args.dir c.requires)

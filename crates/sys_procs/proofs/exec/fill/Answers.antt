@@ -41,7 +41,7 @@ moved_is : (g : given.Over) (c : After-read_at g) → g.S.Space.image c.read_at.
 moved_is g c =
     let program : Program = c.args.program.now in
     (c.read_at.ensures.moved (node_in c.args.nodes.now.store program.ino)
-    (node_there c.args.nodes.now.store program.ino (c.refs.ensures.form.used program.ino c.requires.referenced))).memory
+    (node_there c.args.nodes.now.store program.ino (c.see.ensures.used program.ino c.requires.referenced))).memory
 
 pub put_stack-requires : goal.put_stack-requires
 put_stack-requires g c =
@@ -63,5 +63,5 @@ returns-clause-store g c = λ text is.
     let store : Store = c.args.nodes.now.store in
     let program : Program = c.args.program.now in
     (c.read_at.ensures.moved (node_in store program.ino)
-    (node_there store program.ino (c.refs.ensures.form.used program.ino c.requires.referenced))).store
+    (node_there store program.ino (c.see.ensures.used program.ino c.requires.referenced))).store
     ∙ ap (λ (m : Moving Image). with_node store program.ino m.node m.room) (read_is g at text is)

@@ -29,7 +29,7 @@ returns-clause-bytes c =
     let store : Store = c.args.nodes.now.store in
     let ino = c.args.program.now.ino in
     (c.read_kernel.ensures.moved (node_in store ino)
-    (node_there store ino (c.refs.ensures.form.used ino c.requires.referenced))).memory
+    (node_there store ino (c.see.ensures.used ino c.requires.referenced))).memory
     ∙ ap (λ (m : Moving (List ℕ)). m.memory) (read_is (goal.at.returns-clause-bytes c).After-read_kernel)
 
 pub returns-clause-store : goal.returns-clause-store
@@ -37,5 +37,5 @@ returns-clause-store c =
     let store : Store = c.args.nodes.now.store in
     let ino = c.args.program.now.ino in
     (c.read_kernel.ensures.moved (node_in store ino)
-    (node_there store ino (c.refs.ensures.form.used ino c.requires.referenced))).store
+    (node_there store ino (c.see.ensures.used ino c.requires.referenced))).store
     ∙ ap (λ (m : Moving (List ℕ)). with_node store ino m.node m.room) (read_is (goal.at.returns-clause-store c).After-read_kernel)

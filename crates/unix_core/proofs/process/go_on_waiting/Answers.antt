@@ -54,7 +54,7 @@ returns-in-Ok-clause-come g c =
     let s = c.args.s in
     let e = c.resume_proc.ensures in
     subst (λ x. HasCome (board_in w) (came_by (unix_of w) s (resume_proc x s)) c.conclude.result c.conclude.new.world)
-    (world_is w s c.requires c.see_nodes.ensures)
+    (world_is w s c.requires c.see.ensures)
     (call_come w (after w c.resume_proc.new.tree c.resume_proc.new.p) s (row w s)
     (tame w s c.requires) (beside w c.resume_proc.new.tree c.resume_proc.new.p) e.does
     c.in-Ok.answer c.in-Ok.is c.conclude.result c.conclude.new.world c.conclude.ensures.come)
@@ -66,7 +66,7 @@ returns-in-Ok-clause-items g c =
     let e = c.resume_proc.ensures in
     subst (λ x. Took (g.T.Trace.taken c.args.trace.now) (logged (board_in w) (came_by (unix_of w) s (resume_proc x s)).effects).items
     (g.T.Trace.taken c.conclude.new.trace))
-    (world_is w s c.requires c.see_nodes.ensures)
+    (world_is w s c.requires c.see.ensures)
     (call_took w (after w c.resume_proc.new.tree c.resume_proc.new.p) s (row w s)
     (tame w s c.requires) (beside w c.resume_proc.new.tree c.resume_proc.new.p) e.does
     c.in-Ok.answer c.in-Ok.is _ c.conclude.ensures.items)
