@@ -34,11 +34,6 @@ has_of disk k b count is = record {
   same = λ e f. is.same f ∙ ap (block_at disk) e;
 }
 
-all_have : (c : Cached) (k : ℕ) → IsCached c → AllByRecursion (Has (length c.disk) k (block_at c.disk k)) c.buffers
-all_have c k is =
-    recursion_from_All (Has (length c.disk) k (block_at c.disk k)) c.buffers
-    (All-weaker (IsBuffer c.disk) (Has (length c.disk) k (block_at c.disk k)) (λ b h. has_of c.disk k b is.disk.count h) c.buffers is.each)
-
 -- the buffer of a block
 fresh_is : (disk : List (List ℕ)) (n : ℕ) → IsDisk disk → n < DISK_BLOCKS → IsBuffer disk (fresh n (block_at disk n))
 fresh_is disk n is low = record { low = low; whole = is.whole n low; same = λ f. refl }

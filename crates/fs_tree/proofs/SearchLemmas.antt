@@ -31,25 +31,3 @@ module _ (s t : Store) (same : s.nodes ≡ t.nodes) where
 
   in_same : (user : User) (dir : ℕ) (name : List ℕ) (read : Bool) → in_directory s user dir name read ≡ in_directory t user dir name read
   in_same user dir name read = ap (λ l. with_node_of (slice_index_or l dir None) (looked_in user dir name read)) same
-
-  either_same : (last : Bool) (w : Way) (r r' : Result Way Errno) → r ≡ r' → (if last then Ok w else r) ≡ (if last then Ok w else r')
-  either_same true w r r' is = refl
-  either_same false w r r' is = is
-
-  walk_same : (user : User) (whole : Bool) (dir : ℕ) (names : List (List ℕ)) → walk s user whole dir names ≡ walk t user whole dir names
-  unfolding walk
-  walk_same user whole dir [] = refl
-  walk_same user whole dir (name ∷ later) =
-      then_same _ _ _ _ (in_same user dir name (not (is_last later) || whole)) (λ last.
-      either_same (is_last later) (End last) _ _ (then_same _ _ _ _ (entry_same last.looked) (λ ino. walk_same user whole ino later)))
-
-  way_same : (user : User) (dir : ℕ) (bytes : List ℕ) → way s user dir bytes ≡ way t user dir bytes
-  way_same user dir bytes =
-      ap (λ r. if is_last (components bytes) && not (is_whole bytes) then Err EFAULT else r) (walk_same user (is_whole bytes) (start_of dir bytes) (components bytes))
-
-  found_same : (w : Way) → found s w ≡ found t w
-  found_same (Start ino) = refl
-  found_same (End last) = entry_same last.looked
-
-  search_same : (user : User) (dir : ℕ) (bytes : List ℕ) → then_do (way s user dir bytes) (found s) ≡ then_do (way t user dir bytes) (found t)
-  search_same user dir bytes = then_same _ _ _ _ (way_same user dir bytes) found_same
