@@ -3,7 +3,7 @@ use Rattle.std.proofs.Common.{◌≡◌, ◌≢◌, ℕ, ◌+◌, ◌<◌, ◌�
 use Rattle.std.proofs.lemmas.Bool.Decides.{eqb_tells}
 use Rattle.std.proofs.lemmas.List.Sums.{get_or-le-sum_by}
 use Rattle.std.proofs.lemmas.List.{length-map, same_lists, get_or_default}
-use Rattle.std.proofs.lemmas.List.Elements.{recursion_from_All, All-weaker, All-cons, All-take, All-drop, All-nil, All-filter, All-map}
+use Rattle.std.proofs.lemmas.List.Elements.{recursion_from_All, All-weaker, All-cons, All-take, All-drop, All-filter, All-map}
 use Rattle.std.proofs.lemmas.List.FromFn.{length-map-range_with_len, get_or-map-range_with_len}
 use Rattle.std.specs.List.{range_with_len, All, AllByRecursion}
 use Rattle.fs_codec.specs.declared.layout.TheConstants.{BLOCK_SIZE, DISK_BLOCKS}
@@ -197,9 +197,6 @@ flushed_is c is = record {
 }
 
 -- no block is in a buffer
-pub new_is : (disk : List (List ℕ)) → IsDisk disk → IsCached (record { disk = disk; buffers = [] })
-new_is disk is = record { disk = is; few = omega arith; once = λ n. omega arith; each = All-nil (IsBuffer disk) }
-
 pub new_blocks : (disk : List (List ℕ)) → IsDisk disk → cached_blocks (record { disk = disk; buffers = [] }) ≡ disk
 new_blocks disk is =
     let c : Cached = record { disk = disk; buffers = [] } in

@@ -250,11 +250,6 @@ write_more slots disk end hs k h low read before =
     drop_more (buffers_in slots hs) k (buffer_in slots h) (omega (arith, long, low)) ∙ ap (λ b. b ∷ drop (k + 1) (buffers_in slots hs)) first in
     sym (ap (λ l. written l disk) split) ∙ before
 
-pub write_all : (slots disk end : List (List ℕ)) (hs : List Head) (k : ℕ) → length hs ≤ k → written (drop k (buffers_in slots hs)) disk ≡ end → disk ≡ end
-write_all slots disk end hs k high before =
-    let long = length-map hs (buffer_in slots) in
-    sym (ap (λ l. written l disk) (drop_all k (buffers_in slots hs) (omega (arith, long, high)))) ∙ before
-
 pub write_length : (slots disk : List (List ℕ)) (h : Head) → length (written_head slots h disk) ≡ length disk
 write_length slots disk h = written_length (buffer_in slots h ∷ []) disk
 

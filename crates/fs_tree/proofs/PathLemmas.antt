@@ -43,9 +43,6 @@ module _ (store : Store) (user : User) (dir : ℕ) (name : List ℕ) (r : Bool) 
   in_found : (node : Node) → node_numbered store dir ≡ Some node → in_directory store user dir name r ≡ looked_in user dir name r node
   in_found node is = ap (λ o. with_node_of o (looked_in user dir name r)) is
 
-  pub in_none : node_numbered store dir ≡ None → Err ENOENT ≡ in_directory store user dir name r
-  in_none is = sym (ap (λ o. with_node_of o (looked_in user dir name r)) is)
-
   pub in_unread : (node : Node) → node_numbered store dir ≡ Some node → is_directory node.mode ≡ true → may_use node user Execute ≡ true → r ≡ false → Err EFAULT ≡ in_directory store user dir name r
   in_unread node is d m f = sym (in_found node is ∙ third_fails (is_directory node.mode) (may_use node user Execute) r _ _ _ _ d m f)
 

@@ -15,6 +15,7 @@ use Rattle.fs_nodes.specs.Copy.{put_into, put_kernel}
 use Rattle.fs_tree.specs.declared.user.Want.TheVariants.{Execute}
 use Rattle.fs_tree.specs.Permission.{permission}
 use Rattle.fs_tree.specs.Name.{name_at}
+pub use Rattle.fs_tree.specs.Entries.{answer_to}
 use Rattle.fs_tree.specs.Finding.{Finding, find_in}
 use Rattle.aout_head.specs.Header.{Header, header_of, plan_of}
 use Rattle.aout_head.specs.declared.parts.Plan.{Plan}
@@ -62,10 +63,6 @@ with_moved w ino m = with_inodes w (record w.inodes { store = with_node w.inodes
 abbrev pub header_read : World → ℕ → Moving (List ℕ)
 header_read w ino = read_file put_kernel (node_at w ino) (room_at w.inodes.store ino) (replicate 16 0) 0 16 w.clock.time
 
-abbrev pub unless_error : Option Errno → Result (Unit {0}) Errno
-unless_error None = Ok tt
-unless_error (Some e) = Err e
-
 abbrev pub is_magic : Result Plan ExecFault → Bool
 is_magic (Ok plan) = true
 is_magic (Err Separate) = true
@@ -101,7 +98,7 @@ abbrev pub tests_header : World → ℕ → List (List ℕ) → Moving (List ℕ
 tests_header w ino args head =
     let h : Header = header_of head.memory in
     let out : World = let_go w ino in
-    check out (unless_error head.error) (λ read.
+    check out (answer_to head.error) (λ read.
     check out (must ENOEXEC ((head.done == 16) && is_magic (plan_of h))) (λ program.
     check out (must ETXTBSY (not (is_busy w ino h))) (λ free.
     check out (or_no_memory (plan_of h)) (λ plan.

@@ -15,7 +15,7 @@ ghost use Rattle.seg_regs.specs.Sizes.{is_refused};
 ghost use Rattle.sys_procs.specs.Stack.{arguments, stack_clicks};
 ghost use Rattle.sys_procs.specs.Tests.{must, user_of, node_in};
 ghost use Rattle.sys_procs.specs.Handed.{Calls, IsAlive, handed, process_here, memory_here};
-ghost use Rattle.sys_procs.specs.ExecFile.{clicks, text_clicks_by, text_clicks_in, entry_clicks, data_clicks, unless_error, is_magic, or_no_memory};
+ghost use Rattle.sys_procs.specs.ExecFile.{clicks, text_clicks_by, text_clicks_in, entry_clicks, data_clicks, answer_to, is_magic, or_no_memory};
 ghost use Rattle.sys_procs.specs.World.{texts_in};
 ghost use Rattle.sys_procs.specs.TextTable.{entry_of};
 ghost use Rattle.image_keep.specs.Growth.{most_clicks};
@@ -233,7 +233,7 @@ fn judge_header(
     head: &[u8; 16],
     read: Moved,
 ) -> Result<Program, Errno>
-    ensures answer { result ≡ then_do (unless_error read.error) (λ whole.
+    ensures answer { result ≡ then_do (answer_to read.error) (λ whole.
         then_do (must ENOEXEC ((read.done == 16) && is_magic (plan_of (header_of head.now)))) (λ program.
         then_do (must ETXTBSY (not (is_busy_in (texts_in images.now.kept) (slice_index nodes.now.references ino) ino
         (header_of head.now)))) (λ free.
