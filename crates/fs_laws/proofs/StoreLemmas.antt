@@ -35,46 +35,6 @@ nodes_changed old new m w change high =
     (λ j l h other. other_node old new (suc m) j w change (omega arith) high l (omega (arith, h)) (λ is. other (omega (arith, is))))
     ∙ (let e : 1 + m ≡ suc m = omega arith in ap (λ i. set (map (λ i. node_of old (inode old i)) (inode_numbers old)) m (node_of new (inode new i))) e)
 
--- The store after one file has changed, and the bytes of one inode among those of a block.
-use Rattle.std.proofs.Common.{◌≡◌, ◌≢◌, ◌+◌, ◌-◌, ◌*◌, ◌/◌, ◌%◌, ◌<◌, ◌≤◌, inl, inr, ℕ, zero, suc, false, List, ◌∷◌, ◌++◌, map, length, set, slice_set, slice_index, slice_range, take, drop, length-drop, length-append, ◌⊎◌, Option, None, refl, sym, ap, ◌∙◌, arith}
-use Rattle.std.proofs.lemmas.Bool.{cases_lt}
-use Rattle.std.proofs.lemmas.Bool.Decides.{eqb_tells}
-use Rattle.std.proofs.lemmas.List.{get_or-drop, get_or-take, length-take-le, same_lists, get_or_default, get_or_append_left, get_or-append_right}
-use Rattle.std.specs.List.{range_with_len}
-use Rattle.fs_codec.specs.Fields.{inode_of}
-use Rattle.fs_codec.specs.Disk.{Disk, head, inode, inode_count, inode_numbers}
-use Rattle.fs_codec.specs.Store.{Node, Store}
-use Rattle.fs_codec.specs.Stands.{node_of, store_of}
-use Rattle.buf_cache.specs.Blocks.{patched}
-use Rattle.fs_laws.specs.Chain.{free}
-use Rattle.fs_laws.specs.Whole.{IsWhole, ChangesFile}
-use Rattle.fs_laws.proofs.FileLemmas.{other_node, same_inodes}
-
-pub same_map : {X : Type 0} (f g : ℕ → X) (a n : ℕ) → ((j : ℕ) → a ≤ j → j < a + n → g j ≡ f j) → map g (range_with_len a n) ≡ map f (range_with_len a n)
-same_map f g a zero same = refl
-same_map f g a (suc n) same = ap (λ x. x ∷ map g (range_with_len (a + 1) n)) (same a (omega arith) (omega arith)) ∙ ap (λ l. f a ∷ l) (same_map f g (a + 1) n (λ j l h. same j (omega (arith, l)) (omega (arith, h))))
-
--- one element has changed
-pub map_set : {X : Type 0} (f g : ℕ → X) (a n m : ℕ) → m < n → ((j : ℕ) → a ≤ j → j < a + n → j ≢ a + m → g j ≡ f j) → map g (range_with_len a n) ≡ set (map f (range_with_len a n)) m (g (a + m))
-map_set f g a zero m h same = absurd (omega (arith, h))
-map_set f g a (suc n) zero h same =
-    ap (λ l. g a ∷ l) (same_map f g (a + 1) n (λ j l h. same j (omega (arith, l)) (omega (arith, h)) (λ is. absurd (omega (arith, is, l))))) ∙ ap (λ x. g x ∷ map f (range_with_len (a + 1) n)) (omega arith)
-map_set f g a (suc n) (suc m) h same =
-    ap (λ x. x ∷ map g (range_with_len (a + 1) n)) (same a (omega arith) (omega arith) (λ is. absurd (omega (arith, is))))
-    ∙ ap (λ l. f a ∷ l) (map_set f g (a + 1) n m (omega (arith, h)) (λ j l h other. same j (omega (arith, l)) (omega (arith, h)) (λ is. other (omega (arith, is)))))
-    ∙ ap (λ x. f a ∷ set (map f (range_with_len (a + 1) n)) m (g x)) (omega arith)
-
-nodes_changed : (old new : Disk) (m : ℕ) → IsWhole old → ChangesFile old new (suc m) → suc m ≤ inode_count old
-    → map (λ i. node_of new (inode new i)) (inode_numbers new) ≡ set (map (λ i. node_of old (inode old i)) (inode_numbers old)) m (node_of new (inode new (suc m)))
-nodes_changed old new m w change high =
-    ap (λ n. map (λ i. node_of new (inode new i)) (range_with_len 1 n)) (same_inodes old new change.zone)
-    ∙ map_set (λ i. node_of old (inode old i)) (λ i. node_of new (inode new i)) 1 (inode_count old) m (omega (arith, high))
-    (λ j l h other. other_node old new (suc m) j w change (omega arith) high l (omega (arith, h)) (λ is. other (omega (arith, is))))
-    ∙ (let e : 1 + m ≡ suc m = omega arith in ap (λ i. set (map (λ i. node_of old (inode old i)) (inode_numbers old)) m (node_of new (inode new i))) e)
-
-stored : (nodes : List (Option Node)) (count room : ℕ) (spare : List ℕ) (stamp : ℕ) → Store
-stored nodes count room spare stamp = record { nodes = nodes; count = count; room = room; spare = spare; stamp = stamp; mark = false }
-
 -- The store after one file has changed: its node, the room, and what the super-block says.
 pub store_changed : (old new : Disk) (m : ℕ) → IsWhole old → ChangesFile old new (suc m) → suc m ≤ inode_count old
     → store_of new ≡ record {
