@@ -4,8 +4,9 @@ use Rattle.std.proofs.lemmas.Bool.{leb-true, and_parts}
 use Rattle.v6_base.specs.declared.errno.Errno.{Errno}
 use Rattle.v6_base.specs.declared.errno.Errno.TheVariants.{ENFILE}
 use Rattle.fs_codec.specs.Modes.{is_device}
-use Rattle.fs_codec.specs.Store.{Node, Store, node_numbered}
-use Rattle.fs_laws.specs.Numbers.{is_free_number, Draw, drawn, refill, draw, with_draw, new_node, with_node, without_node}
+use Rattle.fs_codec.specs.Store.{Node, Store}
+use Rattle.fs_laws.specs.Numbers.{is_free_number, Draw, drawn, refill, draw, with_draw, new_node, without_node}
+use Rattle.fs_laws.specs.Keys.{node_numbered, with_node}
 use Rattle.fs_nodes.specs.FileSystem.{referenced}
 use Rattle.fs_tree.specs.declared.made.Made.{Made}
 use Rattle.fs_tree.specs.declared.user.User.{User}
