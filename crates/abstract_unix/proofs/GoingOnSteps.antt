@@ -25,7 +25,7 @@ use Rattle.sys_procs.specs.Comes.{Comes}
 use Rattle.sys_procs.specs.Break.{sized, expands, grown_stack, grow}
 use Rattle.sys_procs.specs.Fork.{fork_one}
 use Rattle.sys_procs.specs.Resume.{resume_proc}
-use Rattle.sys_procs.specs.Signals.{signalled, has_console}
+use Rattle.sys_procs.specs.Signals.{signalled, has_line}
 use Rattle.abstract_unix.specs.declared.asked.Asked.{Asked}
 use Rattle.abstract_unix.specs.declared.calls.SystemCall.{SystemCall}
 use Rattle.abstract_unix.specs.declared.calls.SystemCall.TheVariants.{Indirect, Exit, Fork, Unknown, OnFiles, OnProcesses}
@@ -211,8 +211,8 @@ charged_goes_on u mode (Some slot) can = by (slot == 0)
     by true = can
     by false = changed_goes_on u slot (timed mode) (timed_same mode) can
 
-pub key_goes_on : (keyed : Keyed) (u : Unix) → CanGoOn u → CanGoOn (with_key keyed u)
+pub key_goes_on : (keyed : Keyed) (u : Unix) → CanGoOn u → CanGoOn (with_key 0 keyed u)
 key_goes_on key.Nothing u can = can
 key_goes_on key.Ready u can = can
 key_goes_on key.Flushed u can = can
-key_goes_on (key.Signal n) u can = waited_goes_on u (with_key (key.Signal n) u) can (key_waited has_console n u.processes) refl
+key_goes_on (key.Signal n) u can = waited_goes_on u (with_key 0 (key.Signal n) u) can (key_waited (has_line 0) n u.processes) refl

@@ -1,9 +1,9 @@
 -- What a call on files leaves of a turn: it shows bytes, wakes, and a signal of its own process alone; the image keeps its
 -- size; the
 -- process waits in a call exactly where the answer is to sleep; and the pipes that are open have numbers that a channel may have.
-use Rattle.std.proofs.Common.{◌≡◌, ◌⊎◌, ◌≤◌, ◌<◌, ◌==◌, ◌∙◌, ◌++◌, ℕ, false, List, [], ◌∷◌, ℤ, pos, slice_index, refl, sym, ap, subst, inl, inr, arith, map}
+use Rattle.std.proofs.Common.{◌≡◌, ◌⊎◌, ◌≤◌, ◌<◌, ◌==◌, ◌∙◌, ◌++◌, ℕ, zero, suc, false, List, [], ◌∷◌, ℤ, pos, slice_index, refl, sym, ap, subst, inl, inr, arith, map}
 use Rattle.std.specs.List.{All}
-use Rattle.v6_base.specs.Trace.{Item, Byte, Log, sent}
+use Rattle.v6_base.specs.Trace.{Item, Byte, Log, sent, line_bytes, entries_of}
 use Rattle.v6_base.specs.declared.answer.Answer.{Answer}
 use Rattle.v6_base.specs.declared.answer.Answer.TheVariants.{Ret, Fail, Sleep}
 use Rattle.v6_base.specs.declared.entry.Chan.{Chan}
@@ -29,6 +29,7 @@ use Rattle.sys_files.proofs.NodeCounts.{put_back_count}
 use Rattle.sys_files.proofs.Walks.{IsOfPipe, IsAwaiting, Walks, walk_closes, walk_resume, closes_all}
 use Rattle.std.proofs.lemmas.List.Elements.{All-head, All-tail}
 use Rattle.sys_files.specs.Piping.{words_of}
+use Rattle.abstract_unix.specs.Calls.{bytes_from, in_order}
 use Rattle.abstract_unix.proofs.PipeNumbers.{HavePipes, end_known, pipes_opened, pipes_change, pipes_left, pipes_marked, pipes_gone, pipes_ends}
 
 -- Items that are bytes, wakes, and the signal of the process of a slot that writes to a pipe which nobody reads.
@@ -48,6 +49,21 @@ quiet_append s (Log e ∷ xs) ys p q = (p.0, quiet_append s xs ys p.1 q)
 pub quiet_sent : (s line : ℕ) (bytes : List ℕ) → AreQuiet s (sent line bytes)
 quiet_sent s line [] = tt
 quiet_sent s line (byte ∷ bytes) = quiet_sent s line bytes
+
+quiet_bytes : (s l count : ℕ) (items : List Item) → AreQuiet s (bytes_from l count items)
+quiet_bytes s l zero items = tt
+quiet_bytes s l (suc count) items =
+    quiet_append s (sent l (line_bytes l items)) (bytes_from (suc l) count items) (quiet_sent s l (line_bytes l items))
+    (quiet_bytes s (suc l) count items)
+
+quiet_lines : (s : ℕ) (items : List Item) → AreQuiet s items → AreQuiet s (map Log (entries_of items))
+quiet_lines s [] q = tt
+quiet_lines s (Byte line byte ∷ items) q = quiet_lines s items q
+quiet_lines s (Log e ∷ items) q = (q.0, quiet_lines s items q.1)
+
+pub quiet_in_order : (s : ℕ) (items : List Item) → AreQuiet s items → AreQuiet s (in_order items)
+quiet_in_order s items q =
+    quiet_append s (bytes_from 0 1 items) (map Log (entries_of items)) (quiet_bytes s 0 1 items) (quiet_lines s items q)
 
 -- the image has the same size
 pub record SameSize (old new : UArea) : Type 0 where

@@ -26,6 +26,7 @@ pub mod NamesLemmas
 pub mod MakingLemmas
 pub mod PipingLemmas
 pub mod MovingLemmas
+pub mod LineLemmas
 pub mod ReadLemmas
 pub mod WriteLemmas
 pub mod ShowingLemmas

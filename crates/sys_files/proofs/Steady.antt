@@ -18,7 +18,7 @@ use Rattle.open_files.specs.declared.file.Closed.{Closed}
 use Rattle.open_files.specs.declared.file.Closed.TheVariants.{Still, Last}
 use Rattle.sys_files.specs.Handed.{Handed}
 use Rattle.sys_files.specs.Did.{Did}
-use Rattle.sys_files.specs.Descriptors.{with_roused, pipe_roused, with_gone, is_closed_by, Closing, released, told_by, dropped, closes, then_closes, close_all}
+use Rattle.sys_files.specs.Descriptors.{with_roused, pipe_roused, with_gone, is_line_open, Closing, closes_line, released, told_by, dropped, closes, then_closes, close_all}
 use Rattle.sys_files.specs.Moving.{resumes}
 use Rattle.sys_files.specs.Piping.{words_of}
 use Rattle.sys_files.proofs.Bounds.{Fits, fits_none, fits_lines, fits_shown, AreWakes, none_wakes, one_wakes, more_wakes, wakes_up_to, fits_wakes}
@@ -168,8 +168,13 @@ confined_walks old slot = record {
   showing = λ line image at count d few c. record { fits = fits_shown slot line image at count few; steady = c.steady };
   inodes = λ h inodes same s. record { row = s.row; area = s.area; image = s.image; marks = s.marks };
   opened = λ h ino kind fd entry plain number free moves s. steady_moved old h _ (slice_set h.u.files fd (entry + 1)) h.u.dir s;
-  ends = λ h ino fd entry next_fd next_entry above within number free next_number next_free moves s.
-      steady_moved old h _ (slice_set (slice_set h.u.files fd (entry + 1)) next_fd (next_entry + 1)) h.u.dir s;
+  ends = λ h ino fd entry next_fd next_entry above within number free next_number next_free moves s. record {
+    row = s.row;
+    area = area_changed old.u h.u (slice_set (slice_set h.u.files fd (entry + 1)) next_fd (next_entry + 1)) h.u.dir
+        h.u.pending h.u.call s.area;
+    image = s.image;
+    marks = s.marks;
+  };
   given = λ h fd free named number moves s.
       steady_moved old h _ (slice_set h.u.files free (entry_of h.u.files fd + 1)) h.u.dir s;
   offset = λ h entry offset s. record { row = s.row; area = s.area; image = s.image; marks = s.marks };
@@ -202,23 +207,26 @@ resume_confined h slot now waiting =
     walk_resume (confined_walks h slot) h now waiting (steady_pending h h NOTHING_PENDING (replicate 8 0) (steady_same h))
 
 -- A number lets its file go: three times at most is somebody woken, who waits for a pipe or for keys.
-close_wakes : (ino : ℕ) (pipe last : Bool)
-    → AreWakes 3 (cond pipe (Log (Wake (Write ino)) ∷ Log (Wake (Read ino)) ∷ []) [] ++ cond last (Log (Wake Keys) ∷ []) [])
-close_wakes ino pipe last = more_wakes 2 1 _ _ (pipe_wakes ino pipe) (key_wakes last)
-  where
-    pipe_wakes : (ino : ℕ) (pipe : Bool) → AreWakes 2 (cond pipe (Log (Wake (Write ino)) ∷ Log (Wake (Read ino)) ∷ []) [])
-    pipe_wakes ino true =
-        more_wakes 1 1 (Log (Wake (Write ino)) ∷ []) (Log (Wake (Read ino)) ∷ []) (one_wakes (Write ino) tt)
-        (one_wakes (Read ino) tt)
-    pipe_wakes ino false = wakes_up_to 0 2 [] (omega arith) none_wakes
+roused_wakes : (ino : ℕ) (pipe : Bool) → AreWakes 2 (cond pipe (Log (Wake (Write ino)) ∷ Log (Wake (Read ino)) ∷ []) [])
+roused_wakes ino true =
+    more_wakes 1 1 (Log (Wake (Write ino)) ∷ []) (Log (Wake (Read ino)) ∷ []) (one_wakes (Write ino) tt) (one_wakes (Read ino) tt)
+roused_wakes ino false = wakes_up_to 0 2 [] (omega arith) none_wakes
 
-    key_wakes : (last : Bool) → AreWakes 1 (cond last (Log (Wake Keys) ∷ []) [])
-    key_wakes true = one_wakes Keys tt
-    key_wakes false = wakes_up_to 0 1 [] (omega arith) none_wakes
+line_wakes : (h : Handed) (line : Option ℕ) → AreWakes 1 (closes_line h line).items
+line_wakes h None = wakes_up_to 0 1 [] (omega arith) none_wakes
+line_wakes h (Some l) = by (is_line_open h l)
+  where
+    by : (open : Bool) → AreWakes 1 (cond {A = Closing} open (record { state = h; items = [] })
+        (record { state = with_line h l (terminal.closed (line_at h l)); items = Log (Wake (keys_of l)) ∷ [] })).items
+    by true = wakes_up_to 0 1 [] (omega arith) none_wakes
+    by false = one_wakes Keys tt
 
 released_wakes : (h : Handed) (told : Closed) → AreWakes 3 (released h told).items
-released_wakes h (Still file) = subst (AreWakes 3) (append-nil (pipe_roused file)) (close_wakes file.ino file.kind.pipe false)
-released_wakes h (Last file) = close_wakes file.ino file.kind.pipe (is_closed_by (with_gone (with_roused h file) file) file)
+released_wakes h (Still file) = wakes_up_to 2 3 (pipe_roused file) (omega arith) (roused_wakes file.ino file.kind.pipe)
+released_wakes h (Last file) =
+    let rest : Handed = with_gone (with_roused h file) file in
+    more_wakes 2 1 (pipe_roused file) (closes_line rest (line_of rest (node_at rest file.ino))).items
+    (roused_wakes file.ino file.kind.pipe) (line_wakes rest (line_of rest (node_at rest file.ino)))
 
 -- The numbers of a process let their files go, one after another.
 more_closing : (n : ℕ) (c : Closing) (fd : ℕ) → AreWakes n c.items → AreWakes (n + 3) (then_closes c fd).items

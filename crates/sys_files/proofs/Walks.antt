@@ -14,7 +14,7 @@ use Rattle.v6_base.specs.declared.errno.Errno.{Errno}
 use Rattle.v6_base.specs.declared.errno.Errno.TheVariants.{EINTR, EPERM, EBADF, EFAULT, EEXIST, ENOTDIR, EISDIR, ENFILE, EMFILE, ENOTTY, ENODEV, ENXIO, ESPIPE, EMLINK, EPIPE}
 use Rattle.v6_base.proofs.Copies.{SameLengths, same_lengths, bytes_lengths}
 use Rattle.fs_codec.specs.Bytes.{bytes_of}
-use Rattle.fs_codec.specs.Modes.{is_device, is_directory, is_character_device}
+use Rattle.fs_codec.specs.Modes.{is_device, is_directory}
 use Rattle.fs_codec.specs.Store.{Node}
 use Rattle.fs_codec.specs.declared.modes.TheConstants.{IALLOC}
 use Rattle.u_area.specs.declared.layout.TheConstants.{LINE_READ, PIPE_READ, PIPE_WRITE}
@@ -32,6 +32,7 @@ use Rattle.open_files.specs.declared.file.Closed.{Closed}
 use Rattle.open_files.specs.declared.file.Closed.TheVariants.{Still, Last}
 use Rattle.open_files.specs.Files as files
 use Rattle.open_files.specs.Files.{entry_of, free_number, free_entry, with_change, with_more, with_fewer, with_offset, times}
+use Rattle.tty_line.specs.Terminal as terminal
 use Rattle.tty_line.specs.Terminal.{Terminal}
 use Rattle.tty_line.specs.declared.line.Took.{Took}
 use Rattle.tty_line.specs.declared.line.Took.TheVariants.{Done, Wait, Fault}
@@ -43,18 +44,19 @@ use Rattle.pipe_ends.specs.declared.ends.Piped.{Piped}
 use Rattle.pipe_ends.specs.declared.ends.Piped.TheVariants as piped
 use Rattle.pipe_ends.specs.Reads.{PipeRead}
 use Rattle.pipe_ends.specs.Writes.{PipeWrite}
-use Rattle.sys_files.specs.Handed.{Handed, r0, r1, node_at, file_of, user_of, is_console, is_null, with_inodes, with_store, with_changed, with_number}
+use Rattle.sys_files.specs.Handed.{Handed, r0, r1, node_at, file_of, user_of, line_of, line_at, with_line, keys_of, with_inodes, with_store, with_changed, with_number, let_go}
 use Rattle.sys_files.specs.Did.{Did, fails, returns, is_done, check, must, need, unless_due, until_end, then_named, finds, by_made, makes}
-use Rattle.sys_files.specs.Descriptors.{open_entry, dup_file, is_closed_by, with_closed, without_marks, with_roused, pipe_roused, with_gone, released, told_by, dropped, closes, close_file, Closing, then_closes, close_all}
-use Rattle.sys_files.specs.Opening.{last_failure, open_tests, can_open, with_opened, opens, opens_named, open_file}
+use Rattle.sys_files.specs.Descriptors.{open_entry, dup_file, is_line_open, closes_line, without_marks, with_roused, pipe_roused, with_gone, released, told_by, dropped, closes, close_file, Closing, then_closes, close_all}
+use Rattle.sys_files.specs.Opening.{last_failure, open_tests, can_open, with_tty, with_opened, opens, opens_named, open_file}
 use Rattle.sys_files.specs.Making.{new_in, entry_written, writes_entry, with_links, enters_new, makes_node, opens_for_writing, with_no_blocks, opens_again, makes_file, creat_file, with_device, is_super_user, makes_any, mknod_at, may_link, enters_again, links_to, link_file, empties, removes, unlink_file}
-use Rattle.sys_files.specs.Moving.{with_moved, gives_count, read_of, with_read, line_read, with_line_read, takes_line, reads_line, reads_from, read_file_of, without_pending, resume_read, resumes, shows_bytes, write_of, writes_to, write_file_of, seek_to}
+use Rattle.sys_files.specs.Moving.{with_moved, gives_count, read_of, with_read, line_read, with_line_read, takes_line, reads_line, reads_by, reads_from, read_file_of, without_pending, resume_read, resumes, writes_line, writes_by, write_of, writes_to, write_file_of, seek_to}
 use Rattle.sys_files.specs.Pipes.{pipe_of, with_pipe, without_pipe, has_end}
 use Rattle.sys_files.specs.Piping.{reading_end, with_end, with_ends, opens_ends, pipe_new, after, words_of, pipe_at, ends_at, pipe_read, with_pipe_read, ends_read, reads_pipe, pipe_write, with_pipe_write, ends_write, writes_pipe, waits_in_pipe, breaks}
-use Rattle.sys_files.specs.Modes.{of_terminal, words_at, sets_modes, stty_set, tells_modes, gtty_get}
+use Rattle.sys_files.specs.Modes.{terminal_line, of_terminal, words_at, sets_modes, stty_set, tells_modes, gtty_get}
 use Rattle.sys_files.specs.Names.{with_directory, enters_directory, chdir_to, is_owner, changes_mode, chmod_to, chown_to, sync_all}
 use Rattle.sys_files.specs.Status.{status_bytes, with_stored, tells_status, stat_file, stat_open}
 use Rattle.sys_files.proofs.Lengths.{line_lengths, read_lengths}
+use Rattle.sys_files.proofs.LineLemmas.{line_is_0}
 use Rattle.sys_files.proofs.PipedLemmas.{pipe_lengths, left_of, write_leaves, read_leaves}
 use Rattle.std.specs.List.{All, range_with_len}
 use Rattle.std.proofs.lemmas.List.{map-append}
@@ -228,7 +230,7 @@ module _ {P : Handed → Type 0} {Q : Did → Type 0} {Few Known : ℕ → Type 
   opened : (h : Handed) (ino : ℕ) (kind : FileKind) (fd entry : ℕ) → kind.pipe ≡ false → free_number h.u.files ≡ Some fd
       → free_entry h.files ≡ Some entry
       → Moves → P h → P (with_opened h ino kind fd entry)
-  opened h ino kind fd entry plain number free moves p = by (is_console (node_at h ino) && (h.row.tty == 0))
+  opened h ino kind fd entry plain number free moves p = by (line_of h (node_at h ino))
     where
       next : Handed
       next = with_opened h ino kind fd entry
@@ -244,15 +246,19 @@ module _ {P : Handed → Type 0} {Q : Did → Type 0} {Few Known : ℕ → Type 
           (with_inodes now (with_reference now.inodes ino)) ino kind fd entry plain number free moves
           (k.inodes now (with_reference now.inodes ino) refl p))
 
-      by : (b : Bool) → P (record next { row = cond b (record h.row { tty = 1 }) h.row })
-      by true = entered (record h { row = record h.row { tty = 1 } }) number free (k.terminal h 1 p)
-      by false = entered h number free p
+      taken : (l : ℕ) (b : Bool) → P (record next { row = cond b (record h.row { tty = l + 1 }) h.row })
+      taken l true = entered (record h { row = record h.row { tty = l + 1 } }) number free (k.terminal h (l + 1) p)
+      taken l false = entered h number free p
+
+      by : (line : Option ℕ) → P (record next { row = with_tty h.row line })
+      by None = entered h number free p
+      by (Some l) = taken l (h.row.tty == 0)
 
   walk_opens : (h : Handed) (ino : ℕ) (kind : FileKind) → kind.pipe ≡ false → Moves → P h → Q (opens h ino kind)
   walk_opens h ino kind plain moves p =
       checks_so h (need EMFILE (free_number h.u.files)) _ p (λ fd number.
       checks_so h (need ENFILE (free_entry h.files)) _ p (λ entry free.
-      checks h (must ENXIO (can_open (node_at h ino))) _ p (λ can.
+      checks h (must ENXIO (can_open h (node_at h ino))) _ p (λ can.
       k.done (with_opened h ino kind fd entry) fd (r1 h)
       (opened h ino kind fd entry plain (need_some EMFILE (free_number h.u.files) fd number)
       (need_some ENFILE (free_entry h.files) entry free) moves p))))
@@ -274,23 +280,21 @@ module _ {P : Handed → Type 0} {Q : Did → Type 0} {Few Known : ℕ → Type 
       by true = k.refused h EINTR p
       by false = q
 
-  walk_line : (h : Handed) (entry at count : ℕ) (took : Took) → P h → Q (takes_line h entry at count took)
-  walk_line h entry at count (Done n) p = k.done h n (r1 h) p
-  walk_line h entry at count Wait p = unless_due_walk h (asleep_for_keys h entry at count) p (k.waits h entry at count p)
-  walk_line h entry at count Fault p = k.refused h EFAULT p
+  walk_line : (h : Handed) (l entry at count : ℕ) (took : Took) → P h → Q (takes_line h l entry at count took)
+  walk_line h l entry at count (Done n) p = k.done h n (r1 h) p
+  walk_line h l entry at count Wait p = unless_due_walk h (asleep_for_keys h entry at count) p (k.waits h entry at count p)
+  walk_line h l entry at count Fault p = k.refused h EFAULT p
 
-  walk_reads_line : (h : Handed) (entry at count : ℕ) → P h → Q (reads_line h entry at count)
-  walk_reads_line h entry at count p =
-      let reading : Reading = line_read h at count in
-      walk_line (with_line_read h reading) entry at count reading.took
+  walk_reads_line : (h : Handed) (l entry at count : ℕ) → P h → Q (reads_line h l entry at count)
+  walk_reads_line h l entry at count p =
+      let reading : Reading = line_read h l at count in
+      walk_line (with_line_read h l reading) l entry at count reading.took
       (k.stored (record h { line = reading.terminal }) reading.image (line_lengths h.line h.image at count)
       (k.console h reading.terminal p))
 
-  read_by : (h : Handed) (entry at count now : ℕ) (console : Bool) → P h
-      → Q (cond console (reads_line (with_read h entry (read_of h entry at count now)) entry at count)
-      (gives_count (with_read h entry (read_of h entry at count now)) (read_of h entry at count now).done
-      (read_of h entry at count now).error))
-  read_by h entry at count now console p = by console
+  read_by : (h : Handed) (entry at count now : ℕ) (line : Option ℕ) → P h
+      → Q (reads_by (with_read h entry (read_of h entry at count now)) line entry at count (read_of h entry at count now))
+  read_by h entry at count now line p = by line
     where
       m : Moving Image
       m = read_of h entry at count now
@@ -298,10 +302,9 @@ module _ {P : Handed → Type 0} {Q : Did → Type 0} {Few Known : ℕ → Type 
       after : P (with_read h entry m)
       after = k.stored (with_moved h entry m) m.memory (read_lengths h entry at count now) (after_moved h entry m p)
 
-      by : (console : Bool)
-          → Q (cond console (reads_line (with_read h entry m) entry at count) (gives_count (with_read h entry m) m.done m.error))
-      by true = walk_reads_line (with_read h entry m) entry at count after
-      by false = walk_count (with_read h entry m) m.done m.error after
+      by : (line : Option ℕ) → Q (reads_by (with_read h entry m) line entry at count m)
+      by (Some l) = walk_reads_line (with_read h entry m) l entry at count after
+      by None = walk_count (with_read h entry m) m.done m.error after
 
   shown_by : (h : Handed) (image : Image) (at count : ℕ) (all : Bool) → Few count → P h
       → Q (record (cond all (returns (record h { line = after_shown h.line (readable image at count) }) count)
@@ -316,16 +319,15 @@ module _ {P : Handed → Type 0} {Q : Did → Type 0} {Few Known : ℕ → Type 
       let after : Handed = record h { line = after_shown h.line (readable image at count) } in
       k.showing h.line image at count (fails after EFAULT) few (k.refused after EFAULT (k.console h after.line p))
 
-  write_by : (h : Handed) (entry at count now : ℕ) (console : Bool) → Few count → P h
-      → Q (cond console (shows_bytes (with_moved h entry (write_of h entry at count now)) count (readable h.image at count))
-      (gives_count (with_moved h entry (write_of h entry at count now))
-      (if is_device (node_at h (file_of h entry).ino).mode then count else (write_of h entry at count now).done)
-      (write_of h entry at count now).error))
-  write_by h entry at count now true few p =
-      shown_by (with_moved h entry (write_of h entry at count now)) h.image at count
-      (length (readable h.image at count) == count) few
-      (after_moved h entry (write_of h entry at count now) p)
-  write_by h entry at count now false few p =
+  write_by : (h : Handed) (entry at count now : ℕ) (line : Option ℕ) → ((l : ℕ) → line ≡ Some l → l ≡ 0) → Few count → P h
+      → Q (writes_by (with_moved h entry (write_of h entry at count now)) line (is_device (node_at h (file_of h entry).ino).mode)
+      at count (write_of h entry at count now))
+  write_by h entry at count now (Some l) there few p =
+      let after : Handed = with_moved h entry (write_of h entry at count now) in
+      subst (λ n. Q (writes_line after n count (readable h.image at count))) (sym (there l refl))
+      (shown_by after h.image at count (length (readable h.image at count) == count) few
+      (after_moved h entry (write_of h entry at count now) p))
+  write_by h entry at count now None there few p =
       walk_count (with_moved h entry (write_of h entry at count now)) _ _ (after_moved h entry (write_of h entry at count now) p)
 
   -- Bytes are put into the image.
@@ -342,11 +344,10 @@ module _ {P : Handed → Type 0} {Q : Did → Type 0} {Few Known : ℕ → Type 
   walk_told h at true p = k.refused h EFAULT p
   walk_told h at false p = walk_stored h _ (bytes_lengths h.image h.image at (bytes_of h.line.modes) (same_lengths h.image)) p
 
-  walk_terminal : (h : Handed) (does : Did) → P h → Q does → Q (of_terminal h does)
+  walk_terminal : (h : Handed) (does : ℕ → Did) → P h → ((l : ℕ) → Q (does l)) → Q (of_terminal h does)
   walk_terminal h does p goes =
       checks h (open_entry h (r0 h)) _ p (λ entry.
-      checks h (must ENOTTY (is_character_device (node_at h (file_of h entry).ino).mode)) _ p (λ is.
-      checks h (must ENODEV (not (is_null (node_at h (file_of h entry).ino)))) _ p (λ is. goes)))
+      checks h (terminal_line h (node_at h (file_of h entry).ino)) does p goes)
 
   wake_line : (chan : Chan) (entries : List Entry) → IsOfFiles Known chan → All (IsLineOf Known slot) entries
       → All (IsLineOf Known slot) (Wake chan ∷ entries)
@@ -482,6 +483,45 @@ module _ {P : Handed → Type 0} {Q : Did → Type 0} {Few Known : ℕ → Type 
   without_end h ino true false e p = k.gone h ino e p
   without_end h ino false c e p = p
 
+  line_closes : (h : Handed) (a b : ℕ) (file : OpenFile) (line : Option ℕ) → (file.kind.pipe ≡ true → Known file.ino) → P h
+      → Q (record {
+        answer = Ret a b;
+        state = let_go (closes_line h line).state file.ino;
+        items = pipe_roused file ++ (closes_line h line).items;
+      })
+  line_closes h a b file line known p = by line
+    where
+      shut : ℕ → Handed
+      shut l = with_line h l (terminal.closed (line_at h l))
+
+      closing : ℕ → Bool → Closing
+      closing l open =
+          if open then record { state = h; items = [] }
+          else record { state = shut l; items = Log (Wake (keys_of l)) ∷ [] }
+
+      stays : Q (record { answer = Ret a b; state = let_go h file.ino; items = pipe_roused file ++ [] })
+      stays =
+          closes_by (let_go h file.ino) a b file.ino file.kind.pipe false known
+          (k.inodes h (let_go h file.ino).inodes (put_back_count h.inodes file.ino) p)
+
+      either : (l : ℕ) (open : Bool) → Q (record {
+        answer = Ret a b;
+        state = let_go (closing l open).state file.ino;
+        items = pipe_roused file ++ (closing l open).items;
+      })
+      either l true = stays
+      either l false =
+          closes_by (let_go (shut l) file.ino) a b file.ino file.kind.pipe true known
+          (k.inodes (shut l) (let_go h file.ino).inodes (put_back_count h.inodes file.ino) (k.console h (shut l).line p))
+
+      by : (line : Option ℕ) → Q (record {
+        answer = Ret a b;
+        state = let_go (closes_line h line).state file.ino;
+        items = pipe_roused file ++ (closes_line h line).items;
+      })
+      by None = stays
+      by (Some l) = either l (is_line_open h l)
+
   walk_released : (h : Handed) (a b : ℕ) (told : Closed) → IsNamedBy Known told → P h
       → Q (record { answer = Ret a b; state = (released h told).state; items = (released h told).items })
   walk_released h a b (Still file) known p =
@@ -489,12 +529,9 @@ module _ {P : Handed → Type 0} {Q : Did → Type 0} {Few Known : ℕ → Type 
       (closes_by (with_roused h file) a b file.ino file.kind.pipe false known (roused h file file.kind.pipe p))
   walk_released h a b (Last file) known p =
       let rest : Handed = with_gone (with_roused h file) file in
-      let last : Handed = (released h (Last file)).state in
       let here : P rest = without_end (with_roused h file) file.ino file.kind.pipe
       (has_end (with_roused h file).files file.ino) refl (roused h file file.kind.pipe p) in
-      closes_by last a b file.ino file.kind.pipe (is_closed_by rest file) known
-      (k.inodes (with_closed rest file) last.inodes (put_back_count rest.inodes file.ino)
-      (k.console rest (with_closed rest file).line here))
+      line_closes rest a b file (line_of rest (node_at rest file.ino)) known here
 
   pub walk_closes : (h : Handed) (fd a b : ℕ) → 0 < slice_index h.u.files fd → Moves → P h
       → Q (record { answer = Ret a b; state = (closes h fd).state; items = (closes h fd).items })
@@ -510,7 +547,7 @@ module _ {P : Handed → Type 0} {Q : Did → Type 0} {Few Known : ℕ → Type 
       checks h (must EBADF (file_of h entry).kind.reading) _ p (λ may.
       by_kind (file_of h entry).kind.pipe (reads_pipe h entry at count now) (reads_from h entry at count now)
       (λ pipe. walk_reads_pipe h entry at count now pipe (is_named h (r0 h) entry is) p)
-      (read_by h entry at count now (is_console (node_at h (file_of h entry).ino)) p)))
+      (read_by h entry at count now (line_of h (node_at h (file_of h entry).ino)) p)))
 
   -- 4, write
   pub walk_write : (h : Handed) (at count now : ℕ) → Few count → P h → Q (write_file_of h slot at count now)
@@ -519,7 +556,8 @@ module _ {P : Handed → Type 0} {Q : Did → Type 0} {Few Known : ℕ → Type 
       checks h (must EBADF (file_of h entry).kind.writing) _ p (λ may.
       by_kind (file_of h entry).kind.pipe (writes_pipe h slot entry at count count now) (writes_to h entry at count now)
       (λ pipe. walk_writes_pipe h entry at count count now pipe (is_named h (r0 h) entry is) (omega arith) p)
-      (write_by h entry at count now (is_console (node_at h (file_of h entry).ino)) few p)))
+      (write_by h entry at count now (line_of h (node_at h (file_of h entry).ino))
+      (line_is_0 h (node_at h (file_of h entry).ino)) few p)))
 
   -- 5, open
   pub walk_open : (h : Handed) (name mode : ℕ) → Moves → P h → Q (open_file h name mode)
@@ -632,12 +670,13 @@ module _ {P : Handed → Type 0} {Q : Did → Type 0} {Few Known : ℕ → Type 
   -- 31, stty, and 32, gtty
   pub walk_stty : (h : Handed) (at : ℕ) → P h → Q (stty_set h at)
   walk_stty h at p =
-      walk_terminal h (check h (need EFAULT (words_at h at)) (sets_modes h)) p
-      (checks h (need EFAULT (words_at h at)) (sets_modes h) p (λ bytes.
-      closes_by (sets_modes h bytes).state (r0 h) (r1 h) 0 false true (λ none. absurd (cc none)) (k.console h (sets_modes h bytes).state.line p)))
+      walk_terminal h (λ l. check h (need EFAULT (words_at h at)) (sets_modes h l)) p (λ l.
+      checks h (need EFAULT (words_at h at)) (sets_modes h l) p (λ bytes.
+      closes_by (sets_modes h l bytes).state (r0 h) (r1 h) 0 false true (λ none. absurd (cc none))
+      (k.console h (sets_modes h l bytes).state.line p)))
 
   pub walk_gtty : (h : Handed) (at : ℕ) → P h → Q (gtty_get h at)
-  walk_gtty h at p = walk_terminal h (tells_modes h at) p (walk_told h at (at % 2 == 1) p)
+  walk_gtty h at p = walk_terminal h (λ l. tells_modes h l at) p (λ l. walk_told h at (at % 2 == 1) p)
 
   -- 36, sync
   pub walk_sync : (h : Handed) (now : ℕ) → P h → Q (sync_all h now)
@@ -690,10 +729,10 @@ module _ {P : Handed → Type 0} {Q : Did → Type 0} {Few Known : ℕ → Type 
       word : ℕ → ℕ
       word i = slice_index h.u.call i
 
-      by : (console reads : Bool) → (h.u.pending == LINE_READ) ≡ console
-          → Q (cond console (resume_read h) (cond reads (reads_pipe rest (word 0) (word 1) (word 2) now)
+      by : (typed reads : Bool) → (h.u.pending == LINE_READ) ≡ typed
+          → Q (cond typed (resume_read h) (cond reads (reads_pipe rest (word 0) (word 1) (word 2) now)
           (writes_pipe rest slot (word 0) (word 1) (word 2) (word 3) now)))
-      by true reads is = walk_reads_line rest _ _ _ p
+      by true reads is = walk_reads_line rest 0 _ _ _ p
       by false true is = let a = waiting is in walk_reads_pipe rest (word 0) (word 1) (word 2) now a.pipe a.named p
       by false false is =
           let a = waiting is in walk_writes_pipe rest (word 0) (word 1) (word 2) (word 3) now a.pipe a.named a.few p

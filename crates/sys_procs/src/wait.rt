@@ -156,7 +156,7 @@ pub fn wait_child<T: Trace>(
     ensures frame { T.leads_to trace.old trace.new }
     ensures agree { AreProcs p.new }
     ensures marks { tree.new.marks ≡ tree.old.marks }
-    ensures blocks { SameRest tree.old.nodes.blocks tree.new.nodes.blocks }
+    ensures blocks { SameRest tree.old.nodes tree.new.nodes }
 {
     see(p, s);
     let pid = p.row(s).pid;

@@ -11,7 +11,7 @@ use Rattle.sys_files.specs.Moving.{reads_line}
 use Rattle.sys_files.specs.Piping.{reads_pipe, writes_pipe}
 use Rattle.sys_files.proofs.DoesLemmas.{does_kept, does_by}
 use Rattle.sys_files.proofs.MovingLemmas.{pending_changed}
-use Rattle.sys_files.proofs.ReadLemmas.{resumes_kept, resume_broken, resume_console, resume_piped}
+use Rattle.sys_files.proofs.ReadLemmas.{resumes_kept, resume_broken, resume_typed, resume_piped}
 use Rattle.sys_files.proofs.moving.resume_file.Goals as goal
 
 pub returns-then-is_some-clause-does : goal.returns-then-is_some-clause-does
@@ -30,8 +30,8 @@ returns-then-pending-eq-LINE_READ-clause-does g c =
     let same = pending_changed c.args.u.now NOTHING_PENDING (replicate 8 0) _ in
     let calm = ap (λ (v : UArea). is_some (due c.args.row.now v)) (sym same) ∙ ap is_some (sym c.due.ensures)
     ∙ sym c.is_some.ensures ∙ c.if-is_some.false in
-    does_kept (sym (resume_console h c.args.slot c.args.now calm c.if-pending-eq-LINE_READ.true)
-    ∙ sym (ap (λ (v : UArea). reads_line (record h { u = v }) (slice_index h.u.call 0) (slice_index h.u.call 1)
+    does_kept (sym (resume_typed h c.args.slot c.args.now calm c.if-pending-eq-LINE_READ.true)
+    ∙ sym (ap (λ (v : UArea). reads_line (record h { u = v }) 0 (slice_index h.u.call 0) (slice_index h.u.call 1)
     (slice_index h.u.call 2)) same)
     ∙ c.read_line.ensures.did _ refl refl refl refl) (resumes_kept h c.args.slot c.args.now c.requires.sound)
 
