@@ -1,6 +1,7 @@
 #!/usr/bin/env python3
 """A person types at the terminal of a machine that runs a disk: see docs/tools/console.md."""
 import argparse
+import itertools
 import os
 import signal
 import sys
@@ -315,9 +316,27 @@ def run(options, folder):
         return 1
     save()
     talk(console, found, save)
-    if options.disk:
-        replace(options.disk, machine.disk(console.dialogue.lines()))
-    return int(console.refused and not console.keyboard.person)
+    is_kept = not options.disk or put_disk(options, machine, console.dialogue.lines())
+    return int(console.refused and not console.keyboard.person or not is_kept)
+
+
+def put_disk(options, machine, lines):
+    """Writes the disk that is left. It doesn't take the place of an image that another program has changed since it was read: what
+    that has done would be lost. Gives whether the disk is where it was asked for."""
+    disk, place = machine.disk(lines), options.disk
+    if machine.has_changed():
+        told = f"{options.image} isn't any more what it was when the dialogue began: another program has changed it"
+        if same_file(options.disk, options.image):
+            place = beside(options.disk)
+            told += f". It is left so, and the disk of this dialogue goes to {place}"
+        tell(told)
+    replace(place, disk)
+    return place == options.disk
+
+
+def beside(name):
+    """The first name of a file that isn't there: NAME.1, NAME.2 .."""
+    return next(found for found in (f"{name}.{number}" for number in itertools.count(1)) if not os.path.lexists(found))
 
 
 def main(words):
