@@ -275,13 +275,33 @@ def options_of(words):
     return options
 
 
-def old_script(options):
-    """The lines of a script that is there, with the core that they were typed at."""
-    if not (options.script and os.path.exists(options.script)):
-        return [], None
-    lines = read_bytes(options.script).removesuffix(b"\n").split(b"\n")
-    found = HEADER.fullmatch(lines[0])
-    return (lines[1:] if found else lines if lines != [b""] else []), found
+class Script:
+    """The file in which a dialogue is kept, if any. One that another program writes meanwhile, as a second console does that was
+    begun with the same name, isn't written over."""
+
+    def __init__(self, name):
+        self.name, self.known, self.moved = name, None, False
+        if name and os.path.exists(name):
+            self.known = read_bytes(name)
+
+    def lines(self):
+        """The lines of a script that is there, with the core that they were typed at."""
+        if self.known is None:
+            return [], None
+        lines = self.known.removesuffix(b"\n").split(b"\n")
+        found = HEADER.fullmatch(lines[0])
+        return (lines[1:] if found else lines if lines != [b""] else []), found
+
+    def save(self, data):
+        if not self.name:
+            return
+        now = read_bytes(self.name) if os.path.lexists(self.name) else None
+        if now != self.known and now != data:
+            self.moved, old = True, self.name
+            self.name = beside(old)
+            tell(f"another program has changed {old}, and its lines stay there; this dialogue is kept in {self.name}")
+        replace(self.name, data)
+        self.known = data
 
 
 def check_header(options, machine, found):
@@ -295,15 +315,15 @@ def check_header(options, machine, found):
 
 
 def run(options, folder):
-    old, found = old_script(options)
+    script = Script(options.script)
+    old, found = script.lines()
     core = options.core if options.core is not None else int(found[2]) if found else CORE
     machine = Machine(options.v6, options.image, core, folder)
     start = [b"clock %d" % options.clock] if options.clock else []
     console = Console(Dialogue(machine, options.slots, start), Keyboard(sys.stdin.buffer))
 
     def save():
-        if options.script:
-            replace(options.script, console.dialogue.script())
+        script.save(console.dialogue.script())
 
     if options.disk:
         place_of(options.disk)  # what can't be written is told before anything is typed
@@ -317,7 +337,7 @@ def run(options, folder):
     save()
     talk(console, found, save)
     is_kept = not options.disk or put_disk(options, machine, console.dialogue.lines())
-    return int(console.refused and not console.keyboard.person or not is_kept)
+    return int(console.refused and not console.keyboard.person or script.moved or not is_kept)
 
 
 def put_disk(options, machine, lines):

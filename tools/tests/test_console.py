@@ -255,6 +255,22 @@ class Sessions(Case):
             self.assertEqual(ran.returncode, int(disk != words[1]))
             self.assertEqual((len(read(disk)), read(image)), (DISK_BYTES, read(other)))
 
+    def test_two_consoles_with_one_script(self):
+        """The lines of neither are lost: the later one is told, and keeps its own beside them."""
+        script = self.path("script")
+        command = [sys.executable, os.path.join(TOOLS, "console.py"), os.path.join(SHELL, "image"), "--v6", V6, "--script", script]
+        pipes = {"stdin": subprocess.PIPE, "stdout": subprocess.PIPE, "stderr": subprocess.PIPE}
+        with subprocess.Popen(command, **pipes) as one, subprocess.Popen(command, **pipes) as other:
+            self.assertEqual((one.stdout.read(2), other.stdout.read(2)), (b"# ", b"# "))
+            self.assertEqual(one.communicate(b"echo one\n")[0], b"ECHO ONE\r\nONE\r\n# ")
+            out, said = other.communicate(b"echo two\necho more\n")
+        self.assertEqual(out, b"ECHO TWO\r\nTWO\r\n# ECHO MORE\r\nMORE\r\n# ")
+        self.assertEqual(said.decode(), f"\nconsole: another program has changed {script}, and its lines stay there; this dialogue is "
+                                        f"kept in {script}.1\n")
+        self.assertEqual((one.returncode, other.returncode), (0, 1))
+        self.assertEqual(read(script), self.script("run 10000\ntype echo one\nrun 10000\n"))
+        self.assertEqual(read(script + ".1"), self.script("run 10000\ntype echo two\nrun 10000\ntype echo more\nrun 10000\n"))
+
     def test_a_script_goes_on(self):
         script = self.put("script", b"run 10000\ntype chdir /usr\nrun 10000\n")
         self.assertEqual(self.session("ls\n", "--script", script), (0, b"# CHDIR /USR\r\n# LS\r\nSYS\r\n# ", ""))
