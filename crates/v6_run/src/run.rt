@@ -4,6 +4,7 @@ ghost use Rattle.v6_port.specs.Outside.{Out, IsOpen, OnlyAt, Tells, same};
 ghost use Rattle.v6_port.specs.declared.host.OutPort.{OutPort};
 ghost use Rattle.v6_port.specs.declared.host.OutPort.TheVariants.{Term, Log};
 ghost use Rattle.v6_port.specs.Causes.{Calm, FaultAt};
+ghost use Rattle.v6_base.specs.Image.{AreBytes};
 ghost use Rattle.fs_codec.specs.Faults.{image_fault};
 ghost use Rattle.fs_codec.specs.Disk.{head};
 ghost use Rattle.buf_cache.specs.Blocks.{block_at, blocks_of};
@@ -85,7 +86,15 @@ impl From<ScriptFault> for RunError {
     }
 }
 
+/// Each byte is below 256. Nothing is read.
+fn see_bytes(bytes: &[u8])
+    ensures { AreBytes bytes.now }
+{
+    let _ = bytes;
+}
+
 /// The kernel for an image and so many clicks of core. Each of its runs has a lawful log.
+#[tactic(auto, using(crate::proofs::LogLemmas::lawful_logs))]
 pub(crate) fn boot(alloc: Global, image: &[u8], core: u32) -> Result<Kernel, RunError>
     requires least { 64 ≤ core }
     requires most { core ≤ 3968 }
@@ -96,6 +105,7 @@ pub(crate) fn boot(alloc: Global, image: &[u8], core: u32) -> Result<Kernel, Run
     ensures lawful { IfOk result (λ kernel. HasLawfulLogs kernel.system) }
     ensures memory { IfErr result (λ error. error ≡ RunError.NoMemory) }
 {
+    see_bytes(image);
     match Kernel::boot(alloc, image, core as u16) {
         Ok(kernel) => Ok(kernel),
         Err(BootFault::Image(_)) => unreachable!(),
