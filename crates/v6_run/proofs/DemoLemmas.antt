@@ -71,7 +71,8 @@ module _ (number : ℕ) (o : Outside) where
     unreported = λ is. let some : fault_port s ≡ Some (Out out_port.Report) = ap fault_port is in cc;
     complete = λ decided told. complete decided;
     partial = λ p is. absurd (let some : fault_port s ≡ Some (Out p) = ap fault_port is in cc);
-    order = λ is. absurd (let some : fault_port s ≡ fault_port (ReadFault _) = ap fault_port is in cc);
+    order = λ told. none_passed s;
+    opened = λ told p grew. tt;
     none = λ before p. refl;
     closed = λ is p named. not_so _ named;
     cause = subst (λ at. MatchOption at (Calm o o) (λ p. FaultAt p (is_known (Some (Demo number)) o.fixed p) o o)) (sym none) (calm_still o);
