@@ -9,12 +9,13 @@ import tempfile
 from dataclasses import dataclass
 
 sys.path.insert(0, os.path.dirname(os.path.abspath(__file__)))
-from dialogue import (END_OF_FILE, HEADER, INTERRUPT, MANY, OVER, QUIT, RETURN, RUNS, SLEEPS, WAITS, Dialogue, DialogueError,
+from dialogue import (END_OF_FILE, INTERRUPT, MANY, OVER, QUIT, RETURN, RUNS, SLEEPS, WAITS, Dialogue, DialogueError,
                       Machine, Refused, keys, shown)
 from files import place_of, read_bytes, replace, same_file, told
 from processes import Processes, programs_of
 from program import CORE, V6, ProgramError, add_version
 from screen import without_echo
+from scriptfile import HEADER
 
 HELP = """~.      ends, and so does the end of a file that is read in the place of the keyboard
 ~^X     types a control character: ~^D is 004, ~^? is 0177

@@ -14,7 +14,6 @@ FIRST_TICKS = 36000  # ten minutes: what is tried first to find when the next sl
 PAUSES = 100  # how often in a line time is given to those who sleep
 TYPE_BYTES = 290  # a longer line is typed byte by byte
 RETURN, END_OF_FILE, INTERRUPT, QUIT = 0o15, 0o4, 0o177, 0o34
-HEADER = re.compile(rb"; console: image sha256 ([0-9a-f]{64}) core ([0-9]{1,9})")
 PASSES = b"; time passes until the next sleeper wakes"
 MANY = 1024  # lines that are tried in one run
 
