@@ -7,15 +7,12 @@ use Rattle.v6_base.specs.declared.answer.Answer.TheVariants.{Ret, Fail, Sleep}
 use Rattle.open_files.specs.declared.file.OpenFile.{OpenFile}
 use Rattle.open_files.specs.Files.{file_at, times}
 use Rattle.u_area.specs.declared.area.UArea.{UArea}
-use Rattle.pipe_ends.specs.Writes.{waits}
 use Rattle.sys_files.specs.Handed.{Handed, no_file}
 use Rattle.sys_files.specs.Did.{Did, fails}
 use Rattle.sys_files.specs.Core.{core_file}
 use Rattle.sys_files.specs.Descriptors.{close_all}
-use Rattle.sys_files.specs.Piping.{waits_in_pipe}
 use Rattle.sys_files.specs.Moving.{resumes}
 use Rattle.abstract_unix.specs.declared.calls.FileCall.{FileCall}
-use Rattle.abstract_unix.specs.declared.calls.FileCall.TheVariants as file
 use Rattle.abstract_unix.specs.Calls.{file_row, is_on_files}
 use Rattle.abstract_unix.proofs.FileRows.{walk_row}
 use Rattle.sys_files.proofs.Walks.{Walks, IsAwaiting, walk_closes, walk_resume, closes_all}
