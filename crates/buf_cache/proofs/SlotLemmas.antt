@@ -156,8 +156,6 @@ brought_kept disk slots hs hs' n s disk' is none t low out = record {
   };
 }
 
-}
-
 last_none : (hs : List Head) (m : ℕ) (d : Head) → length hs ≤ m + 1 → m < length hs → drop m hs ≡ get_or hs m d ∷ []
 last_none hs m d few low = drop_more hs m d low ∙ ap (λ l. get_or hs m d ∷ l) (drop_all (m + 1) hs (omega (arith, few)))
 

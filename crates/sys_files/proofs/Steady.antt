@@ -216,7 +216,7 @@ line_wakes : (h : Handed) (line : Option ℕ) → AreWakes 1 (closes_line h line
 line_wakes h None = wakes_up_to 0 1 [] (omega arith) none_wakes
 line_wakes h (Some l) = by (is_line_open h l)
   where
-    by : (open : Bool) → AreWakes 1 (cond {A = Closing} open (record { state = h; items = [] })
+    by : (used : Bool) → AreWakes 1 (cond {A = Closing} used (record { state = h; items = [] })
         (record { state = with_line h l (terminal.closed (line_at h l)); items = Log (Wake (keys_of l)) ∷ [] })).items
     by true = wakes_up_to 0 1 [] (omega arith) none_wakes
     by false = one_wakes Keys tt
