@@ -16,11 +16,10 @@ ghost use Rattle.sys_procs.specs.Exit.{leaves, dies, end_proc, exit_now};
 ghost use Rattle.sys_procs.specs.Handed.{AreProcs, Calls, IsAlive, IsMarked, board, handed};
 ghost use Rattle.sys_procs.specs.Done.{HasDone, HasEnded};
 
-use crate::inodes::let_go;
 use crate::procs::Procs;
 use crate::seen::see;
 use crate::texts::leave_text;
-use fs_tree::Tree;
+use fs_tree::{Tree, let_go};
 use pick_rules::{Stat, Table};
 use proc_tab::Rows;
 use u_area::UArea;
@@ -52,7 +51,7 @@ fn leave(p: &mut Procs, tree: &mut Tree, s: Slot, status: u16)
     ensures texts { p.new.images.kept.texts ≡ p.old.images.kept.texts }
     ensures referred { (ino : ℕ) → count_by (is_text_of ino) (texts_in p.new.images.kept) ≤ slice_index tree.new.nodes.references ino }
     ensures marks { tree.new.marks ≡ tree.old.marks }
-    ensures blocks { SameRest tree.old.nodes.blocks tree.new.nodes.blocks }
+    ensures blocks { SameRest tree.old.nodes tree.new.nodes }
 {
     let u = p.area(s);
     let_go(&mut tree.nodes, u.dir, p.table.now);
@@ -187,7 +186,7 @@ pub fn end_proc<T: Trace>(
     ensures frame { T.leads_to trace.old trace.new }
     ensures agree { AreProcs p.new }
     ensures marks { IsMarked p.new tree.new.marks }
-    ensures blocks { SameRest tree.old.nodes.blocks tree.new.nodes.blocks }
+    ensures blocks { SameRest tree.old.nodes tree.new.nodes }
 {
     leave(p, tree, s, status);
     leave_text(p, tree, s, trace);
@@ -213,7 +212,7 @@ pub fn exit_now<T: Trace>(
     ensures frame { T.leads_to trace.old trace.new }
     ensures agree { AreProcs p.new }
     ensures marks { IsMarked p.new tree.new.marks }
-    ensures blocks { SameRest tree.old.nodes.blocks tree.new.nodes.blocks }
+    ensures blocks { SameRest tree.old.nodes tree.new.nodes }
 {
     let u = p.area(s);
     match end_proc(p, tree, s, 256 * (u.r[0] % 256), trace) {

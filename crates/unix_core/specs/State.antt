@@ -1,7 +1,9 @@
 -- What a kernel is to its caller.
 use Rattle.std.specs.Prelude.{ℕ, List}
+use Rattle.fs_laws.specs.Rest.{SameOutside}
 use Rattle.image_keep.specs.Kept.{Kept}
 use Rattle.abstract_unix.specs.Unix.{System, Phase}
+use Rattle.unix_core.specs.State.{KeepsRest}
 
 -- A system, what core and the swap area keep and the bytes of both, the blocks that the kernel reads and writes, and how far its
 -- run has come. `stored` is what its disk has of the blocks.
@@ -13,3 +15,7 @@ pub record KernelState : Type 0 where
   pub blocks : List (List ℕ)
   pub stored : List (List ℕ)
   pub phase : Phase
+
+-- What no change of files changes on the disk of a kernel is the same.
+abbrev pub KeepsRest : KernelState → KernelState → Type 0
+KeepsRest old new = SameOutside old.blocks new.blocks

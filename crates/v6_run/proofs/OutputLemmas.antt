@@ -10,7 +10,6 @@ use Rattle.fs_codec.specs.Disk.{Disk, disk_of, head}
 use Rattle.fs_codec.specs.Stands.{StandsFor}
 use Rattle.fs_codec.specs.declared.layout.TheConstants.{DISK_BLOCKS, SWAP_START}
 use Rattle.buf_cache.specs.Blocks.{block_at, blocks_of, IsDisk}
-use Rattle.fs_laws.specs.Rest.{SameRest}
 use Rattle.fs_laws.proofs.RestLemmas.{rest_then}
 use Rattle.abstract_unix.specs.declared.ends.Ends.{Ends}
 use Rattle.abstract_unix.specs.declared.ends.Ends.TheVariants as ends
@@ -18,10 +17,11 @@ use Rattle.abstract_unix.specs.declared.ends.Ends.TheVariants.{AtEnd}
 use Rattle.image_keep.specs.Holds.{SwapHolds}
 use Rattle.abstract_unix.specs.Unix.{System, Phase, Started, Stopped}
 use Rattle.abstract_unix.specs.Endings.{phase_after}
-use Rattle.unix_core.specs.State.{KernelState}
+use Rattle.unix_core.specs.State.{KernelState, KeepsRest}
 use Rattle.unix_core.specs.Memory.{kept_in}
 use Rattle.abstract_unix.specs.Runs.{Course, shown_by, finished}
 use Rattle.fs_laws.proofs.ImageLemmas.{block_of_image}
+use Rattle.fs_laws.specs.Rest.{SameOutside}
 use Rattle.v6_run.specs.declared.outputs.Output.{Output}
 use Rattle.v6_run.specs.declared.outputs.Output.TheVariants.{Term, Log, Final}
 use Rattle.v6_run.specs.Ports.{term, log_of, final_of, HasShown, HasShownFronts}
@@ -157,8 +157,8 @@ module _ (first : Disk) (run : Course) (a b c : Outside) (opens : OnlyAt is_disk
         }
 
 -- the disk that a run leaves, where it has ended
-pub run_leaves : (old played ended : KernelState) (run : Course) → (head (block_at old.blocks)).f_size ≤ SWAP_START → played.system ≡ run.system → SameRest old.blocks played.blocks
-    → ended.system ≡ finished played.system → StandsFor DISK_BLOCKS (block_at ended.stored) ended.system.unix.store → SameRest played.blocks ended.stored → IsDisk ended.stored
+pub run_leaves : (old played ended : KernelState) (run : Course) → (head (block_at old.blocks)).f_size ≤ SWAP_START → played.system ≡ run.system → KeepsRest old played
+    → ended.system ≡ finished played.system → StandsFor DISK_BLOCKS (block_at ended.stored) ended.system.unix.store → SameOutside played.blocks ended.stored → IsDisk ended.stored
     → (swap : List ℕ) → SwapHolds swap (kept_in ended.system)
     → IsFinal (block_at old.blocks) (finished run.system) (disk_text ended.stored ++ swap)
 run_leaves old played ended run low plays first finishes stands second form swap holds =

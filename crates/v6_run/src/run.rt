@@ -7,10 +7,10 @@ ghost use Rattle.v6_port.specs.Causes.{Calm, FaultAt};
 ghost use Rattle.fs_codec.specs.Faults.{image_fault};
 ghost use Rattle.fs_codec.specs.Disk.{head};
 ghost use Rattle.buf_cache.specs.Blocks.{block_at, blocks_of};
-ghost use Rattle.fs_laws.specs.Rest.{SameRest};
 ghost use Rattle.abstract_unix.specs.Unix.{New};
 ghost use Rattle.abstract_unix.specs.Endings.{phase_after};
 ghost use Rattle.abstract_unix.specs.Runs.{boots, started, course, shown_by};
+ghost use Rattle.unix_core.specs.State.{KeepsRest};
 ghost use Rattle.v6_run.specs.Words.{Run, ToDisk, disk_files_value, run_words_value};
 ghost use Rattle.v6_run.specs.Events.{events_of};
 ghost use Rattle.v6_run.specs.Ports.{HasShown, HasShownFronts};
@@ -122,7 +122,7 @@ fn play<H: Host>(kernel: &mut Kernel, events: &[Event], host: &mut H) -> Result<
         → HasShownFronts (shown_by (course (started kernel.old.system) (events_of events.now)))
         (H.outside host.old) (H.outside host.new) }
     ensures system { kernel.new.system ≡ (course (started kernel.old.system) (events_of events.now)).system }
-    ensures rest { SameRest kernel.old.blocks kernel.new.blocks }
+    ensures rest { KeepsRest kernel.old kernel.new }
     ensures cause { MatchResult result (λ _. Calm (H.outside host.old) (H.outside host.new))
         (λ output. FaultAt (Out (port_of output)) true (H.outside host.old) (H.outside host.new)) }
 {
