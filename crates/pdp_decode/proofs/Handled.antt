@@ -164,7 +164,9 @@ pushed xs h k is before new n within = by (nat_lt n k) refl
 pub filled : (xs : List Handler) (h : Handler) (k : ℕ) → k ≡ 65535 → length xs ≡ k → ((n : ℕ) → n < k → IsHandlerOf (get_or xs n Other) n) → IsHandlerOf h 65535 → IsDispatch (xs ++ h ∷ [])
 filled xs h k last is before new =
     let more = length-append xs (h ∷ []) in
+    let all = pushed xs h k is before (subst (λ (j : ℕ). IsHandlerOf h j) (sym last) new) in
     record {
       size = omega (arith, more, is, last);
-      each = λ n within. pushed xs h k is before (subst (λ (j : ℕ). IsHandlerOf h j) (sym last) new) n (omega (arith, within, last));
+      each = λ n within. (all n (omega (arith, within, last))).handles;
+      known = λ n within. (all n (omega (arith, within, last))).known;
     }

@@ -297,18 +297,13 @@ Handles handler.ClearCodes n = decode_of n ≡ Codes false (flags_of n)
 Handles handler.SetCodes n = decode_of n ≡ Codes true (flags_of n)
 Handles handler.Other n = Unit {0}
 
--- where the first operand of an instruction that has two may lie: a byte in a register; a word there, in the program, at an
--- absolute address or at an indexed one
+-- where a source lies that has a handler with each instruction: in a register; or, a word, in the program, at an absolute
+-- address or at an indexed one
 abbrev pub IsSource : Addressing → Width → Type 0
-IsSource Register w = Unit {0}
-IsSource Immediate Word = Unit {0}
-IsSource Absolute Word = Unit {0}
-IsSource Indexed Word = Unit {0}
-IsSource other w = ⊥
+IsSource a w = (a ≡ Register) ⊎ ((w ≡ Word) × ((a ≡ Immediate) ⊎ ((a ≡ Absolute) ⊎ (a ≡ Indexed))))
 
 abbrev pub IsFromSource : Width → Operand → Type 0
-IsFromSource Byte s = IsAddressed Register Byte s
-IsFromSource Word s = IsAddressed Register Word s ⊎ (IsAddressed Immediate Word s ⊎ (IsAddressed Absolute Word s ⊎ IsAddressed Indexed Word s))
+IsFromSource w s = IsAddressed Register w s ⊎ ((w ≡ Word) × (IsAddressed Immediate w s ⊎ (IsAddressed Absolute w s ⊎ IsAddressed Indexed w s)))
 
 -- a label: an absolute address, or one relative to PC
 abbrev pub IsLabel : Addressing → Type 0
@@ -317,8 +312,8 @@ IsLabel a = (a ≡ Absolute) ⊎ (a ≡ Relative)
 abbrev pub IsAtLabel : Operand → Type 0
 IsAtLabel d = IsAddressed Absolute Word d ⊎ IsAddressed Relative Word d
 
--- the words that have a handler for certain: each instruction that works on a register, with a source from where it may lie; each
--- branch; jumps to a label. Frequent ways to other operands have one too.
+-- the instructions that have a handler for certain: those that work on a register, with such a source; branches; jumps to a
+-- label. Frequent ways to other operands have one too.
 abbrev pub HasHandler : Instr → Type 0
 HasHandler (Mov w s d) = IsFromSource w s × IsAddressed Register w d
 HasHandler (Cmp w s d) = IsFromSource w s × IsAddressed Register w d
@@ -368,4 +363,5 @@ pub record IsHandlerOf (h : Handler) (n : ℕ) : Type 0 where
 -- a table of the handlers of all words
 pub record IsDispatch (handlers : List Handler) : Type 0 where
   pub size : length handlers ≡ 65536
-  pub each : (n : ℕ) → n < 65536 → IsHandlerOf (slice_index_or handlers n handler.Other) n
+  pub each : (n : ℕ) → n < 65536 → Handles (slice_index_or handlers n handler.Other) n
+  pub known : (n : ℕ) → n < 65536 → HasHandler (decode_of n) → slice_index_or handlers n handler.Other ≢ handler.Other

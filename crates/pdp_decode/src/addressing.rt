@@ -1,7 +1,6 @@
 //! The ways to an operand that a handler tells apart.
 ghost use Rattle.std.specs.Prelude.{◌≡◌, ◌≢◌, IsTrue, false};
 ghost use Rattle.pdp_decode.specs.declared.instr.Reg.{Reg};
-ghost use Rattle.pdp_decode.specs.declared.instr.Width.{Width};
 ghost use Rattle.pdp_decode.specs.declared.addressing.Addressing.{Addressing};
 ghost use Rattle.pdp_decode.specs.Handlers.{IsAddressed, IsStepped, IsSource, IsFromSource, IsLabel, IsAtLabel};
 
@@ -59,7 +58,7 @@ pub(crate) fn addressed(width: Width, o: Operand) -> Addressing
     ensures is { IsAddressed result width o }
     ensures register { IsAddressed Addressing.Register width o → result ≡ Addressing.Register }
     ensures source { IsFromSource width o → IsSource result width }
-    ensures label { width ≡ Width.Word → IsAtLabel o → IsLabel result }
+    ensures label { IsAtLabel o → IsLabel result }
 {
     if is_pc(o.reg) {
         return match o.mode {
