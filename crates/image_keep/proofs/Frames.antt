@@ -157,11 +157,6 @@ slot_described k s u = elim (cases_lt s (length k.slots)) [
       ∙ (get_or_past k.slots s Nothing past ∙ sym (ap (described u) (get_or_past k.slots s Nothing past)))
 ]
 
-area_described : (u : UArea) (x : Keeping) → is_alive x ≡ true → area_in (described u x) ≡ u
-area_described u Nothing is = absurd (false≢true is)
-area_described u (Alive held) is = refl
-area_described u (Grave v block) is = absurd (false≢true is)
-
 alive_described : (u : UArea) (x : Keeping) → is_alive (described u x) ≡ is_alive x
 alive_described u Nothing = refl
 alive_described u (Alive held) = refl

@@ -170,10 +170,6 @@ same_users : (b : Bool) (row : TextRow) → (left_core b row).users ≡ row.user
 same_users true row = refl
 same_users false row = refl
 
-same_blocks : (b : Bool) (row : TextRow) → ((left_core b row).block ≡ row.block) × ((left_core b row).clicks ≡ row.clicks)
-same_blocks true row = (refl, refl)
-same_blocks false row = (refl, refl)
-
 loaded_means : (line : List ℕ) (core : ℕ) (text : List ℕ) (st : State) (d k : ℕ) → is_loaded (keeping_by line core text st d k) ≡ is_in_core st
 unfolding keeping_by
 loaded_means line core text state.Nothing d k = refl
