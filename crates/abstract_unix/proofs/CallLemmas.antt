@@ -1,7 +1,7 @@
 -- What is so of the parts after a call on processes. Where it stops they belong together, or the call says what it has left; and
 -- a call that isn't exec leaves the texts, and with them which inodes are marked.
-use Rattle.std.proofs.Common.{◌≡◌, ◌⊎◌, ◌∙◌, ℕ, ◌==◌, Bool, true, false, cond, List, [], ◌∷◌, ◌++◌, map, length, Option, Some, None, slice_index, refl, sym, ap, inl, inr}
-use Rattle.std.specs.Prelude.{⊤, Result, Ok, Err, IfErr}
+use Rattle.std.proofs.Common.{◌≡◌, ◌≢◌, ◌⊎◌, ◌∙◌, ℕ, ◌==◌, Bool, true, false, cond, List, [], ◌∷◌, ◌++◌, map, length, Option, Some, None, slice_index, refl, sym, ap, inl, inr}
+use Rattle.std.specs.Prelude.{Result, Ok, Err, IfErr}
 use Rattle.v6_base.specs.Trace.{Taken, Log}
 use Rattle.v6_base.specs.declared.entry.Entry.TheVariants as line
 use Rattle.v6_base.specs.declared.answer.Answer.{Answer}
@@ -89,15 +89,11 @@ kill_leaves w s n =
     leaves_if w.texts (length slots == 0) _ _ (record { effects = tt; state = refl })
     (mild_leaves w.texts _ (signal_tamed n slots [] tt) refl)
 
-abbrev pub IsNotExec : ProcessCall → Type 0
-IsNotExec process.Exec = ⊥
-IsNotExec call = ⊤
-
-row_leaves : (call : ProcessCall) → IsNotExec call → (s : ℕ) (w : World) (args : List ℕ) → Leaves w.texts (process_row call w s args)
-row_leaves process.Exec is s w a = absurd is
-row_leaves process.Break is s w a = break_leaves w s (slice_index a 0)
-row_leaves process.Kill is s w a = kill_leaves w s (slice_index a 0)
-row_leaves call is s w a = plain_leaves s w _ (plain_row call tt s w a)
+row_leaves : (call : ProcessCall) → call ≢ process.Exec → (s : ℕ) (w : World) (args : List ℕ) → Leaves w.texts (process_row call w s args)
+row_leaves process.Exec other s w a = absurd (other refl)
+row_leaves process.Break other s w a = break_leaves w s (slice_index a 0)
+row_leaves process.Kill other s w a = kill_leaves w s (slice_index a 0)
+row_leaves call other s w a = plain_leaves s w _ (plain_row call tt s w a)
 
 left_so : (old new : Procs) (fs : FileSystem) (texts : List (Option Text)) {r : Result Answer PanicKind} {start end : Taken} (c : Comes) → Leaves texts c
     → HasDone old new fs r start end c → texts_in new.images.kept ≡ texts
@@ -108,8 +104,8 @@ left_so old new fs texts c leaves done = ap (λ (x : World). x.texts) done.state
     by (Some stop) some = (tamed_moves (λ (x : World). x.texts ≡ texts) (board old) c.effects leaves.effects).before stop some
 
 -- The marks after a call that isn't exec.
-pub marks_stay : (call : ProcessCall) → IsNotExec call → (old new : Procs) (was now : FileSystem) (s : ℕ) (args : List ℕ) (before after : List Bool)
+pub marks_stay : (call : ProcessCall) → call ≢ process.Exec → (old new : Procs) (was now : FileSystem) (s : ℕ) (args : List ℕ) (before after : List Bool)
     {r : Result Answer PanicKind} {start end : Taken} → HasDone old new now r start end (process_row call (handed old was) s args)
     → IsMarked old before → after ≡ before → IsMarked new after
-marks_stay call is old new was now s args before after done marked same =
-    same ∙ marked ∙ ap marks_of (sym (left_so old new now (texts_in old.images.kept) _ (row_leaves call is s (handed old was) args) done))
+marks_stay call other old new was now s args before after done marked same =
+    same ∙ marked ∙ ap marks_of (sym (left_so old new now (texts_in old.images.kept) _ (row_leaves call other s (handed old was) args) done))

@@ -19,7 +19,7 @@ use Rattle.fs_tree.specs.Finding.{Finding, find_in, with_reference}
 use Rattle.aout_head.specs.Header.{Header, header_of, plan_of}
 use Rattle.aout_head.specs.declared.parts.Plan.{Plan}
 use Rattle.pick_rules.specs.Board.{placed}
-use Rattle.pick_rules.specs.Effects.{Effect, lifted, came}
+use Rattle.pick_rules.specs.Effects.{lifted, came}
 use Rattle.pick_rules.specs.Effects as effect
 use Rattle.pick_rules.specs.Fits.{IsSize}
 use Rattle.pick_rules.specs.Lawful.{Seen, seen_after}
@@ -31,6 +31,7 @@ use Rattle.log_laws.proofs.Images.{sized, size_apt, with_text_of, InExec, bare_f
 use Rattle.log_laws.proofs.Users.{joined_users, free_users}
 use Rattle.seg_regs.specs.Sizes.{is_refused}
 use Rattle.sys_procs.specs.declared.program.Program.{Program}
+use Rattle.u_area.specs.declared.layout.TheConstants.{NOTHING_PENDING}
 use Rattle.u_area.specs.declared.area.UArea.{UArea}
 use Rattle.sys_procs.specs.Process.{Process, no_process, image_of}
 use Rattle.sys_procs.specs.TextTable.{Text, no_text, text_of, with_text, is_text_of, entry_of}
@@ -215,7 +216,7 @@ module _ (w : World) where
       let planned : Unit {0} → exec.Tested = λ free. exec.check out (exec.or_no_memory (plan_of h)) last in
       let idle : Unit {0} → exec.Tested = λ program. exec.check out (must ETXTBSY (not (exec.is_busy now ino h))) planned in
       let good : Unit {0} → exec.Tested = λ read. exec.check out (must ENOEXEC ((head.done == 16) && exec.is_magic (plan_of h))) idle in
-      checked {A = Unit {0}} out (exec.unless_error head.error) good k (λ a e.
+      checked {A = Unit {0}} out (exec.answer_to head.error) good k (λ a e.
       checked {A = Unit {0}} out (must ENOEXEC ((head.done == 16) && exec.is_magic (plan_of h))) idle k (λ b f.
       checked {A = Unit {0}} out (must ETXTBSY (not (exec.is_busy now ino h))) planned k (λ d g.
       checked {A = Plan} out (exec.or_no_memory (plan_of h)) last k (λ plan f. fitting now ino args plan k))))
@@ -254,7 +255,7 @@ group_if x node p = cond x (record p { u = record p.u { gid = node.gid } }) p
 
 -- The new image comes, when the old one is given back: whichever text the process has then.
 module _ (s : ℕ) (w : World) (u : UArea) (program : Program) (seats : Seats) (seen : Seen) (i : InExec s seats seen) (sizes : is_refused program.text_clicks (exec.data_clicks program.plan) 20 w.limit ≡ false) (limit : seats.most ≡ w.limit)
-    (calm : not (u.pending == 0) ≡ false) (alive : (process_of w s).is_zombie ≡ false) (text : (process_of w s).text ≡ i.turn.seat.text)
+    (calm : not (u.pending == NOTHING_PENDING) ≡ false) (alive : (process_of w s).is_zombie ≡ false) (text : (process_of w s).text ≡ i.turn.seat.text)
     (others : seats_here w ≡ record seats { slots = set seats.slots s (Some (seat_for (process_of w s))) }) where
   abbrev pub plan : Plan
   plan = program.plan
@@ -276,10 +277,10 @@ module _ (s : ℕ) (w : World) (u : UArea) (program : Program) (seats : Seats) (
   }
 
   seat_begins : (p : Process) (node : Node) (read : List ℕ)
-      → seat_for (exec.begins u p node program read) ≡ record { dead = p.is_zombie; calling = not (u.pending == 0); text = p.text; size = clicks }
+      → seat_for (exec.begins u p node program read) ≡ record { dead = p.is_zombie; calling = not (u.pending == NOTHING_PENDING); text = p.text; size = clicks }
   seat_begins p node read = by (not (bit_and node.mode ISGID == 0)) (not (bit_and node.mode ISUID == 0) && not (u.uid == 0))
     where
-      by : (x y : Bool) → seat_for (group_if x node (owner_if y node (begun_by p read))) ≡ record { dead = p.is_zombie; calling = not (u.pending == 0); text = p.text; size = clicks }
+      by : (x y : Bool) → seat_for (group_if x node (owner_if y node (begun_by p read))) ≡ record { dead = p.is_zombie; calling = not (u.pending == NOTHING_PENDING); text = p.text; size = clicks }
       by true true = refl
       by true false = refl
       by false true = refl
@@ -298,7 +299,7 @@ module _ (s : ℕ) (w : World) (u : UArea) (program : Program) (seats : Seats) (
         seat_begins (process_of x s) (node_at x program.ino) m.memory.data
         ∙ ap (λ (ps : List (Option Process)). record {
           dead = (found_in ps s).is_zombie;
-          calling = not (u.pending == 0);
+          calling = not (u.pending == NOTHING_PENDING);
           text = (found_in ps s).text;
           size = clicks;
         }) same
@@ -356,7 +357,7 @@ module _ (s : ℕ) (seen : Seen) (w : World) (program : Program) (i : Calling s 
   put_process : (q : Process) → found_in (set w.processes s (Some q)) s ≡ q
   put_process q = ap (λ o. unwrap_or o no_process) (get_or-set_same w.processes s (Some q) None inside)
 
-  calm : not (its_area.pending == 0) ≡ false
+  calm : not (its_area.pending == NOTHING_PENDING) ≡ false
   calm = ap (λ (x : Seat). x.calling) (runner_seat w.processes w.clock w.texts w.limit s seen.board i.turn) ∙ i.calls
 
   alive : (process_of w s).is_zombie ≡ false

@@ -8,6 +8,7 @@ use Rattle.v6_base.specs.declared.answer.Answer.TheVariants.{Ret, Fail, Sleep}
 use Rattle.v6_base.specs.declared.entry.Chan.TheVariants.{Wait}
 use Rattle.v6_base.specs.declared.entry.Entry.{Entry}
 use Rattle.v6_base.specs.declared.entry.Entry.TheVariants as line
+use Rattle.u_area.specs.declared.layout.TheConstants.{NOTHING_PENDING}
 use Rattle.u_area.specs.declared.area.UArea.{UArea}
 use Rattle.proc_tab.specs.Processes.{member_at, lowest, passes}
 use Rattle.proc_tab.specs.Pids.{has_pid}
@@ -32,10 +33,10 @@ use Rattle.sys_procs.specs.Exit.{ended, leaves, slot_of, parent_slot, adopted, d
 use Rattle.abstract_unix.specs.declared.ending.Ending.TheVariants.{Ended}
 use Rattle.abstract_unix.specs.Unix as unix
 use Rattle.abstract_unix.specs.Unix.{Unix}
-use Rattle.abstract_unix.specs.Calls.{handed_of, with_handed, world_of, with_world, did_by, closes_all, exits_with}
+use Rattle.abstract_unix.specs.Calls.{in_order, handed_of, with_handed, world_of, with_world, did_by, closes_all, exits_with}
 use Rattle.abstract_unix.proofs.Sitting.{seat_for, seat_of, seats_in, seats_under, seats_here, seats_of, users, users_left, runner_seat, runner_alive, runner_text, put_in, changed_in, kept_in}
 use Rattle.abstract_unix.proofs.Steps.{AptSteps, AptBegun, Answered, ends_in, apt_lifted, answers_apt}
-use Rattle.abstract_unix.proofs.Quiet.{IsQuiet, AreQuiet, SameSize, SameCall, EndsIn, HasNumbers, Calm, CalmClosing, close_all_calm}
+use Rattle.abstract_unix.proofs.Quiet.{IsQuiet, AreQuiet, SameSize, SameCall, EndsIn, HasNumbers, Calm, CalmClosing, close_all_calm, quiet_in_order}
 use Rattle.abstract_unix.proofs.Rows.{Calling}
 
 -- bytes, wakes and a signal of its own process leave a call as it is
@@ -65,30 +66,30 @@ module _ (s : ℕ) where
   -- what a call on files leaves of the process
   pub handed_in : (u : Unix) (seen : Seen) (calling : Bool) (h : Handed) (pending : ℕ) → InCall s calling (seats_of u) seen
       → SameSize (unix.process_of u s).u h.u
-      → h.u.pending ≡ pending → InCall s (not (pending == 0)) (seats_of (with_handed u s h)) seen
-  handed_in u seen calling h pending i k e = subst (λ n. InCall s (not (n == 0)) (seats_of (with_handed u s h)) seen) e
+      → h.u.pending ≡ pending → InCall s (not (pending == NOTHING_PENDING)) (seats_of (with_handed u s h)) seen
+  handed_in u seen calling h pending i k e = subst (λ n. InCall s (not (n == NOTHING_PENDING)) (seats_of (with_handed u s h)) seen) e
       (changed_in u.processes u.clock u.texts u.limit s calling seen (record (unix.process_of u s) { u = h.u; row = h.row; «data» = h.image.data; stack = h.image.stack }) i
       (runner_alive u.processes u.clock u.texts u.limit s seen.board i.turn) (rw (k.data, k.stack) refl) refl)
 
   pub did_apt : (u : Unix) (seen : Seen) (calling : Bool) (old : UArea) (did : Did) → InCall s calling (seats_of u) seen
       → SameSize (unix.process_of u s).u old
-      → old.pending ≡ 0 → Calm old s did → AptBegun s seen (did_by u s did)
-  did_apt u seen calling old did i k quiet c = answers_apt s seen (with_handed u s did.state) (map Show did.items) did.answer (by did.answer c.ends)
+      → old.pending ≡ NOTHING_PENDING → Calm old s did → AptBegun s seen (did_by u s did)
+  did_apt u seen calling old did i k quiet c = answers_apt s seen (with_handed u s did.state) (map Show (in_order did.items)) did.answer (by did.answer c.ends)
     where
       same : SameSize old did.state.u → SameSize (unix.process_of u s).u did.state.u
       same e = record { «data» = e.data ∙ k.data; stack = e.stack ∙ k.stack }
 
       goes : SameCall old did.state.u
-          → Apt {W = Unix} (InCall s false (seats_of (with_handed u s did.state))) seen (map Show did.items)
-      goes e = shown_apt Unix s false (seats_of (with_handed u s did.state)) seen did.items c.quiet
-          (handed_in u seen calling did.state 0 i (same e.size) (e.pending ∙ quiet))
+          → Apt {W = Unix} (InCall s false (seats_of (with_handed u s did.state))) seen (map Show (in_order did.items))
+      goes e = shown_apt Unix s false (seats_of (with_handed u s did.state)) seen (in_order did.items) (quiet_in_order s did.items c.quiet)
+          (handed_in u seen calling did.state NOTHING_PENDING i (same e.size) (e.pending ∙ quiet))
 
       by : (answer : Answer) → EndsIn old did.state.u answer
-          → Answered {W = Unix} s (seats_of (with_handed u s did.state)) seen (map Show did.items) answer
+          → Answered {W = Unix} s (seats_of (with_handed u s did.state)) seen (map Show (in_order did.items)) answer
       by (Ret r0 r1) e = goes e
       by (Fail x) e = goes e
       by (Sleep pri chan) e = (
-        shown_apt Unix s true (seats_of (with_handed u s did.state)) seen did.items c.quiet
+        shown_apt Unix s true (seats_of (with_handed u s did.state)) seen (in_order did.items) (quiet_in_order s did.items c.quiet)
             (subst (λ b. InCall s (not b) (seats_of (with_handed u s did.state)) seen) e.pending
             (handed_in u seen calling did.state did.state.u.pending i (same e.size) refl)),
         e.at s,
@@ -96,8 +97,8 @@ module _ (s : ℕ) where
       )
 
   -- a process in its call waits in none
-  pub no_pending : (u : Unix) (seen : Seen) → InCall s false (seats_of u) seen → (unix.process_of u s).u.pending ≡ 0
-  no_pending u seen i = eqb-true _ _ (off ((unix.process_of u s).u.pending == 0) (ap (λ x. x.calling) (runner_seat u.processes u.clock u.texts u.limit s seen.board i.turn) ∙ i.calls))
+  pub no_pending : (u : Unix) (seen : Seen) → InCall s false (seats_of u) seen → (unix.process_of u s).u.pending ≡ NOTHING_PENDING
+  no_pending u seen i = eqb-true _ _ (off ((unix.process_of u s).u.pending == NOTHING_PENDING) (ap (λ x. x.calling) (runner_seat u.processes u.clock u.texts u.limit s seen.board i.turn) ∙ i.calls))
     where
       off : (x : Bool) → not x ≡ false → x ≡ true
       off true e = refl
@@ -125,7 +126,7 @@ module _ (s : ℕ) where
   -- its seat
   abbrev grave : World → Seat
   grave w =
-      record { dead = true; calling = not ((process_of w s).u.pending == 0); text = (process_of w s).text; size = (seat_for (process_of w s)).size }
+      record { dead = true; calling = not ((process_of w s).u.pending == NOTHING_PENDING); text = (process_of w s).text; size = (seat_for (process_of w s)).size }
 
   dead_is : (w : World)
       → seats_here (dead w s) ≡ with_own s (seats_here w) (grave w)
@@ -264,8 +265,8 @@ module _ (s : ℕ) where
       c : Comes
       c = end_proc (world_of now) s status
 
-      by : Apt {W = Unix} (Paused (seats_under u.limit c.state)) seen ((map Show closed.items ++ map (lifted (with_world now)) c.effects) ++ [])
-      by = rw (append-nil (map Show closed.items ++ map (lifted (with_world now)) c.effects)) (
-          apt_append (InCall s false (seats_of now)) (Paused (seats_under u.limit c.state)) seen (map Show closed.items) (map (lifted (with_world now)) c.effects)
-          (shown_apt Unix s false (seats_of now) seen closed.items calm.quiet (handed_in u seen false closed.state 0 i calm.calm.same.size (calm.calm.same.pending ∙ no_pending u seen i)))
+      by : Apt {W = Unix} (Paused (seats_under u.limit c.state)) seen ((map Show (in_order closed.items) ++ map (lifted (with_world now)) c.effects) ++ [])
+      by = rw (append-nil (map Show (in_order closed.items) ++ map (lifted (with_world now)) c.effects)) (
+          apt_append (InCall s false (seats_of now)) (Paused (seats_under u.limit c.state)) seen (map Show (in_order closed.items)) (map (lifted (with_world now)) c.effects)
+          (shown_apt Unix s false (seats_of now) seen (in_order closed.items) (quiet_in_order s closed.items calm.quiet) (handed_in u seen false closed.state NOTHING_PENDING i calm.calm.same.size (calm.calm.same.pending ∙ no_pending u seen i)))
           (λ later j. apt_lifted (with_world now) (Paused (seats_under u.limit c.state)) later c.effects (ends_apt (world_of now) later status j)))

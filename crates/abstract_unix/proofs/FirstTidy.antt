@@ -14,6 +14,7 @@ use Rattle.fs_codec.specs.declared.super_block.SuperBlock.{SuperBlock}
 use Rattle.fs_codec.specs.declared.layout.TheConstants.{DISK_BYTES, SWAP_START, LIST_SIZE}
 use Rattle.fs_codec.specs.declared.fault.ImageFault.{ImageFault}
 use Rattle.fs_codec.specs.declared.fault.ImageFault.TheVariants.{TooLong, BadSuper, NoSwap, BlockTwice, NoRoot}
+use Rattle.u_area.specs.declared.layout.TheConstants.{NOTHING_PENDING}
 use Rattle.fs_laws.proofs.WholeLemmas.{two, five}
 use Rattle.open_files.specs.declared.file.OpenFile.{OpenFile}
 use Rattle.open_files.specs.Files.{file_at}
@@ -104,7 +105,7 @@ module _ (store : Store) (core : ℕ) where
       ∙ ap told_by (get_same {X = Option Process} None 48 k) in
       absurd (let none : None ≡ Some t = sym at ∙ e in cc none)
 
-  user_first : (s : ℕ) (p : Process) → get_or u.processes s None ≡ Some p → p.u.pending ≡ 0
+  user_first : (s : ℕ) (p : Process) → get_or u.processes s None ≡ Some p → p.u.pending ≡ NOTHING_PENDING
   user_first zero p e = absurd (cc e)
   user_first (suc zero) p e = let same : first_process ≡ p = cc e in ap (λ (x : Process). x.u.pending) (sym same)
   user_first (suc (suc k)) p e = absurd (let none : None ≡ Some p = sym (get_same {X = Option Process} None 48 k) ∙ e in cc none)

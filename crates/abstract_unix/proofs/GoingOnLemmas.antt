@@ -1,6 +1,6 @@
 -- Who waits in a pipe can go on: what changes of processes and of open files keep that.
-use Rattle.std.proofs.Common.{◌≡◌, ◌≢◌, ◌<◌, ◌≤◌, ◌+◌, ◌∙◌, ◌==◌, ◌||◌, ℕ, Bool, true, false, List, length, get_or, set, Option, Some, None, slice_index, refl, sym, ap, subst, inl, inr, arith}
-use Rattle.std.proofs.lemmas.Bool.{cases_eq, eqb-true}
+use Rattle.std.proofs.Common.{◌≡◌, ◌≢◌, ◌<◌, ◌≤◌, ◌+◌, ◌∙◌, ℕ, true, false, List, length, get_or, set, Option, Some, None, slice_index, refl, sym, ap, subst, inl, inr, arith}
+use Rattle.std.proofs.lemmas.Bool.{cases_eq}
 use Rattle.std.proofs.lemmas.List.{get_or-set_same, get_or-set_other, length-set}
 use Rattle.std.proofs.lemmas.List.Sums.{get_or-le-sum_by}
 use Rattle.v6_base.specs.declared.answer.Answer.{Answer}
@@ -8,21 +8,24 @@ use Rattle.v6_base.specs.declared.answer.Answer.TheVariants.{Ret, Fail, Sleep}
 use Rattle.open_files.specs.declared.file.OpenFile.{OpenFile}
 use Rattle.open_files.specs.declared.file.FileKind.{FileKind}
 use Rattle.open_files.specs.Files.{file_at, times, changed, with_more, shared}
+use Rattle.u_area.specs.declared.layout.TheConstants.{NOTHING_PENDING, LINE_READ}
+use Rattle.u_area.specs.Pending.{is_on_files, IsPipeCall}
+use Rattle.u_area.proofs.PendingLemmas.{on_files_cases}
 use Rattle.sys_files.specs.Handed.{Handed}
 use Rattle.sys_files.specs.Sound.{numbers_of, StaysOpen, IsKept}
 use Rattle.sys_files.specs.Sound as sound
 use Rattle.sys_procs.specs.Process.{Process}
 use Rattle.sys_procs.specs.World.{World}
 use Rattle.abstract_unix.specs.Unix.{Unix, process_at, process_of, with_process}
-use Rattle.abstract_unix.specs.Calls.{handed_of, with_handed, with_world, shares, is_on_files}
+use Rattle.abstract_unix.specs.Calls.{handed_of, with_handed, with_world, shares}
 use Rattle.abstract_unix.specs.Whole.{Told, told_of, told_in, names, all_names, Owed, CanGoOn}
 use Rattle.abstract_unix.proofs.Owing.{told_at, some_within, names_set}
 use Rattle.abstract_unix.proofs.Sharing.{shared_at}
-use Rattle.abstract_unix.proofs.PendingRows.{InPipe, never_in_pipe, HasEnd, IsAtEnd, Pends}
+use Rattle.abstract_unix.proofs.PendingRows.{never_in_pipe, HasEnd, IsAtEnd, Pends}
 
 -- Who lives in a slot and waits in a pipe is at an end of it.
 abbrev pub HoldsEnd : List (Option OpenFile) → Option Process → Type 0
-HoldsEnd files o = (p : Process) → o ≡ Some p → p.is_zombie ≡ false → InPipe p.u.pending → IsAtEnd files p.u
+HoldsEnd files o = (p : Process) → o ≡ Some p → p.is_zombie ≡ false → IsPipeCall p.u.pending → IsAtEnd files p.u
 
 pub end_held : (u : Unix) (s : ℕ) → CanGoOn u → HoldsEnd u.files (process_at u s)
 end_held u s can p is lives (inl three) =
@@ -52,7 +55,7 @@ pub record Waited (o : Option Process) (q : Process) : Type 0 where
   pub files : before.u.files ≡ q.u.files
 
 abbrev pub WaitedIn : Option Process → Option Process → Type 0
-WaitedIn old new = (q : Process) → new ≡ Some q → q.is_zombie ≡ false → InPipe q.u.pending → Waited old q
+WaitedIn old new = (q : Process) → new ≡ Some q → q.is_zombie ≡ false → IsPipeCall q.u.pending → Waited old q
 
 abbrev pub AllWaited : List (Option Process) → List (Option Process) → Type 0
 AllWaited old new = (s : ℕ) → WaitedIn (get_or old s None) (get_or new s None)
@@ -63,7 +66,7 @@ waited_same o q is lives waits = record { before = q; there = is; lives = lives;
 pub waited_then : (a b c : Option Process) → WaitedIn a b → WaitedIn b c → WaitedIn a c
 waited_then a b c first second q is lives waits =
     let later = second q is lives waits in
-    let sooner = first later.before later.there later.lives (subst InPipe (sym later.pending) waits) in
+    let sooner = first later.before later.there later.lives (subst IsPipeCall (sym later.pending) waits) in
     record {
       before = sooner.before;
       there = sooner.there;
@@ -93,11 +96,11 @@ like_waited p q dead pending call files r is lives waits =
       files = sym files ∙ ap (λ (x : Process). x.u.files) same;
     }
 
-pub apart_waited : (o : Option Process) (q : Process) → (InPipe q.u.pending → ⊥) → WaitedIn o (Some q)
+pub apart_waited : (o : Option Process) (q : Process) → (IsPipeCall q.u.pending → ⊥) → WaitedIn o (Some q)
 apart_waited o q never r is lives waits =
-    let same : q ≡ r = cc is in absurd (never (subst (λ (x : Process). InPipe x.u.pending) (sym same) waits))
+    let same : q ≡ r = cc is in absurd (never (subst (λ (x : Process). IsPipeCall x.u.pending) (sym same) waits))
 
-pub user_waited : (o : Option Process) (q : Process) → q.u.pending ≡ 0 → WaitedIn o (Some q)
+pub user_waited : (o : Option Process) (q : Process) → q.u.pending ≡ NOTHING_PENDING → WaitedIn o (Some q)
 user_waited o q free = apart_waited o q (never_in_pipe q.u.pending free)
 
 pub dead_waited : (o : Option Process) (q : Process) → q.is_zombie ≡ true → WaitedIn o (Some q)
@@ -122,7 +125,7 @@ waited_end : (files : List (Option OpenFile)) (old new : Option Process) → Hol
     → HoldsEnd files new
 waited_end files old new held waited q is lives waits =
     let was = waited q is lives waits in
-    let own = held was.before was.there was.lives (subst InPipe (sym was.pending) waits) in
+    let own = held was.before was.there was.lives (subst IsPipeCall (sym was.pending) waits) in
     let call : was.before.u.call ≡ q.u.call = was.call in
     let entry : slice_index was.before.u.call 0 ≡ slice_index q.u.call 0 = ap (λ l. slice_index l 0) call in
     record {
@@ -146,7 +149,7 @@ pub world_goes_on : (u : Unix) (w : World) → CanGoOn u → AllWaited u.process
 world_goes_on u w can waited = waited_goes_on u (with_world u w) can waited refl
 
 -- nobody waits in a pipe
-pub none_goes_on : (u : Unix) → ((s : ℕ) (p : Process) → process_at u s ≡ Some p → p.u.pending ≡ 0) → CanGoOn u
+pub none_goes_on : (u : Unix) → ((s : ℕ) (p : Process) → process_at u s ≡ Some p → p.u.pending ≡ NOTHING_PENDING) → CanGoOn u
 none_goes_on u none = goes_on_by u (λ s p is lives waits. never_in_pipe p.u.pending (none s p is) waits)
 
 -- What the process of a slot is handed waits at an end,
@@ -159,22 +162,19 @@ handed_pends u s can is lives waits = end_held u s can (process_of u s) is lives
 pub handed_goes_on : (u : Unix) (s : ℕ) → CanGoOn u → get_or u.processes s None ≡ Some (process_of u s)
     → (process_of u s).is_zombie ≡ false
     → is_on_files (process_of u s).u.pending ≡ true → sound.CanGoOn (handed_of u (process_of u s))
-handed_goes_on u s can is lives on = by (n == 1) refl (n == 3) refl (n == 4) refl on
+handed_goes_on u s can is lives on = by (on_files_cases n on)
   where
     n : ℕ
     n = (process_of u s).u.pending
 
-    at : (waits : InPipe n) → sound.IsInPipe (handed_of u (process_of u s))
+    at : (waits : IsPipeCall n) → sound.IsInPipe (handed_of u (process_of u s))
     at waits =
         let own = handed_pends u s can is lives waits in
         record { file = own.end.file; there = own.end.there; pipe = own.end.pipe; left = own.left }
 
-    by : (a : Bool) → (n == 1) ≡ a → (b : Bool) → (n == 3) ≡ b → (c : Bool) → (n == 4) ≡ c → ((a || b) || c) ≡ true
-        → sound.CanGoOn (handed_of u (process_of u s))
-    by true one b three c four e = inl (eqb-true n 1 one)
-    by false one true three c four e = let waits = eqb-true n 3 three in inr (inl waits, at (inl waits))
-    by false one false three true four e = let waits = eqb-true n 4 four in inr (inr waits, at (inr waits))
-    by false one false three false four e = absurd (cc e)
+    by : (n ≡ LINE_READ) ⊎ IsPipeCall n → sound.CanGoOn (handed_of u (process_of u s))
+    by (inl line) = inl line
+    by (inr waits) = inr (waits, at waits)
 
 -- 2. A call on files of the process of a slot. An entry that another process names has one number more at least.
 pub named_twice : (ts : List (Option Told)) (s r : ℕ) (t x : Told) (entry : ℕ) → get_or ts s None ≡ Some t
@@ -209,7 +209,7 @@ handed_back_goes_on u s h counted can is lives others pends = goes_on_by (with_h
     own : HoldsEnd h.files (Some q)
     own r same living waits =
         let eq : q ≡ r = cc same in
-        subst (λ (x : Process). IsAtEnd h.files x.u) eq (pends (subst (λ (x : Process). InPipe x.u.pending) (sym eq) waits))
+        subst (λ (x : Process). IsAtEnd h.files x.u) eq (pends (subst (λ (x : Process). IsPipeCall x.u.pending) (sym eq) waits))
 
     stays : (r : ℕ) → r ≢ s → HoldsEnd h.files (get_or ps r None)
     stays r other x there living waits =

@@ -14,6 +14,8 @@ use Rattle.pdp_step.specs.declared.outcome.Kind.TheVariants as kind
 use Rattle.pdp_step.specs.declared.outcome.Outcome.{Outcome}
 use Rattle.pdp_step.specs.declared.outcome.Outcome.TheVariants as outcome
 use Rattle.pdp_step.specs.Instruction.{Stepped, instr}
+use Rattle.u_area.specs.declared.layout.TheConstants.{NOTHING_PENDING}
+use Rattle.u_area.specs.Pending.{is_on_files}
 use Rattle.sig_core.specs.declared.numbers.TheConstants.{SIGINS, SIGTRC, SIGIOT, SIGEMT, SIGBUS, SIGSEG, SIGSYS}
 use Rattle.sys_files.specs.Handed.{Handed}
 use Rattle.sys_files.specs.Did.{Did}
@@ -23,7 +25,7 @@ use Rattle.sys_procs.specs.Comes.{Comes}
 use Rattle.sys_procs.specs.Break.{sized, expands, grown_stack, grow}
 use Rattle.sys_procs.specs.Fork.{fork_one}
 use Rattle.sys_procs.specs.Resume.{resume_proc}
-use Rattle.sys_procs.specs.Signals.{signalled, has_console}
+use Rattle.sys_procs.specs.Signals.{signalled, has_line}
 use Rattle.abstract_unix.specs.declared.asked.Asked.{Asked}
 use Rattle.abstract_unix.specs.declared.calls.SystemCall.{SystemCall}
 use Rattle.abstract_unix.specs.declared.calls.SystemCall.TheVariants.{Indirect, Exit, Fork, Unknown, OnFiles, OnProcesses}
@@ -32,7 +34,7 @@ use Rattle.abstract_unix.specs.declared.ending.Ending.TheVariants.{Trapped}
 use Rattle.abstract_unix.specs.Unix.{Unix, System, process_at, process_of, with_process}
 use Rattle.abstract_unix.specs.Errors.{error_number}
 use Rattle.abstract_unix.specs.Steps.{Steps, signals}
-use Rattle.abstract_unix.specs.Calls.{handed_of, with_handed, world_of, with_world, with_area, entered_area, given_area, refused_area, words_passed, asked, refuses, answers, did_by, came_by, grown_by, grows_to, file_row, process_row, does_call, does_asked, sysent_of, is_on_files, resumed}
+use Rattle.abstract_unix.specs.Calls.{handed_of, with_handed, world_of, with_world, with_area, entered_area, given_area, refused_area, words_passed, asked, refuses, answers, did_by, came_by, grown_by, grows_to, file_row, process_row, does_call, does_asked, sysent_of, resumed}
 use Rattle.abstract_unix.specs.Turn.{machine_of, with_machine, passes_setd, faults, comes_to, instruction, is_user, begins_turn}
 use Rattle.abstract_unix.specs.Outside.{timed, charged, with_key}
 use Rattle.abstract_unix.specs.Whole.{CanGoOn}
@@ -60,16 +62,16 @@ changed_goes_on u s rule same can = put_goes_on u s (rule (process_of u s)) can 
 
 -- what is in a slot waits for nothing, also where nobody is in it
 abbrev pub IsUserIn : Unix → ℕ → Type 0
-IsUserIn u s = (process_of u s).u.pending ≡ 0
+IsUserIn u s = (process_of u s).u.pending ≡ NOTHING_PENDING
 
-put_user : (u : Unix) (s : ℕ) (q : Process) → IsUserIn u s → q.u.pending ≡ 0 → IsUserIn (with_process u s q) s
-put_user u s q old new = set_either (λ o. (unwrap_or o no_process).u.pending ≡ 0) u.processes s (Some q) None new old
+put_user : (u : Unix) (s : ℕ) (q : Process) → IsUserIn u s → q.u.pending ≡ NOTHING_PENDING → IsUserIn (with_process u s q) s
+put_user u s q old new = set_either (λ o. (unwrap_or o no_process).u.pending ≡ NOTHING_PENDING) u.processes s (Some q) None new old
 
 pub user_is : (u : Unix) (s : ℕ) → IsUserIn u s → is_user (process_of u s) ≡ true
-user_is u s free = eq-eqb (process_of u s).u.pending 0 free
+user_is u s free = eq-eqb (process_of u s).u.pending NOTHING_PENDING free
 
 pub user_free : (u : Unix) (s : ℕ) → is_user (process_of u s) ≡ true → IsUserIn u s
-user_free u s user = eqb-true (process_of u s).u.pending 0 user
+user_free u s user = eqb-true (process_of u s).u.pending NOTHING_PENDING user
 
 -- Steps that end in a trap leave a process that waits for nothing.
 abbrev pub TrapsUser : ℕ → Steps → Type 0
@@ -103,12 +105,12 @@ module _ (s : ℕ) where
   answers_trap u (Sleep pri chan) awake ends = absurd (cc ends)
 
   -- a call on files, and one on processes
-  handed_user : (u : Unix) (h : Handed) → s < length u.processes → h.u.pending ≡ 0 → IsUserIn (with_handed u s h) s
+  handed_user : (u : Unix) (h : Handed) → s < length u.processes → h.u.pending ≡ NOTHING_PENDING → IsUserIn (with_handed u s h) s
   handed_user u h low free =
       let q : Process = record (process_of u s) { u = h.u; row = h.row; «data» = h.image.data; stack = h.image.stack } in
       ap (λ o. (unwrap_or o no_process).u.pending) (get_or-set_same u.processes s (Some q) None low) ∙ free
 
-  did_trap : (u : Unix) (did : Did) → s < length u.processes → (is_sleep did.answer ≡ false → did.state.u.pending ≡ 0)
+  did_trap : (u : Unix) (did : Did) → s < length u.processes → (is_sleep did.answer ≡ false → did.state.u.pending ≡ NOTHING_PENDING)
       → TrapsUser s (did_by u s did)
   did_trap u did low awake = answers_trap (with_handed u s did.state) did.answer (λ e. handed_user u did.state low (awake e))
 
@@ -209,8 +211,8 @@ charged_goes_on u mode (Some slot) can = by (slot == 0)
     by true = can
     by false = changed_goes_on u slot (timed mode) (timed_same mode) can
 
-pub key_goes_on : (keyed : Keyed) (u : Unix) → CanGoOn u → CanGoOn (with_key keyed u)
+pub key_goes_on : (keyed : Keyed) (u : Unix) → CanGoOn u → CanGoOn (with_key 0 keyed u)
 key_goes_on key.Nothing u can = can
 key_goes_on key.Ready u can = can
 key_goes_on key.Flushed u can = can
-key_goes_on (key.Signal n) u can = waited_goes_on u (with_key (key.Signal n) u) can (key_waited has_console n u.processes) refl
+key_goes_on (key.Signal n) u can = waited_goes_on u (with_key 0 (key.Signal n) u) can (key_waited (has_line 0) n u.processes) refl

@@ -2,7 +2,6 @@ pub mod Sitting
 pub mod Steps
 pub mod PipeNumbers
 pub mod Quiet
-pub mod StepRows
 pub mod ProcessRows
 pub mod Rows
 pub mod Posting
@@ -30,7 +29,6 @@ pub mod Dying
 pub mod Moved
 pub mod Mild
 pub mod CallLemmas
-pub mod NeverWaiting
 pub mod PendingRows
 pub mod GoingOnLemmas
 pub mod WaitingRows

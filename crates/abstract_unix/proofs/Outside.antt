@@ -20,7 +20,7 @@ use Rattle.log_laws.proofs.Clocks.{tick_line, ticked_at, a_tick_later, tick_paus
 use Rattle.tty_line.specs.Terminal.{Terminal}
 use Rattle.tty_line.specs.declared.line.Keyed.{Keyed}
 use Rattle.tty_line.specs.declared.line.Keyed.TheVariants.{Nothing, Ready, Flushed, Signal}
-use Rattle.sys_procs.specs.Signals.{has_console, meant_in}
+use Rattle.sys_procs.specs.Signals.{has_line, meant_in}
 use Rattle.sys_procs.specs.Process.{Process}
 use Rattle.sys_procs.specs.World.{Clock}
 use Rattle.pick_rules.specs.Logged.{logged}
@@ -258,37 +258,37 @@ bytes_apt Q seen (byte ∷ bytes) rest tail a = bytes_apt Q seen bytes rest tail
 
 -- The lines are those of the Unix before; its terminal has changed.
 key_apt : (u : Unix) (terminal : Terminal) (seen : Seen) (keyed : Keyed) (due : Bool) → Paused (seats_of u) seen
-    → Apt (Paused (seats_of (with_key keyed (record u { line = terminal })))) seen (map Show (key_lines keyed u) ++ wakes due Keys)
+    → Apt (Paused (seats_of (with_key 0 keyed (record u { line = terminal })))) seen (map Show (key_lines 0 keyed u) ++ wakes due Keys)
 key_apt u terminal seen Nothing due p = wakes_apt (record u { line = terminal }) seen due Keys tt p
 key_apt u terminal seen Ready due p = wakes_apt (record u { line = terminal }) seen due Keys tt p
 key_apt u terminal seen Flushed due p = wakes_apt (record u { line = terminal }) seen due Keys tt p
 key_apt u terminal seen (Signal n) due p =
     let v : Seats = seats_of u in
-    let now : Unix = with_key (Signal n) (record u { line = terminal }) in
-    let same : seats_of now ≡ v = posted_seats has_console n u.processes u.clock u.texts u.limit p.agrees.seats in
+    let now : Unix = with_key 0 (Signal n) (record u { line = terminal }) in
+    let same : seats_of now ≡ v = posted_seats (has_line 0) n u.processes u.clock u.texts u.limit p.agrees.seats in
     signal_lines_apt Unix 0 v n (Paused v) (Paused (seats_of now)) (wakes due Keys)
     (λ at q. (q.going, q.agrees)) (λ at r q. signal_paused v at r n q) (λ at q. wakes_apt now at due Keys tt (subst (λ x. Paused x at) (sym same) q))
-    (meant_in has_console u.processes) (meant_seated has_console u.processes v (λ r. seat_in u.processes u.clock u.texts u.limit r)) seen p
+    (meant_in (has_line 0) u.processes) (meant_seated (has_line 0) u.processes v (λ r. seat_in u.processes u.clock u.texts u.limit r)) seen p
 
 pub shown_items : (items : List Item) (tail : List (Effect Unix)) → AreShown tail → AreShown (map Show items ++ tail)
 shown_items [] tail shown = shown
 shown_items (item ∷ items) tail shown = shown_items items tail shown
 
 typed_for : (m : System) (seen : Seen) (byte : ℕ) → seen.board ≡ m.board → Paused (seats_of m.unix) seen
-    → FineTurn seen (settled_after (typed_of m byte))
+    → FineTurn seen (settled_after (typed_of m 0 byte))
 typed_for m seen byte board p =
     let k : Typed = typed m.unix.line byte in
-    let items : List Item = sent 0 k.shown ++ key_lines k.keyed m.unix in
-    let now : Unix = with_key k.keyed (record m.unix { line = k.terminal }) in
+    let items : List Item = sent 0 k.shown ++ key_lines 0 k.keyed m.unix in
+    let now : Unix = with_key 0 k.keyed (record m.unix { line = k.terminal }) in
     let es : List (Effect Unix) = map Show items ++ wakes (calls k.keyed) Keys in
     subst (λ b. FineTurn seen (settled_after (happens now (logged b es)))) board
     (event_by m.unix now seen es
-    (bytes_apt (Paused (seats_of now)) seen k.shown (key_lines k.keyed m.unix) (wakes (calls k.keyed) Keys)
+    (bytes_apt (Paused (seats_of now)) seen k.shown (key_lines 0 k.keyed m.unix) (wakes (calls k.keyed) Keys)
     (key_apt m.unix k.terminal seen k.keyed (calls k.keyed) p))
     (shown_stop seen.board es (shown_items items (wakes (calls k.keyed) Keys) (shown_wakes (calls k.keyed) Keys))))
 
 pub typed_fine : (u : Unix) (seen : Seen) (byte : ℕ) → Paused (seats_of u) seen
-    → FineTurn seen (settled_after (typed_of (system_at u seen) byte))
+    → FineTurn seen (settled_after (typed_of (system_at u seen) 0 byte))
 typed_fine u seen byte p = typed_for (system_at u seen) seen byte refl p
 
 -- the switches

@@ -20,6 +20,7 @@ use Rattle.proc_tab.specs.declared.child.Child.TheVariants.{NoChild, Living, Dea
 use Rattle.proc_tab.specs.Processes.{passes}
 use Rattle.proc_tab.specs.Children.{Tells, child, is_dead_child_of}
 use Rattle.proc_tab.proofs.SearchLemmas.{tells}
+use Rattle.u_area.specs.Pending.{is_on_files}
 use Rattle.image_keep.specs.Kept.{clicks_of}
 use Rattle.sig_core.specs.declared.numbers.TheConstants.{SIGKIL}
 use Rattle.sig_core.specs.Signals as signal
@@ -44,6 +45,11 @@ pub record SameProcess (p q : Process) : Type 0 where
   pub files : q.u.files ≡ p.u.files
   pub dir : q.u.dir ≡ p.u.dir
 
+-- a process that waits in a call, and in none on files
+pub record IsApart (p : Process) : Type 0 where
+  pub waits : is_user p ≡ false
+  pub apart : is_on_files p.u.pending ≡ false
+
 -- a dead process in a slot
 pub record IsGrave (w : World) (d : ℕ) : Type 0 where
   pub process : Process
@@ -58,7 +64,7 @@ pub data Plain (s : ℕ) : World → Comes → Type 0 where
   gives : (w : World) (r0 r1 : ℕ) → Plain s w (gives_two w r0 r1)
   refuses : (w : World) (e : Errno) → Plain s w (fails w e)
   waits : (w : World) (rule : Process → Process) (pri : ℤ) (chan : Chan) → SameProcess (process_of w s) (rule (process_of w s))
-      → is_user (rule (process_of w s)) ≡ false → IsSleep s chan pri → (s ≤ 49 → IsChannel chan) → Plain s w (sleeps (change w s rule) pri chan)
+      → IsApart (rule (process_of w s)) → IsSleep s chan pri → (s ≤ 49 → IsChannel chan) → Plain s w (sleeps (change w s rule) pri chan)
   changes : (w : World) (rule : Process → Process) (c : Comes) → SameProcess (process_of w s) (rule (process_of w s))
       → (rule (process_of w s)).u.pending ≡ (process_of w s).u.pending → Plain s (change w s rule) c → Plain s w c
   due : (w : World) (tout : ℕ) (c : Comes) → Plain s (record w { clock = record w.clock { tout = tout } }) c → Plain s w c
@@ -92,7 +98,8 @@ module _ (s : ℕ) (w : World) where
   waits_plain : (told : Child) (pid : ℕ) → Tells (members w) pid told → Plain s w (waits_for w s told)
   waits_plain NoChild pid t = refuses w ECHILD
   waits_plain Living pid t =
-      unless_plain _ (waits w waiting pwait (Wait s) (record { dead = refl; size = refl; text = refl; files = refl; dir = refl }) refl (refl, refl) (λ low. low))
+      unless_plain _ (waits w waiting pwait (Wait s) (record { dead = refl; size = refl; text = refl; files = refl; dir = refl })
+      (record { waits = refl; apart = refl }) (refl, refl) (λ low. low))
   waits_plain (Dead d) pid t =
       buries w d _ (grave w pid d t)
       (changes (without_process w d) (λ p. record p { u = with_times_of p.u (process_of w d).u }) _
@@ -110,7 +117,8 @@ module _ (s : ℕ) (w : World) where
       if_plain s w (nat_le until w.clock.time) _ _ (gives w _ _)
       (due w (tout_with w.clock until) _
       (unless_plain s (with_sleeper w until) _
-      (waits _ (sleeping_until until) pslep Tout (record { dead = refl; size = refl; text = refl; files = refl; dir = refl }) refl refl (λ low. tt))))
+      (waits _ (sleeping_until until) pslep Tout (record { dead = refl; size = refl; text = refl; files = refl; dir = refl })
+      (record { waits = refl; apart = refl }) refl (λ low. tt))))
 
   stored_plain : (o : Option Image) → Plain s w (stored w s o)
   stored_plain None = refuses w EFAULT

@@ -1,17 +1,18 @@
 -- What a call on files leaves of a turn: it shows bytes, wakes, and a signal of its own process alone; the image keeps its
 -- size; the
 -- process waits in a call exactly where the answer is to sleep; and the pipes that are open have numbers that a channel may have.
-use Rattle.std.proofs.Common.{◌≡◌, ◌⊎◌, ◌≤◌, ◌<◌, ◌==◌, ◌∙◌, ◌++◌, ℕ, Bool, true, false, cond, List, [], ◌∷◌, ℤ, pos, fold, slice_index, refl, sym, ap, subst, inl, inr, arith}
-use Rattle.std.specs.List.{range_with_len}
-use Rattle.std.proofs.lemmas.Bool.{eqb-false}
-use Rattle.v6_base.specs.Trace.{Item, Byte, Log, sent}
+use Rattle.std.proofs.Common.{◌≡◌, ◌⊎◌, ◌≤◌, ◌<◌, ◌==◌, ◌∙◌, ◌++◌, ℕ, zero, suc, false, List, [], ◌∷◌, ℤ, pos, slice_index, refl, sym, ap, subst, inl, inr, arith, map}
+use Rattle.std.specs.List.{All}
+use Rattle.v6_base.specs.Trace.{Item, Byte, Log, sent, line_bytes, entries_of}
 use Rattle.v6_base.specs.declared.answer.Answer.{Answer}
 use Rattle.v6_base.specs.declared.answer.Answer.TheVariants.{Ret, Fail, Sleep}
 use Rattle.v6_base.specs.declared.entry.Chan.{Chan}
 use Rattle.v6_base.specs.declared.entry.Chan.TheVariants.{RunIn, RunOut, Tout, Keys, Wait, Read, Write}
 use Rattle.v6_base.specs.declared.entry.Entry.{Entry}
 use Rattle.v6_base.specs.declared.entry.Entry.TheVariants.{Wake, Signal}
+use Rattle.u_area.specs.declared.layout.TheConstants.{NOTHING_PENDING, LINE_READ}
 use Rattle.u_area.specs.declared.area.UArea.{UArea}
+use Rattle.u_area.specs.Pending.{IsPipeCall}
 use Rattle.fs_tree.specs.Name.{readable}
 use Rattle.fs_tree.specs.Finding.{Inodes}
 use Rattle.open_files.specs.Files.{entry_of, with_more, with_offset}
@@ -19,11 +20,16 @@ use Rattle.tty_line.specs.Output.{shows}
 use Rattle.pick_rules.specs.Fits.{IsSleep}
 use Rattle.pick_rules.specs.Ranges.{IsInode, IsChannel}
 use Rattle.sig_core.specs.declared.numbers.TheConstants.{SIGPIPE}
-use Rattle.sys_files.specs.Handed.{Handed, file_of, with_inodes, let_go}
+use Rattle.sys_files.specs.Handed.{Handed, with_inodes, let_go}
 use Rattle.sys_files.specs.Did.{Did}
-use Rattle.sys_files.specs.Descriptors.{Closing, dropped, closes, then_closes, close_all}
+use Rattle.sys_files.specs.Descriptors.{Closing, dropped, closes, close_all}
 use Rattle.sys_files.specs.Moving.{without_pending, resumes}
-use Rattle.sys_files.proofs.StepWalks.{IsOfPipe, StepWalks, put_back_count, walk_closes, walk_resume}
+use Rattle.sys_files.proofs.Bounds.{IsOfFiles, IsLineOf}
+use Rattle.sys_files.proofs.NodeCounts.{put_back_count}
+use Rattle.sys_files.proofs.Walks.{IsOfPipe, IsAwaiting, Walks, walk_closes, walk_resume, closes_all}
+use Rattle.std.proofs.lemmas.List.Elements.{All-head, All-tail}
+use Rattle.sys_files.specs.Piping.{words_of}
+use Rattle.abstract_unix.specs.Calls.{bytes_from, in_order}
 use Rattle.abstract_unix.proofs.PipeNumbers.{HavePipes, end_known, pipes_opened, pipes_change, pipes_left, pipes_marked, pipes_gone, pipes_ends}
 
 -- Items that are bytes, wakes, and the signal of the process of a slot that writes to a pipe which nobody reads.
@@ -44,6 +50,21 @@ pub quiet_sent : (s line : ℕ) (bytes : List ℕ) → AreQuiet s (sent line byt
 quiet_sent s line [] = tt
 quiet_sent s line (byte ∷ bytes) = quiet_sent s line bytes
 
+quiet_bytes : (s l count : ℕ) (items : List Item) → AreQuiet s (bytes_from l count items)
+quiet_bytes s l zero items = tt
+quiet_bytes s l (suc count) items =
+    quiet_append s (sent l (line_bytes l items)) (bytes_from (suc l) count items) (quiet_sent s l (line_bytes l items))
+    (quiet_bytes s (suc l) count items)
+
+quiet_lines : (s : ℕ) (items : List Item) → AreQuiet s items → AreQuiet s (map Log (entries_of items))
+quiet_lines s [] q = tt
+quiet_lines s (Byte line byte ∷ items) q = quiet_lines s items q
+quiet_lines s (Log e ∷ items) q = (q.0, quiet_lines s items q.1)
+
+pub quiet_in_order : (s : ℕ) (items : List Item) → AreQuiet s items → AreQuiet s (in_order items)
+quiet_in_order s items q =
+    quiet_append s (bytes_from 0 1 items) (map Log (entries_of items)) (quiet_bytes s 0 1 items) (quiet_lines s items q)
+
 -- the image has the same size
 pub record SameSize (old new : UArea) : Type 0 where
   pub «data» : new.data_size ≡ old.data_size
@@ -60,7 +81,7 @@ same_call u = record { size = record { «data» = refl; stack = refl }; pending 
 -- it waits in a call, for a channel
 pub record Waits (old new : UArea) (pri : ℤ) (chan : Chan) : Type 0 where
   pub size : SameSize old new
-  pub pending : (new.pending == 0) ≡ false
+  pub pending : (new.pending == NOTHING_PENDING) ≡ false
   pub at : (s : ℕ) → IsSleep s chan pri
   pub on : IsChannel chan
 
@@ -97,9 +118,9 @@ dropped_calm old h fd p = record {
   numbers = record { count = p.numbers.count; pipes = pipes_left h (entry_of h.u.files fd) p.numbers.pipes };
 }
 
-not_user : (n pending : ℕ) → (pending ≡ 3) ⊎ (pending ≡ 4) → n ≡ pending → (n == 0) ≡ false
-not_user n pending (inl three) is = ap (λ m. m == 0) (is ∙ three)
-not_user n pending (inr four) is = ap (λ m. m == 0) (is ∙ four)
+not_user : (n pending : ℕ) → IsPipeCall pending → n ≡ pending → (n == NOTHING_PENDING) ≡ false
+not_user n pending (inl three) is = ap (λ m. m == NOTHING_PENDING) (is ∙ three)
+not_user n pending (inr four) is = ap (λ m. m == NOTHING_PENDING) (is ∙ four)
 
 -- and when it has ended.
 pub record Calm (old : UArea) (s : ℕ) (did : Did) : Type 0 where
@@ -107,20 +128,25 @@ pub record Calm (old : UArea) (s : ℕ) (did : Did) : Type 0 where
   pub ends : EndsIn old did.state.u did.answer
   pub numbers : HasNumbers did.state
 
-close_quiet : (s : ℕ) (last : Bool) → AreQuiet s (cond last (Log (Wake Keys) ∷ []) [])
-close_quiet s true = (inl (Keys, refl, tt), tt)
-close_quiet s false = tt
+line_quiet : (s : ℕ) (chan : Chan) → IsOfFiles IsInode chan → IsQuiet s (Wake chan)
+line_quiet s RunIn of = absurd of
+line_quiet s RunOut of = absurd of
+line_quiet s Tout of = absurd of
+line_quiet s Keys of = inl (Keys, refl, tt)
+line_quiet s (Wait slot) of = absurd of
+line_quiet s (Read ino) of = inl (Read ino, refl, of)
+line_quiet s (Write ino) of = inl (Write ino, refl, of)
 
-woken_quiet : (s : ℕ) (chan : Chan) → IsOfPipe IsInode chan → IsQuiet s (Wake chan)
-woken_quiet s RunIn of = absurd of
-woken_quiet s RunOut of = absurd of
-woken_quiet s Tout of = absurd of
-woken_quiet s Keys of = absurd of
-woken_quiet s (Wait slot) of = absurd of
-woken_quiet s (Read ino) of = inl (Read ino, refl, of)
-woken_quiet s (Write ino) of = inl (Write ino, refl, of)
+lines_quiet : (s : ℕ) (entries : List Entry) → All (IsLineOf IsInode s) entries → AreQuiet s (map Log entries)
+lines_quiet s [] all = tt
+lines_quiet s (e ∷ entries) all =
+    (by (All-head (IsLineOf IsInode s) e entries all), lines_quiet s entries (All-tail (IsLineOf IsInode s) e entries all))
+  where
+    by : IsLineOf IsInode s e → IsQuiet s e
+    by (inl (chan, is, of)) = subst (IsQuiet s) (sym is) (line_quiet s chan of)
+    by (inr is) = inr is
 
-sleeps_so : (old new : UArea) (pending : ℕ) (chan : Chan) → SameSize old new → (pending ≡ 3) ⊎ (pending ≡ 4)
+sleeps_so : (old new : UArea) (pending : ℕ) (chan : Chan) → SameSize old new → IsPipeCall pending
     → new.pending ≡ pending → IsOfPipe IsInode chan
     → Waits old new (pos 1) chan
 sleeps_so old new pending RunIn same which is of = absurd of
@@ -142,10 +168,10 @@ sleeps_so old new pending (Write ino) same which is of = record {
 }
 
 -- Each row of a call on files is calm.
-pub calm_walks : (old : UArea) (s : ℕ) → StepWalks (InCalm old) (Calm old s) (λ count. Unit {0}) IsInode s
+pub calm_walks : (old : UArea) (s : ℕ) → Walks (InCalm old) (Calm old s) (λ count. Unit {0}) IsInode (Unit {0}) s
 calm_walks old s = record {
   refused = λ h e p. record { quiet = tt; ends = p.same; numbers = p.numbers };
-  done = λ h value p. record { quiet = tt; ends = p.same; numbers = p.numbers };
+  done = λ h a b p. record { quiet = tt; ends = p.same; numbers = p.numbers };
   lets_go = λ ino d c. record {
     quiet = c.quiet;
     ends = c.ends;
@@ -156,29 +182,23 @@ calm_walks old s = record {
     ends = record { size = same_size p; pending = refl; at = λ s. refl; on = tt };
     numbers = record { count = p.numbers.count; pipes = p.numbers.pipes };
   };
-  waits_in_pipe = λ h chan pending words which of p. record {
+  waits_in_pipe = λ h chan pending entry at count left which of awaits p. record {
     quiet = tt;
-    ends = sleeps_so old (record h.u { pending = pending; call = words }) pending chan (same_size p) which refl of;
+    ends = sleeps_so old (record h.u { pending = pending; call = words_of entry at count left }) pending chan (same_size p) which refl of;
     numbers = record { count = p.numbers.count; pipes = p.numbers.pipes };
   };
-  wakes = λ h a b last p. record { quiet = close_quiet s last; ends = p.same; numbers = p.numbers };
-  woken = λ chan d of c. record { quiet = (woken_quiet s chan of, c.quiet); ends = c.ends; numbers = c.numbers };
-  breaks = λ h p. record {
-    quiet = (inr refl, tt);
-    ends = p.same;
-    numbers = record { count = p.numbers.count; pipes = p.numbers.pipes };
-  };
+  tells = λ entries d few all none c. record { quiet = lines_quiet s entries all; ends = c.ends; numbers = c.numbers };
   showing = λ line image at count d few c. record {
     quiet = quiet_sent s 0 (shows line (readable image at count));
     ends = c.ends;
     numbers = c.numbers;
   };
   inodes = λ h inodes same p. record { same = p.same; numbers = other_inodes h inodes same p.numbers };
-  opened = λ h ino kind fd entry plain number free p. record {
+  opened = λ h ino kind fd entry plain number free moves p. record {
     same = same_call_in p;
     numbers = record { count = p.numbers.count; pipes = pipes_opened h.files h.pipes entry ino kind plain p.numbers.pipes };
   };
-  ends = λ h ino fd entry next_fd next_entry above within number free next_number next_free p. record {
+  ends = λ h ino fd entry next_fd next_entry above within number free next_number next_free moves p. record {
     same = same_call_in p;
     numbers = record {
       count = p.numbers.count;
@@ -186,7 +206,7 @@ calm_walks old s = record {
           (above, (let few = p.numbers.count in omega (arith, within, few))) p.numbers.pipes;
     };
   };
-  given = λ h fd free named number p. record {
+  given = λ h fd free named number moves p. record {
     same = same_call_in p;
     numbers = record {
       count = p.numbers.count;
@@ -200,7 +220,7 @@ calm_walks old s = record {
       pipes = pipes_change h.files h.pipes entry (with_offset offset) (λ file. refl) (λ file. refl) p.numbers.pipes;
     };
   };
-  dropped = λ h fd named p. dropped_calm old h fd p;
+  dropped = λ h fd named moves p. dropped_calm old h fd p;
   marked = λ h pipe p. record {
     same = p.same;
     numbers = record { count = p.numbers.count; pipes = pipes_marked h.files h.pipes pipe p.numbers.pipes };
@@ -211,14 +231,16 @@ calm_walks old s = record {
   };
   known = λ h entry is p. end_known h entry p.numbers.pipes is;
   console = λ h console p. record { same = p.same; numbers = record { count = p.numbers.count; pipes = p.numbers.pipes } };
-  enters = λ h dir p. record { same = same_call_in p; numbers = record { count = p.numbers.count; pipes = p.numbers.pipes } };
+  enters = λ h dir moves p. record { same = same_call_in p; numbers = record { count = p.numbers.count; pipes = p.numbers.pipes } };
   terminal = λ h tty p. record { same = p.same; numbers = record { count = p.numbers.count; pipes = p.numbers.pipes } };
+  signalled = λ h p. record { same = p.same; numbers = record { count = p.numbers.count; pipes = p.numbers.pipes } };
   stored = λ h m same p. record { same = p.same; numbers = record { count = p.numbers.count; pipes = p.numbers.pipes } };
 }
 
 -- A call in which a process slept goes on: until it sleeps again no call is waited in.
-pub resume_calm : (h : Handed) (s now : ℕ) → ((h.u.pending == 1) ≡ false
-    → (file_of h (slice_index h.u.call 0)).kind.pipe ≡ true) → HasNumbers h
+pub resume_calm : (h : Handed) (s now : ℕ)
+    → ((h.u.pending == LINE_READ) ≡ false → IsAwaiting h (slice_index h.u.call 0) (slice_index h.u.call 2) (slice_index h.u.call 3))
+    → HasNumbers h
     → Calm (without_pending h).u s (resumes h s now)
 resume_calm h s now has numbers =
     walk_resume (calm_walks (without_pending h).u s) h now has
@@ -233,31 +255,13 @@ closes_calm : (old : UArea) (s : ℕ) (h : Handed) (fd : ℕ) → 0 < slice_inde
     → CalmClosing old s (closes h fd)
 closes_calm old s h fd named p =
     let c : Calm old s (record { answer = Ret 0 0; state = (closes h fd).state; items = (closes h fd).items }) =
-    walk_closes (calm_walks old s) h fd 0 0 named p in
+    walk_closes (calm_walks old s) h fd 0 0 named tt p in
     record { quiet = c.quiet; calm = record { same = c.ends; numbers = c.numbers } }
 
 -- all numbers of a process, one after another
-more_closing : (old : UArea) (s : ℕ) (c : Closing) (fd : ℕ) → CalmClosing old s c → CalmClosing old s (then_closes c fd)
-more_closing old s c fd k = by (slice_index c.state.u.files fd == 0) refl
-  where
-    by : (none : Bool) → (slice_index c.state.u.files fd == 0) ≡ none
-        → CalmClosing old s (cond {A = Closing} none c (record {
-          state = (closes c.state fd).state;
-          items = c.items ++ (closes c.state fd).items;
-        }))
-    by true e = k
-    by false e =
-        let ne = eqb-false (slice_index c.state.u.files fd) 0 e in
-        let next = closes_calm old s c.state fd (omega (arith, ne)) k.calm in
-        record { quiet = quiet_append s c.items (closes c.state fd).items k.quiet next.quiet; calm = next.calm }
-
-all_closing : (old : UArea) (s : ℕ) (c : Closing) (fds : List ℕ) → CalmClosing old s c
-    → CalmClosing old s (fold then_closes c fds)
-all_closing old s c [] k = k
-all_closing old s c (fd ∷ fds) k = all_closing old s (then_closes c fd) fds (more_closing old s c fd k)
-
 pub close_all_calm : (h : Handed) (s : ℕ) → HasNumbers h → CalmClosing h.u s (close_all h)
-unfolding close_all
 close_all_calm h s numbers =
-    all_closing h.u s (record { state = h; items = [] }) (range_with_len 0 15)
+    closes_all (CalmClosing h.u s) (λ c fd named k.
+    let next = closes_calm h.u s c.state fd named k.calm in
+    record { quiet = quiet_append s c.items (closes c.state fd).items k.quiet next.quiet; calm = next.calm }) h
     (record { quiet = tt; calm = record { same = same_call h.u; numbers = numbers } })

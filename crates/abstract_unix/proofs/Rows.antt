@@ -60,7 +60,7 @@ plain_fine s seen w c (refuses v e) i = record { fine = i }
 plain_fine s seen w c (waits v rule pri chan same sleeping is range) i =
     let alive = same.dead ∙ runner_alive w.processes w.clock w.texts w.limit s seen.board i.turn in
     let asleep = changed_in w.processes w.clock w.texts w.limit s false seen (rule (process_of w s)) i alive same.size same.text in
-    record { fine = (subst (λ user. InCall s (not user) (seats_here (change w s rule)) seen) sleeping asleep, is, range (in_its_slot i.turn)) }
+    record { fine = (subst (λ user. InCall s (not user) (seats_here (change w s rule)) seen) sleeping.waits asleep, is, range (in_its_slot i.turn)) }
 plain_fine s seen w c (changes v rule d same pending rest) i =
     plain_fine s seen (change w s rule) c rest (kept_in w.processes w.clock w.texts w.limit s false seen (rule (process_of w s)) i same.dead same.size pending same.text)
 plain_fine s seen w c (due v tout d rest) i = plain_fine s seen (record w { clock = record w.clock { tout = tout } }) c rest i

@@ -7,6 +7,7 @@ use Rattle.std.specs.List.{position, position_from, range_with_len}
 use Rattle.std.proofs.lemmas.Iterator.Adapters.{position_from-zero}
 use Rattle.pick_rules.specs.Board.{Board}
 use Rattle.pick_rules.specs.Lawful.{Seen}
+use Rattle.u_area.specs.declared.layout.TheConstants.{NOTHING_PENDING}
 use Rattle.image_keep.specs.Kept.{clicks_of}
 use Rattle.log_laws.proofs.Seats.{Seat, Seats, seat_at, with_seat, InTurn, InCall}
 use Rattle.log_laws.proofs.Users.{free_users, more, less, unless_none, joined_users, left_users}
@@ -186,7 +187,7 @@ module _ (processes : List (Option Process)) (clock : Clock) (texts : List (Opti
       → InCall s calling (seats_in (set processes s (Some p)) clock texts limit) seen
   kept_in alive size pending text =
       subst (λ c. InCall s c (seats_in (set processes s (Some p)) clock texts limit) seen)
-      (ap (λ n. not (n == 0)) pending ∙ ap (λ x. x.calling) (runner_seat processes clock texts limit s seen.board i.turn) ∙ i.calls)
+      (ap (λ n. not (n == NOTHING_PENDING)) pending ∙ ap (λ x. x.calling) (runner_seat processes clock texts limit s seen.board i.turn) ∙ i.calls)
       (changed_in (alive ∙ runner_alive processes clock texts limit s seen.board i.turn) size text)
 
 -- each image has a u area

@@ -9,7 +9,7 @@ use Rattle.fs_codec.specs.declared.modes.TheConstants.{ISUID, ISGID}
 use Rattle.fs_tree.specs.Finding.{Finding, with_reference, find_in}
 use Rattle.u_area.specs.declared.area.UArea.{UArea}
 use Rattle.v6_base.specs.declared.errno.Errno.{Errno}
-use Rattle.sys_files.proofs.StepWalks.{put_back_count, finding_count}
+use Rattle.sys_files.proofs.NodeCounts.{put_back_count, finding_count}
 use Rattle.sys_procs.specs.declared.program.Program.{Program}
 use Rattle.sys_procs.specs.Process.{Process, no_process, image_of}
 use Rattle.sys_procs.specs.World.{World, process_of, change, without_process, with_inodes, let_go}
@@ -413,7 +413,7 @@ module _ (base : World) (s : ℕ) where
       let idle : Unit {0} → exec.Tested = λ program. exec.check out (must ETXTBSY (not (exec.is_busy now ino h))) planned in
       let good : Unit {0} → exec.Tested = λ read. exec.check out
       (must ENOEXEC ((head.done == 16) && exec.is_magic (plan_of h))) idle in
-      check_count {A = Unit {0}} n out (exec.unless_error head.error) good left (λ a.
+      check_count {A = Unit {0}} n out (exec.answer_to head.error) good left (λ a.
       check_count {A = Unit {0}} n out (must ENOEXEC ((head.done == 16) && exec.is_magic (plan_of h))) idle left (λ b.
       check_count {A = Unit {0}} n out (must ETXTBSY (not (exec.is_busy now ino h))) planned left (λ d.
       check_count {A = Plan} n out (exec.or_no_memory (plan_of h)) last left (λ plan.

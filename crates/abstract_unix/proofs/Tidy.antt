@@ -1,16 +1,18 @@
 -- What holds of a Unix between two turns, besides who sits where: open files count the numbers that name them, the pipes that are
 -- open have numbers that a channel may have, and who waits in a pipe can go on.
-use Rattle.std.proofs.Common.{◌≡◌, ◌≤◌, ◌==◌, ◌||◌, ◌∙◌, ℕ, Bool, true, false, length, get_or, Some, None, unwrap_or, slice_index, refl, ap}
-use Rattle.std.proofs.lemmas.Bool.{eqb-true}
+use Rattle.std.proofs.Common.{◌≡◌, ◌≤◌, ◌==◌, ℕ, true, false, length, get_or, Some, None, slice_index}
 use Rattle.open_files.specs.Files.{file_at}
-use Rattle.sys_files.specs.Handed.{no_file, file_of}
+use Rattle.u_area.specs.declared.layout.TheConstants.{LINE_READ}
+use Rattle.u_area.specs.Pending.{is_on_files}
 use Rattle.sys_files.specs.Sound.{numbers_of}
-use Rattle.sys_procs.specs.Process.{Process}
 use Rattle.abstract_unix.specs.Unix.{Unix, process_of}
-use Rattle.abstract_unix.specs.Calls.{handed_of, is_on_files}
-use Rattle.abstract_unix.specs.Whole.{Told, told_in, all_names, IsInPipe, CanGoOn}
+use Rattle.abstract_unix.specs.Calls.{handed_of}
+use Rattle.abstract_unix.specs.Whole.{Told, told_in, all_names, CanGoOn}
 use Rattle.abstract_unix.proofs.PipeNumbers.{HavePipes}
+use Rattle.sys_files.proofs.Walks.{IsAwaiting}
 use Rattle.abstract_unix.proofs.Quiet.{HasNumbers}
+use Rattle.abstract_unix.proofs.PendingRows.{awaited}
+use Rattle.abstract_unix.proofs.GoingOnLemmas.{handed_pends}
 
 pub record IsTidy (u : Unix) : Type 0 where
   pub numbers : (entry : ℕ) → numbers_of (file_at u.files entry) ≡ all_names (told_in u.processes) entry
@@ -26,21 +28,8 @@ tidy_numbers u s tidy = record { count = tidy.count; pipes = tidy.pipes }
 -- Who waits in a call on files, and not for keys, has an end of a pipe.
 pub tidy_end : (u : Unix) (s : ℕ) → IsTidy u → get_or u.processes s None ≡ Some (process_of u s)
     → (process_of u s).is_zombie ≡ false
-    → is_on_files (process_of u s).u.pending ≡ true → ((process_of u s).u.pending == 1) ≡ false
-    → (file_of (handed_of u (process_of u s)) (slice_index (process_of u s).u.call 0)).kind.pipe ≡ true
+    → is_on_files (process_of u s).u.pending ≡ true → ((process_of u s).u.pending == LINE_READ) ≡ false
+    → IsAwaiting (handed_of u (process_of u s)) (slice_index (process_of u s).u.call 0)
+    (slice_index (process_of u s).u.call 2) (slice_index (process_of u s).u.call 3)
 tidy_end u s tidy there lives on other =
-    by ((process_of u s).u.pending == 1) refl ((process_of u s).u.pending == 3) refl ((process_of u s).u.pending == 4) refl on
-  where
-    p : Process
-    p = process_of u s
-
-    end : IsInPipe u.files p → (file_of (handed_of u p) (slice_index p.u.call 0)).kind.pipe ≡ true
-    end own = ap (λ o. (unwrap_or o no_file).kind.pipe) own.there ∙ own.pipe
-
-    by : (a : Bool) → (p.u.pending == 1) ≡ a → (b : Bool) → (p.u.pending == 3) ≡ b → (c : Bool) → (p.u.pending == 4) ≡ c
-        → ((a || b) || c) ≡ true
-        → (file_of (handed_of u p) (slice_index p.u.call 0)).kind.pipe ≡ true
-    by true one b three c four e = absurd (cc (one, other))
-    by false one true three c four e = end (tidy.waits.reads s p there lives (eqb-true p.u.pending 3 three))
-    by false one false three true four e = end (tidy.waits.writes s p there lives (eqb-true p.u.pending 4 four))
-    by false one false three false four e = absurd (cc e)
+    awaited (handed_of u (process_of u s)) on (handed_pends u s tidy.waits there lives) other

@@ -11,10 +11,11 @@ use Rattle.pick_rules.specs.declared.row.Mode.TheVariants.{User, Kernel, Idle}
 use Rattle.pick_rules.specs.Lawful.{Seen}
 use Rattle.pick_rules.specs.Logged.{Stop, left_by}
 use Rattle.log_laws.proofs.Seats.{RunnerAt, Paused, Holds}
+use Rattle.u_area.specs.declared.layout.TheConstants.{NOTHING_PENDING}
 use Rattle.sys_files.specs.Sound.{numbers_of}
 use Rattle.open_files.specs.Files.{file_at}
 use Rattle.sys_procs.specs.Process.{Process, no_process}
-use Rattle.sys_procs.specs.Signals.{has_console, signalled, signalled_if, all_signalled}
+use Rattle.sys_procs.specs.Signals.{has_line, signalled, signalled_if, all_signalled}
 use Rattle.abstract_unix.specs.declared.ends.Ends.TheVariants.{AtEnd}
 use Rattle.abstract_unix.specs.Unix.{Unix, System, process_of, with_process}
 use Rattle.v6_base.specs.Trace.{Item, sent}
@@ -83,24 +84,24 @@ timed_held Kernel p = record { files = refl; dir = refl; dead = refl; pending = 
 timed_held Idle p = record { files = refl; dir = refl; dead = refl; pending = refl; call = refl }
 
 -- A key sends a signal to those who have the console.
-signalled_told : (n r : ℕ) (o : Option Process) → told_by (signalled_if has_console n r o) ≡ told_by o
+signalled_told : (n r : ℕ) (o : Option Process) → told_by (signalled_if (has_line 0) n r o) ≡ told_by o
 signalled_told n r None = refl
-signalled_told n r (Some p) = by (has_console r p)
+signalled_told n r (Some p) = by ((has_line 0) r p)
   where
     by : (b : Bool) → told_by (Some (cond b (signalled n p) p)) ≡ told_by (Some p)
     by true = refl
     by false = refl
 
-key_tidy : (keyed : Keyed) (u : Unix) → IsTidy u → IsTidy (with_key keyed u)
+key_tidy : (keyed : Keyed) (u : Unix) → IsTidy u → IsTidy (with_key 0 keyed u)
 key_tidy key.Nothing u tidy = tidy
 key_tidy key.Ready u tidy = tidy
 key_tidy key.Flushed u tidy = tidy
 key_tidy (key.Signal n) u tidy =
-    let told : told_in (all_signalled has_console n u.processes) ≡ told_in u.processes =
-    all_alike has_console n u.processes told_by (λ r o. signalled_told n r o) tidy.fifty in
+    let told : told_in (all_signalled (has_line 0) n u.processes) ≡ told_in u.processes =
+    all_alike (has_line 0) n u.processes told_by (λ r o. signalled_told n r o) tidy.fifty in
     record {
       numbers = λ entry. tidy.numbers entry ∙ ap (λ ts. all_names ts entry) (sym told);
-      fifty = length-map-range_with_len (λ r. signalled_if has_console n r (get_or u.processes r None)) 0 50;
+      fifty = length-map-range_with_len (λ r. signalled_if (has_line 0) n r (get_or u.processes r None)) 0 50;
       fifteen = λ s t e. tidy.fifteen s t (ap (λ ts. get_or ts s None) (sym told) ∙ e);
       waits = key_goes_on (key.Signal n) u tidy.waits;
       count = tidy.count;
@@ -171,8 +172,8 @@ tick_tidy u seen p tidy = by seen.board.table.running p.runner
         let at : get_or (set u.processes s (Some q)) s None ≡ Some q =
         get_or-set_same u.processes s (Some q) None (some_within u.processes s (process_of u s)
         (runs_at u s seen.board tidy t).there) in
-        let free : (process_of v s).u.pending ≡ 0 = ap (λ o. (unwrap_or o no_process).u.pending) at
-        ∙ eqb-true (process_of u s).u.pending 0 user in
+        let free : (process_of v s).u.pending ≡ NOTHING_PENDING = ap (λ o. (unwrap_or o no_process).u.pending) at
+        ∙ eqb-true (process_of u s).u.pending NOTHING_PENDING user in
         either_tidy (is_second u.clock) (delivers_due v s) (returns v) (due_tidy s v free k) k.tidy
 
     by : (o : Option ℕ) → RunnerAt (seats_of u) seen.board o → IsTidy (to o).unix
@@ -193,10 +194,10 @@ event_tidy Tick u seen h tidy ends =
     (sym (settled_ending what) ∙ ends))
 event_tidy (Byte byte) u seen h tidy ends =
     let m : System = system_at u seen in
-    let what : Happened = typed_of m byte in
+    let what : Happened = typed_of m 0 byte in
     let k : Typed = typed u.line byte in
-    let now : Unix = with_key k.keyed (record u { line = k.terminal }) in
-    let items : List Item = sent 0 k.shown ++ key_lines k.keyed u in
+    let now : Unix = with_key 0 k.keyed (record u { line = k.terminal }) in
+    let items : List Item = sent 0 k.shown ++ key_lines 0 k.keyed u in
     let none : what.log.stop ≡ None =
     shown_stop seen.board (map Show items ++ wakes (calls k.keyed) Keys)
     (shown_items items (wakes (calls k.keyed) Keys) (shown_wakes (calls k.keyed) Keys)) in

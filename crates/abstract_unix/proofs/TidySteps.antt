@@ -18,7 +18,9 @@ use Rattle.sig_core.specs.declared.numbers.TheConstants.{SIGSEG, SIGSYS, SIGINS,
 use Rattle.sig_core.specs.Signals.{handler_of, due}
 use Rattle.sig_core.specs.declared.psig.Delivered.TheVariants.{Ends, Caught}
 use Rattle.sig_core.specs.Delivery.{Delivery, makes_core, signal_stack, delivery, caught, pushed}
+use Rattle.u_area.specs.declared.layout.TheConstants.{NOTHING_PENDING, LINE_READ}
 use Rattle.u_area.specs.declared.area.UArea.{UArea}
+use Rattle.u_area.specs.Pending.{is_on_files}
 use Rattle.open_files.specs.Files.{file_at, times, shared}
 use Rattle.sys_files.specs.Handed.{Handed}
 use Rattle.sys_files.specs.Did.{Did}
@@ -28,7 +30,7 @@ use Rattle.sys_files.specs.Moving.{without_pending, resumes}
 use Rattle.sys_files.specs.Sound.{numbers_of}
 use Rattle.sys_files.proofs.CoreLemmas.{OverWith, core_keeps}
 use Rattle.sys_files.proofs.Counting.{IsCounted, counted_walks, close_all_counted}
-use Rattle.sys_files.proofs.StepWalks.{walk_resume}
+use Rattle.sys_files.proofs.Walks.{walk_resume}
 use Rattle.sys_procs.specs.Process.{Process, no_process, member_of, register, image_of}
 use Rattle.sys_procs.specs.World as world
 use Rattle.sys_procs.specs.World.{World, change, members}
@@ -47,7 +49,7 @@ use Rattle.abstract_unix.specs.declared.ending.Ending.TheVariants as ending
 use Rattle.abstract_unix.specs.Unix.{Unix, System, process_of, with_process}
 use Rattle.abstract_unix.specs.Errors.{error_number}
 use Rattle.abstract_unix.specs.Steps.{Steps, returns, signals}
-use Rattle.abstract_unix.specs.Calls.{handed_of, with_handed, world_of, with_world, given_area, refused_area, entered_area, words_passed, with_area, refuses, answers, did_by, came_by, shares, forks, grows, grown_by, grows_to, exits_with, asked, file_row, process_row, does_call, sysent_of, does_asked, is_on_files, resumed}
+use Rattle.abstract_unix.specs.Calls.{handed_of, with_handed, world_of, with_world, given_area, refused_area, entered_area, words_passed, with_area, refuses, answers, did_by, came_by, shares, forks, grows, grown_by, grows_to, exits_with, asked, file_row, process_row, does_call, sysent_of, does_asked, resumed}
 use Rattle.abstract_unix.specs.Turn.{machine_of, with_machine, faults, comes_to, instruction, is_user, passes_setd, begins_turn, turn}
 use Rattle.abstract_unix.specs.Delivery.{heeding, heeds, catches, signal_status, dumped, ends_after, ends_by, delivers_if, delivers_due, ends_by_ending}
 use Rattle.abstract_unix.specs.Whole.{Told, told_of, told_by, told_in, names, all_names}
@@ -56,11 +58,10 @@ use Rattle.abstract_unix.proofs.Sharing.{shared_numbers}
 use Rattle.abstract_unix.proofs.PipeNumbers.{shared_ends}
 use Rattle.abstract_unix.proofs.Dying.{closed_none}
 use Rattle.abstract_unix.proofs.Quiet.{HasNumbers, InCalm, same_call, other_inodes, Calm, CalmClosing, calm_walks, resume_calm, close_all_calm}
-use Rattle.abstract_unix.proofs.StepRows.{step_row}
+use Rattle.abstract_unix.proofs.FileRows.{walk_row}
 use Rattle.abstract_unix.proofs.Tidy.{IsTidy, tidy_numbers, tidy_end}
 use Rattle.abstract_unix.proofs.StillWorlds.{IsStill, still_row, still_resume, IsGone, gone_ended}
-use Rattle.abstract_unix.proofs.PendingRows.{Pends, row_pends, resume_pends, close_pends, core_pends}
-use Rattle.abstract_unix.proofs.NeverWaiting.{close_pending, core_pending}
+use Rattle.abstract_unix.proofs.PendingRows.{Pends, row_pends, resume_pends, close_user, core_user, close_pends, core_pends}
 use Rattle.abstract_unix.proofs.GoingOnLemmas.{AllWaited, user_waited, all_waited_put, world_goes_on, handed_pends, shared_goes_on}
 use Rattle.abstract_unix.proofs.WaitingRows.{row_waited, end_waited, resume_waited}
 use Rattle.abstract_unix.proofs.GoingOnSteps.{trapped_user}
@@ -115,7 +116,7 @@ module _ (s : ℕ) where
       none_is None e = refl
       none_is (Some p) e = absurd (cc e)
 
-  born : (u : Unix) (c : ℕ) → Runs s u → (process_of u s).u.pending ≡ 0 → get_or u.processes c None ≡ None → c < 50
+  born : (u : Unix) (c : ℕ) → Runs s u → (process_of u s).u.pending ≡ NOTHING_PENDING → get_or u.processes c None ≡ None → c < 50
       → Runs s (record (with_world u (with_child (world_of u) s c (next_pid (world_of u)))) {
         files =
             shared u.files (process_of u s).u.files;
@@ -160,7 +161,7 @@ module _ (s : ℕ) where
         lives = ap (λ (x : Process). x.is_zombie) is ∙ r.lives;
       }
 
-  pub runs_forks : (u : Unix) → (process_of u s).u.pending ≡ 0 → Runs s u → Runs s (forks u s).unix
+  pub runs_forks : (u : Unix) → (process_of u s).u.pending ≡ NOTHING_PENDING → Runs s u → Runs s (forks u s).unix
   unfolding fork_one
   runs_forks u free r = by (lowest is_none (members (world_of u))) refl
     where
@@ -196,8 +197,8 @@ module _ (s : ℕ) where
           (register (world.process_of (change (with_child w s c (next_pid w)) s past_word) s) 1)) refl refl refl refl passed
 
   -- A process ends: it has closed its files, and is told of no more.
-  user_held : (u : Unix) (h : Handed) → s < length u.processes → h.u.pending ≡ 0
-      → (process_of (with_handed u s h) s).u.pending ≡ 0
+  user_held : (u : Unix) (h : Handed) → s < length u.processes → h.u.pending ≡ NOTHING_PENDING
+      → (process_of (with_handed u s h) s).u.pending ≡ NOTHING_PENDING
   user_held u h low free =
       ap (λ o. (unwrap_or o no_process).u.pending)
       (get_or-set_same u.processes s
@@ -209,7 +210,7 @@ module _ (s : ℕ) where
       (get_or-set_same u.processes s
       (Some (record (process_of u s) { u = h.u; row = h.row; «data» = h.image.data; stack = h.image.stack })) None low)
 
-  ended_tidy : (u : Unix) (status : ℕ) → (process_of u s).u.pending ≡ 0
+  ended_tidy : (u : Unix) (status : ℕ) → (process_of u s).u.pending ≡ NOTHING_PENDING
       → ((entry : ℕ) → times (process_of u s).u.files entry ≡ 0) → Runs s u
       → IsTidy (with_world u (end_proc (world_of u) s status).state)
   ended_tidy u status free closed r =
@@ -234,7 +235,7 @@ module _ (s : ℕ) where
         pipes = r.tidy.pipes;
       }
 
-  pub exits_tidy : (u : Unix) (status : ℕ) → (process_of u s).u.pending ≡ 0 → Runs s u → IsTidy (exits_with u s status).unix
+  pub exits_tidy : (u : Unix) (status : ℕ) → (process_of u s).u.pending ≡ NOTHING_PENDING → Runs s u → IsTidy (exits_with u s status).unix
   exits_tidy u status free r =
       let h : Handed = handed_of u (process_of u s) in
       let c : Closing = close_all h in
@@ -245,7 +246,7 @@ module _ (s : ℕ) where
       let low = some_within u.processes s (process_of u s) r.there in
       let own = told_at u.processes s (process_of u s) r.there r.lives in
       let long : length c.state.u.files ≡ 15 = counted.long ∙ r.tidy.fifteen s (told_of (process_of u s)) own in
-      ended_tidy (with_handed u s c.state) status (user_held u c.state low (close_pending h ∙ free))
+      ended_tidy (with_handed u s c.state) status (user_held u c.state low (close_user h free))
       (λ entry. ap (λ l. times l entry) (held_files u c.state low) ∙ closed_none h entry long) now
 
   -- growth
@@ -285,7 +286,7 @@ module _ (s : ℕ) where
   leaves_runs : (steps : Steps) → Runs s steps.unix → Leaves s steps
   leaves_runs steps r = record { tidy = r.tidy; runs = λ e. r }
 
-  leaves_call : (u : Unix) (call : SystemCall) (args : List ℕ) → (process_of u s).u.pending ≡ 0 → Runs s u
+  leaves_call : (u : Unix) (call : SystemCall) (args : List ℕ) → (process_of u s).u.pending ≡ NOTHING_PENDING → Runs s u
       → Leaves s (does_call u s call args)
   leaves_call u Indirect args free r = leaves_runs (returns u) r
   leaves_call u Exit args free r = record {
@@ -297,17 +298,17 @@ module _ (s : ℕ) where
   leaves_call u (OnFiles call) args free r =
       let h : Handed = handed_of u (process_of u s) in
       let did : Did = file_row call h s args u.clock.time in
-      let calm : Calm h.u s did = step_row (calm_walks h.u s) call h args u.clock.time tt
+      let calm : Calm h.u s did = walk_row (calm_walks h.u s) call h args u.clock.time tt (λ moves. tt)
       (record { same = same_call h.u; numbers = tidy_numbers u s r.tidy }) in
       leaves_runs (did_by u s did)
-      (runs_did s u did (step_row (counted_walks h s) call h args u.clock.time tt (runs_counted s u r)) calm.numbers
+      (runs_did s u did (walk_row (counted_walks h s) call h args u.clock.time tt (λ moves. tt) (runs_counted s u r)) calm.numbers
       (row_pends call h s args u.clock.time free) r)
   leaves_call u (OnProcesses call) args free r =
       leaves_runs (came_by u s (process_row call (world_of u) s args))
       (runs_came s u (process_row call (world_of u) s args) (still_row (world_of u) s call (world_of u) args (runs_still s u r))
       (row_waited (world_of u) s free call args) r)
 
-  leaves_asked : (u : Unix) (a : Asked) (entry : Sysent) → (process_of u s).u.pending ≡ 0 → Runs s u
+  leaves_asked : (u : Unix) (a : Asked) (entry : Sysent) → (process_of u s).u.pending ≡ NOTHING_PENDING → Runs s u
       → Leaves s (does_asked u s a entry)
   leaves_asked u a entry free r =
       let p : Process = process_of u s in
@@ -327,14 +328,14 @@ module _ (s : ℕ) where
   leaves_faults u kind.Iot r = leaves_runs (signals u s SIGIOT) (runs_signals s u SIGIOT r)
   leaves_faults u kind.Emt r = leaves_runs (signals u s SIGEMT) (runs_signals s u SIGEMT r)
 
-  leaves_outcome : (u : Unix) (o : Outcome) → (process_of u s).u.pending ≡ 0 → Runs s u → Leaves s (comes_to u s o)
+  leaves_outcome : (u : Unix) (o : Outcome) → (process_of u s).u.pending ≡ NOTHING_PENDING → Runs s u → Leaves s (comes_to u s o)
   leaves_outcome u outcome.Next free r = record { tidy = r.tidy; runs = λ e. r }
   leaves_outcome u (outcome.Call number) free r =
       let a : Asked = asked (image_of u.texts (process_of u s)) (register (process_of u s) 7) number in leaves_asked u a
       (sysent_of a.number) free r
   leaves_outcome u (outcome.Fault k) free r = leaves_faults u k r
 
-  leaves_instruction : (u : Unix) → (process_of u s).u.pending ≡ 0 → Runs s u → Leaves s (instruction u s)
+  leaves_instruction : (u : Unix) → (process_of u s).u.pending ≡ NOTHING_PENDING → Runs s u → Leaves s (instruction u s)
   leaves_instruction u free r =
       let p : Process = process_of u s in
       let step : Stepped = instr (machine_of u.texts p) in
@@ -356,7 +357,7 @@ module _ (s : ℕ) where
       by : (b : Bool) → is_on_files (process_of u s).u.pending ≡ b
           → Leaves s (cond b (did_by u s did) (came_by u s (resume_proc (world_of u) s)))
       by true on =
-          let has : (h.u.pending == 1) ≡ false → _ = tidy_end u s r.tidy r.there r.lives on in
+          let has : (h.u.pending == LINE_READ) ≡ false → _ = tidy_end u s r.tidy r.there r.lives on in
           let calm : Calm (without_pending h).u s did = resume_calm h s u.clock.time has (tidy_numbers u s r.tidy) in
           leaves_runs (did_by u s did)
           (runs_did s u did (walk_resume (counted_walks h s) h u.clock.time has (runs_counted s u r)) calm.numbers
@@ -370,7 +371,7 @@ module _ (s : ℕ) where
   leaves_begun m r = by (is_user (process_of m.unix s)) refl
     where
       by : (b : Bool) → is_user (process_of m.unix s) ≡ b → Leaves s (cond b (instruction m.unix s) (resumed m.unix s))
-      by true user = leaves_instruction m.unix (eqb-true (process_of m.unix s).u.pending 0 user) r
+      by true user = leaves_instruction m.unix (eqb-true (process_of m.unix s).u.pending NOTHING_PENDING user) r
       by false user = leaves_resumed m.unix r
 
   -- A signal is delivered.
@@ -394,7 +395,7 @@ module _ (s : ℕ) where
   tidy_if true x y p q = p
   tidy_if false x y p q = q
 
-  core_tidy : (u : Unix) (sig : ℕ) → (process_of u s).u.pending ≡ 0 → Runs s u → IsTidy (ends_by u s sig).unix
+  core_tidy : (u : Unix) (sig : ℕ) → (process_of u s).u.pending ≡ NOTHING_PENDING → Runs s u → IsTidy (ends_by u s sig).unix
   core_tidy u sig free r =
       let h : Handed = handed_of u (process_of u s) in
       let core : Did = core_file h u.clock.time in
@@ -409,7 +410,7 @@ module _ (s : ℕ) where
       let now = runs_handed s u core.state counted.state calm.state.numbers (core_pends h u.clock.time free) r in
       tidy_if (makes_core sig) (ends_after u s sig core) (exits_with u s (signal_status u s sig))
       (exits_tidy s (with_handed u s core.state) (signal_status u s sig + cond (is_written core.answer) dumped 0)
-      (user_held s u core.state (some_within u.processes s (process_of u s) r.there) (core_pending h u.clock.time ∙ free)) now)
+      (user_held s u core.state (some_within u.processes s (process_of u s) r.there) (core_user h u.clock.time free)) now)
       (exits_tidy s u (signal_status u s sig) free r)
 
   caught_tidy : (u : Unix) (sig : ℕ) → Runs s u → Runs s (catches u s sig).unix
@@ -419,7 +420,7 @@ module _ (s : ℕ) where
       runs_put s grown.unix _ (delivered_held p sig (image_of grown.unix.texts p))
       (runs_grown s u (signal_stack (process_of u s).u) r)
 
-  pub due_tidy : (u : Unix) → (process_of u s).u.pending ≡ 0 → Runs s u → IsTidy (delivers_due u s).unix
+  pub due_tidy : (u : Unix) → (process_of u s).u.pending ≡ NOTHING_PENDING → Runs s u → IsTidy (delivers_due u s).unix
   unfolding delivers_due
   due_tidy u free r = by (due (process_of u s).row (process_of u s).u)
     where
@@ -429,7 +430,7 @@ module _ (s : ℕ) where
       now : Runs s (heeds u s)
       now = runs_put s u q (record { files = refl; dir = refl; dead = refl; pending = refl; call = refl }) r
 
-      user : (process_of (heeds u s) s).u.pending ≡ 0
+      user : (process_of (heeds u s) s).u.pending ≡ NOTHING_PENDING
       user = ap (λ o. (unwrap_or o no_process).u.pending) (get_or-set_same u.processes s (Some q) None
           (some_within u.processes s (process_of u s) r.there)) ∙ free
 
@@ -452,7 +453,7 @@ module _ (s : ℕ) where
       by : (e : Ending) → steps.ending ≡ e → IsTidy (ends_by_ending s steps e).unix
       by ending.Next is = begun.tidy
       by ending.Trapped is =
-          due_tidy steps.unix (eqb-true (process_of steps.unix s).u.pending 0
+          due_tidy steps.unix (eqb-true (process_of steps.unix s).u.pending NOTHING_PENDING
           (trapped_user m s r.tidy.waits r.there r.lives is)) (begun.runs is)
       by (ending.Slept pri chan) is = begun.tidy
       by ending.Ended is = begun.tidy

@@ -9,8 +9,10 @@ use Rattle.pick_rules.specs.Lawful.{Seen}
 use Rattle.log_laws.proofs.Fitting.{Apt}
 use Rattle.log_laws.proofs.Seats.{Seats, with_seat, InTurn, InCall, Paused, busy_agrees}
 use Rattle.log_laws.proofs.Lines.{seat_stays}
+use Rattle.u_area.specs.declared.layout.TheConstants.{NOTHING_PENDING, LINE_READ}
 use Rattle.u_area.specs.declared.area.UArea.{UArea}
-use Rattle.sys_files.specs.Handed.{Handed, file_of}
+use Rattle.u_area.specs.Pending.{is_on_files}
+use Rattle.sys_files.specs.Handed.{Handed}
 use Rattle.sys_files.specs.Moving.{resumes}
 use Rattle.sys_procs.specs.Process.{Process, register, image_of}
 use Rattle.sys_procs.specs.TextTable.{Text}
@@ -32,12 +34,13 @@ use Rattle.abstract_unix.specs.declared.calls.SystemCall.TheVariants.{Indirect, 
 use Rattle.abstract_unix.specs.declared.calls.Sysent.{Sysent}
 use Rattle.abstract_unix.specs.Unix.{Unix, process_of, with_process}
 use Rattle.abstract_unix.specs.Steps.{Steps}
-use Rattle.abstract_unix.specs.Calls.{handed_of, world_of, with_area, entered_area, words_passed, asked, did_by, came_by, shares, forks, file_row, process_row, does_call, sysent_of, does_asked, system_call, is_on_files, resumed}
+use Rattle.abstract_unix.specs.Calls.{handed_of, world_of, with_area, entered_area, words_passed, asked, did_by, came_by, shares, forks, file_row, process_row, does_call, sysent_of, does_asked, system_call, resumed}
 use Rattle.abstract_unix.specs.Turn.{machine_of, with_machine, faults, comes_to, instruction, is_user, passes_setd, begins_turn, turn}
 use Rattle.abstract_unix.proofs.Sitting.{seat_for, seats_in, seats_of, found_in, runner_seat, runner_there, runner_alive, put_in, kept_in, changed_in}
 use Rattle.abstract_unix.proofs.Steps.{AptSteps, Begun, AptBegun, returns_apt, signals_apt, answers_apt, came_apt}
 use Rattle.abstract_unix.proofs.Quiet.{HasNumbers, Calm, same_call, calm_walks, resume_calm}
-use Rattle.abstract_unix.proofs.StepRows.{step_row}
+use Rattle.sys_files.proofs.Walks.{IsAwaiting}
+use Rattle.abstract_unix.proofs.FileRows.{walk_row}
 use Rattle.abstract_unix.proofs.ProcessRows.{plain_row, resume_plain}
 use Rattle.abstract_unix.proofs.Rows.{FineComes, Calling, plain_fine}
 use Rattle.abstract_unix.proofs.Posting.{kill_fine}
@@ -50,7 +53,7 @@ use Rattle.abstract_unix.proofs.Tidy.{IsTidy, tidy_numbers, tidy_end}
 
 -- a row of a call on files
 calm_row : (call : FileCall) (h : Handed) (s : ℕ) (args : List ℕ) (now : ℕ) → HasNumbers h → Calm h.u s (file_row call h s args now)
-calm_row call h s args now numbers = step_row (calm_walks h.u s) call h args now tt (record { same = same_call h.u; numbers = numbers })
+calm_row call h s args now numbers = walk_row (calm_walks h.u s) call h args now tt (λ moves. tt) (record { same = same_call h.u; numbers = numbers })
 
 -- a row of a call on processes
 fine_row : (call : ProcessCall) (s : ℕ) (seen : Seen) (w : World) (args : List ℕ) → Calling s w seen → FineComes w.limit s seen (process_row call w s args)
@@ -121,10 +124,11 @@ module _ (s : ℕ) (seen : Seen) where
   resumed_apt u tidy p t = by (is_on_files (process_of u s).u.pending) refl
     where
       old : UArea
-      old = record (process_of u s).u { pending = 0; call = replicate 8 0 }
+      old = record (process_of u s).u { pending = NOTHING_PENDING; call = replicate 8 0 }
 
-      at_end : is_on_files (process_of u s).u.pending ≡ true → ((process_of u s).u.pending == 1) ≡ false
-          → (file_of (handed_of u (process_of u s)) (slice_index (process_of u s).u.call 0)).kind.pipe ≡ true
+      at_end : is_on_files (process_of u s).u.pending ≡ true → ((process_of u s).u.pending == LINE_READ) ≡ false
+          → IsAwaiting (handed_of u (process_of u s)) (slice_index (process_of u s).u.call 0)
+          (slice_index (process_of u s).u.call 2) (slice_index (process_of u s).u.call 3)
       at_end on other =
           tidy_end u s tidy (runner_there u.processes u.clock u.texts u.limit s seen.board t)
           (runner_alive u.processes u.clock u.texts u.limit s seen.board t) on other

@@ -1,48 +1,43 @@
 -- Calls on processes: who waits in a pipe afterwards waited in it before, and a call that comes to an answer waits for nothing.
-use Rattle.std.proofs.Common.{◌≡◌, ◌<◌, ◌≤◌, ◌&&◌, ◌||◌, ◌==◌, ◌∙◌, not, is_some, is_none, ℕ, nat_lt, nat_le, Bool, true, false, cond, List, [], length, get_or, set, map, Option, Some, None, slice_index, refl, sym, ap, subst, inl, inr, arith, option_map, unwrap_or}
+use Rattle.std.proofs.Common.{◌≡◌, ◌<◌, ◌≤◌, ◌&&◌, ◌==◌, ◌∙◌, not, is_none, ℕ, Bool, true, false, cond, List, [], length, get_or, set, map, Option, Some, None, slice_index, refl, sym, ap, subst, inl, inr, arith, option_map, unwrap_or}
 use Rattle.std.specs.Prelude.{Result, Ok, Err, bit_and, slice_index_or, slice_set}
 use Rattle.std.proofs.lemmas.Bool.{cases_lt, cases_eq}
 use Rattle.std.proofs.lemmas.List.{get_or_past, get_or-set_same, get_or-set_other, length-set}
 use Rattle.std.proofs.lemmas.List.FromFn.{get_or-map-range_with_len, length-map-range_with_len}
 use Rattle.std.proofs.Math.ListN.{get_or-map}
-use Rattle.v6_base.specs.Image.{Image}
 use Rattle.v6_base.specs.declared.entry.Entry.TheVariants.{Bare}
 use Rattle.v6_base.specs.declared.errno.Errno.{Errno}
-use Rattle.v6_base.specs.declared.errno.Errno.TheVariants.{EINTR}
 use Rattle.fs_codec.specs.Store.{Node}
 use Rattle.fs_codec.specs.declared.modes.TheConstants.{ISUID, ISGID}
 use Rattle.fs_tree.specs.Finding.{with_reference}
+use Rattle.u_area.specs.declared.layout.TheConstants.{NOTHING_PENDING}
 use Rattle.u_area.specs.declared.area.UArea.{UArea}
+use Rattle.u_area.specs.Pending.{is_on_files, IsPipeCall}
 use Rattle.seg_regs.specs.Sizes.{is_refused}
 use Rattle.pick_rules.specs.Effects as effect
-use Rattle.sig_core.specs.declared.numbers.TheConstants.{SIGKIL}
-use Rattle.sig_core.specs.Signals as signal
-use Rattle.proc_tab.specs.declared.child.Child.{Child}
-use Rattle.proc_tab.specs.declared.child.Child.TheVariants.{NoChild, Living, Dead}
 use Rattle.proc_tab.specs.Processes.{lowest}
-use Rattle.proc_tab.specs.Children.{child}
 use Rattle.sys_procs.specs.declared.program.Program.{Program}
-use Rattle.sys_procs.specs.Process.{Process, no_process, register, is_super}
+use Rattle.sys_procs.specs.Process.{Process, no_process}
 use Rattle.sys_procs.specs.World.{World, process_of, change, without_process, members, let_go}
 use Rattle.sys_procs.specs.TextTable.{entry_of, with_text, text_of}
 use Rattle.sys_procs.specs.Texts.{free_entry, new_text, with_user, with_entry, remaining, goes, without_text, xfree, xalloc, xalloc_by, leaves_text, is_sticky, shares_text, makes_text}
-use Rattle.sys_procs.specs.Comes.{Comes, fails, unless_due, does, logs}
+use Rattle.sys_procs.specs.Comes.{Comes, does, logs}
 use Rattle.sys_procs.specs.Tests.{node_at}
 use Rattle.sys_procs.specs.Stack.{first_stack}
 use Rattle.sys_procs.specs.Break.{sized, expands, clicks_up_to, break_at, grown_stack, grow, grown_or_not}
 use Rattle.sys_procs.specs.ExecFile.{Tested, tests, with_moved, data_read, reads_text, image_clicks, as_owner, in_its_group, begun_area, bared, begins, executes, begins_anew, loads, done_by, exec_file}
-use Rattle.sys_procs.specs.Ids.{pid_of, as_user, as_group, id_given, set_uid, get_uid, set_gid, get_gid, switches, no_op, nice_to}
-use Rattle.sys_procs.specs.Times.{time_now, set_time, stored, times_to, until_of, sleeping_until, with_sleeper, sleep_until, sleep_for}
-use Rattle.sys_procs.specs.Wait.{with_times_of, waiting, waits_for, wait_child}
+use Rattle.sys_procs.specs.Times.{with_time}
 use Rattle.sys_procs.specs.Fork.{copied, past_word, next_pid, with_child, fork_into, fork_one}
 use Rattle.sys_procs.specs.Exit.{slot_of, adopted, strays_adopted, ended, dead, dies, leaves, end_proc}
 use Rattle.sys_procs.specs.Resume.{awake, resume_proc}
-use Rattle.sys_procs.specs.Signals.{is_reached, meant_in, signalled, signalled_if, all_signalled, asking, kill_to, signal_set}
+use Rattle.sys_procs.specs.Signals.{is_reached, meant_in, signalled, signalled_if, all_signalled, kill_to}
 use Rattle.sys_procs.proofs.TestedSlots.{tests_processes}
 use Rattle.abstract_unix.specs.declared.calls.ProcessCall.{ProcessCall}
 use Rattle.abstract_unix.specs.declared.calls.ProcessCall.TheVariants as process
 use Rattle.abstract_unix.specs.Calls.{process_row}
-use Rattle.abstract_unix.proofs.PendingRows.{InPipe, is_sleep}
+use Rattle.abstract_unix.proofs.PendingRows.{is_sleep}
+use Rattle.abstract_unix.proofs.ProcessRows.{Plain, gives, refuses, waits, changes, due, nice, wakes, dated, buries, plain_row, resume_plain}
+use Rattle.v6_base.specs.declared.entry.Entry.{Entry}
 use Rattle.abstract_unix.proofs.GoingOnLemmas.{WaitedIn, AllWaited, waited_same, all_waited_same, all_waited_then, like_waited, apart_waited, user_waited, dead_waited, gone_waited, all_waited_put}
 
 -- What has a fact where a slot is set: the new one has it, and so has what is there where there is no such slot.
@@ -56,20 +51,23 @@ set_either P xs s x d new old = elim (cases_lt s (length xs)) [
 
 -- who is in a slot, if anybody, waits for nothing
 abbrev IsFreeIn : Option Process → Type 0
-IsFreeIn o = (unwrap_or o no_process).u.pending ≡ 0
+IsFreeIn o = (unwrap_or o no_process).u.pending ≡ NOTHING_PENDING
 
 module _ (ps : List (Option Process)) (s : ℕ) where
   -- A world in which the process that calls waits for nothing, and in which who waits in a pipe waited in it before.
   pub record IsFree (w : World) : Type 0 where
     pub waited : AllWaited ps w.processes
-    pub free : (process_of w s).u.pending ≡ 0
+    pub free : (process_of w s).u.pending ≡ NOTHING_PENDING
 
   pub record IsEased (c : Comes) : Type 0 where
     pub waited : AllWaited ps c.state.processes
-    pub user : is_sleep c.answer ≡ false → (process_of c.state s).u.pending ≡ 0
+    pub user : is_sleep c.answer ≡ false → (process_of c.state s).u.pending ≡ NOTHING_PENDING
 
   eased : (c : Comes) → IsFree c.state → IsEased c
   eased c is = record { waited = is.waited; user = λ awake. is.free }
+
+  logged_eased : (entry : Entry) (c : Comes) → IsEased c → IsEased (logs entry c)
+  logged_eased entry c e = record { waited = e.waited; user = e.user }
 
   eased_if : (b : Bool) (x y : Comes) → IsEased x → IsEased y → IsEased (cond b x y)
   eased_if true x y p q = p
@@ -83,7 +81,7 @@ module _ (ps : List (Option Process)) (s : ℕ) where
   }
 
   -- the process that calls is changed, and waits for nothing still
-  change_free : (w : World) (rule : Process → Process) → IsFree w → (rule (process_of w s)).u.pending ≡ 0
+  change_free : (w : World) (rule : Process → Process) → IsFree w → (rule (process_of w s)).u.pending ≡ NOTHING_PENDING
       → IsFree (change w s rule)
   change_free w rule is free = record {
     waited = all_waited_then ps w.processes _ is.waited (all_waited_put w.processes s (Some (rule (process_of w s))) (user_waited _ _ free));
@@ -101,51 +99,31 @@ module _ (ps : List (Option Process)) (s : ℕ) where
     ];
   }
 
-  -- it sleeps, and not in a pipe
-  asleep_eased : (w : World) (c : Comes) (rule : Process → Process) → IsFree w → (InPipe (rule (process_of w s)).u.pending → ⊥)
-      → is_sleep c.answer ≡ true
-      → c.state.processes ≡ (change w s rule).processes → IsEased c
-  asleep_eased w c rule is never asleep same = record {
-    waited = subst (AllWaited ps) (sym same)
-        (all_waited_then ps w.processes _ is.waited (all_waited_put w.processes s (Some (rule (process_of w s))) (apart_waited _ _ never)));
-    user = λ awake. absurd (cc (asleep, awake));
-  }
+  -- a call that wants no place for an image: where it sleeps, its process waits in no pipe
+  apart : (n : ℕ) → is_on_files n ≡ false → IsPipeCall n → ⊥
+  apart n none (inl three) = let on = ap is_on_files three in cc (none, on)
+  apart n none (inr four) = let on = ap is_on_files four in cc (none, on)
 
-  unless_eased : (w : World) (sleep : Comes) → IsFree w → IsEased sleep → IsEased (unless_due w s sleep)
-  unless_eased w sleep is p = eased_if (is_some (signal.due (process_of w s).row (process_of w s).u)) (fails w EINTR) sleep (eased _ is) p
-
-  five : InPipe 5 → ⊥
-  five (inl three) = absurd (omega (arith, three))
-  five (inr four) = absurd (omega (arith, four))
-
-  six : InPipe 6 → ⊥
-  six (inl three) = absurd (omega (arith, three))
-  six (inr four) = absurd (omega (arith, four))
-
-  -- wait
-  waits_eased : (w : World) (told : Child) → IsFree w → IsEased (waits_for w s told)
-  waits_eased w NoChild is = eased _ is
-  waits_eased w Living is = unless_eased w _ is (asleep_eased w _ waiting is six refl refl)
-  waits_eased w (Dead d) is =
-      let gone : World = without_process w d in
-      let cleared = cleared_free w d is in
-      eased _ (change_free gone (λ p. record p { u = with_times_of p.u (process_of w d).u }) cleared cleared.free)
-
-  wait_eased : (w : World) → IsFree w → IsEased (wait_child w s)
-  unfolding wait_child
-  wait_eased w is = waits_eased w (child (members w) (process_of w s).row.pid) is
-
-  -- sleep
-  until_eased : (w : World) (until : ℕ) → IsFree w → IsEased (sleep_until w s until)
-  unfolding sleep_until
-  until_eased w until is =
-      let later : World = with_sleeper w until in
-      let same = same_free w later refl is in
-      eased_if (nat_le until w.clock.time) _ _ (eased _ is) (unless_eased later _ same (asleep_eased later _ (sleeping_until until) same five refl refl))
-
-  stored_eased : (w : World) (o : Option Image) → IsFree w → IsEased (stored w s o)
-  stored_eased w None is = eased _ is
-  stored_eased w (Some image) is = eased _ (change_free w (λ p. record p { «data» = image.data; stack = image.stack }) is is.free)
+  plain_eased : (w : World) (c : Comes) → Plain s w c → IsFree w → IsEased c
+  plain_eased w c (gives v r0 r1) is = eased _ is
+  plain_eased w c (refuses v e) is = eased _ is
+  plain_eased w c (waits v rule pri chan same sleeping sleep range) is =
+      let q : Process = rule (process_of w s) in
+      record {
+        waited = all_waited_then ps w.processes _ is.waited
+            (all_waited_put w.processes s (Some q) (apart_waited _ q (apart q.u.pending sleeping.apart)));
+        user = λ awake. absurd (cc awake);
+      }
+  plain_eased w c (changes v rule d same pending rest) is =
+      plain_eased (change w s rule) c rest (change_free w rule is (pending ∙ is.free))
+  plain_eased w c (due v tout d rest) is =
+      plain_eased (record w { clock = record w.clock { tout = tout } }) c rest (same_free w _ refl is)
+  plain_eased w c (nice v value d range rest) is = logged_eased _ d (plain_eased w d rest is)
+  plain_eased w c (wakes v chan d range rest) is = logged_eased _ d (plain_eased w d rest is)
+  plain_eased w c (dated v time d range rest) is =
+      logged_eased _ d (plain_eased (with_time w time) d rest (same_free w _ refl is))
+  plain_eased w c (buries v k d grave rest) is =
+      logged_eased _ d (plain_eased (without_process w k) d rest (cleared_free w k is))
 
   -- exec: a text goes, and another one comes
   let_go_free : (b : Bool) (w : World) (ino : ℕ) → IsFree w → IsFree (cond b (let_go w ino) w)
@@ -210,7 +188,7 @@ module _ (ps : List (Option Process)) (s : ℕ) where
       let begun : Process = record p { u = begun_area u program; «data» = read; stack = first_stack program.arguments } in
       group_pending node (as_owner node begun) ∙ owner_pending node begun
 
-  executes_eased : (w : World) (u : UArea) (program : Program) → IsFree w → u.pending ≡ 0 → IsEased (executes w s u program)
+  executes_eased : (w : World) (u : UArea) (program : Program) → IsFree w → u.pending ≡ NOTHING_PENDING → IsEased (executes w s u program)
   executes_eased w u program is none =
       let m = data_read w s program in
       let read : World = with_moved w program.ino m in
@@ -218,7 +196,7 @@ module _ (ps : List (Option Process)) (s : ℕ) where
       let begun = change_free read rule (same_free w read refl is) (begins_pending u (process_of read s) (node_at w program.ino) program m.memory.data ∙ none) in
       eased _ (same_free (change read s rule) _ refl begun)
 
-  begins_eased : (w : World) (u : UArea) (program : Program) → IsFree w → u.pending ≡ 0 → IsEased (begins_anew w s u program)
+  begins_eased : (w : World) (u : UArea) (program : Program) → IsFree w → u.pending ≡ NOTHING_PENDING → IsEased (begins_anew w s u program)
   begins_eased w u program is none =
       let places : World → Bool → Comes = λ placed new.
       does (effect.Image s (image_clicks program.plan) placed) (executes (reads_text new placed s program) s u program) in
@@ -318,43 +296,23 @@ module _ (ps : List (Option Process)) (s : ℕ) where
 
   -- each row
   row_eased : (call : ProcessCall) (w : World) (args : List ℕ) → IsFree ps s w → IsEased ps s (process_row call w s args)
-  unfolding pid_of set_uid get_uid set_gid get_gid switches no_op nice_to signal_set time_now set_time times_to sleep_for
-  row_eased process.Wait w a is = wait_eased ps s w is
   row_eased process.Exec w a is = exec_eased ps s w (slice_index a 0) (slice_index a 1) is
-  row_eased process.Time w a is = eased ps s _ is
   row_eased process.Break w a is = break_eased ps s w (slice_index a 0) is
-  row_eased process.Getpid w a is = eased ps s _ is
-  row_eased process.Setuid w a is =
-      eased_if ps s ((id_given (process_of w s) == (process_of w s).u.ruid) || is_super (process_of w s)) _ _ (eased ps s _ (change_free ps s w (as_user (id_given (process_of w s))) is is.free)) (eased ps s _ is)
-  row_eased process.Getuid w a is = eased ps s _ is
-  row_eased process.Stime w a is = eased_if ps s (is_super (process_of w s)) _ _ (eased ps s _ (same_free ps s w _ refl is)) (eased ps s _ is)
-  row_eased process.Smdate w a is = eased ps s _ is
-  row_eased process.Nice w a is =
-      eased_if ps s (nat_lt (register (process_of w s) 0) 32768) _ _ (eased ps s _ is) (eased_if ps s (is_super (process_of w s)) _ _ (eased ps s _ is) (eased ps s _ is))
-  row_eased process.Sleep w a is = until_eased ps s w _ is
   row_eased process.Kill w a is = kill_eased w (slice_index a 0) is
-  row_eased process.Csw w a is = eased ps s _ is
-  row_eased process.Times w a is = stored_eased ps s w _ is
-  row_eased process.Setgid w a is =
-      eased_if ps s ((id_given (process_of w s) == (process_of w s).u.rgid) || is_super (process_of w s)) _ _ (eased ps s _ (change_free ps s w (as_group (id_given (process_of w s))) is is.free)) (eased ps s _ is)
-  row_eased process.Getgid w a is = eased ps s _ is
-  row_eased process.Signal w a is =
-      let n = slice_index a 0 in
-      eased_if ps s (signal.is_signal n && not (n == SIGKIL)) _ _ (eased ps s _ (change_free ps s w (asking n (slice_index a 1)) is is.free)) (eased ps s _ is)
+  row_eased call w a is = plain_eased ps s w _ (plain_row call tt s w a) is
 
   -- a sleep or a wait that goes on
   resume_eased : (w : World) → AllWaited ps w.processes → IsEased ps s (resume_proc w s)
-  unfolding resume_proc
   resume_eased w waited =
       let now : World = change w s awake in
       let is : IsFree ps s now = record {
         waited = all_waited_then ps w.processes _ waited (all_waited_put w.processes s (Some (awake (process_of w s))) (user_waited _ _ refl));
         free = awake_free w.processes;
       } in
-      unless_eased ps s now _ is (eased_if ps s _ _ _ (until_eased ps s now (until_of (process_of w s)) is) (wait_eased ps s now is))
+      plain_eased ps s now _ (resume_plain s w) is
     where
       awake_free : (qs : List (Option Process))
-          → (unwrap_or (get_or (set qs s (Some (awake (unwrap_or (get_or qs s None) no_process)))) s None) no_process).u.pending ≡ 0
+          → (unwrap_or (get_or (set qs s (Some (awake (unwrap_or (get_or qs s None) no_process)))) s None) no_process).u.pending ≡ NOTHING_PENDING
       awake_free qs =
           let q : Option Process = Some (awake (unwrap_or (get_or qs s None) no_process)) in
           elim (cases_lt s (length qs)) [
@@ -421,7 +379,7 @@ module _ (ps : List (Option Process)) (s : ℕ) where
       freed_waited (leaves w s status) (process_of w s).text (same_free ps s (change w s (ended status)) (leaves w s status) refl left)
 
 -- What each call leaves of a world whose process waits for nothing.
-module _ (w : World) (s : ℕ) (free : (process_of w s).u.pending ≡ 0) where
+module _ (w : World) (s : ℕ) (free : (process_of w s).u.pending ≡ NOTHING_PENDING) where
   begun : IsFree w.processes s w
   begun = record { waited = all_waited_same w.processes; free = free }
 
@@ -429,13 +387,13 @@ module _ (w : World) (s : ℕ) (free : (process_of w s).u.pending ≡ 0) where
   row_waited call args = (row_eased w.processes s call w args begun).waited
 
   pub process_user : (call : ProcessCall) (args : List ℕ) → is_sleep (process_row call w s args).answer ≡ false
-      → (process_of (process_row call w s args).state s).u.pending ≡ 0
+      → (process_of (process_row call w s args).state s).u.pending ≡ NOTHING_PENDING
   process_user call args awake = (row_eased w.processes s call w args begun).user awake
 
   pub fork_waited : AllWaited w.processes (fork_one w s).state.processes
   fork_waited = (fork_eased w.processes s w begun).waited
 
-  pub fork_user : is_sleep (fork_one w s).answer ≡ false → (process_of (fork_one w s).state s).u.pending ≡ 0
+  pub fork_user : is_sleep (fork_one w s).answer ≡ false → (process_of (fork_one w s).state s).u.pending ≡ NOTHING_PENDING
   fork_user awake = (fork_eased w.processes s w begun).user awake
 
   pub end_waited : (status : ℕ) → AllWaited w.processes (end_proc w s status).state.processes
@@ -445,7 +403,7 @@ module _ (w : World) (s : ℕ) (free : (process_of w s).u.pending ≡ 0) where
   grown_waited sp = (grown_eased w.processes s w sp begun).waited
 
   pub grown_user : (sp : ℕ) → is_sleep (grown_or_not w s (grow w s sp)).answer ≡ false
-      → (process_of (grown_or_not w s (grow w s sp)).state s).u.pending ≡ 0
+      → (process_of (grown_or_not w s (grow w s sp)).state s).u.pending ≡ NOTHING_PENDING
   grown_user sp awake = (grown_eased w.processes s w sp begun).user awake
 
 -- A sleep or a wait goes on, whatever was waited for.
@@ -453,5 +411,5 @@ pub resume_waited : (w : World) (s : ℕ) → AllWaited w.processes (resume_proc
 resume_waited w s = (resume_eased w.processes s w (all_waited_same w.processes)).waited
 
 pub resumed_user : (w : World) (s : ℕ) → is_sleep (resume_proc w s).answer ≡ false
-    → (process_of (resume_proc w s).state s).u.pending ≡ 0
+    → (process_of (resume_proc w s).state s).u.pending ≡ NOTHING_PENDING
 resumed_user w s awake = (resume_eased w.processes s w (all_waited_same w.processes)).user awake

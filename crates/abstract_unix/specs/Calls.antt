@@ -1,9 +1,10 @@
 -- The system calls that are built: section II of the UNIX Programmer's Manual; Lions' Commentary, `sysent` and `trap`.
-use Rattle.std.specs.Prelude.{ℕ, ◌+◌, ◌-◌, ◌*◌, ◌%◌, ◌==◌, ◌&&◌, ◌||◌, nat_lt, nat_le, Bool, true, false, if◌then◌else◌, List, [], ◌∷◌, ◌++◌, map, find, Option, Some, None, Result, Ok, Err, slice_index, slice_set}
+use Rattle.std.specs.Prelude.{ℕ, zero, suc, ◌+◌, ◌-◌, ◌*◌, ◌%◌, ◌==◌, ◌&&◌, nat_lt, nat_le, true, false, if◌then◌else◌, List, [], ◌∷◌, ◌++◌, map, find, Option, Some, None, Result, Ok, Err, slice_index, slice_set}
 use Rattle.std.specs.Option.{option_map, unwrap_or}
 use Rattle.v6_base.specs.declared.errno.Errno.TheVariants.{ENOSYS}
 use Rattle.v6_base.specs.Access.{load_word}
 use Rattle.v6_base.specs.Image.{Image}
+use Rattle.v6_base.specs.Trace.{Item, Log, sent, line_bytes, entries_of}
 use Rattle.v6_base.specs.declared.answer.Answer.{Answer}
 use Rattle.v6_base.specs.declared.answer.Answer.TheVariants.{Ret, Fail, Sleep}
 use Rattle.v6_base.specs.declared.space.Trap.{Trap}
@@ -11,6 +12,9 @@ use Rattle.pick_rules.specs.Effects.{Show, lifted}
 use Rattle.open_files.specs.declared.file.OpenFile.{OpenFile}
 use Rattle.open_files.specs.Files.{shared}
 use Rattle.u_area.specs.declared.area.UArea.{UArea}
+use Rattle.u_area.specs.Pending.{is_on_files}
+use Rattle.image_keep.specs.Running.{with_state}
+use Rattle.sys_files.specs.declared.devices.TheConstants.{LINES}
 use Rattle.sys_files.specs.Handed.{Handed}
 use Rattle.sys_files.specs.Did.{Did}
 use Rattle.sys_files.specs.Descriptors.{Closing, dup_file, close_file, close_all}
@@ -21,7 +25,7 @@ use Rattle.sys_files.specs.Names.{chdir_to, chmod_to, chown_to, sync_all}
 use Rattle.sys_files.specs.Opening.{open_file}
 use Rattle.sys_files.specs.Piping.{pipe_new}
 use Rattle.sys_files.specs.Status.{stat_file, stat_open}
-use Rattle.sys_procs.specs.Process.{Process, with_state, register, image_of}
+use Rattle.sys_procs.specs.Process.{Process, register, image_of}
 use Rattle.sys_procs.specs.TextTable.{marks_of}
 use Rattle.sys_procs.specs.World.{World}
 use Rattle.sys_procs.specs.Comes.{Comes}
@@ -192,9 +196,17 @@ process_row process.Setgid w slot a = set_gid w slot
 process_row process.Getgid w slot a = get_gid w slot
 process_row process.Signal w slot a = signal_set w slot (slice_index a 0) (slice_index a 1)
 
+-- What a call on files shows goes out when it is done: the bytes of each line, lowest line first, and then the lines of the log.
+abbrev pub bytes_from : ℕ → ℕ → List Item → List Item
+bytes_from l zero items = []
+bytes_from l (suc count) items = sent l (line_bytes l items) ++ bytes_from (suc l) count items
+
+abbrev pub in_order : List Item → List Item
+in_order items = bytes_from 0 LINES items ++ map Log (entries_of items)
+
 -- a call on files that has been entered, by its row
 abbrev pub did_by : Unix → ℕ → Did → Steps
-did_by u slot did = after_effects (map Show did.items) (answers (with_handed u slot did.state) slot did.answer)
+did_by u slot did = after_effects (map Show (in_order did.items)) (answers (with_handed u slot did.state) slot did.answer)
 
 -- a call on processes that has been entered, by its row
 abbrev pub came_by : Unix → ℕ → Comes → Steps
@@ -235,7 +247,7 @@ exits_with u slot status =
     let now : Unix = with_handed u slot closed.state in
     let c : Comes = end_proc (world_of now) slot status in
     record {
-      effects = map Show closed.items ++ map (lifted (with_world now)) c.effects;
+      effects = map Show (in_order closed.items) ++ map (lifted (with_world now)) c.effects;
       unix = with_world now c.state;
       ending = Ended;
     }
@@ -328,10 +340,7 @@ system_call number u slot =
     let a : Asked = asked (image_of u.texts p) (register p 7) number in
     does_asked u slot a (sysent_of a.number)
 
--- A process that slept in a call goes on with it: 1 is a read of the console, 3 a read and 4 a write of a pipe, 5 a sleep, 6 a wait.
-abbrev pub is_on_files : ℕ → Bool
-is_on_files pending = (pending == 1) || (pending == 3) || (pending == 4)
-
+-- A process that slept in a call goes on with it.
 abbrev pub resumed : Unix → ℕ → Steps
 resumed u slot =
     if is_on_files (process_of u slot).u.pending then did_by u slot (resumes (handed_of u (process_of u slot)) slot u.clock.time)

@@ -3,7 +3,7 @@
 use Rattle.std.specs.Prelude.{ℕ, ◌+◌, ◌%◌, ◌^◌, ◌==◌, ◌&&◌, Bool, true, false, List, [], ◌∷◌, ◌++◌, map, Option, Some, None, if◌then◌else◌}
 use Rattle.v6_base.specs.Trace.{Item, Log, sent}
 use Rattle.v6_base.specs.declared.entry.Chan.{Chan}
-use Rattle.v6_base.specs.declared.entry.Chan.TheVariants.{Tout, Keys}
+use Rattle.v6_base.specs.declared.entry.Chan.TheVariants.{Tout}
 use Rattle.v6_base.specs.declared.entry.Entry.{Entry}
 use Rattle.v6_base.specs.declared.entry.Entry.TheVariants.{TickUser, TickKernel, TickIdle, Wake}
 use Rattle.tty_line.specs.declared.line.Keyed.{Keyed}
@@ -16,8 +16,9 @@ use Rattle.pick_rules.specs.Logged.{nothing_logged, logged}
 use Rattle.u_area.specs.declared.area.UArea.{UArea}
 use Rattle.sys_procs.specs.Process.{Process}
 use Rattle.sys_procs.specs.World.{Clock}
-use Rattle.abstract_unix.specs.Unix.{Unix, System, process_of, with_process}
-use Rattle.sys_procs.specs.Signals.{has_console, meant_in, all_signalled, signal_lines}
+use Rattle.sys_files.specs.Handed.{keys_of}
+use Rattle.abstract_unix.specs.Unix.{Unix, System, terminal_at, with_terminal, process_of, with_process}
+use Rattle.sys_procs.specs.Signals.{has_line, meant_in, all_signalled, signal_lines}
 use Rattle.abstract_unix.specs.Steps.{Steps, returns}
 use Rattle.abstract_unix.specs.Delivery.{delivers_due}
 use Rattle.abstract_unix.specs.Turn.{Happened, happens, passes, is_user}
@@ -102,24 +103,25 @@ calls Ready = true
 calls Flushed = true
 calls (Signal n) = true
 
--- a key that sends a signal to those who have the console, and the lines of the log for it
-abbrev pub with_key : Keyed → Unix → Unix
-with_key Nothing u = u
-with_key Ready u = u
-with_key Flushed u = u
-with_key (Signal n) u = record u { processes = all_signalled has_console n u.processes }
+-- a key that sends a signal to those who have the line, and the lines of the log for it
+abbrev pub with_key : ℕ → Keyed → Unix → Unix
+with_key l Nothing u = u
+with_key l Ready u = u
+with_key l Flushed u = u
+with_key l (Signal n) u = record u { processes = all_signalled (has_line l) n u.processes }
 
-abbrev pub key_lines : Keyed → Unix → List Item
-key_lines Nothing u = []
-key_lines Ready u = []
-key_lines Flushed u = []
-key_lines (Signal n) u = signal_lines n (meant_in has_console u.processes)
+abbrev pub key_lines : ℕ → Keyed → Unix → List Item
+key_lines l Nothing u = []
+key_lines l Ready u = []
+key_lines l Flushed u = []
+key_lines l (Signal n) u = signal_lines n (meant_in (has_line l) u.processes)
 
-abbrev pub typed_of : System → ℕ → Happened
-typed_of m byte =
-    let k : Typed = typed m.unix.line byte in
-    happens (with_key k.keyed (record m.unix { line = k.terminal }))
-    (logged m.board (map Show (sent 0 k.shown ++ key_lines k.keyed m.unix) ++ wakes (calls k.keyed) Keys))
+-- a byte is typed on a line
+abbrev pub typed_of : System → ℕ → ℕ → Happened
+typed_of m l byte =
+    let k : Typed = typed (terminal_at m.unix l) byte in
+    happens (with_key l k.keyed (with_terminal m.unix l k.terminal))
+    (logged m.board (map Show (sent l k.shown ++ key_lines l k.keyed m.unix) ++ wakes (calls k.keyed) (keys_of l)))
 
 abbrev pub switched_of : System → ℕ → Happened
 switched_of m word = happens (record m.unix { switches = word }) (nothing_logged m.board)

@@ -72,7 +72,7 @@ pub data Event : Type 0 where
 abbrev pub happened : Event → System → Happened
 happened Slot m = slot_of m m.board.table.running
 happened Tick m = tick_of m
-happened (Byte byte) m = typed_of m byte
+happened (Byte byte) m = typed_of m 0 byte
 happened (Switch word) m = switched_of m word
 
 -- and what the event comes to: the switches let nobody settle

@@ -18,7 +18,9 @@ use Rattle.pick_rules.specs.Apply.{applied}
 use Rattle.pick_rules.specs.Effects.{Effect, Show}
 use Rattle.pick_rules.specs.Logged.{Logged, Stop, nothing_logged, logged, left_by}
 use Rattle.swap_sched.specs.Pass.{pass, over}
-use Rattle.sys_procs.specs.Process.{Process, with_state, image_of}
+use Rattle.u_area.specs.declared.layout.TheConstants.{NOTHING_PENDING}
+use Rattle.image_keep.specs.Running.{with_state}
+use Rattle.sys_procs.specs.Process.{Process, image_of}
 use Rattle.abstract_unix.specs.declared.ending.Ending.{Ending}
 use Rattle.abstract_unix.specs.declared.ending.Ending.TheVariants as ending
 use Rattle.abstract_unix.specs.declared.ends.Ends.{Ends}
@@ -72,7 +74,7 @@ instruction u slot =
 
 -- a process is in user mode, where it executes instructions, while it has no call to go on with
 abbrev pub is_user : Process → Bool
-is_user p = p.u.pending == 0
+is_user p = p.u.pending == NOTHING_PENDING
 
 abbrev pub begins_turn : System → ℕ → Steps
 begins_turn m slot = if is_user (process_of m.unix slot) then instruction m.unix slot else resumed m.unix slot

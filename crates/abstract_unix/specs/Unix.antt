@@ -17,7 +17,7 @@ pub record Unix : Type 0 where
   pub files : List (Option OpenFile)  -- the table of open files, with 100 entries
   pub pipes : List Pipe  -- that are open: how far each has been read, and which of its ends wait
   pub texts : List (Option Text)  -- 40 entries
-  pub line : Terminal  -- the console
+  pub line : Terminal  -- the one that there is, which is line 0: the console
   pub clock : Clock
   pub switches : ℕ  -- the console's
   pub last_pid : ℕ  -- the number that was given last to a process
@@ -34,6 +34,13 @@ pub data Phase : Type 0 where
   Started : Phase
   Stopped : Phase  -- it has come to a panic, and takes no event any more
   Finished : Phase  -- all that has changed is on the disk
+
+-- the terminal of a line, and the Unix with another in its place
+abbrev pub terminal_at : Unix → ℕ → Terminal
+terminal_at u l = u.line
+
+abbrev pub with_terminal : Unix → ℕ → Terminal → Unix
+with_terminal u l t = record u { line = t }
 
 abbrev pub process_at : Unix → ℕ → Option Process
 process_at u slot = slice_index_or u.processes slot None

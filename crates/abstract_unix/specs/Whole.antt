@@ -3,6 +3,7 @@ use Rattle.std.specs.Prelude.{◌≡◌, ◌≤◌, ℕ, true, false, ◌+◌, �
 use Rattle.std.specs.List.{sum_by}
 use Rattle.open_files.specs.declared.file.OpenFile.{OpenFile}
 use Rattle.open_files.specs.Files.{file_at, times}
+use Rattle.u_area.specs.declared.layout.TheConstants.{PIPE_READ, PIPE_WRITE}
 use Rattle.pipe_ends.specs.declared.ends.Pipe.{Pipe}
 use Rattle.sys_files.specs.Pipes.{ArePipes}
 use Rattle.sys_files.specs.Sound.{is_of, numbers_of}
@@ -66,5 +67,5 @@ pub record IsInPipe (files : List (Option OpenFile)) (p : Process) : Type 0 wher
   pub left : slice_index p.u.call 3 ≤ slice_index p.u.call 2
 
 pub record CanGoOn (u : Unix) : Type 0 where
-  pub reads : (s : ℕ) (p : Process) → process_at u s ≡ Some p → p.is_zombie ≡ false → p.u.pending ≡ 3 → IsInPipe u.files p
-  pub writes : (s : ℕ) (p : Process) → process_at u s ≡ Some p → p.is_zombie ≡ false → p.u.pending ≡ 4 → IsInPipe u.files p
+  pub reads : (s : ℕ) (p : Process) → process_at u s ≡ Some p → p.is_zombie ≡ false → p.u.pending ≡ PIPE_READ → IsInPipe u.files p
+  pub writes : (s : ℕ) (p : Process) → process_at u s ≡ Some p → p.is_zombie ≡ false → p.u.pending ≡ PIPE_WRITE → IsInPipe u.files p

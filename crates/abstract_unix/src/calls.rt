@@ -1,8 +1,8 @@
 //! The system calls that are built, in the order of their numbers: section II of the manual; `sysent` in Lions'
 //! Commentary, `sysent.c`.
-ghost use Rattle.std.specs.Prelude.{◌≡◌, ◌<◌, ◌≤◌, ◌⊎◌, Some, None, IfOk, IfErr};
+ghost use Rattle.std.specs.Prelude.{◌≡◌, ◌≢◌, ◌<◌, ◌≤◌, ◌⊎◌, Some, None, IfOk, IfErr};
 ghost use Rattle.v6_base.specs.Trace.{Took};
-ghost use Rattle.fs_laws.specs.Rest.{SameRest};
+ghost use Rattle.fs_nodes.specs.FileSystem.{SameRest};
 ghost use Rattle.sys_files.specs.Handed as parts;
 ghost use Rattle.sys_files.specs.Sound.{IsSound};
 ghost use Rattle.sys_files.specs.Does.{Does};
@@ -208,7 +208,7 @@ pub fn do_file_call<S: Space, T: Trace>(
         (file_row call (parts.handed files.old u.old row.old (S.image space.old)) slot args now) }
     ensures frame { T.leads_to trace.old trace.new }
     ensures memory { S.rest space.new ≡ S.rest space.old }
-    ensures blocks { SameRest files.old.tree.nodes.blocks files.new.tree.nodes.blocks }
+    ensures blocks { SameRest files.old.tree.nodes files.new.tree.nodes }
 {
     match call {
         FileCall::Read => read_file(files, slot, u, row, space, args, now, trace),
@@ -233,8 +233,48 @@ pub fn do_file_call<S: Space, T: Trace>(
     }
 }
 
+/// Does a call on processes other than exec(II): the marks of the texts stay.
+#[inline(always)]
+fn do_other_call<T: Trace>(
+    call: ProcessCall,
+    p: &mut Procs,
+    tree: &mut Tree,
+    s: Slot,
+    args: [u16; 4],
+    trace: &mut T,
+) -> Result<Answer, PanicKind>
+    requires other { call ≢ ProcessCall.Exec }
+    requires calls { Calls p.old tree.old.nodes s }
+    ensures does { HasDone p.old p.new tree.new.nodes result (T.taken trace.old) (T.taken trace.new)
+        (process_row call (handed p.old tree.old.nodes) s args) }
+    ensures frame { T.leads_to trace.old trace.new }
+    ensures agree { AreProcs p.new }
+    ensures marks { tree.new.marks ≡ tree.old.marks }
+    ensures blocks { SameRest tree.old.nodes tree.new.nodes }
+{
+    match call {
+        ProcessCall::Wait => wait_child(p, tree, s, args, trace),
+        ProcessCall::Exec => unreachable!(),
+        ProcessCall::Time => time_now(p, tree, s, args, trace),
+        ProcessCall::Break => break_at(p, tree, s, args, trace),
+        ProcessCall::Getpid => pid_of(p, tree, s, args, trace),
+        ProcessCall::Setuid => set_uid(p, tree, s, args, trace),
+        ProcessCall::Getuid => get_uid(p, tree, s, args, trace),
+        ProcessCall::Stime => set_time(p, tree, s, args, trace),
+        ProcessCall::Smdate => no_op(p, tree, s, args, trace),
+        ProcessCall::Nice => nice_to(p, tree, s, args, trace),
+        ProcessCall::Sleep => sleep_for(p, tree, s, args, trace),
+        ProcessCall::Kill => kill_to(p, tree, s, args, trace),
+        ProcessCall::Csw => switches(p, tree, s, args, trace),
+        ProcessCall::Times => times_to(p, tree, s, args, trace),
+        ProcessCall::Setgid => set_gid(p, tree, s, args, trace),
+        ProcessCall::Getgid => get_gid(p, tree, s, args, trace),
+        ProcessCall::Signal => signal_set(p, tree, s, args, trace),
+    }
+}
+
 /// Does a call on processes. Where it stops in exec(II), its process may have neither its old image nor its new one.
-#[tactic(auto, using(crate::proofs::CallLemmas::stops_whole, crate::proofs::CallLemmas::stops_so))]
+#[tactic(auto, using(crate::proofs::CallLemmas::stops_whole, crate::proofs::CallLemmas::stops_so, crate::proofs::CallLemmas::marks_stay))]
 pub fn do_process_call<T: Trace>(
     call: ProcessCall,
     p: &mut Procs,
@@ -251,25 +291,10 @@ pub fn do_process_call<T: Trace>(
     ensures agree { IfOk result (λ answer. AreProcs p.new) }
     ensures left { IfErr result (λ kind. AreProcs p.new ⊎ AreBare p.new s) }
     ensures marks { IsMarked p.new tree.new.marks }
-    ensures blocks { SameRest tree.old.nodes.blocks tree.new.nodes.blocks }
+    ensures blocks { SameRest tree.old.nodes tree.new.nodes }
 {
     match call {
-        ProcessCall::Wait => wait_child(p, tree, s, args, trace),
         ProcessCall::Exec => exec_file(p, tree, s, args, trace),
-        ProcessCall::Time => time_now(p, tree, s, args, trace),
-        ProcessCall::Break => break_at(p, tree, s, args, trace),
-        ProcessCall::Getpid => pid_of(p, tree, s, args, trace),
-        ProcessCall::Setuid => set_uid(p, tree, s, args, trace),
-        ProcessCall::Getuid => get_uid(p, tree, s, args, trace),
-        ProcessCall::Stime => set_time(p, tree, s, args, trace),
-        ProcessCall::Smdate => no_op(p, tree, s, args, trace),
-        ProcessCall::Nice => nice_to(p, tree, s, args, trace),
-        ProcessCall::Sleep => sleep_for(p, tree, s, args, trace),
-        ProcessCall::Kill => kill_to(p, tree, s, args, trace),
-        ProcessCall::Csw => switches(p, tree, s, args, trace),
-        ProcessCall::Times => times_to(p, tree, s, args, trace),
-        ProcessCall::Setgid => set_gid(p, tree, s, args, trace),
-        ProcessCall::Getgid => get_gid(p, tree, s, args, trace),
-        ProcessCall::Signal => signal_set(p, tree, s, args, trace),
+        _ => do_other_call(call, p, tree, s, args, trace),
     }
 }

@@ -17,7 +17,7 @@ use crate::memory::Memory;
 use crate::parts::{place_click, row_of, set_row};
 use seg_regs::Proto;
 use text_tab::TextId;
-use u_area::UArea;
+use u_area::{NOTHING_PENDING, UArea};
 use v6_base::{Place, Slot};
 
 /// The u area of an image that is made anew.
@@ -35,7 +35,7 @@ pub(crate) fn made_area(text_size: u16, data_size: u16, stack_size: u16) -> UAre
         text_size,
         data_size,
         stack_size,
-        pending: 0,
+        pending: NOTHING_PENDING,
         call: [0; 8],
         user_time: 0,
         system_time: 0,

@@ -1,4 +1,4 @@
--- What a call on files shows is little: lines of the log that wake somebody or send a signal, or bytes of the console. `wakeup`,
+-- What a call on files shows is little: lines of the log that wake somebody or send a signal, or bytes of a terminal line. `wakeup`,
 -- `psignal` and `ttyoutput` in Lions' Commentary, `slp.c`, `sig.c` and `tty.c`.
 use Rattle.std.proofs.Common.{◌≡◌, ◌⊎◌, inl, ◌+◌, ◌-◌, ◌*◌, ◌%◌, ◌≤◌, ◌&&◌, ℕ, zero, suc, Bool, true, false, cond, List, [], ◌∷◌, ◌++◌, length, map, Option, Some, None, Result, Ok, Err, nat_le, ◌<◌, ◌||◌, replicate, refl, sym, ap, ◌∙◌, subst, arith, length-append}
 use Rattle.std.specs.List.{All}
@@ -21,7 +21,7 @@ use Rattle.fs_tree.specs.Name.{read_then, readable}
 use Rattle.tty_line.specs.Terminal.{Terminal, flags}
 use Rattle.tty_line.specs.Output.{escaped, in_capitals, shown_byte, shown_bytes, column_after_all, shows}
 
--- One call shows no more lines of the log, and no more bytes of the console: a write has at most 65,535 bytes, and each
+-- One call shows no more lines of the log, and no more bytes: a write has at most 65,535 bytes, and each
 -- of these shows at most 8.
 abbrev pub most_entries : ℕ
 most_entries = 45
@@ -44,22 +44,15 @@ IsOfFiles Named (channel.Write ino) = Named ino
 abbrev pub IsLineOf : (ℕ → Type 0) → ℕ → Entry → Type 0
 IsLineOf Named slot entry = ((chan : Chan) × (entry ≡ Wake chan) × IsOfFiles Named chan) ⊎ (entry ≡ Signal slot SIGPIPE)
 
--- no byte goes out on another line than that of the console
-abbrev pub IsOnConsole : Item → Type 0
-IsOnConsole (Byte line byte) = line ≡ 0
-IsOnConsole (Log entry) = Unit {0}
-
 -- the same of any inodes
 abbrev pub IsOfCall : ℕ → Entry → Type 0
 IsOfCall slot entry = IsLineOf (λ ino. Unit {0}) slot entry
 
--- Items that a tape has room for. They are as well told by their bytes and their entries apart: the bytes come first.
+-- Items that a tape has room for.
 pub record Fits (slot : ℕ) (items : List Item) : Type 0 where
   pub few_entries : length (entries_of items) ≤ most_entries
   pub few_bytes : length (line_bytes 0 items) ≤ most_bytes
   pub only_lines : All (IsOfCall slot) (entries_of items)
-  pub only_console : All IsOnConsole items
-  pub in_order : items ≡ sent 0 (line_bytes 0 items) ++ map Log (entries_of items)
 
 -- nothing is shown
 pub fits_none : (slot : ℕ) → Fits slot []
@@ -67,15 +60,9 @@ fits_none slot = record {
   few_entries = omega arith;
   few_bytes = omega arith;
   only_lines = All-nil (IsOfCall slot);
-  only_console = All-nil IsOnConsole;
-  in_order = refl;
 }
 
--- Bytes of the console are shown.
-sent_on_console : (bytes : List ℕ) → All IsOnConsole (sent 0 bytes)
-sent_on_console [] = All-nil IsOnConsole
-sent_on_console (byte ∷ bytes) = All-cons IsOnConsole (Byte 0 byte) (sent 0 bytes) refl (sent_on_console bytes)
-
+-- Bytes are shown.
 pub fits_bytes : (slot : ℕ) (bytes : List ℕ) → length bytes ≤ most_bytes → Fits slot (sent 0 bytes)
 fits_bytes slot bytes few =
     let none : entries_of (sent 0 bytes) ≡ [] = entries_of-sent 0 bytes in
@@ -87,9 +74,6 @@ fits_bytes slot bytes few =
       few_entries = omega (arith, quiet);
       few_bytes = omega (arith, long, few);
       only_lines = subst P (sym none) (All-nil (IsOfCall slot));
-      only_console = sent_on_console bytes;
-      in_order = sym (ap (λ l. sent 0 l ++ map Log (entries_of (sent 0 bytes))) same
-          ∙ ap (λ l. sent 0 bytes ++ map Log l) none ∙ append-nil (sent 0 bytes));
     }
 
 -- Somebody is woken, once or more often.
@@ -115,10 +99,6 @@ told_bytes : (entries : List Entry) → line_bytes 0 (map Log entries) ≡ []
 told_bytes [] = refl
 told_bytes (entry ∷ entries) = told_bytes entries
 
-told_on_console : (entries : List Entry) → All IsOnConsole (map Log entries)
-told_on_console [] = All-nil IsOnConsole
-told_on_console (entry ∷ entries) = All-cons IsOnConsole (Log entry) (map Log entries) tt (told_on_console entries)
-
 pub fits_lines : (slot : ℕ) (entries : List Entry) → length entries ≤ most_entries → All (IsOfCall slot) entries
     → Fits slot (map Log entries)
 fits_lines slot entries few all =
@@ -131,8 +111,6 @@ fits_lines slot entries few all =
       few_entries = omega (arith, long, few);
       few_bytes = omega (arith, quiet);
       only_lines = subst P (sym same) all;
-      only_console = told_on_console entries;
-      in_order = sym (ap (λ l. sent 0 l ++ map Log (entries_of (map Log entries))) none ∙ ap (map Log) same);
     }
 
 wakes_again : (channels : List Chan) → map Log (map Wake channels) ≡ map waking channels
@@ -181,7 +159,7 @@ wakes_up_to m n items low wakes = record {
   files = wakes.files;
 }
 
--- A byte that is written to the console shows at most 8.
+-- A byte that is written shows at most 8.
 few_in_capitals : (o : Option ℕ) (byte : ℕ) → length (in_capitals o byte) ≤ 8
 few_in_capitals (Some mark) byte = omega arith
 few_in_capitals None byte = by (nat_le 0o141 byte && nat_le byte 0o172) where
@@ -229,7 +207,7 @@ few_readable image at zero = omega arith
 few_readable image at (suc n) =
     front_few (load_byte image at) (readable image ((at + 1) % 65536) n) n (few_readable image ((at + 1) % 65536) n)
 
--- What a write to the console shows.
+-- What a write to a line shows.
 pub fits_shown : (slot : ℕ) (line : Terminal) (image : Image) (at count : ℕ) → count ≤ 65535
     → Fits slot (sent 0 (shows line (readable image at count)))
 fits_shown slot line image at count few =

@@ -3,7 +3,7 @@ use Rattle.std.proofs.Common.{◌≡◌, ℕ, Bool, true, false, ◌+◌, ◌<�
 use Rattle.std.proofs.lemmas.Bool.{ne_eqb, eq-eqb, eqb-true, false≢true}
 use Rattle.std.proofs.lemmas.List.Quantifiers.{position-Some}
 use Rattle.v6_base.specs.declared.errno.Errno.TheVariants.{EBADF, EMFILE}
-use Rattle.fs_codec.specs.Store.{node_numbered}
+use Rattle.fs_laws.specs.Keys.{node_numbered}
 use Rattle.open_files.specs.declared.file.OpenFile.{OpenFile}
 use Rattle.open_files.specs.declared.file.Closed.{Closed}
 use Rattle.open_files.specs.declared.file.Closed.TheVariants.{Still, Last}
@@ -14,7 +14,7 @@ use Rattle.sys_files.specs.Handed.{Handed, r0, file_of, with_number, let_go}
 use Rattle.sys_files.specs.Did.{need, fails}
 use Rattle.sys_files.specs.Pipes.{ArePipes}
 use Rattle.sys_files.specs.Sound.{is_of, numbers_of, IsSound, IsKept}
-use Rattle.sys_files.specs.Descriptors.{open_entry, dup_file, with_closed, released, closes, close_file}
+use Rattle.sys_files.specs.Descriptors.{open_entry, dup_file, line_closed, released, closes, close_file}
 use Rattle.sys_files.proofs.PipeLemmas.{pipes_changed}
 use Rattle.sys_files.proofs.StayingLemmas.{stays_then, stays_changed, stays_freed}
 use Rattle.sys_files.proofs.ReleasedLemmas.{roused, gone, released_still, released_last, pipes_roused, pipes_gone}
@@ -173,7 +173,9 @@ closes_kept h fd sound some = by (file.count == 1) refl
         let pipes = pipes_gone h.files h.pipes entry file is sound.pipes in
         subst (IsKept h) (sym (released_last (dropped_so None) (with_fewer file)))
         (kept_last h fd entry file (gone (slice_set h.files entry None) (roused h.pipes (with_fewer file)) (with_fewer file))
-        (with_closed (dropped_so None) (with_fewer file)).line
+        (line_closed (record (dropped_so None) {
+          pipes = gone (slice_set h.files entry None) (roused h.pipes (with_fewer file)) (with_fewer file);
+        }) (with_fewer file)).state.line
         sound (omega (arith, some)) is (eqb-true file.count 1 last) pipes)
     by false more =
         let now : List (Option OpenFile) = slice_set h.files entry (Some (with_fewer file)) in

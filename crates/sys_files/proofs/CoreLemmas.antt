@@ -22,7 +22,8 @@ use Rattle.sys_files.specs.Core.{core_name, is_plain, writes_parts, writes_over,
 use Rattle.sys_files.specs.Sound.{IsSound, IsKept}
 use Rattle.sys_files.proofs.KeptLemmas.{kept_references}
 use Rattle.sys_files.proofs.PartLemmas.{until}
-use Rattle.sys_files.proofs.StepWalks.{put_back_count, making_count, numbered_count, truncated_count}
+use Rattle.sys_files.proofs.NodeCounts.{put_back_count, making_count, numbered_count, truncated_count}
+use Rattle.sys_files.proofs.Steady.{Steady, steady_same}
 
 -- A file that is there is plain and may be written: it gives its blocks back, and is written.
 pub over_goes : (now : ℕ) (h after : Handed) (ino : ℕ) (user : User) (n : Inodes) (u v : Unit {0}) (r : Result (Unit {0}) Errno)
@@ -105,6 +106,12 @@ module _ (P : Handed → Type 0)
           (making_count h.inodes _) p
           (λ l answer q. made_so now l answer q)
       by false = record { state = p; over = tt }
+
+-- Of its process all stays, and the marks of the texts.
+pub core_steady : (h : Handed) (now : ℕ) → Steady h (core_file h now).state
+core_steady h now =
+    (core_keeps (Steady h)
+    (λ l inodes count s. record { row = s.row; area = s.area; image = s.image; marks = s.marks }) h now (steady_same h)).state
 
 -- The file of the name is looked for, in the directory of the process.
 module _ (h after : Handed) (now : ℕ) (name : List ℕ) (same : name ≡ core_name)

@@ -1,9 +1,8 @@
 -- How the rows of calls on files count the numbers that name open files: each number that is given and taken is counted, each
 -- number names
 -- an entry in use, and a file of which another process has a number too stays open.
-use Rattle.std.proofs.Common.{◌≡◌, ◌≢◌, ◌<◌, ◌≤◌, ◌+◌, ◌∙◌, ◌==◌, ◌++◌, ℕ, Bool, true, false, cond, eqb, List, [], ◌∷◌, length, fold, Option, Some, None, IsSome, is_some, is_none, unwrap_or, slice_index, slice_set, refl, sym, ap, subst, inl, inr, arith}
-use Rattle.std.specs.List.{range_with_len}
-use Rattle.std.proofs.lemmas.Bool.{cases_eq, eq-eqb, ne_eqb, eqb-true, eqb-false, false≢true}
+use Rattle.std.proofs.Common.{◌≡◌, ◌≢◌, ◌<◌, ◌≤◌, ◌+◌, ◌∙◌, ◌==◌, ℕ, Bool, true, false, cond, eqb, List, length, Option, Some, None, IsSome, is_some, is_none, unwrap_or, slice_index, slice_set, refl, sym, ap, subst, inl, inr, arith}
+use Rattle.std.proofs.lemmas.Bool.{cases_eq, eq-eqb, ne_eqb, eqb-true, false≢true}
 use Rattle.std.proofs.lemmas.List.{length-set, set-get_or}
 use Rattle.std.proofs.lemmas.List.Quantifiers.{position-Some}
 use Rattle.open_files.specs.declared.file.OpenFile.{OpenFile}
@@ -11,13 +10,13 @@ use Rattle.open_files.specs.declared.file.Closed.TheVariants.{Still, Last}
 use Rattle.open_files.specs.Files.{file_at, times, entry_of, free_number, free_entry, opened, changed, with_more, with_offset, with_fewer, with_change, closed, left, AreOpen}
 use Rattle.sys_files.specs.Handed.{Handed, no_file}
 use Rattle.sys_files.specs.Sound.{numbers_of}
-use Rattle.sys_files.specs.Descriptors.{Closing, closes, then_closes, close_all}
+use Rattle.sys_files.specs.Descriptors.{close_all}
 use Rattle.sys_files.specs.Piping.{reading_end, writing_end}
 use Rattle.sys_files.proofs.OwedLemmas.{used_low, counted}
 use Rattle.sys_files.proofs.NumberLemmas.{number_low, given_times, taken_times, set_here, set_there, numbers_change, open_given, open_taken}
 use Rattle.sys_files.proofs.PipeLemmas.{free_other, set_other}
 use Rattle.sys_files.proofs.StayingLemmas.{Stay, stays_there, stays_changed, stays_freed, stays_after}
-use Rattle.sys_files.proofs.StepWalks.{StepWalks, walk_closes}
+use Rattle.sys_files.proofs.Walks.{Walks, walk_closes, closes_all}
 
 -- From a table and numbers to others. No file had fewer numbers than the process has of it.
 pub record Counted (files : List (Option OpenFile)) (mine : List ℕ) (new : List (Option OpenFile)) (its : List ℕ) : Type 0 where
@@ -203,56 +202,39 @@ module _ (files : List (Option OpenFile)) (mine : List ℕ) (new : List (Option 
 abbrev pub IsCounted : Handed → Handed → Type 0
 IsCounted old h = Counted old.files old.u.files h.files h.u.files
 
-pub counted_walks : (old : Handed) (slot : ℕ) → StepWalks (IsCounted old) (λ d. IsCounted old d.state) (λ count. Unit {0})
-    (λ ino. Unit {0}) slot
+pub counted_walks : (old : Handed) (slot : ℕ) → Walks (IsCounted old) (λ d. IsCounted old d.state) (λ count. Unit {0})
+    (λ ino. Unit {0}) (Unit {0}) slot
 counted_walks old slot = record {
   refused = λ h e p. p;
-  done = λ h value p. p;
+  done = λ h a b p. p;
   lets_go = λ ino d p. p;
   waits = λ h entry at count p. p;
-  waits_in_pipe = λ h chan pending words which of p. p;
-  wakes = λ h a b last p. p;
-  woken = λ chan d of p. p;
-  breaks = λ h p. p;
+  waits_in_pipe = λ h chan pending entry at count left which of awaits p. p;
+  tells = λ entries d few all quiet p. p;
   showing = λ line image at count d few p. p;
   inodes = λ h inodes same p. p;
-  opened = λ h ino kind fd entry plain number free p. counted_opened old.files old.u.files h.files h.u.files p
+  opened = λ h ino kind fd entry plain number free moves p. counted_opened old.files old.u.files h.files h.u.files p
       (opened ino kind) fd entry refl number free;
-  ends = λ h ino fd entry next_fd next_entry above within number free next_number next_free p.
+  ends = λ h ino fd entry next_fd next_entry above within number free next_number next_free moves p.
       counted_opened old.files old.u.files (slice_set h.files entry (Some (opened ino reading_end)))
       (slice_set h.u.files fd (entry + 1))
       (counted_opened old.files old.u.files h.files h.u.files p (opened ino reading_end) fd entry refl number free)
       (opened ino writing_end) next_fd next_entry refl next_number next_free;
-  given = λ h fd free named number p. counted_given old.files old.u.files h.files h.u.files p free (entry_of h.u.files fd)
+  given = λ h fd free named number moves p. counted_given old.files old.u.files h.files h.u.files p free (entry_of h.u.files fd)
       (p.is_open fd named) number;
   offset = λ h entry offset p. counted_offset old.files old.u.files h.files h.u.files p entry offset;
-  dropped = λ h fd named p. counted_left old.files old.u.files h.files h.u.files p fd named;
+  dropped = λ h fd named moves p. counted_left old.files old.u.files h.files h.u.files p fd named;
   marked = λ h pipe p. p;
   gone = λ h ino none p. p;
   known = λ h entry is p. (tt, tt);
   console = λ h console p. p;
-  enters = λ h dir p. p;
+  enters = λ h dir moves p. p;
   terminal = λ h tty p. p;
+  signalled = λ h p. p;
   stored = λ h m same p. p;
 }
 
 -- All numbers of a process let their files go, one after another.
-then_counted : (old : Handed) (c : Closing) (fd : ℕ) → IsCounted old c.state → IsCounted old (then_closes c fd).state
-then_counted old c fd k = by (slice_index c.state.u.files fd == 0) refl
-  where
-    by : (b : Bool) → (slice_index c.state.u.files fd == 0) ≡ b
-        → IsCounted old (cond {A = Closing} b c (record {
-          state = (closes c.state fd).state;
-          items = c.items ++ (closes c.state fd).items;
-        })).state
-    by true e = k
-    by false e = let some = eqb-false (slice_index c.state.u.files fd) 0 e in walk_closes (counted_walks old 0) c.state fd 0 0
-        (omega (arith, some)) k
-
-all_counted : (old : Handed) (c : Closing) (fds : List ℕ) → IsCounted old c.state → IsCounted old (fold then_closes c fds).state
-all_counted old c [] k = k
-all_counted old c (fd ∷ fds) k = all_counted old (then_closes c fd) fds (then_counted old c fd k)
-
 pub close_all_counted : (h : Handed) → IsCounted h h → IsCounted h (close_all h).state
-unfolding close_all
-close_all_counted h k = all_counted h (record { state = h; items = [] }) (range_with_len 0 15) k
+close_all_counted h k =
+    closes_all (λ c. IsCounted h c.state) (λ c fd named p. walk_closes (counted_walks h 0) c.state fd 0 0 named tt p) h k

@@ -26,6 +26,7 @@ pub mod NamesLemmas
 pub mod MakingLemmas
 pub mod PipingLemmas
 pub mod MovingLemmas
+pub mod LineLemmas
 pub mod ReadLemmas
 pub mod WriteLemmas
 pub mod ShowingLemmas
@@ -35,12 +36,10 @@ pub mod Bounds
 pub mod Lengths
 pub mod PipedLemmas
 pub mod PipeKeptLemmas
+pub mod NodeCounts
 pub mod Walks
-pub mod PipeCounts
-pub mod StepWalks
 pub mod Counting
 pub mod Steady
-pub mod CoreSteady
 pub mod CoreLemmas
 pub mod PipeMovingLemmas
 pub mod PipeOpeningLemmas

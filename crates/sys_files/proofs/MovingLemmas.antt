@@ -2,19 +2,19 @@
 use Rattle.std.proofs.Common.{◌≡◌, ◌<◌, ◌+◌, ◌%◌, ◌^◌, ℕ, false, pos, List, [], ◌∷◌, Option, Some, None, is_some, unwrap_or, IsSome, refl, sym, ap, ◌∙◌}
 use Rattle.v6_base.specs.Image.{Image}
 use Rattle.v6_base.specs.declared.answer.Answer.TheVariants.{Sleep}
-use Rattle.v6_base.specs.declared.entry.Chan.TheVariants.{Keys}
 use Rattle.proc_tab.specs.declared.row.Row.{Row}
+use Rattle.u_area.specs.declared.layout.TheConstants.{LINE_READ}
 use Rattle.u_area.specs.declared.area.UArea.{UArea}
 use Rattle.u_area.proofs.AreaLemmas.{one_area}
-use Rattle.fs_codec.specs.Store.{Node, Store, node_numbered}
-use Rattle.fs_laws.specs.Numbers.{with_node}
+use Rattle.fs_codec.specs.Store.{Node, Store}
 use Rattle.fs_laws.specs.Pieces.{Moving}
+use Rattle.fs_laws.specs.Keys.{node_numbered, with_node}
 use Rattle.fs_nodes.specs.FileSystem.{FileSystem}
 use Rattle.open_files.specs.declared.file.OpenFile.{OpenFile}
 use Rattle.open_files.specs.Files.{with_change, with_offset}
 use Rattle.fs_tree.specs.Finding.{inodes_of}
 use Rattle.sys_files.specs.declared.files.Files.{Files}
-use Rattle.sys_files.specs.Handed.{handed, Handed, node_in, no_node, no_file, file_of}
+use Rattle.sys_files.specs.Handed.{handed, Handed, keys_of, node_in, no_node, no_file, file_of}
 use Rattle.sig_core.specs.Signals.{due}
 use Rattle.sys_files.specs.Entering.{did_with}
 use Rattle.sys_files.specs.Moving.{IsFileOf, with_moved, waits_for_keys}
@@ -32,13 +32,13 @@ pending_changed u pending call codes =
     refl refl refl refl refl refl refl refl refl refl refl refl refl refl refl refl refl refl refl
 
 -- A process waits for keys, and its area keeps what it needs to go on.
-pub keys_by : (h : Handed) (u new : UArea) (row : Row) (entry at count : ℕ) → h.u ≡ u → h.row ≡ row → is_some (due row u) ≡ false
-    → record u { pending = 1; call = entry ∷ at ∷ count ∷ 0 ∷ 0 ∷ 0 ∷ 0 ∷ 0 ∷ [] } ≡ new
-    → waits_for_keys h entry at count ≡ did_with (record h { u = new }) (Sleep (pos 10) Keys)
-keys_by h u new row entry at count area own none kept =
+pub keys_by : (h : Handed) (l : ℕ) (u new : UArea) (row : Row) (entry at count : ℕ) → h.u ≡ u → h.row ≡ row → is_some (due row u) ≡ false
+    → record u { pending = LINE_READ; call = entry ∷ at ∷ count ∷ 0 ∷ 0 ∷ 0 ∷ 0 ∷ 0 ∷ [] } ≡ new
+    → waits_for_keys h l entry at count ≡ did_with (record h { u = new }) (Sleep (pos 10) (keys_of l))
+keys_by h l u new row entry at count area own none kept =
     sleeps_on h u row _ area own none
-    ∙ ap (λ (x : UArea). did_with (record h { u = x }) (Sleep (pos 10) Keys))
-    (ap (λ (x : UArea). record x { pending = 1; call = entry ∷ at ∷ count ∷ 0 ∷ 0 ∷ 0 ∷ 0 ∷ 0 ∷ [] }) area ∙ kept)
+    ∙ ap (λ (x : UArea). did_with (record h { u = x }) (Sleep (pos 10) (keys_of l)))
+    (ap (λ (x : UArea). record x { pending = LINE_READ; call = entry ∷ at ∷ count ∷ 0 ∷ 0 ∷ 0 ∷ 0 ∷ 0 ∷ [] }) area ∙ kept)
 
 node_by : (o : Option Node) → IsSome o → o ≡ Some (unwrap_or o no_node)
 node_by None used = absurd (cc)

@@ -31,14 +31,14 @@ use Rattle.sys_files.proofs.OwingLemmas.{IsKeptBut, CanFind, kept_begins, kept_e
 use Rattle.sys_files.proofs.DescriptorLemmas.{need_is}
 
 -- It is a device that cannot be opened.
-pub opens_not : (h : Handed) (ino : ℕ) (kind : FileKind) (fd entry : ℕ) → free_number h.u.files ≡ Some fd → free_entry h.files ≡ Some entry → can_open (node_at h ino) ≡ false → opens h ino kind ≡ fails h ENXIO
+pub opens_not : (h : Handed) (ino : ℕ) (kind : FileKind) (fd entry : ℕ) → free_number h.u.files ≡ Some fd → free_entry h.files ≡ Some entry → can_open h (node_at h ino) ≡ false → opens h ino kind ≡ fails h ENXIO
 opens_not h ino kind fd entry number free can =
-    need_there h EMFILE (free_number h.u.files) _ fd number ∙ need_there h ENFILE (free_entry h.files) _ entry free ∙ must_fail h ENXIO (can_open (node_at h ino)) _ can
+    need_there h EMFILE (free_number h.u.files) _ fd number ∙ need_there h ENFILE (free_entry h.files) _ entry free ∙ must_fail h ENXIO (can_open h (node_at h ino)) _ can
 
-pub opens_is : (h : Handed) (ino : ℕ) (kind : FileKind) (fd entry : ℕ) → free_number h.u.files ≡ Some fd → free_entry h.files ≡ Some entry → can_open (node_at h ino) ≡ true
+pub opens_is : (h : Handed) (ino : ℕ) (kind : FileKind) (fd entry : ℕ) → free_number h.u.files ≡ Some fd → free_entry h.files ≡ Some entry → can_open h (node_at h ino) ≡ true
     → opens h ino kind ≡ returns (with_opened h ino kind fd entry) fd
 opens_is h ino kind fd entry number free can =
-    need_there h EMFILE (free_number h.u.files) _ fd number ∙ need_there h ENFILE (free_entry h.files) _ entry free ∙ must_hold h ENXIO (can_open (node_at h ino)) _ can
+    need_there h EMFILE (free_number h.u.files) _ fd number ∙ need_there h ENFILE (free_entry h.files) _ entry free ∙ must_hold h ENXIO (can_open h (node_at h ino)) _ can
 
 -- where a free number and a free entry stand
 pub number_free : (mine : List ℕ) (fd : ℕ) → free_number mine ≡ Some fd → (fd < length mine) × (slice_index mine fd ≡ 0)
@@ -135,13 +135,13 @@ pub opens_kept : (old now : Handed) (taken : List ℕ) (ino : ℕ) (kind : FileK
 opens_kept old now taken ino kind plain referred k =
     kept_check old now taken (need EMFILE (free_number now.u.files)) _ k (λ fd number.
     kept_check old now taken (need ENFILE (free_entry now.files)) _ k (λ entry free.
-    kept_check old now taken (must ENXIO (can_open (node_at now ino))) _ k (λ can tested.
+    kept_check old now taken (must ENXIO (can_open now (node_at now ino))) _ k (λ can tested.
     kept_opened old now taken ino fd entry kind plain (referred_low now.inodes.references ino referred)
     (need_is EMFILE (free_number now.u.files) fd number) (need_is ENFILE (free_entry now.files) entry free) k)))
 
 pub opens_quiet : (h : Handed) (ino : ℕ) (kind : FileKind) → (opens h ino kind).items ≡ []
 opens_quiet h ino kind =
-    check_quiet h (need EMFILE (free_number h.u.files)) _ (λ fd. check_quiet h (need ENFILE (free_entry h.files)) _ (λ entry. check_quiet h (must ENXIO (can_open (node_at h ino))) _ (λ can. refl)))
+    check_quiet h (need EMFILE (free_number h.u.files)) _ (λ fd. check_quiet h (need ENFILE (free_entry h.files)) _ (λ entry. check_quiet h (must ENXIO (can_open h (node_at h ino))) _ (λ can. refl)))
 
 abbrev kind_of : ℕ → FileKind
 kind_of mode = record { reading = opens_to_read mode; writing = opens_to_write mode; pipe = false }

@@ -4,6 +4,7 @@ use Rattle.v6_base.specs.declared.entry.Chan.{Chan}
 use Rattle.v6_base.specs.declared.entry.Chan.TheVariants.{Read, Write}
 use Rattle.v6_base.specs.declared.answer.Answer.TheVariants.{Sleep}
 use Rattle.v6_base.specs.declared.errno.Errno.TheVariants.{EINTR}
+use Rattle.u_area.specs.declared.layout.TheConstants.{PIPE_READ, PIPE_WRITE}
 use Rattle.pipe_ends.specs.declared.ends.Pipe.{Pipe}
 use Rattle.pipe_ends.specs.declared.ends.Piped.{Piped}
 use Rattle.pipe_ends.specs.declared.ends.Piped.TheVariants.{Done, Wait, Broken, Error}
@@ -53,13 +54,13 @@ module _ (P : Handed → Type 0) (h : Handed) (leaves : LeavesParts P h) where
 
   read_ends : (ino entry at count : ℕ) (answer : Piped) → P (ends_read h ino entry at count answer).state
   read_ends ino entry at count (Done n) = leaves.same
-  read_ends ino entry at count (Wait left) = waits_leaves (Read ino) 3 (words_of entry at count 0)
+  read_ends ino entry at count (Wait left) = waits_leaves (Read ino) PIPE_READ (words_of entry at count 0)
   read_ends ino entry at count Broken = leaves.same
   read_ends ino entry at count (Error e) = leaves.same
 
   write_ends : (slot ino entry at count : ℕ) (answer : Piped) → P (ends_write h slot ino entry at count answer).state
   write_ends slot ino entry at count (Done n) = leaves.same
-  write_ends slot ino entry at count (Wait left) = waits_leaves (Write ino) 4 (words_of entry at count left)
+  write_ends slot ino entry at count (Wait left) = waits_leaves (Write ino) PIPE_WRITE (words_of entry at count left)
   write_ends slot ino entry at count Broken = leaves.signalled
   write_ends slot ino entry at count (Error e) = leaves.same
 

@@ -9,17 +9,18 @@ use Rattle.v6_base.specs.declared.entry.Chan.TheVariants.{Keys}
 use Rattle.v6_base.specs.declared.errno.Errno.TheVariants.{EBADF, EINTR}
 use Rattle.open_files.specs.declared.file.OpenFile.{OpenFile}
 use Rattle.fs_laws.specs.Pieces.{Moving}
-use Rattle.sys_files.specs.Handed.{Handed, r0, node_at, file_of, is_console}
+use Rattle.sys_files.specs.Handed.{Handed, r0, node_at, file_of, line_of}
 use Rattle.sig_core.specs.Signals.{due}
 use Rattle.sys_files.specs.Did.{Did, fails, check, must}
 use Rattle.sys_files.specs.Descriptors.{open_entry}
+use Rattle.u_area.specs.declared.layout.TheConstants.{LINE_READ, PIPE_READ, NOTHING_PENDING}
 use Rattle.u_area.specs.declared.area.UArea.{UArea}
 use Rattle.tty_line.specs.declared.line.Took.{Took}
 use Rattle.tty_line.specs.declared.line.Took.TheVariants.{Done, Wait, Fault}
 use Rattle.tty_line.specs.Terminal.{Terminal}
 use Rattle.tty_line.specs.Reading.{Reading, reads}
-use Rattle.sys_files.specs.Moving.{gives_count, read_of, with_read, line_read, with_line_read, waits_for_keys, takes_line, reads_line, reads_from, read_file_of}
-use Rattle.sys_files.specs.Moving.{without_pending, resume_read, resumes}
+use Rattle.sys_files.specs.Moving.{gives_count, read_of, with_read, line_read, with_line_read, waits_for_keys, takes_line, reads_line, reads_by, reads_from, read_file_of}
+use Rattle.sys_files.specs.Moving.{without_pending, line_kept, resume_read, resumes}
 use Rattle.sys_files.specs.Piping.{reads_pipe, writes_pipe}
 use Rattle.sys_files.specs.Sound.{IsSound, IsKept}
 use Rattle.sys_files.specs.Entering.{did_with}
@@ -41,24 +42,24 @@ gives_told h count None a is = sym (ap (did_with h) is)
 gives_told h count (Some e) a is = sym (ap (did_with h) is)
 
 -- what a read of a line comes to, by what it took
-pub line_is : (h : Handed) (line : Terminal) (image : Image) (entry at count : ℕ) (took : Took) → h.line ≡ line → h.image ≡ image
-    → took ≡ (reads line image at count).took → reads_line h entry at count ≡ takes_line (with_line_read h (reads line image at count)) entry at count took
-line_is h line image entry at count took line_same image_same is =
-    ap (λ (r : Reading). takes_line (with_line_read h r) entry at count r.took)
+pub line_is : (h : Handed) (l : ℕ) (line : Terminal) (image : Image) (entry at count : ℕ) (took : Took) → h.line ≡ line → h.image ≡ image
+    → took ≡ (reads line image at count).took
+    → reads_line h l entry at count ≡ takes_line (with_line_read h l (reads line image at count)) l entry at count took
+line_is h l line image entry at count took line_same image_same is =
+    ap (λ (r : Reading). takes_line (with_line_read h l r) l entry at count r.took)
     (ap (λ (l : Terminal). reads l h.image at count) line_same ∙ ap (λ (m : Image). reads line m at count) image_same)
-    ∙ sym (ap (takes_line (with_line_read h (reads line image at count)) entry at count) is)
+    ∙ sym (ap (takes_line (with_line_read h l (reads line image at count)) l entry at count) is)
 
 -- the parts after a read of a line, with what it answers
-pub line_left : (h : Handed) (r : Reading) (line : Terminal) (image : Image) (u : UArea) (answer : UArea → Answer) → line ≡ r.terminal → image ≡ r.image
-    → h.u ≡ u → did_with (with_line_read h r) (answer h.u) ≡ did_with (record h { line = line; u = u; image = image }) (answer u)
-line_left h r line image u answer line_same image_same u_same =
+pub line_left : (h : Handed) (l : ℕ) (r : Reading) (line : Terminal) (image : Image) (u : UArea) (answer : UArea → Answer) → line ≡ r.terminal → image ≡ r.image
+    → h.u ≡ u → did_with (with_line_read h l r) (answer h.u) ≡ did_with (record h { line = line; u = u; image = image }) (answer u)
+line_left h l r line image u answer line_same image_same u_same =
     let of_code = sym u_same in
     sym (λ i. did_with (record h { line = line_same i; u = of_code i; image = image_same i }) (answer (of_code i)))
 
-abbrev read_as : Handed → ℕ → ℕ → ℕ → ℕ → Bool → Did
-read_as h entry at count now console =
-    let m : Moving Image = read_of h entry at count now in
-    if console then reads_line (with_read h entry m) entry at count else gives_count (with_read h entry m) m.done m.error
+abbrev read_as : Handed → ℕ → ℕ → ℕ → ℕ → Option ℕ → Did
+read_as h entry at count now line =
+    let m : Moving Image = read_of h entry at count now in reads_by (with_read h entry m) line entry at count m
 
 abbrev read_any : Handed → ℕ → ℕ → ℕ → ℕ → Bool → Did
 read_any h entry at count now pipe = if pipe then reads_pipe h entry at count now else reads_from h entry at count now
@@ -70,14 +71,16 @@ read_if h entry at count now reading =
 abbrev read_found : Handed → ℕ → ℕ → ℕ → Result ℕ Errno → Did
 read_found h at count now found = check h found (λ entry. read_if h entry at count now (file_of h entry).kind.reading)
 
-pub read_of_line : (h : Handed) (entry at count now : ℕ) (file : OpenFile) → file ≡ file_of h entry → true ≡ is_console (node_at h file.ino)
-    → reads_line (with_read h entry (read_of h entry at count now)) entry at count ≡ reads_from h entry at count now
-read_of_line h entry at count now file is console = ap (read_as h entry at count now) (console ∙ ap (λ (x : OpenFile). is_console (node_at h x.ino)) is)
+pub read_of_line : (h : Handed) (entry at count now l : ℕ) (file : OpenFile) → file ≡ file_of h entry → Some l ≡ line_of h (node_at h file.ino)
+    → reads_line (with_read h entry (read_of h entry at count now)) l entry at count ≡ reads_from h entry at count now
+read_of_line h entry at count now l file is line =
+    ap (read_as h entry at count now) (line ∙ ap (λ (x : OpenFile). line_of h (node_at h x.ino)) is)
 
-pub read_gives : (h : Handed) (entry at count now : ℕ) (file : OpenFile) → file ≡ file_of h entry → false ≡ is_console (node_at h file.ino)
+pub read_gives : (h : Handed) (entry at count now : ℕ) (file : OpenFile) → file ≡ file_of h entry → None ≡ line_of h (node_at h file.ino)
     → gives_count (with_read h entry (read_of h entry at count now)) (read_of h entry at count now).done (read_of h entry at count now).error
     ≡ reads_from h entry at count now
-read_gives h entry at count now file is console = ap (read_as h entry at count now) (console ∙ ap (λ (x : OpenFile). is_console (node_at h x.ino)) is)
+read_gives h entry at count now file is none =
+    ap (read_as h entry at count now) (none ∙ ap (λ (x : OpenFile). line_of h (node_at h x.ino)) is)
 
 pub read_refused : (h : Handed) (at count now : ℕ) (e : Errno) → Err e ≡ open_entry h (r0 h) → fails h e ≡ read_file_of h at count now
 read_refused h at count now e found = ap (read_found h at count now) found
@@ -106,42 +109,42 @@ abbrev read_place : Handed → ℕ → ℕ → ℕ → ℕ → ℕ
 read_place h entry at count now = ((file_of h entry).offset + (read_of h entry at count now).done) % 2 ^ 32
 
 -- A sleep leaves another call that goes on, unless a signal is due.
-kept_waits : (old h : Handed) (entry at count : ℕ) → IsKept old h
-    → IsKept old (record h { u = record h.u { pending = 1; call = entry ∷ at ∷ count ∷ 0 ∷ 0 ∷ 0 ∷ 0 ∷ 0 ∷ [] } })
-    → IsKept old (waits_for_keys h entry at count).state
-kept_waits old h entry at count same waits = by (is_some (due h.row h.u))
+kept_waits : (old h : Handed) (l entry at count : ℕ) → IsKept old h
+    → IsKept old (record h { u = record h.u { pending = LINE_READ; call = entry ∷ at ∷ count ∷ 0 ∷ 0 ∷ 0 ∷ 0 ∷ 0 ∷ [] } })
+    → IsKept old (waits_for_keys h l entry at count).state
+kept_waits old h l entry at count same waits = by (is_some (due h.row h.u))
   where
     by : (b : Bool) → IsKept old (cond {A = Did} b (fails h EINTR) (record {
       answer = Sleep (pos 10) Keys;
-      state = record h { u = record h.u { pending = 1; call = entry ∷ at ∷ count ∷ 0 ∷ 0 ∷ 0 ∷ 0 ∷ 0 ∷ [] } };
+      state = record h { u = record h.u { pending = LINE_READ; call = entry ∷ at ∷ count ∷ 0 ∷ 0 ∷ 0 ∷ 0 ∷ 0 ∷ [] } };
       items = [];
     })).state
     by true = same
     by false = waits
 
-kept_took : (h : Handed) (entry at count now : ℕ) (r : Reading) (took : Took) → IsSound h
-    → IsKept h (takes_line (with_line_read (with_read h entry (read_of h entry at count now)) r) entry at count took).state
-kept_took h entry at count now r (Done n) sound =
+kept_took : (h : Handed) (l entry at count now : ℕ) (r : Reading) (took : Took) → IsSound h
+    → IsKept h (takes_line (with_line_read (with_read h entry (read_of h entry at count now)) l r) l entry at count took).state
+kept_took h l entry at count now r (Done n) sound =
     kept_moved h _ entry (read_place h entry at count now) sound refl refl refl refl refl refl
-kept_took h entry at count now r Wait sound =
-    kept_waits h (with_line_read (with_read h entry (read_of h entry at count now)) r) entry at count
+kept_took h l entry at count now r Wait sound =
+    kept_waits h (with_line_read (with_read h entry (read_of h entry at count now)) l r) l entry at count
     (kept_moved h _ entry (read_place h entry at count now) sound refl refl refl refl refl refl)
     (kept_moved h _ entry (read_place h entry at count now) sound refl refl refl refl refl refl)
-kept_took h entry at count now r Fault sound =
+kept_took h l entry at count now r Fault sound =
     kept_moved h _ entry (read_place h entry at count now) sound refl refl refl refl refl refl
 
-kept_as : (h : Handed) (entry at count now : ℕ) (console : Bool) → IsSound h → IsKept h (read_as h entry at count now console).state
-kept_as h entry at count now true sound =
-    let r : Reading = line_read (with_read h entry (read_of h entry at count now)) at count in
-    kept_took h entry at count now r r.took sound
-kept_as h entry at count now false sound =
+kept_as : (h : Handed) (entry at count now : ℕ) (line : Option ℕ) → IsSound h → IsKept h (read_as h entry at count now line).state
+kept_as h entry at count now (Some l) sound =
+    let r : Reading = line_read (with_read h entry (read_of h entry at count now)) l at count in
+    kept_took h l entry at count now r r.took sound
+kept_as h entry at count now None sound =
     let m : Moving Image = read_of h entry at count now in
     subst (IsKept h) (sym (gives_state (with_read h entry m) m.done m.error))
     (kept_moved h (with_read h entry m) entry (read_place h entry at count now) sound refl refl refl refl refl refl)
 
 kept_any : (h : Handed) (entry at count now : ℕ) (pipe : Bool) → IsSound h → IsKept h (read_any h entry at count now pipe).state
 kept_any h entry at count now true sound = pipe_read_kept h sound h.u.pending h.u.call entry at count now
-kept_any h entry at count now false sound = kept_as h entry at count now (is_console (node_at h (file_of h entry).ino)) sound
+kept_any h entry at count now false sound = kept_as h entry at count now (line_of h (node_at h (file_of h entry).ino)) sound
 
 kept_if : (h : Handed) (entry at count now : ℕ) (reading : Bool) → IsSound h → IsKept h (read_if h entry at count now reading).state
 kept_if h entry at count now true sound = kept_any h entry at count now (file_of h entry).kind.pipe sound
@@ -155,18 +158,18 @@ pub read_kept : (h : Handed) (at count now : ℕ) → IsSound h → IsKept h (re
 read_kept h at count now sound = kept_found h at count now (open_entry h (r0 h)) sound
 
 -- A read that is taken up again keeps all that is counted.
-resumed_took : (h : Handed) (r : Reading) (entry at count : ℕ) (took : Took) → IsSound h
-    → IsKept h (takes_line (with_line_read (without_pending h) r) entry at count took).state
-resumed_took h r entry at count (Done n) sound = kept_same h _ sound refl refl refl refl refl refl
-resumed_took h r entry at count Wait sound =
-    kept_waits h (with_line_read (without_pending h) r) entry at count (kept_same h _ sound refl refl refl refl refl refl)
+resumed_took : (h : Handed) (l : ℕ) (r : Reading) (entry at count : ℕ) (took : Took) → IsSound h
+    → IsKept h (takes_line (with_line_read (without_pending h) l r) l entry at count took).state
+resumed_took h l r entry at count (Done n) sound = kept_same h _ sound refl refl refl refl refl refl
+resumed_took h l r entry at count Wait sound =
+    kept_waits h (with_line_read (without_pending h) l r) l entry at count (kept_same h _ sound refl refl refl refl refl refl)
     (kept_same h _ sound refl refl refl refl refl refl)
-resumed_took h r entry at count Fault sound = kept_same h _ sound refl refl refl refl refl refl
+resumed_took h l r entry at count Fault sound = kept_same h _ sound refl refl refl refl refl refl
 
 resume_kept : (h : Handed) → IsSound h → IsKept h (resume_read h).state
 resume_kept h sound =
-    let r : Reading = line_read (without_pending h) (slice_index h.u.call 1) (slice_index h.u.call 2) in
-    resumed_took h r (slice_index h.u.call 0) (slice_index h.u.call 1) (slice_index h.u.call 2) r.took sound
+    let r : Reading = line_read (without_pending h) (line_kept h) (slice_index h.u.call 1) (slice_index h.u.call 2) in
+    resumed_took h (line_kept h) r (slice_index h.u.call 0) (slice_index h.u.call 1) (slice_index h.u.call 2) r.took sound
 
 -- So does a call on a pipe, and one that a signal breaks.
 abbrev pub piped_on : Handed → ℕ → ℕ → Bool → Did
@@ -177,38 +180,38 @@ piped_on h slot now reads =
     (slice_index h.u.call 3) now
 
 abbrev on_by : Handed → ℕ → ℕ → Bool → Bool → Did
-on_by h slot now console reads = if console then resume_read h else piped_on h slot now reads
+on_by h slot now typed reads = if typed then resume_read h else piped_on h slot now reads
 
 abbrev resumed_by : Handed → ℕ → ℕ → Bool → Bool → Bool → Did
-resumed_by h slot now broken console reads = if broken then fails (without_pending h) EINTR else on_by h slot now console reads
+resumed_by h slot now broken typed reads = if broken then fails (without_pending h) EINTR else on_by h slot now typed reads
 
-kept_by : (h : Handed) (slot now : ℕ) (broken console reads : Bool) → IsSound h
-    → IsKept h (resumed_by h slot now broken console reads).state
-kept_by h slot now true console reads sound = kept_same h (without_pending h) sound refl refl refl refl refl refl
+kept_by : (h : Handed) (slot now : ℕ) (broken typed reads : Bool) → IsSound h
+    → IsKept h (resumed_by h slot now broken typed reads).state
+kept_by h slot now true typed reads sound = kept_same h (without_pending h) sound refl refl refl refl refl refl
 kept_by h slot now false true reads sound = resume_kept h sound
-kept_by h slot now false false true sound = pipe_read_kept h sound 0 (replicate 8 0) _ _ _ now
-kept_by h slot now false false false sound = pipe_write_kept h sound 0 (replicate 8 0) slot _ _ _ _ now
+kept_by h slot now false false true sound = pipe_read_kept h sound NOTHING_PENDING (replicate 8 0) _ _ _ now
+kept_by h slot now false false false sound = pipe_write_kept h sound NOTHING_PENDING (replicate 8 0) slot _ _ _ _ now
 
 pub resumes_kept : (h : Handed) (slot now : ℕ) → IsSound h → IsKept h (resumes h slot now).state
 resumes_kept h slot now sound =
-    kept_by h slot now (is_some (due h.row (without_pending h).u)) (h.u.pending == 1) (h.u.pending == 3) sound
+    kept_by h slot now (is_some (due h.row (without_pending h).u)) (h.u.pending == LINE_READ) (h.u.pending == PIPE_READ) sound
 
 -- What a call comes to that is taken up again, by its tests.
 pub resume_broken : (h : Handed) (slot now : ℕ) → is_some (due h.row (without_pending h).u) ≡ true
     → fails (without_pending h) EINTR ≡ resumes h slot now
-resume_broken h slot now broken = sym (ap (λ b. resumed_by h slot now b (h.u.pending == 1) (h.u.pending == 3)) broken)
+resume_broken h slot now broken = sym (ap (λ b. resumed_by h slot now b (h.u.pending == LINE_READ) (h.u.pending == PIPE_READ)) broken)
 
 module _ (h : Handed) (slot now : ℕ) (calm : is_some (due h.row (without_pending h).u) ≡ false) where
-  resumed_as : (console reads : Bool) → (h.u.pending == 1) ≡ console → (h.u.pending == 3) ≡ reads
-      → on_by h slot now console reads ≡ resumes h slot now
-  resumed_as console reads first third =
-      sym (ap (λ b. resumed_by h slot now b (h.u.pending == 1) (h.u.pending == 3)) calm ∙ ap
-      (λ b. on_by h slot now b (h.u.pending == 3)) first
-      ∙ ap (on_by h slot now console) third)
+  resumed_as : (typed reads : Bool) → (h.u.pending == LINE_READ) ≡ typed → (h.u.pending == PIPE_READ) ≡ reads
+      → on_by h slot now typed reads ≡ resumes h slot now
+  resumed_as typed reads first third =
+      sym (ap (λ b. resumed_by h slot now b (h.u.pending == LINE_READ) (h.u.pending == PIPE_READ)) calm ∙ ap
+      (λ b. on_by h slot now b (h.u.pending == PIPE_READ)) first
+      ∙ ap (on_by h slot now typed) third)
 
-  pub resume_console : h.u.pending ≡ 1 → resume_read h ≡ resumes h slot now
-  resume_console is = resumed_as true (h.u.pending == 3) (eq-eqb h.u.pending 1 is) refl
+  pub resume_typed : h.u.pending ≡ LINE_READ → resume_read h ≡ resumes h slot now
+  resume_typed is = resumed_as true (h.u.pending == PIPE_READ) (eq-eqb h.u.pending LINE_READ is) refl
 
-  pub resume_piped : (reads : Bool) → (h.u.pending == 1) ≡ false → (h.u.pending == 3) ≡ reads
+  pub resume_piped : (reads : Bool) → (h.u.pending == LINE_READ) ≡ false → (h.u.pending == PIPE_READ) ≡ reads
       → piped_on h slot now reads ≡ resumes h slot now
   resume_piped reads other is = resumed_as false reads other is

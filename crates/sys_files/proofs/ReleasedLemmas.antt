@@ -1,12 +1,16 @@
--- What a number that lets its file go changes: the pipes, the line of the console, and a reference to the inode.
-use Rattle.std.proofs.Common.{◌≡◌, ◌⊎◌, ℕ, Bool, true, false, not, ◌<◌, ◌==◌, ◌&&◌, List, length, cond, Option, Some, None, slice_set, refl, ap, ◌∙◌, subst, sym, inl, inr}
+-- What a number that lets its file go changes: the pipes, a terminal line, and a reference to the inode.
+use Rattle.std.proofs.Common.{◌≡◌, ◌⊎◌, ℕ, Bool, true, false, not, ◌<◌, ◌==◌, ◌&&◌, List, [], ◌∷◌, length, cond, Option, Some, None, slice_set, refl, ap, ◌∙◌, subst, sym, inl, inr}
 use Rattle.open_files.specs.declared.file.OpenFile.{OpenFile}
 use Rattle.open_files.specs.declared.file.Closed.TheVariants.{Still, Last}
 use Rattle.open_files.specs.Files.{file_at, with_fewer, closed}
 use Rattle.pipe_ends.specs.declared.ends.Pipe.{Pipe}
-use Rattle.sys_files.specs.Handed.{Handed, let_go}
+use Rattle.tty_line.specs.Terminal as terminal
+use Rattle.sys_files.specs.Handed.{Handed, line_of, node_at, let_go}
 use Rattle.sys_files.specs.Pipes.{place_of, pipe_of, with_pipe, without_pipe, has_end, ArePipes}
-use Rattle.sys_files.specs.Descriptors.{with_closed, without_marks, with_roused, is_gone_with, with_gone, released}
+use Rattle.v6_base.specs.Trace.{Log}
+use Rattle.v6_base.specs.declared.entry.Chan.TheVariants.{Keys}
+use Rattle.v6_base.specs.declared.entry.Entry.TheVariants.{Wake}
+use Rattle.sys_files.specs.Descriptors.{Closing, is_line_open, closes_line, line_closed, without_marks, with_roused, is_gone_with, with_gone, released}
 use Rattle.sys_files.proofs.PipeLemmas.{pipes_marked, pipes_freed}
 
 -- the pipes when an end has been closed, and when it was the last
@@ -40,13 +44,28 @@ gone_is h file = by (is_gone_with h file)
 pub released_still : (h : Handed) (file : OpenFile) → (released h (Still file)).state ≡ record h { pipes = roused h.pipes file }
 released_still h file = roused_is h file
 
--- Where it is freed the line may be another, and a reference goes.
+-- A line that is closed is another then, and nothing else is.
+pub line_closed_is : (h : Handed) (line : Option ℕ) → (closes_line h line).state ≡ record h { line = (closes_line h line).state.line }
+line_closed_is h None = refl
+line_closed_is h (Some l) = by (is_line_open h l)
+  where
+    shut : Closing
+    shut = record { state = record h { line = terminal.closed h.line }; items = Log (Wake Keys) ∷ [] }
+
+    by : (used : Bool) → (cond used (record { state = h; items = [] }) shut).state
+        ≡ record h { line = (cond used (record { state = h; items = [] }) shut).state.line }
+    by true = refl
+    by false = refl
+
+-- Where it is freed a line may be another, and a reference goes.
 pub released_last : (h : Handed) (file : OpenFile)
-    → (released h (Last file)).state ≡ let_go
-    (record h { pipes = gone h.files (roused h.pipes file) file; line = (with_closed h file).line }) file.ino
+    → let rest : Handed = record h { pipes = gone h.files (roused h.pipes file) file } in
+    (released h (Last file)).state ≡ let_go (record rest { line = (line_closed rest file).state.line }) file.ino
 released_last h file =
-    ap (λ (k : Handed). let_go (with_closed k file) file.ino)
+    let rest : Handed = record h { pipes = gone h.files (roused h.pipes file) file } in
+    ap (λ (k : Handed). let_go (line_closed k file).state file.ino)
     (ap (λ (k : Handed). with_gone k file) (roused_is h file) ∙ gone_is (record h { pipes = roused h.pipes file }) file)
+    ∙ ap (λ (k : Handed). let_go k file.ino) (line_closed_is rest (line_of rest (node_at rest file.ino)))
 
 -- The marks of a pipe change nothing of which pipes there are.
 pub pipes_roused : (files : List (Option OpenFile)) (pipes : List Pipe) (file : OpenFile) → ArePipes files pipes

@@ -3,7 +3,7 @@ use Rattle.std.specs.Prelude.{◌≡◌, ℕ, Bool, false, not, ◌+◌, ◌<◌
 use Rattle.std.specs.List.{range_with_len, list_any}
 use Rattle.v6_base.specs.Trace.{Item, Log}
 use Rattle.v6_base.specs.declared.answer.Answer.TheVariants.{Ret}
-use Rattle.v6_base.specs.declared.entry.Chan.TheVariants.{Keys, Read, Write}
+use Rattle.v6_base.specs.declared.entry.Chan.TheVariants.{Read, Write}
 use Rattle.v6_base.specs.declared.entry.Entry.TheVariants.{Wake}
 use Rattle.v6_base.specs.declared.errno.Errno.{Errno}
 use Rattle.v6_base.specs.declared.errno.Errno.TheVariants.{EBADF, EMFILE}
@@ -13,7 +13,7 @@ use Rattle.open_files.specs.declared.file.Closed.TheVariants.{Still, Last}
 use Rattle.open_files.specs.Files.{file_at, entry_of, free_number, with_more, with_change, closed, left}
 use Rattle.pipe_ends.specs.declared.ends.Pipe.{Pipe}
 use Rattle.tty_line.specs.Terminal as terminal
-use Rattle.sys_files.specs.Handed.{Handed, r0, r1, node_at, file_of, is_console, with_number, let_go}
+use Rattle.sys_files.specs.Handed.{Handed, r0, r1, node_at, file_of, line_of, line_at, with_line, keys_of, with_number, let_go}
 use Rattle.sys_files.specs.Did.{Did, returns, check, need}
 use Rattle.sys_files.specs.Pipes.{pipe_of, with_pipe, without_pipe, has_end}
 
@@ -33,24 +33,32 @@ dup_file h =
     check h (need EMFILE (free_number h.u.files)) (λ fd.
     returns (record h { files = with_change h.files entry (with_more 1); u = with_number h.u fd (entry + 1) }) fd))
 
--- a file of the console is open
-abbrev pub is_of_console : Handed → Option OpenFile → Bool
-is_of_console h None = false
-is_of_console h (Some file) = is_console (node_at h file.ino)
+-- What closing comes to: it always goes on.
+pub record Closing : Type 0 where
+  pub state : Handed
+  pub items : List Item
 
-abbrev pub is_console_open : Handed → Bool
-is_console_open h = list_any (is_of_console h) h.files
+-- a file of a line is open
+abbrev pub is_number : ℕ → Option ℕ → Bool
+is_number l None = false
+is_number l (Some other) = other == l
 
--- With the last of its files the console is closed, and what was typed is lost: who waits for its keys is woken.
-abbrev pub is_closed_by : Handed → OpenFile → Bool
-is_closed_by h file = is_console (node_at h file.ino) && not (is_console_open h)
+abbrev pub is_of_line : Handed → ℕ → Option OpenFile → Bool
+is_of_line h l None = false
+is_of_line h l (Some file) = is_number l (line_of h (node_at h file.ino))
 
-abbrev pub with_closed : Handed → OpenFile → Handed
-with_closed h file = record h { line = if is_closed_by h file then terminal.closed h.line else h.line }
+abbrev pub is_line_open : Handed → ℕ → Bool
+is_line_open h l = list_any (is_of_line h l) h.files
 
-abbrev pub console_closed : Handed → OpenFile → List Item
-console_closed h file =
-    if is_closed_by h file then Log (Wake Keys) ∷ [] else []
+-- With the last of its files a line is closed, and what was typed is lost: who waits for its keys is woken.
+abbrev pub closes_line : Handed → Option ℕ → Closing
+closes_line h None = record { state = h; items = [] }
+closes_line h (Some l) =
+    if is_line_open h l then record { state = h; items = [] }
+    else record { state = with_line h l (terminal.closed (line_at h l)); items = Log (Wake (keys_of l)) ∷ [] }
+
+abbrev pub line_closed : Handed → OpenFile → Closing
+line_closed h file = closes_line h (line_of h (node_at h file.ino))
 
 -- Each close of an end of a pipe, also one that leaves the end open, wakes those who wait for the pipe: writers, and then readers.
 abbrev pub without_marks : Pipe → Pipe
@@ -70,18 +78,14 @@ is_gone_with h file = file.kind.pipe && not (has_end h.files file.ino)
 abbrev pub with_gone : Handed → OpenFile → Handed
 with_gone h file = if is_gone_with h file then record h { pipes = without_pipe h.pipes file.ino } else h
 
--- What closing comes to: it always goes on.
-pub record Closing : Type 0 where
-  pub state : Handed
-  pub items : List Item
-
--- An end of a pipe wakes who waits. The entry is free with its last number: then the console is closed, and the reference to the
--- inode goes.
+-- An end of a pipe wakes who waits. The entry is free with its last number: then a line is closed whose last file it was, and the
+-- reference to the inode goes.
 abbrev pub released : Handed → Closed → Closing
 released h (Still file) = record { state = with_roused h file; items = pipe_roused file }
 released h (Last file) =
     let rest : Handed = with_gone (with_roused h file) file in
-    record { state = let_go (with_closed rest file) file.ino; items = pipe_roused file ++ console_closed rest file }
+    let c : Closing = line_closed rest file in
+    record { state = let_go c.state file.ino; items = pipe_roused file ++ c.items }
 
 -- what is told of the file that a number lets go
 abbrev pub told_by : Handed → ℕ → Closed

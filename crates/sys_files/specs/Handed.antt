@@ -1,11 +1,13 @@
 -- What a call on files works on: the parts of the Unix that it is handed. `user.h`, `proc.h` and `file.h` in Lions' Commentary.
-use Rattle.std.specs.Prelude.{ℕ, Bool, false, ◌&&◌, ◌==◌, List, Option, slice_index, slice_set, unwrap_or}
+use Rattle.std.specs.Prelude.{ℕ, Bool, false, ◌+◌, ◌&&◌, ◌==◌, nat_lt, List, Option, Some, None, slice_index, slice_set, unwrap_or, if◌then◌else◌}
 use Rattle.v6_base.specs.Image.{Image}
+use Rattle.v6_base.specs.declared.entry.Chan.{Chan}
+use Rattle.v6_base.specs.declared.entry.Chan.TheVariants.{Keys}
 use Rattle.proc_tab.specs.declared.row.Row.{Row}
 use Rattle.u_area.specs.declared.area.UArea.{UArea}
 use Rattle.fs_codec.specs.Modes.{is_character_device}
 use Rattle.fs_codec.specs.Store.{Node, Store}
-use Rattle.fs_laws.specs.Numbers.{with_node}
+use Rattle.fs_laws.specs.Keys.{with_fields}
 use Rattle.open_files.specs.declared.file.OpenFile.{OpenFile}
 use Rattle.open_files.specs.Files.{file_at}
 use Rattle.pipe_ends.specs.declared.ends.Pipe.{Pipe}
@@ -14,13 +16,14 @@ use Rattle.fs_tree.specs.Finding.{Inodes, inodes_of, put_back}
 pub use Rattle.fs_tree.specs.Tests.{no_node, node_in}
 use Rattle.tty_line.specs.Terminal.{Terminal}
 use Rattle.sys_files.specs.declared.files.Files.{Files}
+use Rattle.sys_files.specs.declared.devices.TheConstants.{LINES}
 
 pub record Handed : Type 0 where
   pub inodes : Inodes  -- the store, and how often its inodes are referred to
   pub marks : List Bool  -- which inodes have a text that is shared
   pub files : List (Option OpenFile)  -- the table of open files
   pub pipes : List Pipe  -- that are open
-  pub line : Terminal  -- the console
+  pub line : Terminal  -- the one that there is, which is line 0: the console
   pub u : UArea  -- of the process that calls
   pub row : Row
   pub image : Image
@@ -59,9 +62,20 @@ no_file = record { ino = 0; kind = record { reading = false; writing = false; pi
 abbrev pub file_of : Handed → ℕ → OpenFile
 file_of h entry = unwrap_or (file_at h.files entry) no_file
 
--- the console is the character device 0, 0; the null device is 8, 2
-abbrev pub is_console : Node → Bool
-is_console node = is_character_device node.mode && (node.device == 0)
+-- The terminal lines that there are, are the character devices 0, 0, which is the console, 0, 1 and so on. The null device is 8, 2.
+abbrev pub line_of : Handed → Node → Option ℕ
+line_of h node = if is_character_device node.mode && nat_lt node.device LINES then Some node.device else None
+
+-- the terminal of a line, and the parts with another in its place
+abbrev pub line_at : Handed → ℕ → Terminal
+line_at h l = h.line
+
+abbrev pub with_line : Handed → ℕ → Terminal → Handed
+with_line h l t = record h { line = t }
+
+-- what a process sleeps for that waits for keys of a line
+abbrev pub keys_of : ℕ → Chan
+keys_of l = Keys
 
 abbrev pub is_null : Node → Bool
 is_null node = is_character_device node.mode && (node.device == 2050)
@@ -74,7 +88,7 @@ with_store h store = with_inodes h (record h.inodes { store = store })
 
 -- a node is changed, and holds no other blocks
 abbrev pub with_changed : Handed → ℕ → Node → Handed
-with_changed h ino node = with_store h (with_node h.inodes.store ino node h.inodes.store.room)
+with_changed h ino node = with_store h (with_fields h.inodes.store ino node)
 
 -- a number of the process names this entry from now on: one more than the entry, or 0
 abbrev pub with_number : UArea → ℕ → ℕ → UArea

@@ -1,15 +1,15 @@
 -- Bytes are read and written: read(II), write(II), seek(II); Lions' Commentary, `rdwr` and `seek` in `sys2.c`.
-use Rattle.std.specs.Prelude.{◌≡◌, ◌<◌, pos, ℕ, not, ◌+◌, ◌-◌, ◌*◌, ◌%◌, ◌^◌, ◌==◌, nat_le, if◌then◌else◌, List, [], ◌∷◌, length, min, replicate, slice_index, Option, Some, None}
+use Rattle.std.specs.Prelude.{◌≡◌, ◌<◌, pos, ℕ, Bool, not, ◌+◌, ◌-◌, ◌*◌, ◌%◌, ◌^◌, ◌==◌, nat_le, if◌then◌else◌, List, [], ◌∷◌, length, min, replicate, slice_index, Option, Some, None}
 use Rattle.v6_base.specs.Image.{Image}
 use Rattle.v6_base.specs.Trace.{sent}
 use Rattle.v6_base.specs.declared.answer.Answer.TheVariants.{Sleep}
-use Rattle.v6_base.specs.declared.entry.Chan.TheVariants.{Keys}
 use Rattle.v6_base.specs.declared.errno.Errno.{Errno}
 use Rattle.v6_base.specs.declared.errno.Errno.TheVariants.{EBADF, EFAULT, ESPIPE}
 use Rattle.fs_codec.specs.Modes.{is_device}
 use Rattle.fs_codec.specs.Store.{Node}
-use Rattle.fs_laws.specs.Numbers.{with_node}
+use Rattle.u_area.specs.declared.layout.TheConstants.{NOTHING_PENDING, LINE_READ, PIPE_READ}
 use Rattle.fs_laws.specs.Pieces.{Moving, read_file, write_file}
+use Rattle.fs_laws.specs.Keys.{room_at, with_node}
 use Rattle.fs_nodes.specs.Copy.{put_into, get_from}
 use Rattle.fs_tree.specs.Name.{readable}
 use Rattle.open_files.specs.declared.file.OpenFile.{OpenFile}
@@ -19,7 +19,7 @@ use Rattle.tty_line.specs.declared.line.Took.TheVariants.{Done, Wait, Fault}
 use Rattle.tty_line.specs.Output.{shows, after_shown}
 use Rattle.tty_line.specs.Reading.{Reading, reads}
 use Rattle.sys_files.specs.declared.files.Files.{Files}
-use Rattle.sys_files.specs.Handed.{Handed, r0, node_at, file_of, is_console, with_store}
+use Rattle.sys_files.specs.Handed.{Handed, r0, node_at, file_of, line_of, line_at, with_line, keys_of, with_store}
 use Rattle.sys_files.specs.Did.{Did, fails, returns, is_done, check, must, unless_due}
 use Rattle.sys_files.specs.Descriptors.{open_entry}
 use Rattle.sys_files.specs.Piping.{reads_pipe, writes_pipe}
@@ -42,11 +42,12 @@ abbrev pub gives_count : Handed → ℕ → Option Errno → Did
 gives_count h count None = returns h count
 gives_count h count (Some e) = fails h e
 
--- The call waits for keys, at the priority of terminal input, unless a signal is due: its entry, address and count are kept.
-abbrev pub waits_for_keys : Handed → ℕ → ℕ → ℕ → Did
-waits_for_keys h entry at count = unless_due h (record {
-  answer = Sleep (pos 10) Keys;
-  state = record h { u = record h.u { pending = 1; call = entry ∷ at ∷ count ∷ 0 ∷ 0 ∷ 0 ∷ 0 ∷ 0 ∷ [] } };
+-- The call waits for keys of a line, at the priority of terminal input, unless a signal is due: its entry, address and count are
+-- kept.
+abbrev pub waits_for_keys : Handed → ℕ → ℕ → ℕ → ℕ → Did
+waits_for_keys h l entry at count = unless_due h (record {
+  answer = Sleep (pos 10) (keys_of l);
+  state = record h { u = record h.u { pending = LINE_READ; call = entry ∷ at ∷ count ∷ 0 ∷ 0 ∷ 0 ∷ 0 ∷ 0 ∷ [] } };
   items = [];
 })
 
@@ -54,35 +55,37 @@ waits_for_keys h entry at count = unless_due h (record {
 abbrev pub read_of : Handed → ℕ → ℕ → ℕ → ℕ → Moving Image
 read_of h entry at count now =
     let file : OpenFile = file_of h entry in
-    read_file (put_into at) (node_at h file.ino) h.inodes.store.room h.image file.offset count now
+    read_file (put_into at) (node_at h file.ino) (room_at h.inodes.store file.ino) h.image file.offset count now
 
 abbrev pub with_read : Handed → ℕ → Moving Image → Handed
 with_read h entry m = record (with_moved h entry m) { image = m.memory }
 
--- What a read of the console comes to: bytes of a line, or the process waits until one has been typed.
-abbrev pub line_read : Handed → ℕ → ℕ → Reading
-line_read h at count = reads h.line h.image at count
+-- What a read of a line comes to: bytes of what was typed, or the process waits until there are some.
+abbrev pub line_read : Handed → ℕ → ℕ → ℕ → Reading
+line_read h l at count = reads (line_at h l) h.image at count
 
-abbrev pub with_line_read : Handed → Reading → Handed
-with_line_read h reading = record h { line = reading.terminal; image = reading.image }
+abbrev pub with_line_read : Handed → ℕ → Reading → Handed
+with_line_read h l reading = record (with_line h l reading.terminal) { image = reading.image }
 
-abbrev pub takes_line : Handed → ℕ → ℕ → ℕ → Took → Did
-takes_line h entry at count (Done n) = returns h n
-takes_line h entry at count Wait = waits_for_keys h entry at count
-takes_line h entry at count Fault = fails h EFAULT
+abbrev pub takes_line : Handed → ℕ → ℕ → ℕ → ℕ → Took → Did
+takes_line h l entry at count (Done n) = returns h n
+takes_line h l entry at count Wait = waits_for_keys h l entry at count
+takes_line h l entry at count Fault = fails h EFAULT
 
-abbrev pub reads_line : Handed → ℕ → ℕ → ℕ → Did
-reads_line h entry at count =
-    let reading : Reading = line_read h at count in
-    takes_line (with_line_read h reading) entry at count reading.took
+abbrev pub reads_line : Handed → ℕ → ℕ → ℕ → ℕ → Did
+reads_line h l entry at count =
+    let reading : Reading = line_read h l at count in
+    takes_line (with_line_read h l reading) l entry at count reading.took
 
--- A read of the console also sets the time of its inode. The null device has no bytes.
+-- A read of a line also sets the time of its inode. The null device has no bytes.
+abbrev pub reads_by : Handed → Option ℕ → ℕ → ℕ → ℕ → Moving Image → Did
+reads_by h None entry at count m = gives_count h m.done m.error
+reads_by h (Some l) entry at count m = reads_line h l entry at count
+
 abbrev pub reads_from : Handed → ℕ → ℕ → ℕ → ℕ → Did
 reads_from h entry at count now =
     let m : Moving Image = read_of h entry at count now in
-    let after : Handed = with_read h entry m in
-    if is_console (node_at h (file_of h entry).ino) then reads_line after entry at count
-    else gives_count after m.done m.error
+    reads_by (with_read h entry m) (line_of h (node_at h (file_of h entry).ino)) entry at count m
 
 -- 3, read: of the number in R0, of a buffer's address and a number of bytes. R0 takes the number of bytes read.
 abbrev pub read_file_of : Handed → ℕ → ℕ → ℕ → Did
@@ -93,31 +96,40 @@ read_file_of h at count now =
 
 -- A process that waited for keys goes on with its read, of the entry, address and count that were kept. It may have to wait again.
 abbrev pub without_pending : Handed → Handed
-without_pending h = record h { u = record h.u { pending = 0; call = replicate 8 0 } }
+without_pending h = record h { u = record h.u { pending = NOTHING_PENDING; call = replicate 8 0 } }
+
+-- the line of a read that is gone on with: of one line, that one
+abbrev pub line_kept : Handed → ℕ
+line_kept h = 0
 
 abbrev pub resume_read : Handed → Did
-resume_read h = reads_line (without_pending h) (slice_index h.u.call 0) (slice_index h.u.call 1) (slice_index h.u.call 2)
+resume_read h =
+    reads_line (without_pending h) (line_kept h) (slice_index h.u.call 0) (slice_index h.u.call 1) (slice_index h.u.call 2)
 
--- What is written to the console is shown byte by byte, up to the first that cannot be read.
-abbrev pub shows_bytes : Handed → ℕ → List ℕ → Did
-shows_bytes h count bytes =
-    let after : Handed = record h { line = after_shown h.line bytes } in
-    record (if length bytes == count then returns after count else fails after EFAULT) { items = sent 0 (shows h.line bytes) }
+-- What is written to a line is shown byte by byte, up to the first that cannot be read.
+abbrev pub writes_line : Handed → ℕ → ℕ → List ℕ → Did
+writes_line h l count bytes =
+    let after : Handed = with_line h l (after_shown (line_at h l) bytes) in
+    record (if length bytes == count then returns after count else fails after EFAULT) {
+      items = sent l (shows (line_at h l) bytes);
+    }
 
 -- what a write of an entry comes to
 abbrev pub write_of : Handed → ℕ → ℕ → ℕ → ℕ → Moving (Unit {0})
 write_of h entry at count now =
     let file : OpenFile = file_of h entry in
-    write_file (get_from h.image at) (node_at h file.ino) h.inodes.store.room tt file.offset count now
+    write_file (get_from h.image at) (node_at h file.ino) (room_at h.inodes.store file.ino) tt file.offset count now
 
 -- The null device takes all.
+abbrev pub writes_by : Handed → Option ℕ → Bool → ℕ → ℕ → Moving (Unit {0}) → Did
+writes_by h None device at count m = gives_count h (if device then count else m.done) m.error
+writes_by h (Some l) device at count m = writes_line h l count (readable h.image at count)
+
 abbrev pub writes_to : Handed → ℕ → ℕ → ℕ → ℕ → Did
 writes_to h entry at count now =
     let node : Node = node_at h (file_of h entry).ino in
     let m : Moving (Unit {0}) = write_of h entry at count now in
-    let after : Handed = with_moved h entry m in
-    if is_console node then shows_bytes after count (readable h.image at count)
-    else gives_count after (if is_device node.mode then count else m.done) m.error
+    writes_by (with_moved h entry m) (line_of h node) (is_device node.mode) at count m
 
 -- 4, write: of the number in R0, of a buffer's address and a number of bytes. R0 takes the number of bytes written. A process that
 -- writes to a pipe which nobody reads has a signal, by its slot.
@@ -127,16 +139,16 @@ write_file_of h slot at count now =
     check h (must EBADF (file_of h entry).kind.writing) (λ may.
     if (file_of h entry).kind.pipe then writes_pipe h slot entry at count count now else writes_to h entry at count now))
 
--- A process goes on with the call in which it slept, unless a signal is due: with a read of the console, or with a read or a write
--- of a pipe.
+-- A process goes on with the call in which it slept, unless a signal is due: with a read of a line, or with a read or a write of a
+-- pipe.
 abbrev pub goes_on : Handed → ℕ → ℕ → Did
 goes_on h slot now =
     let rest : Handed = without_pending h in
     let entry = slice_index h.u.call 0 in
     let at = slice_index h.u.call 1 in
     let count = slice_index h.u.call 2 in
-    if h.u.pending == 1 then resume_read h
-    else (if h.u.pending == 3 then reads_pipe rest entry at count now
+    if h.u.pending == LINE_READ then resume_read h
+    else (if h.u.pending == PIPE_READ then reads_pipe rest entry at count now
     else writes_pipe rest slot entry at count (slice_index h.u.call 3) now)
 
 abbrev pub resumes : Handed → ℕ → ℕ → Did

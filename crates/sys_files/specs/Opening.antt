@@ -1,5 +1,5 @@
 -- Files are opened: open(II); Lions' Commentary, `open1` in `sys2.c` and `falloc` in `fio.c`.
-use Rattle.std.specs.Prelude.{ℕ, Bool, false, not, ◌+◌, ◌/◌, ◌%◌, ◌==◌, ◌&&◌, ◌||◌, if◌then◌else◌, List, [], ◌∷◌, Some, Result, Ok, Err, slice_set}
+use Rattle.std.specs.Prelude.{ℕ, Bool, false, not, ◌+◌, ◌/◌, ◌%◌, ◌==◌, ◌&&◌, ◌||◌, if◌then◌else◌, List, [], ◌∷◌, Option, Some, None, is_some, Result, Ok, Err, slice_set}
 use Rattle.v6_base.specs.declared.errno.Errno.{Errno}
 use Rattle.v6_base.specs.declared.errno.Errno.TheVariants.{ENXIO, EISDIR, ENFILE, EMFILE}
 use Rattle.proc_tab.specs.declared.row.Row.{Row}
@@ -13,7 +13,7 @@ use Rattle.fs_tree.specs.Permission.{permission, access}
 use Rattle.fs_tree.specs.Finding.{with_reference}
 use Rattle.tty_line.specs.Terminal as terminal
 use Rattle.tty_line.specs.Terminal.{Terminal}
-use Rattle.sys_files.specs.Handed.{Handed, node_at, user_of, is_console, is_null, with_number}
+use Rattle.sys_files.specs.Handed.{Handed, node_at, user_of, line_of, line_at, is_null, with_number}
 use Rattle.sys_files.specs.Did.{Did, returns, check, must, need, finds}
 
 -- A mode opens for reading (0), for writing (1) or for both (2). Others count by their lowest bits.
@@ -43,25 +43,27 @@ open_tests marks ino node user mode =
     ∷ only_if (opens_to_write mode) (must EISDIR (not (is_directory node.mode)))
     ∷ []
 
--- a file that can be opened: of the devices the console and null alone
-abbrev pub can_open : Node → Bool
-can_open node = not (is_device node.mode) || is_console node || is_null node
+-- a file that can be opened: of the devices the terminal lines and null alone
+abbrev pub can_open : Handed → Node → Bool
+can_open h node = not (is_device node.mode) || is_some (line_of h node) || is_null node
 
--- A process without a terminal that opens the console has it as its terminal from then on.
-abbrev pub with_terminal : Row → Node → Row
-with_terminal row node = if is_console node && (row.tty == 0) then record row { tty = 1 } else row
+-- A process without a terminal that opens a line has it as its terminal from then on, by one more than the line's number.
+abbrev pub with_tty : Row → Option ℕ → Row
+with_tty row None = row
+with_tty row (Some l) = if row.tty == 0 then record row { tty = l + 1 } else row
 
--- The console is opened with the first of its files.
-abbrev pub with_console : Terminal → Node → Terminal
-with_console line node = if is_console node then terminal.opened line else line
+-- A line is opened with the first of its files.
+abbrev pub line_opened : Handed → Option ℕ → Terminal
+line_opened h None = h.line
+line_opened h (Some l) = terminal.opened (line_at h l)
 
 abbrev pub with_opened : Handed → ℕ → FileKind → ℕ → ℕ → Handed
 with_opened h ino kind fd entry = record h {
   inodes = with_reference h.inodes ino;
   files = slice_set h.files entry (Some (opened ino kind));
   u = with_number h.u fd (entry + 1);
-  row = with_terminal h.row (node_at h ino);
-  line = with_console h.line (node_at h ino);
+  row = with_tty h.row (line_of h (node_at h ino));
+  line = line_opened h (line_of h (node_at h ino));
 }
 
 -- The opening itself: a number, an entry, and then the device. R0 takes the number.
@@ -69,7 +71,7 @@ abbrev pub opens : Handed → ℕ → FileKind → Did
 opens h ino kind =
     check h (need EMFILE (free_number h.u.files)) (λ fd.
     check h (need ENFILE (free_entry h.files)) (λ entry.
-    check h (must ENXIO (can_open (node_at h ino))) (λ can.
+    check h (must ENXIO (can_open h (node_at h ino))) (λ can.
     returns (with_opened h ino kind fd entry) fd)))
 
 -- A file whose inode is found is opened where the user may.

@@ -10,6 +10,7 @@ use Rattle.fs_codec.specs.declared.modes.TheConstants.{IALLOC}
 use Rattle.open_files.specs.declared.file.FileKind.{FileKind}
 use Rattle.open_files.specs.Files.{free_number, free_entry, opened}
 use Rattle.fs_tree.specs.Finding.{with_reference}
+use Rattle.u_area.specs.declared.layout.TheConstants.{PIPE_READ, PIPE_WRITE}
 use Rattle.sig_core.specs.declared.numbers.TheConstants.{SIGPIPE}
 use Rattle.sig_core.specs.Signals.{posted}
 use Rattle.pipe_ends.specs.declared.ends.Pipe.{Pipe}
@@ -102,10 +103,10 @@ pipe_read h entry at count now = reads h.inodes.store (ends_at h entry) (pipe_at
 abbrev pub with_pipe_read : Handed → PipeRead → Handed
 with_pipe_read h r = record (with_store h r.store) { image = r.image; pipes = with_pipe h.pipes r.pipe }
 
--- and what it answers: 3 is the pending call of one that waits. No read is broken.
+-- and what it answers. No read is broken.
 abbrev pub ends_read : Handed → ℕ → ℕ → ℕ → ℕ → Piped → Did
 ends_read h ino entry at count (Done n) = returns h n
-ends_read h ino entry at count (Wait left) = waits_in_pipe h (Read ino) 3 (words_of entry at count 0)
+ends_read h ino entry at count (Wait left) = waits_in_pipe h (Read ino) PIPE_READ (words_of entry at count 0)
 ends_read h ino entry at count Broken = fails h EPIPE
 ends_read h ino entry at count (Error e) = fails h e
 
@@ -132,10 +133,10 @@ pipe_write h entry at count left now =
 abbrev pub with_pipe_write : Handed → PipeWrite → Handed
 with_pipe_write h w = record (with_store h w.store) { pipes = with_pipe h.pipes w.pipe }
 
--- and what it answers, for the process of a slot: 4 is the pending call of one that waits. R0 takes the whole count, also after a sleep.
+-- and what it answers, for the process of a slot. R0 takes the whole count, also after a sleep.
 abbrev pub ends_write : Handed → ℕ → ℕ → ℕ → ℕ → ℕ → Piped → Did
 ends_write h slot ino entry at count (Done n) = returns h count
-ends_write h slot ino entry at count (Wait left) = waits_in_pipe h (Write ino) 4 (words_of entry at count left)
+ends_write h slot ino entry at count (Wait left) = waits_in_pipe h (Write ino) PIPE_WRITE (words_of entry at count left)
 ends_write h slot ino entry at count Broken = breaks h slot
 ends_write h slot ino entry at count (Error e) = fails h e
 

@@ -2,6 +2,8 @@
 use Rattle.std.specs.Prelude.{◌≡◌, ◌⊎◌, ℕ, Bool, true, false, ◌+◌, ◌<◌, ◌≤◌, ◌==◌, if◌then◌else◌, List, Option, Some, None, count_by, slice_index}
 use Rattle.open_files.specs.declared.file.OpenFile.{OpenFile}
 use Rattle.open_files.specs.Files.{file_at, times, AreOpen, HaveRoom}
+use Rattle.u_area.specs.declared.layout.TheConstants.{LINE_READ}
+use Rattle.u_area.specs.Pending.{IsPipeCall}
 use Rattle.sys_files.specs.Handed.{Handed}
 use Rattle.sys_files.specs.Pipes.{ArePipes}
 
@@ -34,9 +36,9 @@ pub record IsInPipe (h : Handed) : Type 0 where
   pub pipe : file.kind.pipe ≡ true
   pub left : slice_index h.u.call 3 ≤ slice_index h.u.call 2
 
--- The call in which a process slept can go on: 1 is a read of the console, 3 a read and 4 a write of a pipe.
+-- The call in which a process slept can go on.
 abbrev pub CanGoOn : Handed → Type 0
-CanGoOn h = (h.u.pending ≡ 1) ⊎ ((h.u.pending ≡ 3 ⊎ h.u.pending ≡ 4) × IsInPipe h)
+CanGoOn h = (h.u.pending ≡ LINE_READ) ⊎ (IsPipeCall h.u.pending × IsInPipe h)
 
 -- A file of which another process has a number too stays open in its entry, of the same inode and kind.
 pub record StaysOpen (files : List (Option OpenFile)) (entry : ℕ) (file : OpenFile) : Type 0 where

@@ -1,5 +1,5 @@
 //! Descriptors are given once more and closed: `fio.c` and `sys3.c` in Lions' Commentary.
-ghost use Rattle.std.specs.Prelude.{◌≡◌, ◌⊎◌, ◌<◌, ◌&&◌, true, not, IsSome, IfOk, IfErr, MatchResult, length, slice_index, []};
+ghost use Rattle.std.specs.Prelude.{◌≡◌, ◌⊎◌, ◌<◌, true, IsSome, IfOk, IfErr, MatchResult, length, slice_index, []};
 ghost use Rattle.v6_base.specs.Image.{Image};
 ghost use Rattle.v6_base.specs.Trace.{Took};
 ghost use Rattle.v6_base.specs.declared.errno.Errno.{Errno};
@@ -9,15 +9,15 @@ ghost use Rattle.fs_nodes.specs.FileSystem.{SameRest};
 ghost use Rattle.open_files.specs.declared.file.OpenFile.{OpenFile};
 ghost use Rattle.open_files.specs.declared.file.Closed.{Closed};
 ghost use Rattle.open_files.specs.Files.{file_at, AreOpen, HaveRoom};
-ghost use Rattle.sys_files.specs.Handed.{handed, file_of, node_at, is_console};
+ghost use Rattle.sys_files.specs.Handed.{handed, file_of};
 ghost use Rattle.sys_files.specs.Sound.{IsSound, IsKept};
 ghost use Rattle.sys_files.specs.Does.{Does};
 ghost use Rattle.sys_files.specs.Pipes.{is_end_of, has_end, place_of};
-ghost use Rattle.sys_files.specs.Descriptors.{open_entry, dup_file, is_of_console, is_console_open, with_closed, console_closed, with_roused, pipe_roused, with_gone, released, told_by, dropped, then_closes, close_file, close_all, AreReferred};
+ghost use Rattle.sys_files.specs.Descriptors.{open_entry, dup_file, is_of_line, is_line_open, line_closed, with_roused, pipe_roused, with_gone, released, told_by, dropped, then_closes, close_file, close_all, AreReferred};
 
-use crate::devices::is_console_at;
+use crate::devices::{keys_of, line_at};
 use crate::files::Files;
-use crate::inodes::let_go;
+use fs_tree::let_go;
 use open_files::{Closed, OpenFile, OpenTable};
 use proc_tab::Row;
 use u_area::UArea;
@@ -83,7 +83,7 @@ pub fn dup_file<S: Space, T: Trace>(
         (dup_file (handed f.old u.old row.old (S.image space.old))) }
     ensures frame { T.leads_to trace.old trace.new }
     ensures memory { S.rest space.new ≡ S.rest space.old }
-    ensures blocks { SameRest f.old.tree.nodes.blocks f.new.tree.nodes.blocks }
+    ensures blocks { SameRest f.old.tree.nodes f.new.tree.nodes }
 {
     dup_number(f, u)
 }
@@ -95,53 +95,52 @@ pub(crate) fn see_entries(table: &OpenTable)
     let _ = table.in_use(0);
 }
 
-/// Whether an entry is in use by a file of the console.
-fn is_of_console(f: &Files, entry: u8) -> bool
+/// Whether an entry is in use by a file of a line.
+fn is_of_line(f: &Files, line: u8, entry: u8) -> bool
     requires { AreReferred f.now.table f.now.tree.nodes.references }
     ensures { (u : UArea) (row : Row) (image : Image)
-        → result ≡ is_of_console (handed f.now u row image) (file_at f.now.table entry) }
+        → result ≡ is_of_line (handed f.now u row image) line (file_at f.now.table entry) }
 {
-    f.table.in_use(entry) && is_console_at(&f.tree.nodes, f.table.file(entry).ino)
+    if !f.table.in_use(entry) {
+        return false;
+    }
+    match line_at(&f.tree.nodes, f.table.file(entry).ino) {
+        Some(other) => other == line,
+        None => false,
+    }
 }
 
-/// Whether a file of the console is open.
-fn is_console_open(f: &Files) -> bool
+/// Whether a file of a line is open.
+fn is_line_open(f: &Files, line: u8) -> bool
     requires { AreReferred f.now.table f.now.tree.nodes.references }
-    ensures { (u : UArea) (row : Row) (image : Image) → result ≡ is_console_open (handed f.now u row image) }
+    ensures { (u : UArea) (row : Row) (image : Image) → result ≡ is_line_open (handed f.now u row image) line }
 {
     see_entries(&f.table);
     for entry in 0..100 {
-        if is_of_console(f, entry) {
+        if is_of_line(f, line, entry) {
             return true;
         }
     }
     false
 }
 
-/// Whether an inode was the last that an open file of the console had: the file is closed already.
-fn is_console_closed(f: &Files, ino: u16) -> bool
-    requires referenced { 0 < slice_index f.now.tree.nodes.references ino }
-    requires others { AreReferred f.now.table f.now.tree.nodes.references }
-    ensures { (u : UArea) (row : Row) (image : Image) → result
-        ≡ (is_console (node_at (handed f.now u row image) ino) && not (is_console_open (handed f.now u row image))) }
-{
-    is_console_at(&f.tree.nodes, ino) && !is_console_open(f)
-}
-
-/// Closes the console with the last of its files. What was typed is lost, and who waits for its keys is woken.
-fn close_console<T: Trace>(f: &mut Files, file: OpenFile, trace: &mut T)
+/// Closes a line with the last of its files, which was this one. What was typed is lost, and who waits for its keys is woken.
+fn close_line<T: Trace>(f: &mut Files, file: OpenFile, trace: &mut T)
     requires referenced { 0 < slice_index f.old.tree.nodes.references file.ino }
     requires others { AreReferred f.old.table f.old.tree.nodes.references }
     ensures state { (u : UArea) (row : Row) (image : Image)
-        → handed f.new u row image ≡ with_closed (handed f.old u row image) file }
+        → handed f.new u row image ≡ (line_closed (handed f.old u row image) file).state }
     ensures tree { f.new.tree ≡ f.old.tree }
     ensures items { (u : UArea) (row : Row) (image : Image)
-        → Took (T.taken trace.old) (console_closed (handed f.old u row image) file) (T.taken trace.new) }
+        → Took (T.taken trace.old) (line_closed (handed f.old u row image) file).items (T.taken trace.new) }
     ensures frame { T.leads_to trace.old trace.new }
 {
-    if is_console_closed(f, file.ino) {
+    let Some(line) = line_at(&f.tree.nodes, file.ino) else {
+        return;
+    };
+    if !is_line_open(f, line) {
         f.line.closed();
-        trace.entry(Entry::Wake(Chan::Keys));
+        trace.entry(Entry::Wake(keys_of(line)));
     }
 }
 
@@ -204,7 +203,7 @@ fn drop_pipe(f: &mut Files, file: OpenFile)
 }
 
 /// Lets go what a file has that a number has let go: who waits for its pipe is woken, and with its last number go the pipe, the
-/// console, and the reference to its inode.
+/// line, and the reference to its inode.
 fn release<T: Trace>(f: &mut Files, told: Closed, now: u32, trace: &mut T)
     requires referenced { (file : OpenFile) → told ≡ Closed.Last file
         → 0 < slice_index f.old.tree.nodes.references file.ino }
@@ -216,14 +215,14 @@ fn release<T: Trace>(f: &mut Files, told: Closed, now: u32, trace: &mut T)
     ensures items { (u : UArea) (row : Row) (image : Image)
         → Took (T.taken trace.old) (released (handed f.old u row image) told).items (T.taken trace.new) }
     ensures frame { T.leads_to trace.old trace.new }
-    ensures blocks { SameRest f.old.tree.nodes.blocks f.new.tree.nodes.blocks }
+    ensures blocks { SameRest f.old.tree.nodes f.new.tree.nodes }
 {
     match told {
         Closed::Still(file) => rouse_pipe(f, file, trace),
         Closed::Last(file) => {
             rouse_pipe(f, file, trace);
             drop_pipe(f, file);
-            close_console(f, file, trace);
+            close_line(f, file, trace);
             let_go(&mut f.tree.nodes, file.ino, now);
         }
     }
@@ -266,7 +265,7 @@ fn close_number<T: Trace>(
     ensures items { (row : Row) (image : Image) → Took (T.taken trace.old)
         (then_closes (record { state = handed f.old u.old row image; items = [] }) fd).items (T.taken trace.new) }
     ensures frame { T.leads_to trace.old trace.new }
-    ensures blocks { SameRest f.old.tree.nodes.blocks f.new.tree.nodes.blocks }
+    ensures blocks { SameRest f.old.tree.nodes f.new.tree.nodes }
 {
     let told = drop_number(f, u, fd)?;
     release(f, told, now, trace);
@@ -294,7 +293,7 @@ pub fn close_file<S: Space, T: Trace>(
         (close_file (handed f.old u.old row.old (S.image space.old))) }
     ensures frame { T.leads_to trace.old trace.new }
     ensures memory { S.rest space.new ≡ S.rest space.old }
-    ensures blocks { SameRest f.old.tree.nodes.blocks f.new.tree.nodes.blocks }
+    ensures blocks { SameRest f.old.tree.nodes f.new.tree.nodes }
 {
     let fd = u.r[0];
     match close_number(f, u, fd, now, trace) {
@@ -313,7 +312,7 @@ pub fn close_all<T: Trace>(f: &mut Files, u: &mut UArea, now: u32, trace: &mut T
     ensures kept { (row : Row) (image : Image)
         → IsKept (handed f.old u.old row image) (handed f.new u.new row image) }
     ensures frame { T.leads_to trace.old trace.new }
-    ensures blocks { SameRest f.old.tree.nodes.blocks f.new.tree.nodes.blocks }
+    ensures blocks { SameRest f.old.tree.nodes f.new.tree.nodes }
 {
     for fd in 0..15 {
         let _ = close_number(f, u, fd, now, trace);

@@ -1,21 +1,30 @@
 //! The devices that can be opened: tty(IV), null(IV).
-ghost use Rattle.std.specs.Prelude.{◌≡◌, ◌<◌, slice_index};
+ghost use Rattle.std.specs.Prelude.{◌≡◌, ◌<◌, IfSome, slice_index};
 ghost use Rattle.fs_codec.specs.Store.{Node};
 ghost use Rattle.fs_nodes.specs.FileSystem.{Shows};
-ghost use Rattle.sys_files.specs.Handed.{is_console, is_null, node_in};
+ghost use Rattle.sys_files.specs.Handed.{Handed, line_of, keys_of, is_null, node_in};
 
 use crate::inodes::inode_of;
 use fs_codec::{DiskNode, is_character_device};
 use fs_nodes::Nodes;
+use v6_base::Chan;
+
+/// How many terminal lines there are. They are numbered from 0, which is the console.
+pub const LINES: u16 = 1;
 
 /// The number of the null device: major 8, minor 2.
 const NULL: u16 = 8 * 256 + 2;
 
-/// Whether an inode is the console: the character device 0, 0.
-pub(crate) fn is_console(inode: &DiskNode) -> bool
-    ensures { (node : Node) → Shows inode.now node → result ≡ is_console node }
+/// The number of the terminal line that an inode is: the character devices 0, 0, which is the console, 0, 1 and so on.
+pub(crate) fn line_of(inode: &DiskNode) -> Option<u8>
+    ensures line { (h : Handed) (node : Node) → Shows inode.now node → result ≡ line_of h node }
+    ensures there { IfSome result (λ l. l < LINES) }
 {
-    is_character_device(inode.mode) && inode.addr[0] == 0
+    let device = inode.addr[0];
+    if is_character_device(inode.mode) && device < LINES {
+        return Some(device as u8);
+    }
+    None
 }
 
 /// Whether an inode is the null device: the character device 8, 2.
@@ -25,10 +34,18 @@ pub(crate) fn is_null(inode: &DiskNode) -> bool
     is_character_device(inode.mode) && inode.addr[0] == NULL
 }
 
-/// Whether the inode of a number, which is referred to, is the console.
-pub(crate) fn is_console_at(nodes: &Nodes, ino: u16) -> bool
+/// The number of the terminal line that the inode of a number is, which is referred to.
+pub(crate) fn line_at(nodes: &Nodes, ino: u16) -> Option<u8>
     requires referenced { 0 < slice_index nodes.now.references ino }
-    ensures { result ≡ is_console (node_in nodes.now.store ino) }
+    ensures line { (h : Handed) → result ≡ line_of h (node_in nodes.now.store ino) }
+    ensures there { IfSome result (λ l. l < LINES) }
 {
-    is_console(&inode_of(nodes, ino))
+    line_of(&inode_of(nodes, ino))
+}
+
+/// What a process sleeps for that waits for keys of a line.
+pub(crate) fn keys_of(_line: u8) -> Chan
+    ensures { result ≡ keys_of _line }
+{
+    Chan::Keys
 }

@@ -4,7 +4,7 @@ use fs_tree::Tree;
 use open_files::OpenTable;
 use tty_line::Line;
 
-/// The tree of names, the table of open files, the console and the pipes.
+/// The tree of names, the table of open files, the terminal line and the pipes.
 #[derive(Drop)]
 pub struct Files {
     pub tree: Tree,

@@ -1,27 +1,23 @@
 //! The modes of a terminal: `gtty`, `stty` and `sgtty` in Lions' Commentary, `tty.c`.
-ghost use Rattle.std.specs.Prelude.{◌≡◌, ◌<◌, not, [], ◌∷◌, slice_index};
+ghost use Rattle.std.specs.Prelude.{◌≡◌, ◌<◌, ℕ, [], ◌∷◌, slice_index};
 ghost use Rattle.v6_base.specs.Image.{Image};
 ghost use Rattle.v6_base.specs.Trace.{Took, Log};
-ghost use Rattle.v6_base.specs.declared.entry.Chan.TheVariants.{Keys};
 ghost use Rattle.v6_base.specs.declared.entry.Entry.TheVariants.{Wake};
 ghost use Rattle.proc_tab.specs.declared.row.Row.{Row};
 ghost use Rattle.fs_codec.specs.Bytes.{bytes_of};
 ghost use Rattle.fs_codec.specs.Words.{word};
 ghost use Rattle.fs_nodes.specs.FileSystem.{SameRest};
 ghost use Rattle.tty_line.specs.Terminal.{with_modes};
-ghost use Rattle.v6_base.specs.declared.errno.Errno.TheVariants.{ENOTTY, ENODEV};
-ghost use Rattle.fs_codec.specs.Modes.{is_character_device};
-ghost use Rattle.sys_files.specs.Handed.{Handed, handed, node_in, is_null};
-ghost use Rattle.sys_files.specs.Did.{Did, check, must};
-ghost use Rattle.sys_files.specs.Opening.{or_earlier};
-ghost use Rattle.sys_files.specs.Modes.{of_terminal, words_at, sets_modes, tells_modes, stty_set, gtty_get};
+ghost use Rattle.sys_files.specs.Handed.{Handed, handed, node_in, keys_of};
+ghost use Rattle.sys_files.specs.Did.{Did, check};
+ghost use Rattle.sys_files.specs.Modes.{terminal_line, of_terminal, words_at, sets_modes, tells_modes, stty_set, gtty_get};
 ghost use Rattle.sys_files.specs.Sound.{IsSound};
 ghost use Rattle.sys_files.specs.Does.{Does};
 ghost use Rattle.sys_files.specs.Entering.{did_with};
 
 use crate::answers::done;
 use crate::descriptors::{file_of, open_entry};
-use crate::devices::is_null;
+use crate::devices::{is_null, keys_of, line_of};
 use crate::files::Files;
 use crate::inodes::inode_of;
 use crate::status::see_bytes;
@@ -30,17 +26,16 @@ use fs_nodes::Nodes;
 use proc_tab::Row;
 use tty_line::Line;
 use u_area::UArea;
-use v6_base::{Answer, Chan, Entry, Errno, Slot, Space, Trace};
+use v6_base::{Answer, Entry, Errno, Slot, Space, Trace};
 
-/// Sees that the file of an inode, which is referred to, is a terminal.
+/// The line that the file of an inode is, which is referred to. It has to be a terminal.
 ///
 /// # Errors
 ///
 /// `ENOTTY`: it is no character device. `ENODEV`: it is the null device.
-fn test_device(nodes: &Nodes, ino: u16) -> Result<(), Errno>
+fn terminal_line(nodes: &Nodes, ino: u16) -> Result<u8, Errno>
     requires referenced { 0 < slice_index nodes.now.references ino }
-    ensures { result ≡ or_earlier (must ENOTTY (is_character_device (node_in nodes.now.store ino).mode))
-        (must ENODEV (not (is_null (node_in nodes.now.store ino)))) }
+    ensures { (h : Handed) → result ≡ terminal_line h (node_in nodes.now.store ino) }
 {
     let inode = inode_of(nodes, ino);
     if !is_character_device(inode.mode) {
@@ -49,22 +44,22 @@ fn test_device(nodes: &Nodes, ino: u16) -> Result<(), Errno>
     if is_null(&inode) {
         return Err(Errno::ENODEV);
     }
-    Ok(())
+    Ok(line_of(&inode).unwrap_or(0))
 }
 
-/// Sees that the number in R0 names a terminal.
+/// The line of the terminal that the number in R0 has to name.
 ///
 /// # Errors
 ///
-/// `EBADF`: the number is not open. Else those of `test_device`.
-fn test_terminal(f: &Files, u: &UArea) -> Result<(), Errno>
+/// `EBADF`: the number is not open. Else those of `terminal_line`.
+fn line_named(f: &Files, u: &UArea) -> Result<u8, Errno>
     requires sound { (row : Row) (image : Image) → IsSound (handed f.now u.now row image) }
-    ensures { (row : Row) (image : Image) (does : Did) → of_terminal (handed f.now u.now row image) does
-        ≡ check (handed f.now u.now row image) result (λ is. does) }
+    ensures { (row : Row) (image : Image) (does : ℕ → Did) → of_terminal (handed f.now u.now row image) does
+        ≡ check (handed f.now u.now row image) result does }
 {
     let entry = open_entry(f, u, u.r[0])?;
     let file = file_of(f, entry);
-    test_device(&f.tree.nodes, file.ino)
+    terminal_line(&f.tree.nodes, file.ino)
 }
 
 /// The bytes of three words at an even address.
@@ -79,13 +74,13 @@ fn words_at<S: Space>(space: &S, at: u16) -> Option<[u8; 6]>
 }
 
 /// Sets the modes of a line, from the bytes of three words. What was typed is lost, and who waits for keys is woken.
-fn set_modes<T: Trace>(line: &mut Line, bytes: &[u8; 6], trace: &mut T)
+fn set_modes<T: Trace>(line: &mut Line, number: u8, bytes: &[u8; 6], trace: &mut T)
     ensures line { line.new ≡ with_modes line.old (word bytes.now 0 ∷ word bytes.now 2 ∷ word bytes.now 4 ∷ []) }
-    ensures items { Took (T.taken trace.old) (Log (Wake Keys) ∷ []) (T.taken trace.new) }
+    ensures items { Took (T.taken trace.old) (Log (Wake (keys_of number)) ∷ []) (T.taken trace.new) }
     ensures frame { T.leads_to trace.old trace.new }
 {
     line.set_modes([word_at(bytes, 0), word_at(bytes, 2), word_at(bytes, 4)]);
-    trace.entry(Entry::Wake(Chan::Keys));
+    trace.entry(Entry::Wake(keys_of(number)));
 }
 
 /// The bytes of three words.
@@ -100,8 +95,8 @@ fn bytes_of(modes: [u16; 3]) -> [u8; 6]
 
 /// Puts the modes of a line to an even address, all three words or none.
 fn put_modes<S: Space>(line: &Line, u: &UArea, space: &mut S, at: u16) -> Answer
-    ensures did { (h : Handed) → h.line ≡ line.now → h.u ≡ u.now → h.image ≡ S.image space.old
-        → tells_modes h at ≡ did_with (record h { image = S.image space.new }) result }
+    ensures did { (h : Handed) (l : ℕ) → h.line ≡ line.now → h.u ≡ u.now → h.image ≡ S.image space.old
+        → tells_modes h l at ≡ did_with (record h { image = S.image space.new }) result }
     ensures memory { S.rest space.new ≡ S.rest space.old }
 {
     if at % 2 == 1 || !space.copy_out(at, &bytes_of(line.modes())) {
@@ -133,15 +128,16 @@ pub fn stty_set<S: Space, T: Trace>(
         (stty_set (handed f.old u.old row.old (S.image space.old)) (slice_index args 0)) }
     ensures frame { T.leads_to trace.old trace.new }
     ensures memory { S.rest space.new ≡ S.rest space.old }
-    ensures blocks { SameRest f.old.tree.nodes.blocks f.new.tree.nodes.blocks }
+    ensures blocks { SameRest f.old.tree.nodes f.new.tree.nodes }
 {
-    if let Err(e) = test_terminal(f, u) {
-        return Answer::Fail(e);
-    }
+    let line = match line_named(f, u) {
+        Ok(line) => line,
+        Err(e) => return Answer::Fail(e),
+    };
     let Some(bytes) = words_at(space, args[0]) else {
         return Answer::Fail(Errno::EFAULT);
     };
-    set_modes(&mut f.line, &bytes, trace);
+    set_modes(&mut f.line, line, &bytes, trace);
     done(u)
 }
 
@@ -167,9 +163,9 @@ pub fn gtty_get<S: Space, T: Trace>(
         (gtty_get (handed f.old u.old row.old (S.image space.old)) (slice_index args 0)) }
     ensures frame { T.leads_to trace.old trace.new }
     ensures memory { S.rest space.new ≡ S.rest space.old }
-    ensures blocks { SameRest f.old.tree.nodes.blocks f.new.tree.nodes.blocks }
+    ensures blocks { SameRest f.old.tree.nodes f.new.tree.nodes }
 {
-    if let Err(e) = test_terminal(f, u) {
+    if let Err(e) = line_named(f, u) {
         return Answer::Fail(e);
     }
     put_modes(&f.line, u, space, args[0])

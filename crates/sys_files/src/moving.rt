@@ -1,5 +1,5 @@
 //! Bytes are read and written: `rdwr` and `seek` in Lions' Commentary, `sys2.c`.
-ghost use Rattle.std.specs.Prelude.{◌≡◌, ◌<◌, ◌≤◌, ◌+◌, ◌%◌, ◌^◌, IsSome, ◌==◌, length, if◌then◌else◌, slice_index, take};
+ghost use Rattle.std.specs.Prelude.{◌≡◌, ◌<◌, ◌≤◌, ◌+◌, ◌%◌, ◌^◌, ℕ, IsSome, ◌==◌, length, if◌then◌else◌, slice_index, take};
 ghost use Rattle.v6_base.specs.Trace.{Took, sent};
 ghost use Rattle.proc_tab.specs.declared.row.Row.{Row};
 ghost use Rattle.u_area.specs.declared.area.UArea.{UArea};
@@ -10,31 +10,27 @@ ghost use Rattle.fs_tree.specs.Name.{readable};
 ghost use Rattle.sys_files.specs.Handed.{Handed, handed, node_in};
 ghost use Rattle.tty_line.specs.Output.{shows, after_shown};
 ghost use Rattle.sys_files.specs.Moving.{IsFileOf, with_moved, gives_count, waits_for_keys, read_of, with_read, reads_from, reads_line, read_file_of};
-ghost use Rattle.sys_files.specs.Moving.{write_of, shows_bytes, writes_to, write_file_of, resumes};
+ghost use Rattle.sys_files.specs.Moving.{write_of, writes_line, writes_to, write_file_of, resumes};
 ghost use Rattle.sys_files.specs.Moving.{extended, seek_mode, seek_base, seek_move, sought, seek_to};
 ghost use Rattle.sys_files.specs.Sound.{IsSound, CanGoOn};
 ghost use Rattle.sys_files.specs.Does.{Does};
 ghost use Rattle.sys_files.specs.Entering.{did_with};
 
 use crate::descriptors::{file_of, open_entry};
-use crate::devices::is_console_at;
+use crate::devices::{keys_of, line_at};
 use crate::files::Files;
-use crate::inodes::see;
-use crate::piping::{PIPE_READ, Transfer, read_pipe, write_pipe};
+use crate::piping::{Transfer, read_pipe, write_pipe};
 use fs_codec::is_device;
 use fs_nodes::{Moved, Nodes};
 use open_files::{OpenFile, OpenTable};
 use proc_tab::Row;
 use sig_core::due;
 use tty_line::Line;
-use u_area::UArea;
-use v6_base::{Answer, Chan, Errno, Slot, Space, Trace};
+use u_area::{LINE_READ, NOTHING_PENDING, PIPE_READ, UArea};
+use v6_base::{Answer, Errno, Slot, Space, Trace};
 
 /// The priority at which a process waits for keys: `TTIPRI` in Lions' Commentary, `tty.h`.
 const TTIPRI: i8 = 10;
-
-/// The pending call that is a read of the console.
-const CONSOLE_READ: u8 = 1;
 
 /// Says where the next read or write of an open file begins, when some bytes from its place on are done.
 fn move_on(table: &mut OpenTable, entry: u8, file: &OpenFile, done: u16)
@@ -57,25 +53,33 @@ fn give_count(u: &UArea, count: u16, error: Option<Errno>) -> Answer
     }
 }
 
-/// Lets the process wait for keys, with what it needs to go on, unless a signal is due.
-fn wait_for_keys(u: &mut UArea, row: &Row, entry: u16, at: u16, count: u16) -> Answer
+/// Lets the process wait for keys of a line, with what it needs to go on, unless a signal is due.
+fn wait_for_keys(
+    line: u8,
+    u: &mut UArea,
+    row: &Row,
+    entry: u16,
+    at: u16,
+    count: u16,
+) -> Answer
     ensures { (h : Handed) → h.u ≡ u.old → h.row ≡ row.now
-        → waits_for_keys h entry at count ≡ did_with (record h { u = u.new }) result }
+        → waits_for_keys h line entry at count ≡ did_with (record h { u = u.new }) result }
 {
     if due(row, u).is_some() {
         return Answer::Fail(Errno::EINTR);
     }
-    u.pending = CONSOLE_READ;
+    u.pending = LINE_READ;
     u.call = [entry, at, count, 0, 0, 0, 0, 0];
     Answer::Sleep {
         pri: TTIPRI,
-        chan: Chan::Keys,
+        chan: keys_of(line),
     }
 }
 
-/// Reads bytes of a line that was typed, or waits for keys.
+/// Reads bytes that were typed on a line, or waits for keys.
 fn read_line<S: Space>(
     line: &mut Line,
+    number: u8,
     entry: u16,
     u: &mut UArea,
     row: &Row,
@@ -84,13 +88,13 @@ fn read_line<S: Space>(
     count: u16,
 ) -> Answer
     ensures did { (h : Handed) → h.line ≡ line.old → h.u ≡ u.old → h.row ≡ row.now → h.image ≡ S.image space.old
-        → reads_line h entry at count
+        → reads_line h number entry at count
         ≡ did_with (record h { line = line.new; u = u.new; image = S.image space.new }) result }
     ensures memory { S.rest space.new ≡ S.rest space.old }
 {
     match line.read(space, at, count) {
         tty_line::Took::Done(n) => Answer::Ret { r0: n, r1: u.r[1] },
-        tty_line::Took::Wait => wait_for_keys(u, row, entry, at, count),
+        tty_line::Took::Wait => wait_for_keys(number, u, row, entry, at, count),
         tty_line::Took::Fault => Answer::Fail(Errno::EFAULT),
     }
 }
@@ -114,9 +118,9 @@ fn read_bytes<S: Space>(
         ≡ with_read (handed f.old u row (S.image space.old)) entry (read_of (handed f.old u row
         (S.image space.old)) entry at count now) }
     ensures memory { S.rest space.new ≡ S.rest space.old }
-    ensures blocks { SameRest f.old.tree.nodes.blocks f.new.tree.nodes.blocks }
+    ensures blocks { SameRest f.old.tree.nodes f.new.tree.nodes }
 {
-    see(&f.tree.nodes);
+    f.tree.nodes.see();
     let read = f
         .tree
         .nodes
@@ -125,7 +129,7 @@ fn read_bytes<S: Space>(
     read
 }
 
-/// Reads from an open file, or a line of the console.
+/// Reads from an open file, or from a line.
 fn read_from<S: Space>(
     f: &mut Files,
     entry: u8,
@@ -141,14 +145,13 @@ fn read_from<S: Space>(
     ensures did { reads_from (handed f.old u.old row.now (S.image space.old)) entry at count now
         ≡ did_with (handed f.new u.new row.now (S.image space.new)) result }
     ensures memory { S.rest space.new ≡ S.rest space.old }
-    ensures blocks { SameRest f.old.tree.nodes.blocks f.new.tree.nodes.blocks }
+    ensures blocks { SameRest f.old.tree.nodes f.new.tree.nodes }
 {
-    let console = is_console_at(&f.tree.nodes, file.ino);
+    let line = line_at(&f.tree.nodes, file.ino);
     let moved = read_bytes(f, entry, file, space, at, count, now);
-    if console {
-        read_line(&mut f.line, u16::from(entry), u, row, space, at, count)
-    } else {
-        give_count(u, moved.done, moved.error)
+    match line {
+        Some(l) => read_line(&mut f.line, l, u16::from(entry), u, row, space, at, count),
+        None => give_count(u, moved.done, moved.error),
     }
 }
 
@@ -165,8 +168,8 @@ fn transfer_of(entry: u8, args: [u16; 4]) -> Transfer
 }
 
 /// 3, read(II): of the number in R0, into a buffer. The arguments are its address and how many bytes are to be read. R0
-/// takes the number of bytes that were read: fewer, where the file ends before, and 0 of the null device. A read of the
-/// console waits until keys are typed, and a read of a pipe until there are bytes or nobody is left who could write; or until a
+/// takes the number of bytes that were read: fewer, where the file ends before, and 0 of the null device. A read of a
+/// terminal line waits until keys are typed, and a read of a pipe until there are bytes or nobody is left who could write; or until a
 /// signal comes. The next read or write begins after what was read, also after an error.
 ///
 /// # Errors
@@ -190,7 +193,7 @@ pub fn read_file<S: Space, T: Trace>(
         (read_file_of (handed f.old u.old row.old (S.image space.old)) (slice_index args 0) (slice_index args 1) now) }
     ensures frame { T.leads_to trace.old trace.new }
     ensures memory { S.rest space.new ≡ S.rest space.old }
-    ensures blocks { SameRest f.old.tree.nodes.blocks f.new.tree.nodes.blocks }
+    ensures blocks { SameRest f.old.tree.nodes f.new.tree.nodes }
 {
     let entry = match open_entry(f, u, u.r[0]) {
         Ok(entry) => entry,
@@ -207,13 +210,13 @@ pub fn read_file<S: Space, T: Trace>(
     read_from(f, entry, &file, u, row, space, args[0], args[1], now)
 }
 
-/// Takes up a call again in which a process slept, as the per-process area keeps it: a read of the console, or a read or a write
-/// of a pipe. It may wait again.
+/// Takes up a call again in which a process slept, as the per-process area keeps it: a read of a line, or a read or a write of a
+/// pipe. It may wait again.
 ///
 /// # Errors
 ///
 /// `EINTR`: a signal is due. Nothing more was done then. Else those of `read_file` and of `write_file`. Where an address can't be
-/// written for a byte of the console, the byte is lost, and those before it were written.
+/// written for a byte of a line, the byte is lost, and those before it were written.
 pub fn resume_file<S: Space, T: Trace>(
     f: &mut Files,
     slot: Slot,
@@ -230,17 +233,17 @@ pub fn resume_file<S: Space, T: Trace>(
         (resumes (handed f.old u.old row.old (S.image space.old)) slot now) }
     ensures frame { T.leads_to trace.old trace.new }
     ensures memory { S.rest space.new ≡ S.rest space.old }
-    ensures blocks { SameRest f.old.tree.nodes.blocks f.new.tree.nodes.blocks }
+    ensures blocks { SameRest f.old.tree.nodes f.new.tree.nodes }
 {
     let pending = u.pending;
     let call = u.call;
-    u.pending = 0;
+    u.pending = NOTHING_PENDING;
     u.call = [0; 8];
     if due(row, u).is_some() {
         return Answer::Fail(Errno::EINTR);
     }
-    if pending == CONSOLE_READ {
-        return read_line(&mut f.line, call[0], u, row, space, call[1], call[2]);
+    if pending == LINE_READ {
+        return read_line(&mut f.line, 0, call[0], u, row, space, call[1], call[2]);
     }
     let transfer = Transfer {
         entry: call[0],
@@ -290,7 +293,7 @@ fn read_front<S: Space>(space: &S, at: u16, into: &mut [u8]) -> usize
     into.len()
 }
 
-/// Shows bytes of a memory, a piece of them from an address on, up to the first that cannot be read, and says how many.
+/// Shows bytes of a memory on a line, a piece of them from an address on, up to the first that cannot be read, and says how many.
 fn show_piece<S: Space, T: Trace>(
     line: &mut Line,
     space: &S,
@@ -338,8 +341,8 @@ fn show_all<S: Space, T: Trace>(
     true
 }
 
-/// Shows bytes of a memory on the console.
-fn show_bytes<S: Space, T: Trace>(
+/// Shows bytes of a memory on a line.
+fn write_line<S: Space, T: Trace>(
     line: &mut Line,
     u: &UArea,
     space: &S,
@@ -347,10 +350,10 @@ fn show_bytes<S: Space, T: Trace>(
     count: u16,
     trace: &mut T,
 ) -> Answer
-    ensures answer { (h : Handed) → h.u ≡ u.now → result
-        ≡ (shows_bytes h count (readable (S.image space.now) at count)).answer }
-    ensures state { (h : Handed) → h.line ≡ line.old → record h { line = line.new }
-        ≡ (shows_bytes h count (readable (S.image space.now) at count)).state }
+    ensures answer { (h : Handed) (l : ℕ) → h.u ≡ u.now → result
+        ≡ (writes_line h l count (readable (S.image space.now) at count)).answer }
+    ensures state { (h : Handed) (l : ℕ) → h.line ≡ line.old → record h { line = line.new }
+        ≡ (writes_line h l count (readable (S.image space.now) at count)).state }
     ensures items { Took (T.taken trace.old) (sent 0 (shows line.old (readable (S.image space.now) at count)))
         (T.taken trace.new) }
     ensures frame { T.leads_to trace.old trace.new }
@@ -383,9 +386,9 @@ fn write_bytes<S: Space>(
     ensures state { (u : UArea) (row : Row) → handed f.new u row (S.image space.now)
         ≡ with_moved (handed f.old u row (S.image space.now)) entry (write_of (handed f.old u row
         (S.image space.now)) entry at count now) }
-    ensures blocks { SameRest f.old.tree.nodes.blocks f.new.tree.nodes.blocks }
+    ensures blocks { SameRest f.old.tree.nodes f.new.tree.nodes }
 {
-    see(&f.tree.nodes);
+    f.tree.nodes.see();
     let moved = f
         .tree
         .nodes
@@ -394,7 +397,7 @@ fn write_bytes<S: Space>(
     moved
 }
 
-/// Writes to an open file, or shows on the console.
+/// Writes to an open file, or to a line.
 fn write_to<S: Space, T: Trace>(
     f: &mut Files,
     entry: u8,
@@ -415,21 +418,20 @@ fn write_to<S: Space, T: Trace>(
         → Took (T.taken trace.old) (writes_to (handed f.old u.now row (S.image space.now)) entry at count now).items
         (T.taken trace.new) }
     ensures frame { T.leads_to trace.old trace.new }
-    ensures blocks { SameRest f.old.tree.nodes.blocks f.new.tree.nodes.blocks }
+    ensures blocks { SameRest f.old.tree.nodes f.new.tree.nodes }
 {
-    let console = is_console_at(&f.tree.nodes, file.ino);
+    let line = line_at(&f.tree.nodes, file.ino);
     let device = is_device_at(&f.tree.nodes, file.ino);
     let moved = write_bytes(f, entry, file, space, at, count, now);
-    if console {
-        show_bytes(&mut f.line, u, space, at, count, trace)
-    } else {
-        give_count(u, taken(device, count, moved.done), moved.error)
+    match line {
+        Some(_) => write_line(&mut f.line, u, space, at, count, trace),
+        None => give_count(u, taken(device, count, moved.done), moved.error),
     }
 }
 
 /// 4, write(II): of the number in R0, from a buffer. The arguments are its address and how many bytes are to be
-/// written. R0 takes the number of bytes that were written. The file grows where it must. What is written to the
-/// console is shown byte by byte, up to the first that cannot be read; the null device takes all. A write to a pipe waits until
+/// written. R0 takes the number of bytes that were written. The file grows where it must. What is written to a
+/// terminal line is shown byte by byte, up to the first that cannot be read; the null device takes all. A write to a pipe waits until
 /// all is written. The next read or write begins after what was written, also after an error.
 ///
 /// # Errors
@@ -455,7 +457,7 @@ pub fn write_file<S: Space, T: Trace>(
         (write_file_of (handed f.old u.old row.old (S.image space.old)) slot (slice_index args 0) (slice_index args 1) now) }
     ensures frame { T.leads_to trace.old trace.new }
     ensures memory { S.rest space.new ≡ S.rest space.old }
-    ensures blocks { SameRest f.old.tree.nodes.blocks f.new.tree.nodes.blocks }
+    ensures blocks { SameRest f.old.tree.nodes f.new.tree.nodes }
 {
     let entry = match open_entry(f, u, u.r[0]) {
         Ok(entry) => entry,
@@ -550,7 +552,7 @@ pub fn seek_to<S: Space, T: Trace>(
         (seek_to (handed f.old u.old row.old (S.image space.old)) (slice_index args 0) (slice_index args 1)) }
     ensures frame { T.leads_to trace.old trace.new }
     ensures memory { S.rest space.new ≡ S.rest space.old }
-    ensures blocks { SameRest f.old.tree.nodes.blocks f.new.tree.nodes.blocks }
+    ensures blocks { SameRest f.old.tree.nodes f.new.tree.nodes }
 {
     let entry = match open_entry(f, u, u.r[0]) {
         Ok(entry) => entry,

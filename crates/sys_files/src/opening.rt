@@ -9,18 +9,18 @@ ghost use Rattle.v6_base.specs.declared.errno.Errno.TheVariants.{EISDIR};
 ghost use Rattle.proc_tab.specs.declared.row.Row.{Row};
 ghost use Rattle.open_files.specs.Files.{AreOpen, opened};
 ghost use Rattle.sys_files.specs.Did.{check, must, fails, returns};
-ghost use Rattle.sys_files.specs.Handed.{handed, node_in, node_at, user_of, with_number};
-ghost use Rattle.sys_files.specs.Opening.{opens_to_read, opens_to_write, or_earlier, last_failure, open_tests, can_open, with_terminal, with_console, with_opened, opens, opens_named, open_file};
+ghost use Rattle.sys_files.specs.Handed.{Handed, handed, line_of, node_in, node_at, user_of, with_number};
+ghost use Rattle.sys_files.specs.Opening.{opens_to_read, opens_to_write, or_earlier, last_failure, open_tests, can_open, with_tty, line_opened, with_opened, opens, opens_named, open_file};
 ghost use Rattle.sys_files.specs.Sound.{IsSound};
 ghost use Rattle.sys_files.specs.Does.{Does};
 
-use crate::devices::{is_console, is_console_at, is_null};
+use crate::devices::{is_null, line_at, line_of};
 use crate::files::Files;
-use crate::inodes::{inode_of, let_go, refer_again, see};
+use crate::inodes::inode_of;
 use crate::naming::{find_name, user_of};
 use fs_codec::{is_device, is_directory};
 use fs_nodes::Nodes;
-use fs_tree::{Tree, User, Want};
+use fs_tree::{Tree, User, Want, let_go, refer_again};
 use open_files::FileKind;
 use proc_tab::Row;
 use tty_line::Line;
@@ -50,7 +50,7 @@ fn access(tree: &Tree, ino: u16, who: User, want: Want) -> Result<(), Errno>
     requires { 0 < slice_index tree.now.nodes.references ino }
     ensures { result ≡ access tree.now.marks ino (node_in tree.now.nodes.store ino) who want }
 {
-    see(&tree.nodes);
+    tree.nodes.see();
     tree.access(ino, who, want)
 }
 
@@ -88,31 +88,34 @@ fn test_opening(tree: &Tree, ino: u16, who: User, mode: u16) -> Result<(), Errno
     Ok(())
 }
 
-/// Whether the file of an inode can be opened: of the devices the console and null alone.
+/// Whether the file of an inode can be opened: of the devices the terminal lines and null alone.
 fn can_open(nodes: &Nodes, ino: u16) -> bool
     requires { 0 < slice_index nodes.now.references ino }
-    ensures { result ≡ can_open (node_in nodes.now.store ino) }
+    ensures { (h : Handed) → result ≡ can_open h (node_in nodes.now.store ino) }
 {
     let inode = inode_of(nodes, ino);
-    !is_device(inode.mode) || is_console(&inode) || is_null(&inode)
+    !is_device(inode.mode) || line_of(&inode).is_some() || is_null(&inode)
 }
 
-/// Makes the console the terminal of a process that opens it and has none.
+/// Makes a line the terminal of a process that opens it and has none.
 fn take_terminal(nodes: &Nodes, row: &mut Row, ino: u16)
     requires { 0 < slice_index nodes.now.references ino }
-    ensures { row.new ≡ with_terminal row.old (node_in nodes.now.store ino) }
+    ensures { (h : Handed) → row.new ≡ with_tty row.old (line_of h (node_in nodes.now.store ino)) }
 {
-    if is_console_at(nodes, ino) && row.tty == 0 {
-        row.tty = 1;
+    let Some(line) = line_at(nodes, ino) else {
+        return;
+    };
+    if row.tty == 0 {
+        row.tty = line + 1;
     }
 }
 
-/// Opens the line of the console with the first of its files.
-fn open_console(nodes: &Nodes, line: &mut Line, ino: u16)
+/// Opens a line with the first of its files.
+fn open_line(nodes: &Nodes, line: &mut Line, ino: u16)
     requires { 0 < slice_index nodes.now.references ino }
-    ensures { line.new ≡ with_console line.old (node_in nodes.now.store ino) }
+    ensures { (h : Handed) → h.line ≡ line.old → line.new ≡ line_opened h (line_of h (node_in nodes.now.store ino)) }
 {
-    if is_console_at(nodes, ino) {
+    if line_at(nodes, ino).is_some() {
         line.opened();
     }
 }
@@ -150,7 +153,7 @@ fn add_number(f: &mut Files, u: &mut UArea, ino: u16, kind: FileKind) -> Result<
 /// # Errors
 ///
 /// `EMFILE`: the fifteen numbers of the process are used. Else `ENFILE`: the hundred open files are. Else `ENXIO`: it
-/// is a device other than the console and null. Nothing has changed then.
+/// is a device other than a terminal line and null. Nothing has changed then.
 pub(crate) fn open_found(
     f: &mut Files,
     u: &mut UArea,
@@ -170,7 +173,7 @@ pub(crate) fn open_found(
     match add_number(f, u, ino, kind) {
         Ok(fd) => {
             take_terminal(&f.tree.nodes, row, ino);
-            open_console(&f.tree.nodes, &mut f.line, ino);
+            open_line(&f.tree.nodes, &mut f.line, ino);
             refer_again(&mut f.tree.nodes, ino);
             Answer::Ret {
                 r0: u16::from(fd),
@@ -215,7 +218,7 @@ fn open_named(f: &mut Files, u: &mut UArea, row: &mut Row, ino: u16, mode: u16) 
 /// Those of a name. Of the tests of the mode that fail the last one counts: `EACCES`: the user may not read, or may not
 /// write, the file, or in its place `ETXTBSY`: its text is shared, and the mode is for writing. `EISDIR`: it is a
 /// directory, and the mode is for writing. After them `EMFILE`: the fifteen numbers
-/// of the process are used; `ENFILE`: the hundred open files are; `ENXIO`: it is a device other than the console and
+/// of the process are used; `ENFILE`: the hundred open files are; `ENXIO`: it is a device other than a terminal line and
 /// null.
 pub fn open_file<S: Space, T: Trace>(
     f: &mut Files,
@@ -233,7 +236,7 @@ pub fn open_file<S: Space, T: Trace>(
         (open_file (handed f.old u.old row.old (S.image space.old)) (slice_index args 0) (slice_index args 1)) }
     ensures frame { T.leads_to trace.old trace.new }
     ensures memory { S.rest space.new ≡ S.rest space.old }
-    ensures blocks { SameRest f.old.tree.nodes.blocks f.new.tree.nodes.blocks }
+    ensures blocks { SameRest f.old.tree.nodes f.new.tree.nodes }
 {
     let ino = match find_name(&mut f.tree, u, space, args[0]) {
         Ok(ino) => ino,

@@ -1,6 +1,6 @@
 -- Signals are sent, and what they do is asked for: kill(II), signal(II) of the UNIX Programmer's Manual; `kill` and `ssig` in
 -- Lions' Commentary, `sys4.c`, and `signal` and `psignal` in `sig.c`.
-use Rattle.std.specs.Prelude.{ℕ, Bool, false, not, ◌&&◌, ◌||◌, ◌==◌, nat_lt, if◌then◌else◌, List, [], map, filter, length, Option, Some, None, slice_index_or, slice_set}
+use Rattle.std.specs.Prelude.{ℕ, Bool, false, not, ◌+◌, ◌&&◌, ◌||◌, ◌==◌, nat_lt, if◌then◌else◌, List, [], map, filter, length, Option, Some, None, slice_index_or, slice_set}
 use Rattle.std.specs.List.{range_with_len}
 use Rattle.v6_base.specs.Trace.{Item, Log}
 use Rattle.v6_base.specs.declared.entry.Entry.TheVariants as line
@@ -37,9 +37,9 @@ signalled_if who n s (Some p) = Some (if who s p then signalled n p else p)
 abbrev pub all_signalled : (ℕ → Process → Bool) → ℕ → List (Option Process) → List (Option Process)
 all_signalled who n processes = map (λ s. signalled_if who n s (slice_index_or processes s None)) (range_with_len 0 50)
 
--- those whose terminal is the console
-abbrev pub has_console : ℕ → Process → Bool
-has_console s p = p.row.tty == 1
+-- those whose terminal is this line: their row has one more than its number
+abbrev pub has_line : ℕ → ℕ → Process → Bool
+has_line l s p = p.row.tty == l + 1
 
 -- Of the number in R0 a kill means the process of this pid; of 0 all that have the terminal of who calls, or none where he has
 -- none, above slot 1.

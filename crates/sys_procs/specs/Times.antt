@@ -6,6 +6,7 @@ use Rattle.v6_base.specs.declared.entry.Chan.TheVariants.{Tout}
 use Rattle.v6_base.specs.declared.entry.Entry.TheVariants.{Time, Wake}
 use Rattle.v6_base.specs.declared.errno.Errno.TheVariants.{EPERM, EFAULT}
 use Rattle.fs_codec.specs.Bytes.{bytes_of}
+use Rattle.u_area.specs.declared.layout.TheConstants.{SLEEP_CALL}
 use Rattle.u_area.specs.Area.{times}
 use Rattle.pick_rules.specs.Priority.{pslep}
 use Rattle.sys_procs.specs.Process.{Process, register, image_of, is_super}
@@ -42,12 +43,9 @@ times_to w s at =
     stored w s (if at % 2 == 1 then None else store_bytes (image_of w.texts p) at (bytes_of (times p.u)))
 
 -- the pending call is a sleep until this time, of which the words keep the two halves
-abbrev pub pending_sleep : ℕ
-pending_sleep = 5
-
 abbrev pub sleeping_until : ℕ → Process → Process
 sleeping_until until p =
-    record p { u = record p.u { pending = pending_sleep; call = 0 ∷ 0 ∷ 0 ∷ 0 ∷ until / 65536 ∷ until % 65536 ∷ 0 ∷ 0 ∷ [] } }
+    record p { u = record p.u { pending = SLEEP_CALL; call = 0 ∷ 0 ∷ 0 ∷ 0 ∷ until / 65536 ∷ until % 65536 ∷ 0 ∷ 0 ∷ [] } }
 
 -- the time until which a pending sleep lasts
 abbrev pub until_of : Process → ℕ

@@ -3,6 +3,7 @@ use Rattle.std.specs.Prelude.{ℕ, ◌+◌, ◌%◌, ◌^◌, replicate}
 use Rattle.v6_base.specs.declared.entry.Chan.TheVariants.{Wait}
 use Rattle.v6_base.specs.declared.entry.Entry.TheVariants.{Reap}
 use Rattle.v6_base.specs.declared.errno.Errno.TheVariants.{ECHILD}
+use Rattle.u_area.specs.declared.layout.TheConstants.{WAIT_CALL}
 use Rattle.u_area.specs.declared.area.UArea.{UArea}
 use Rattle.proc_tab.specs.declared.child.Child.{Child}
 use Rattle.proc_tab.specs.declared.child.Child.TheVariants.{NoChild, Living, Dead}
@@ -27,11 +28,8 @@ buries w s dead =
     gives_two (change (without_process w dead) s (λ p. record p { u = with_times_of p.u gone.u })) gone.row.pid gone.u.status)
 
 -- the pending call is a wait
-abbrev pub pending_wait : ℕ
-pending_wait = 6
-
 abbrev pub waiting : Process → Process
-waiting p = record p { u = record p.u { pending = pending_wait; call = replicate 8 0 } }
+waiting p = record p { u = record p.u { pending = WAIT_CALL; call = replicate 8 0 } }
 
 abbrev pub waits_for : World → ℕ → Child → Comes
 waits_for w s NoChild = fails w ECHILD

@@ -8,7 +8,6 @@ mod exit;
 mod fork;
 mod growth;
 mod ids;
-mod inodes;
 mod placing;
 mod procs;
 mod program;
@@ -29,6 +28,6 @@ pub use ids::{get_gid, get_uid, nice_to, no_op, pid_of, set_gid, set_uid, switch
 pub use procs::Procs;
 pub use program::Program;
 pub use resume::resume_proc;
-pub use signals::{kill_to, send_signal, signal_console, signal_set, signal_slot};
+pub use signals::{kill_to, send_signal, signal_line, signal_set, signal_slot};
 pub use times::{set_time, sleep_for, time_now, times_to};
 pub use wait::wait_child;

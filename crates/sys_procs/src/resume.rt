@@ -1,25 +1,25 @@
 //! Calls that go on when their process wakes: sleep(II), wait(II).
 ghost use Rattle.std.specs.Prelude.{◌≡◌, ◌+◌, ◌*◌, replicate};
-ghost use Rattle.fs_laws.specs.Rest.{SameRest};
-ghost use Rattle.fs_nodes.specs.FileSystem.{FileSystem};
+ghost use Rattle.u_area.specs.declared.layout.TheConstants.{NOTHING_PENDING};
+ghost use Rattle.fs_nodes.specs.FileSystem.{FileSystem, SameRest};
 ghost use Rattle.sys_procs.specs.World.{change};
 ghost use Rattle.sys_procs.specs.Handed.{Calls, AreProcs, IsAlive, handed, board};
 ghost use Rattle.sys_procs.specs.Resume.{awake, resume_proc};
 ghost use Rattle.sys_procs.specs.Done.{HasDone};
 
 use crate::procs::Procs;
-use crate::times::{SLEEP, sleep_until};
+use crate::times::sleep_until;
 use crate::wait::wait_child;
 use fs_tree::Tree;
-use u_area::UArea;
+use u_area::{NOTHING_PENDING, SLEEP_CALL, UArea};
 use v6_base::{Answer, Errno, PanicKind, Slot, Trace};
 
 /// The u area of a process with no pending call.
 fn awake(u: UArea) -> UArea
-    ensures { result ≡ record u { pending = 0; call = replicate 8 0 } }
+    ensures { result ≡ record u { pending = NOTHING_PENDING; call = replicate 8 0 } }
 {
     let mut u = u;
-    u.pending = 0;
+    u.pending = NOTHING_PENDING;
     u.call = [0; 8];
     u
 }
@@ -53,14 +53,14 @@ pub fn resume_proc<T: Trace>(
     ensures frame { T.leads_to trace.old trace.new }
     ensures agree { AreProcs p.new }
     ensures marks { tree.new.marks ≡ tree.old.marks }
-    ensures blocks { SameRest tree.old.nodes.blocks tree.new.nodes.blocks }
+    ensures blocks { SameRest tree.old.nodes tree.new.nodes }
 {
     let u = p.area(s);
     wake_up(p, s);
     if p.is_due(s) {
         return Ok(Answer::Fail(Errno::EINTR));
     }
-    if u.pending == SLEEP {
+    if u.pending == SLEEP_CALL {
         let until = 65536 * u32::from(u.call[4]) + u32::from(u.call[5]);
         return Ok(sleep_until(p, s, until));
     }

@@ -10,7 +10,7 @@ ghost use Rattle.proc_tab.specs.Processes.{IsUsed};
 ghost use Rattle.sys_procs.specs.Process.{Process};
 ghost use Rattle.sys_procs.specs.World.{World, process_at, change};
 ghost use Rattle.sys_procs.specs.Signals as rule;
-ghost use Rattle.sys_procs.specs.Signals.{signal_lines, is_meant, meant_in, all_signalled, has_console, is_named, is_reached, forgetting, kill_to, signal_set};
+ghost use Rattle.sys_procs.specs.Signals.{signal_lines, is_meant, meant_in, all_signalled, has_line, is_named, is_reached, forgetting, kill_to, signal_set};
 ghost use Rattle.sys_procs.specs.inside.Sender.{IsSender, lines_where};
 ghost use Rattle.sys_procs.specs.Handed.{AreProcs, Calls, IsAlive, handed, board};
 ghost use Rattle.sys_procs.specs.Done.{HasDone};
@@ -25,9 +25,6 @@ use v6_base::{Answer, Entry, Errno, PanicKind, Slot, Trace};
 
 /// A process goes at least at this priority from when it gets a signal: `PUSER` in Lions' Commentary, `param.h`.
 const PUSER: i8 = 100;
-
-/// The terminal of a process that is the console.
-const CONSOLE: u8 = 1;
 
 /// A slot gets a signal: where it sleeps such that signals wake it, it can run. `psignal` in Lions' Commentary, `sig.c`.
 #[tactic(auto, unfolding(pick_rules::specs::Sleepers::signalled))]
@@ -88,33 +85,33 @@ fn send_where<T: Trace>(p: &mut Procs, s: Slot, sig: u16, means: bool, trace: &m
     }
 }
 
-/// Whether the terminal of the process in a slot is the console.
-fn is_on_console(p: &Procs, s: Slot) -> bool
+/// Whether the terminal of the process in a slot is this line.
+fn has_line(p: &Procs, line: u8, s: Slot) -> bool
     requires { s < 50 }
-    ensures meant { (fs : FileSystem) → result ≡ is_meant has_console s (process_at (handed p.now fs) s) }
+    ensures meant { (fs : FileSystem) → result ≡ is_meant (has_line line) s (process_at (handed p.now fs) s) }
     ensures used { result ≡ true → IsUsed p.now.rows s }
 {
     if !p.rows.in_use(s) {
         return false;
     }
-    p.rows.row(s).tty == CONSOLE
+    u16::from(p.rows.row(s).tty) == u16::from(line) + 1
 }
 
-/// Sends a signal to all whose terminal is the console, lowest first. Lions' Commentary, `signal` in `sig.c`.
-pub fn signal_console<T: Trace>(p: &mut Procs, sig: u8, trace: &mut T)
+/// Sends a signal to all whose terminal is this line, lowest first. Lions' Commentary, `signal` in `sig.c`.
+pub fn signal_line<T: Trace>(p: &mut Procs, line: u8, sig: u8, trace: &mut T)
     requires agree { AreProcs p.old }
     ensures state { (fs : FileSystem) → handed p.new fs
-        ≡ record (handed p.old fs) { processes = all_signalled has_console sig (handed p.old fs).processes } }
+        ≡ record (handed p.old fs) { processes = all_signalled (has_line line) sig (handed p.old fs).processes } }
     ensures board { (fs : FileSystem) → board p.new ≡ (logged {W = World} (board p.old)
-        (map Show (signal_lines sig (meant_in has_console (handed p.old fs).processes)))).board }
+        (map Show (signal_lines sig (meant_in (has_line line) (handed p.old fs).processes)))).board }
     ensures items { (fs : FileSystem) → Took (T.taken trace.old)
-        (signal_lines sig (meant_in has_console (handed p.old fs).processes)) (T.taken trace.new) }
+        (signal_lines sig (meant_in (has_line line) (handed p.old fs).processes)) (T.taken trace.new) }
     ensures frame { T.leads_to trace.old trace.new }
     ensures agree { AreProcs p.new }
 {
     let _kernel = p.rows.in_use(0);
     for s in 1..50 {
-        let means = is_on_console(p, s);
+        let means = has_line(p, line, s);
         send_where(p, s, u16::from(sig), means, trace);
     }
 }
@@ -206,7 +203,7 @@ pub fn kill_to<T: Trace>(
     ensures frame { T.leads_to trace.old trace.new }
     ensures agree { AreProcs p.new }
     ensures marks { tree.new.marks ≡ tree.old.marks }
-    ensures blocks { SameRest tree.old.nodes.blocks tree.new.nodes.blocks }
+    ensures blocks { SameRest tree.old.nodes tree.new.nodes }
 {
     let u = p.area(s);
     let sender = Sender {
@@ -270,7 +267,7 @@ pub fn signal_set<T: Trace>(
     ensures frame { T.leads_to trace.old trace.new }
     ensures agree { AreProcs p.new }
     ensures marks { tree.new.marks ≡ tree.old.marks }
-    ensures blocks { SameRest tree.old.nodes.blocks tree.new.nodes.blocks }
+    ensures blocks { SameRest tree.old.nodes tree.new.nodes }
 {
     let sig = args[0];
     if sig == 0 || sig >= u16::from(NSIG) || sig == u16::from(SIGKIL) {

@@ -4,22 +4,19 @@ ghost use Rattle.v6_base.specs.Trace.{Took, Log};
 ghost use Rattle.v6_base.specs.Copy.{store_bytes};
 ghost use Rattle.fs_codec.specs.Bytes.{bytes_of};
 ghost use Rattle.u_area.specs.Area.{times};
-ghost use Rattle.fs_laws.specs.Rest.{SameRest};
-ghost use Rattle.fs_nodes.specs.FileSystem.{FileSystem};
+ghost use Rattle.u_area.specs.declared.layout.TheConstants.{SLEEP_CALL};
+ghost use Rattle.fs_nodes.specs.FileSystem.{FileSystem, SameRest};
 ghost use Rattle.pick_rules.specs.Apply.{applied};
 ghost use Rattle.sys_procs.specs.World.{change};
 ghost use Rattle.sys_procs.specs.Handed.{Calls, AreProcs, IsAlive, handed, board, process_here, memory_here};
-ghost use Rattle.sys_procs.specs.Times.{time_now, set_time, pending_sleep, sleep_until, sleep_for, sleeping_until, tout_with, with_time, stored, times_to};
+ghost use Rattle.sys_procs.specs.Times.{time_now, set_time, sleep_until, sleep_for, sleeping_until, tout_with, with_time, stored, times_to};
 ghost use Rattle.sys_procs.specs.Done.{HasDone};
 
 use crate::procs::Procs;
 use fs_codec::put_words;
 use fs_tree::Tree;
-use u_area::UArea;
+use u_area::{SLEEP_CALL, UArea};
 use v6_base::{Answer, Chan, Entry, Errno, PanicKind, Slot, Space, Trace};
-
-/// Among the calls that can be pending this is sleep(II).
-pub(crate) const SLEEP: u8 = 5;
 
 /// What a process sleeps at until a time: `PSLEP` of `param.h` in Lions' Commentary.
 const PSLEP: i8 = 90;
@@ -39,7 +36,7 @@ pub fn time_now<T: Trace>(
     ensures frame { T.leads_to trace.old trace.new }
     ensures agree { AreProcs p.new }
     ensures marks { tree.new.marks ≡ tree.old.marks }
-    ensures blocks { SameRest tree.old.nodes.blocks tree.new.nodes.blocks }
+    ensures blocks { SameRest tree.old.nodes tree.new.nodes }
 {
     Ok(Answer::Ret {
         r0: (p.table.now / 65536) as u16,
@@ -60,8 +57,7 @@ fn put_time<T: Trace>(p: &mut Procs, s: Slot, time: u32, trace: &mut T)
 {
     p.table.now = time;
     trace.entry(Entry::Time(time));
-    p.table.wakeup(Chan::Tout);
-    trace.entry(Entry::Wake(Chan::Tout));
+    p.table.wake(Chan::Tout, trace);
 }
 
 /// The time in its high and its low word.
@@ -91,7 +87,7 @@ pub fn set_time<T: Trace>(
     ensures frame { T.leads_to trace.old trace.new }
     ensures agree { AreProcs p.new }
     ensures marks { tree.new.marks ≡ tree.old.marks }
-    ensures blocks { SameRest tree.old.nodes.blocks tree.new.nodes.blocks }
+    ensures blocks { SameRest tree.old.nodes tree.new.nodes }
 {
     let u = p.area(s);
     if u.uid != 0 {
@@ -117,14 +113,14 @@ fn tout_with(p: &Procs, until: u32) -> u32
 /// The u area of a process that sleeps until a time.
 fn sleeping(u: UArea, until: u32) -> UArea
     ensures { result ≡ record u {
-      pending = pending_sleep;
+      pending = SLEEP_CALL;
       call = 0 ∷ 0 ∷ 0 ∷ 0 ∷ until / 65536 ∷ until % 65536 ∷ 0 ∷ 0 ∷ [];
     } }
 {
     let high = (until / 65536) as u16;
     let low = (until % 65536) as u16;
     let mut u = u;
-    u.pending = SLEEP;
+    u.pending = SLEEP_CALL;
     u.call = [0, 0, 0, 0, high, low, 0, 0];
     u
 }
@@ -187,7 +183,7 @@ pub fn sleep_for<T: Trace>(
     ensures frame { T.leads_to trace.old trace.new }
     ensures agree { AreProcs p.new }
     ensures marks { tree.new.marks ≡ tree.old.marks }
-    ensures blocks { SameRest tree.old.nodes.blocks tree.new.nodes.blocks }
+    ensures blocks { SameRest tree.old.nodes tree.new.nodes }
 {
     let u = p.area(s);
     let until = p.table.now.wrapping_add(u32::from(u.r[0]));
@@ -260,7 +256,7 @@ pub fn times_to<T: Trace>(
     ensures frame { T.leads_to trace.old trace.new }
     ensures agree { AreProcs p.new }
     ensures marks { tree.new.marks ≡ tree.old.marks }
-    ensures blocks { SameRest tree.old.nodes.blocks tree.new.nodes.blocks }
+    ensures blocks { SameRest tree.old.nodes tree.new.nodes }
 {
     let at = args[0];
     let u = p.area(s);

@@ -4,12 +4,13 @@ ghost use Rattle.v6_base.specs.Trace.{Took, Log};
 ghost use Rattle.fs_nodes.specs.FileSystem.{FileSystem, SameRest};
 ghost use Rattle.u_area.specs.declared.area.UArea.{UArea};
 ghost use Rattle.u_area.specs.Area.{IsSized};
+ghost use Rattle.u_area.specs.declared.layout.TheConstants.{WAIT_CALL};
 ghost use Rattle.image_keep.specs.Kept.{half_of, with_keeping, HasGrave, IsKept, Nothing};
 ghost use Rattle.pick_rules.specs.Table.{IsTable, empty_row, with_row};
 ghost use Rattle.pick_rules.specs.Apply.{applied};
 ghost use Rattle.proc_tab.specs.Processes.{AreProcesses};
 ghost use Rattle.sys_procs.specs.World.{without_process};
-ghost use Rattle.sys_procs.specs.Wait.{with_times_of, pending_wait, buries, wait_child};
+ghost use Rattle.sys_procs.specs.Wait.{with_times_of, buries, wait_child};
 ghost use Rattle.sys_procs.specs.Handed.{AreProcs, Calls, IsAlive, board, handed, process_here};
 ghost use Rattle.sys_procs.specs.Done.{HasDone};
 
@@ -17,37 +18,20 @@ use crate::procs::Procs;
 use crate::seen::see;
 use fs_codec::{long_at, word_at};
 use fs_tree::Tree;
-use pick_rules::{Stat, Table, TableRow};
+use pick_rules::{EMPTY_ROW, Table};
 use proc_tab::Child;
-use u_area::{STATUS, TIMES, UArea};
+use u_area::{STATUS, TIMES, UArea, WAIT_CALL};
 use v6_base::{Answer, Chan, Entry, Errno, PanicKind, Slot, Trace};
 
 /// What a process sleeps at that waits for a child: Lions' Commentary, `param.h`.
 const PWAIT: i8 = 40;
 
-/// The pending call of a process that waits for a child.
-const PENDING_WAIT: u8 = 6;
-
-/// A slot with no process.
-const EMPTY: TableRow = TableRow {
-    stat: Stat::Empty,
-    pri: 0,
-    cpu: 0,
-    time: 0,
-    nice: 0,
-    size: 0,
-    text: None,
-    place: None,
-    channel: None,
-    calling: false,
-};
-
 /// The u area of a process whose pending call is a wait.
 fn waiting(u: UArea) -> UArea
-    ensures { result ≡ record u { pending = pending_wait; call = replicate 8 0 } }
+    ensures { result ≡ record u { pending = WAIT_CALL; call = replicate 8 0 } }
 {
     let mut u = u;
-    u.pending = PENDING_WAIT;
+    u.pending = WAIT_CALL;
     u.call = [0; 8];
     u
 }
@@ -87,7 +71,7 @@ fn clear_slot(table: &mut Table, s: Slot)
     ensures table { table.new ≡ with_row table.old s empty_row }
     ensures good { IsTable table.new }
 {
-    table.rows[s as usize] = EMPTY;
+    table.rows[s as usize] = EMPTY_ROW;
 }
 
 /// Makes the slot of a process that has ended free. Half of its u area was kept for its parent.
@@ -158,7 +142,7 @@ pub fn wait_child<T: Trace>(
     ensures frame { T.leads_to trace.old trace.new }
     ensures agree { AreProcs p.new }
     ensures marks { tree.new.marks ≡ tree.old.marks }
-    ensures blocks { SameRest tree.old.nodes.blocks tree.new.nodes.blocks }
+    ensures blocks { SameRest tree.old.nodes tree.new.nodes }
 {
     see(p, s);
     let pid = p.row(s).pid;

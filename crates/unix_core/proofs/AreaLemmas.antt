@@ -3,6 +3,7 @@ use Rattle.std.proofs.Common.{◌≡◌, ◌∙◌, ◌==◌, ℕ, get_or, Some,
 use Rattle.std.specs.Prelude.{unwrap_or}
 use Rattle.std.proofs.lemmas.List.{get_or-set_same}
 use Rattle.std.proofs.lemmas.Bool.{eqb-true}
+use Rattle.u_area.specs.declared.layout.TheConstants.{NOTHING_PENDING}
 use Rattle.u_area.specs.declared.area.UArea.{UArea}
 use Rattle.image_keep.specs.Kept.{Kept, with_area, area_of}
 use Rattle.image_keep.specs.State.{ImagesState}
@@ -37,8 +38,8 @@ module _ (w : World) (x : ImagesState) (s : ℕ) (ready : IsReady w s) (u : UAre
   area_ready like = record { good = good_put w x s u (ready_alive w s ready) like ready.good; runs = ready.runs; user = ready.user }
 
 -- who is in user mode goes on with no call
-pub none_pending : (p : Process) → is_user p ≡ true → p.u.pending ≡ 0
-none_pending p user = eqb-true p.u.pending 0 user
+pub none_pending : (p : Process) → is_user p ≡ true → p.u.pending ≡ NOTHING_PENDING
+none_pending p user = eqb-true p.u.pending NOTHING_PENDING user
 
 -- a process that is put in a slot is there
 pub own_put : (u : Unix) (s : ℕ) (p q : Process) → get_or u.processes s None ≡ Some p → process_of (with_process u s q) s ≡ q

@@ -13,6 +13,7 @@ use Rattle.pick_rules.specs.declared.table.Table.{Table}
 use Rattle.pick_rules.specs.Table.{empty_row, row_at, first_table, IsTable}
 use Rattle.pick_rules.specs.Search.{least}
 use Rattle.pick_rules.specs.Swapper.{candidate}
+use Rattle.u_area.specs.declared.layout.TheConstants.{NOTHING_PENDING}
 use Rattle.fs_nodes.specs.FileSystem.{FileSystem}
 use Rattle.fs_tree.specs.Marks.{no_marks}
 use Rattle.fs_tree.specs.declared.marks.TheConstants.{INODE_NUMBERS}
@@ -20,7 +21,7 @@ use Rattle.sys_procs.specs.TextTable.{marks_of}
 use Rattle.sys_files.specs.Pipes.{ArePipes}
 use Rattle.sys_files.specs.Sound.{is_of, numbers_of}
 use Rattle.proc_tab.specs.Processes.{first_processes, member_at}
-use Rattle.image_keep.specs.Kept.{Keeping, Nothing, Alive, Kept, Has, keeping, first_kept, with_keeping, area_in, clicks_of, text_of}
+use Rattle.image_keep.specs.Kept.{Nothing, Alive, Kept, Has, keeping, first_kept, with_keeping, area_in, clicks_of, text_of}
 use Rattle.image_keep.proofs.Frames.{keeping_same, keeping_other}
 use Rattle.sys_procs.specs.Process.{Process, process_in}
 use Rattle.sys_procs.specs.World.{processes_in, clock_of, text_in, texts_in}
@@ -113,7 +114,7 @@ no_pipes = record {
 }
 
 -- nobody waits in a pipe
-nobody_waits : (s : ℕ) (p : Process) → get_or first_slots s None ≡ Some p → p.u.pending ≡ 0
+nobody_waits : (s : ℕ) (p : Process) → get_or first_slots s None ≡ Some p → p.u.pending ≡ NOTHING_PENDING
 nobody_waits zero p is = absurd (cc is)
 nobody_waits (suc zero) p is = let same : first_process ≡ p = cc is in ap (λ (x : Process). x.u.pending) (sym same)
 nobody_waits (suc (suc s)) p is = absurd (let none : get_or first_slots (suc (suc s)) None ≡ None = everywhere 48 None s in cc (none, is))

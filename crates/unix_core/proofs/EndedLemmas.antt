@@ -17,6 +17,7 @@ use Rattle.pick_rules.specs.declared.row.TableRow.{TableRow}
 use Rattle.pick_rules.specs.declared.table.Table.{Table}
 use Rattle.open_files.specs.Files.{times}
 use Rattle.open_files.specs.declared.file.OpenFile.{OpenFile}
+use Rattle.u_area.specs.declared.layout.TheConstants.{NOTHING_PENDING}
 use Rattle.pipe_ends.specs.declared.ends.Pipe.{Pipe}
 use Rattle.sys_files.specs.Handed.{Handed}
 use Rattle.fs_nodes.specs.FileSystem.{IsFileSystem}
@@ -173,7 +174,7 @@ module _ (w1 now : World) (s : ℕ) (ready : IsReady w1 s) (status : ℕ) (agree
       (ap (λ (v : its.World). v.switches) (ends_state w1 s ready status) ∙ same_switches w1 s ready status (its_text w1 s ready status)) table
 
   module _ (form : IsFileSystem w1.files.tree.nodes)
-      (closed : (entry : ℕ) → times (process_of (unix_of w1) s).u.files entry ≡ 0) (free : (process_of (unix_of w1) s).u.pending ≡ 0) where
+      (closed : (entry : ℕ) → times (process_of (unix_of w1) s).u.files entry ≡ 0) (free : (process_of (unix_of w1) s).u.pending ≡ NOTHING_PENDING) where
     owed : Owed now.files.tree.nodes.references (unix_of now)
     owed =
         let P : its.World → List (Option OpenFile) → List Pipe → Type 0 =

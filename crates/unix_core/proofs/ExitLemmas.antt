@@ -20,7 +20,7 @@ use Rattle.unix_core.specs.declared.world.World.{World}
 use Rattle.abstract_unix.specs.declared.ending.Ending.TheVariants.{Ended, Panic}
 use Rattle.abstract_unix.specs.declared.ending.Ending.{Ending}
 use Rattle.abstract_unix.specs.Unix.{Unix, process_of}
-use Rattle.abstract_unix.specs.Calls.{exits_with, closes_all, with_handed, with_world, world_of}
+use Rattle.abstract_unix.specs.Calls.{in_order, exits_with, closes_all, with_handed, with_world, world_of}
 use Rattle.unix_core.specs.Parts.{unix_of, board_in, IsReady, HasCome, ended_as}
 use Rattle.unix_core.proofs.LoggedLemmas.{over, stop_of, after_items, logged_after, logged_both}
 use Rattle.unix_core.proofs.CameLemmas.{world_is}
@@ -140,9 +140,9 @@ module _ (w1 : World) (s : ℕ) (ready : IsReady w1 s) (status : ℕ) where
 module _ (w w1 now : World) (s : ℕ) (ready : IsReady w1 s) (status : ℕ)
     (form : IsFileSystem w1.files.tree.nodes)
     (unix : unix_of w1 ≡ with_handed (unix_of w) s (closes_all (unix_of w) s).state)
-    (shown : board_in w1 ≡ (logged {W = Unix} (board_in w) (map Show (closes_all (unix_of w) s).items)).board) where
+    (shown : board_in w1 ≡ (logged {W = Unix} (board_in w) (map Show (in_order (closes_all (unix_of w) s).items))).board) where
   abbrev items : List Item
-  items = (closes_all (unix_of w) s).items
+  items = in_order (closes_all (unix_of w) s).items
 
   abbrev u1 : Unix
   u1 = with_handed (unix_of w) s (closes_all (unix_of w) s).state

@@ -1,7 +1,7 @@
 -- What a call on files shows, and what the board of the log comes to by it.
 use Rattle.std.proofs.Common.{◌≡◌, ◌<◌, ℕ, suc, List, [], ◌∷◌, ◌++◌, length, map, fold, All, None, refl, sym, ap, ◌∙◌, subst, inl, inr, arith}
 use Rattle.std.proofs.lemmas.Bool.{cases_lt}
-use Rattle.std.proofs.lemmas.List.{get_or_past}
+use Rattle.std.proofs.lemmas.List.{append-nil, get_or_past}
 use Rattle.v6_base.specs.Trace.{Item, Log, sent, line_bytes, entries_of}
 use Rattle.v6_base.specs.declared.entry.Entry.{Entry}
 use Rattle.v6_base.specs.declared.entry.Entry.TheVariants.{Idle}
@@ -17,6 +17,7 @@ use Rattle.sys_procs.specs.Agree.{board_of}
 use Rattle.sys_procs.proofs.Signalled.{board_signalled}
 use Rattle.sys_procs.proofs.Tables.{board_woken}
 use Rattle.abstract_unix.specs.Unix.{Unix}
+use Rattle.abstract_unix.specs.Calls.{in_order}
 use Rattle.unix_core.specs.Passing.{HaveSlots, woken_by, all_woken}
 
 -- Items that are shown in order: the board takes them one after another.
@@ -49,12 +50,16 @@ woken_all (e ∷ entries) t k slot shown =
     ap (λ b. fold board_after b (map Log entries)) (woken_one t k slot e (shown 0 e (omega arith)))
     ∙ woken_all entries (woken_by t e) k slot (λ i d low. shown (suc i) d (omega (arith, low)))
 
+-- what a call on files shows, in order: the bytes of the line that there is, and then the lines of the log
+pub ordered_items : (items : List Item) → in_order items ≡ sent 0 (line_bytes 0 items) ++ map Log (entries_of items)
+ordered_items items = ap (λ l. l ++ map Log (entries_of items)) (append-nil (sent 0 (line_bytes 0 items)))
+
 -- The board after what a call on files shows is the one after the lines of its tape.
 pub shown_woken : (slot : ℕ) (items : List Item) → Fits slot items → (t : Table) (k : Kept)
-    → (logged {W = Unix} (board_of t k) (map Show items)).board ≡ board_of (all_woken t (entries_of items)) k
+    → (logged {W = Unix} (board_of t k) (map Show (in_order items))).board ≡ board_of (all_woken t (entries_of items)) k
 shown_woken slot items fits t k =
-    shown_after items [] (board_of t k)
-    ∙ ap (fold board_after (board_of t k)) fits.in_order
+    shown_after (in_order items) [] (board_of t k)
+    ∙ ap (fold board_after (board_of t k)) (ordered_items items)
     ∙ bytes_after (line_bytes 0 items) (board_of t k) (map Log (entries_of items))
     ∙ woken_all (entries_of items) t k slot fits.only_lines
 

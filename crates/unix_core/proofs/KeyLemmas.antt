@@ -22,7 +22,7 @@ use Rattle.sys_procs.specs.declared.procs.Procs.{Procs}
 use Rattle.sys_procs.specs.Process.{Process}
 use Rattle.sys_procs.specs.TextTable.{marks_of}
 use Rattle.sys_procs.specs.World as its
-use Rattle.sys_procs.specs.Signals.{signalled, signal_lines, meant_in, signalled_if, all_signalled, has_console}
+use Rattle.sys_procs.specs.Signals.{signalled, signal_lines, meant_in, signalled_if, all_signalled, has_line}
 use Rattle.sys_procs.specs.Handed.{AreProcs, handed, board}
 use Rattle.sys_procs.proofs.Slots.{fifty_processes}
 use Rattle.unix_core.specs.declared.world.World.{World}
@@ -99,9 +99,9 @@ told_signalled who n ps fifty = same_lists (told_in now) (told_in ps) (size ∙ 
 
 -- A signal has been sent to all that have the console.
 module _ (w : World) (good : IsGood w) (procs : Procs) (n : ℕ) (agree : AreProcs procs)
-    (state : (fs : FileSystem) → handed procs fs ≡ record (handed w.procs fs) { processes = all_signalled has_console n (handed w.procs fs).processes })
+    (state : (fs : FileSystem) → handed procs fs ≡ record (handed w.procs fs) { processes = all_signalled (has_line 0) n (handed w.procs fs).processes })
     (shown : (fs : FileSystem) → board procs ≡ (logged {W = its.World} (board w.procs)
-    (map Show (signal_lines n (meant_in has_console (handed w.procs fs).processes)))).board) where
+    (map Show (signal_lines n (meant_in (has_line 0) (handed w.procs fs).processes)))).board) where
   abbrev now : World
   now = record w { procs = procs }
 
@@ -109,9 +109,9 @@ module _ (w : World) (good : IsGood w) (procs : Procs) (n : ℕ) (agree : ArePro
   fs = w.files.tree.nodes
 
   abbrev lines : List Item
-  lines = signal_lines n (meant_in has_console (unix_of w).processes)
+  lines = signal_lines n (meant_in (has_line 0) (unix_of w).processes)
 
-  pub key_unix : unix_of now ≡ with_key (Signal n) (unix_of w)
+  pub key_unix : unix_of now ≡ with_key 0 (Signal n) (unix_of w)
   key_unix = λ i. record (unix_of w) {
     processes = (state fs i).processes;
     texts = (state fs i).texts;
@@ -124,16 +124,16 @@ module _ (w : World) (good : IsGood w) (procs : Procs) (n : ℕ) (agree : ArePro
   board_lines : board_in now ≡ fold board_after (board_in w) lines
   board_lines = shown fs ∙ ap (λ (l : Logged its.World). l.board) (logged_shown (board_in w) lines)
 
-  pub key_board : board_in now ≡ (logged {W = Unix} (board_in w) (map Show (key_lines (Signal n) (unix_of w)))).board
+  pub key_board : board_in now ≡ (logged {W = Unix} (board_in w) (map Show (key_lines 0 (Signal n) (unix_of w)))).board
   key_board = board_lines ∙ sym (ap (λ (l : Logged Unix). l.board) (logged_shown (board_in w) lines))
 
   kept : SignalsKeep (board_in w) (board_in now)
-  kept = subst (SignalsKeep (board_in w)) (sym board_lines) (signals_keep (board_in w) n (meant_in has_console (unix_of w).processes))
+  kept = subst (SignalsKeep (board_in w)) (sym board_lines) (signals_keep (board_in w) n (meant_in (has_line 0) (unix_of w).processes))
 
   told_same : told_in (unix_of now).processes ≡ told_in (unix_of w).processes
   told_same =
       ap (λ (u : Unix). told_in u.processes) key_unix
-      ∙ told_signalled has_console n (unix_of w).processes (fifty_processes w.procs.rows.slots w.procs.images.kept)
+      ∙ told_signalled (has_line 0) n (unix_of w).processes (fifty_processes w.procs.rows.slots w.procs.images.kept)
 
   pub key_good : IsGood now
   key_good = record {

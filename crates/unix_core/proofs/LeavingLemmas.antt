@@ -8,6 +8,7 @@ use Rattle.v6_base.specs.Tape.{Recording, taken_on}
 use Rattle.v6_base.specs.declared.answer.Answer.{Answer}
 use Rattle.v6_base.specs.declared.answer.Answer.TheVariants.{Ret}
 use Rattle.v6_base.specs.Trace.{Item, Took}
+use Rattle.u_area.specs.declared.layout.TheConstants.{NOTHING_PENDING}
 use Rattle.u_area.specs.declared.area.UArea.{UArea}
 use Rattle.proc_tab.specs.declared.row.Row.{Row}
 use Rattle.proc_tab.specs.Processes.{Processes, member_at, row_at, with_change, with_row}
@@ -18,7 +19,7 @@ use Rattle.sys_files.specs.Sound.{IsKept}
 use Rattle.sys_files.specs.Does.{Does}
 use Rattle.sys_files.proofs.Bounds.{Fits, HasAll, never_filled}
 use Rattle.sys_files.proofs.Steady.{Steady, Confined, close_all_fits, close_all_steady}
-use Rattle.sys_files.proofs.CoreSteady.{core_steady}
+use Rattle.sys_files.proofs.CoreLemmas.{core_steady}
 use Rattle.sys_files.specs.Did.{Did}
 use Rattle.sys_files.specs.Core.{core_file}
 use Rattle.sys_files.specs.Descriptors.{close_all}
@@ -34,8 +35,7 @@ use Rattle.abstract_unix.specs.Calls.{handed_of, with_handed}
 use Rattle.unix_core.specs.Parts.{unix_of, IsReady, IsReadyToShow}
 use Rattle.unix_core.proofs.WorldLemmas.{ready_alive, slot_is, told_here, handed_is, IsAfter, unix_after, ready_after, ready_to_show}
 use Rattle.abstract_unix.specs.Whole.{told_of}
-use Rattle.abstract_unix.proofs.PendingRows.{Pends, core_pends}
-use Rattle.abstract_unix.proofs.NeverWaiting.{core_pending}
+use Rattle.abstract_unix.proofs.PendingRows.{Pends, core_user, core_pends}
 use Rattle.abstract_unix.proofs.Owing.{some_within}
 use Rattle.abstract_unix.specs.Turn.{is_user}
 use Rattle.unix_core.proofs.LoanLemmas.{area_now, area_other, area_core, area_back, area_alone, image_now, image_other, image_core, row_now, row_other, row_back}
@@ -202,7 +202,7 @@ pub closing_confined : (slot : ℕ) (h : Handed) → Confined slot h (closing h)
 closing_confined slot h = record { fits = close_all_fits slot h; steady = close_all_steady h }
 
 -- The file `core` of the process has been written, by which nothing of the process has changed.
-module _ (w : World) (s : ℕ) {u : UArea} {m : Image} (lent : IsLent w s u (row_at w.procs.rows s) m) (none : (given w s).u.pending ≡ 0) (now : ℕ)
+module _ (w : World) (s : ℕ) {u : UArea} {m : Image} (lent : IsLent w s u (row_at w.procs.rows s) m) (none : (given w s).u.pending ≡ NOTHING_PENDING) (now : ℕ)
     (f : Files) (x : ImagesState) (same : x.kept ≡ w.procs.images.kept)
     (state : handed f u (row_at w.procs.rows s) m ≡ (core_file (handed w.files u (row_at w.procs.rows s) m) now).state)
     (keeps : IsKept (handed w.files u (row_at w.procs.rows s) m) (handed f u (row_at w.procs.rows s) m)) where
@@ -252,4 +252,4 @@ module _ (w : World) (s : ℕ) {u : UArea} {m : Image} (lent : IsLent w s u (row
       ap (λ (x : Unix). is_user (process_of x s)) dumped_unix
       ∙ ap (λ o. is_user (unwrap_or o no_process))
       (get_or-set_same (unix_of w).processes s (Some q) None (some_within (unix_of w).processes s p (slot_is w s lent.ready)))
-      ∙ eq-eqb h.u.pending 0 (core_pending (given w s) now ∙ none)
+      ∙ eq-eqb h.u.pending NOTHING_PENDING (core_user (given w s) now none)

@@ -1,6 +1,7 @@
 -- What the next slot finds, and what a tick does to the process that runs.
 use Rattle.std.proofs.Common.{◌≡◌, ◌<◌, ◌==◌, if◌then◌else◌, ℕ, Bool, true, false, map, Option, Some, None, refl, sym, ap, ◌∙◌, subst, arith}
 use Rattle.std.proofs.lemmas.Bool.{ne_eqb}
+use Rattle.u_area.specs.declared.layout.TheConstants.{NOTHING_PENDING}
 use Rattle.u_area.specs.declared.area.UArea.{UArea}
 use Rattle.pick_rules.specs.declared.row.Mode.{Mode}
 use Rattle.pick_rules.specs.declared.row.Mode.TheVariants.{User, Kernel, Idle}
@@ -45,8 +46,8 @@ known_kernel at w s known ready settled user =
       fixed = known.is;
     }))
 
-pub user_is : (w : World) (s : ℕ) (b : Bool) → IsAlive w.procs s → ((area_of w.procs.images.kept s).pending == 0) ≡ b → is_user (process_of (unix_of w) s) ≡ b
-user_is w s b alive is = ap (λ (v : UArea). v.pending == 0) (sym (area_here w.procs s alive)) ∙ is
+pub user_is : (w : World) (s : ℕ) (b : Bool) → IsAlive w.procs s → ((area_of w.procs.images.kept s).pending == NOTHING_PENDING) ≡ b → is_user (process_of (unix_of w) s) ≡ b
+user_is w s b alive is = ap (λ (v : UArea). v.pending == NOTHING_PENDING) (sym (area_here w.procs s alive)) ∙ is
 
 abbrev one_of : Option ℕ → ℕ
 one_of None = 0
@@ -71,7 +72,7 @@ abbrev mode_if : Bool → Mode
 mode_if b = if b then User else Kernel
 
 pub mode_is : (w : World) (s : ℕ) (b : Bool) → IsGood w → w.procs.table.running ≡ Some s → 0 < s
-    → ((area_of w.procs.images.kept s).pending == 0) ≡ b → mode_of (system_at w) ≡ (if b then User else Kernel)
+    → ((area_of w.procs.images.kept s).pending == NOTHING_PENDING) ≡ b → mode_of (system_at w) ≡ (if b then User else Kernel)
 mode_is w s b good runs above is =
     let alive = good_alive w s good runs above in
     ap (mode_by (unix_of w)) runs

@@ -30,13 +30,14 @@ use Rattle.tty_line.specs.declared.line.Keyed.{Keyed}
 use Rattle.tty_line.specs.declared.line.Keyed.TheVariants.{Nothing, Ready, Flushed, Signal}
 use Rattle.tty_line.specs.Input.{Typed, typed}
 use Rattle.u_area.specs.declared.area.UArea.{UArea}
+use Rattle.u_area.specs.Pending.{is_on_files}
 use Rattle.sys_procs.specs.Process.{Process, no_process, register, image_of}
 use Rattle.sys_procs.specs.Comes.{Comes}
 use Rattle.sys_procs.specs.Break.{grow, grown_or_not}
 use Rattle.sys_procs.specs.Exit.{exit_status, end_proc}
 use Rattle.sys_procs.specs.Fork.{fork_one}
 use Rattle.sys_procs.specs.Resume.{resume_proc}
-use Rattle.sys_procs.specs.Signals.{signal_lines, all_signalled, has_console}
+use Rattle.sys_procs.specs.Signals.{signal_lines, all_signalled, has_line}
 use Rattle.abstract_unix.specs.declared.asked.Asked.{Asked}
 use Rattle.abstract_unix.specs.declared.calls.SystemCall.{SystemCall}
 use Rattle.abstract_unix.specs.declared.calls.SystemCall.TheVariants.{Indirect, Exit, Fork, Unknown, OnFiles, OnProcesses}
@@ -46,7 +47,7 @@ use Rattle.abstract_unix.specs.declared.ending.Ending.TheVariants as ending
 use Rattle.abstract_unix.specs.Unix.{Unix, System, process_of, with_process}
 use Rattle.abstract_unix.specs.Steps.{Steps, quietly, returns, signals, after_effects}
 use Rattle.abstract_unix.specs.Errors.{error_number}
-use Rattle.abstract_unix.specs.Calls.{handed_of, with_handed, world_of, with_world, with_area, entered_area, words_passed, asked, given_area, refused_area, refuses, answers, file_row, process_row, did_by, came_by, forks, closes_all, exits_with, grows, grown_by, does_call, sysent_of, does_asked, is_on_files, resumed}
+use Rattle.abstract_unix.specs.Calls.{in_order, handed_of, with_handed, world_of, with_world, with_area, entered_area, words_passed, asked, given_area, refused_area, refuses, answers, file_row, process_row, did_by, came_by, forks, closes_all, exits_with, grows, grown_by, does_call, sysent_of, does_asked, resumed}
 use Rattle.abstract_unix.specs.Delivery.{heeds, catches, signal_status, dumped, ends_by, delivers_if, delivers_due, ends_by_ending}
 use Rattle.abstract_unix.specs.Turn.{Happened, stays, settles, calls_for_settling, settled_after, machine_of, with_machine, passes_setd, faults, comes_to, instruction, is_user, begins_turn, turn, end_effects, turn_of, pass_of, slot_of}
 use Rattle.abstract_unix.specs.Outside.{mode_of, timed, charged, ticked, is_due, is_as_trap, wakes, tick_effects, tick_delivery, delivers_to, tick_of, calls, with_key, key_lines, typed_of}
@@ -107,7 +108,7 @@ module _ (ps : List (Option Process)) (r s : ℕ) (other : r ≢ s) where
   module _ (u : Unix) (h : Spared ps u.processes r) where
     sparing_did : (did : Did) → AreSparing ps r (did_by u s did)
     sparing_did did =
-        sparing_after (map Show did.items) _ (carry_shown (HasSpared ps r) did.items)
+        sparing_after (map Show (in_order did.items)) _ (carry_shown (HasSpared ps r) (in_order did.items))
         (sparing_answers (with_handed u s did.state) did.answer (spared_put u _ h))
 
     sparing_came : (c : Comes) → IsSparing ps r c → AreSparing ps r (came_by u s c)
@@ -128,7 +129,7 @@ module _ (ps : List (Option Process)) (r s : ℕ) (other : r ≢ s) where
         let c : Comes = end_proc (world_of now) s status in
         let came : IsSparing ps r c = sparing_end ps r s other (world_of now) status (spared_put u _ h) in
         record {
-          effects = carry_both (HasSpared ps r) (map Show closed.items) _ (carry_shown (HasSpared ps r) closed.items)
+          effects = carry_both (HasSpared ps r) (map Show (in_order closed.items)) _ (carry_shown (HasSpared ps r) (in_order closed.items))
               (carry_lifted (with_world now) (HasSpared ps r) c.effects came.effects);
           unix = came.state;
         }
@@ -354,21 +355,21 @@ module _ (m : System) (r : ℕ) where
       (carry_both (HasSpared before r) (tick_effects m) s.effects (carry_tick (HasSpared before r) m) h.effects) h.unix
 
   -- a key that sends a signal
-  spared_key : length before ≡ 50 → (key : Keyed) (u : Unix) → u.processes ≡ before → Spared before (with_key key u).processes r
+  spared_key : length before ≡ 50 → (key : Keyed) (u : Unix) → u.processes ≡ before → Spared before (with_key 0 key u).processes r
   spared_key long Nothing u same = subst (λ ps. Spared before ps r) (sym same) (spared_same before r)
   spared_key long Ready u same = subst (λ ps. Spared before ps r) (sym same) (spared_same before r)
   spared_key long Flushed u same = subst (λ ps. Spared before ps r) (sym same) (spared_same before r)
   spared_key long (Signal n) u same =
-      spared_then before u.processes (all_signalled has_console n u.processes) r
+      spared_then before u.processes (all_signalled (has_line 0) n u.processes) r
       (subst (λ ps. Spared before ps r) (sym same) (spared_same before r))
-      (spared_signalled u.processes has_console n r (ap length same ∙ long))
+      (spared_signalled u.processes (has_line 0) n r (ap length same ∙ long))
 
-  spared_typed : length before ≡ 50 → (byte : ℕ) → IsUndisturbed m.unix (typed_of m byte).unix r
+  spared_typed : length before ≡ 50 → (byte : ℕ) → IsUndisturbed m.unix (typed_of m 0 byte).unix r
   spared_typed long byte =
       let k : Typed = typed m.unix.line byte in
-      let shown : List Item = sent 0 k.shown ++ key_lines k.keyed m.unix in
+      let shown : List Item = sent 0 k.shown ++ key_lines 0 k.keyed m.unix in
       left_carried (HasSpared before r) m.board (map Show shown ++ wakes (calls k.keyed) Keys)
-      (with_key k.keyed (record m.unix { line = k.terminal }))
+      (with_key 0 k.keyed (record m.unix { line = k.terminal }))
       (carry_both (HasSpared before r) (map Show shown) (wakes (calls k.keyed) Keys)
       (carry_shown (HasSpared before r) shown) (carry_wakes (HasSpared before r) (calls k.keyed) Keys))
       (spared_key long k.keyed (record m.unix { line = k.terminal }) refl)
@@ -408,7 +409,7 @@ tick_private m = by (tick_delivers m) refl
 -- a key and the switches.
 pub typed_private : (m : System) → length m.unix.processes ≡ 50 → (byte : ℕ) → AllUndisturbed m (event_of (Byte byte) m).next
 typed_private m long byte r =
-    subst (λ (u : Unix). IsUndisturbed m.unix u r) (sym (settled_unix (typed_of m byte))) (spared_typed m r long byte)
+    subst (λ (u : Unix). IsUndisturbed m.unix u r) (sym (settled_unix (typed_of m 0 byte))) (spared_typed m r long byte)
 
 pub switched_private : (m : System) (word : ℕ) → AllUndisturbed m (event_of (Switch word) m).next
 switched_private m word r = spared_same m.unix.processes r

@@ -22,7 +22,7 @@ use Rattle.unix_core.specs.declared.world.World.{World}
 use Rattle.abstract_unix.specs.declared.ending.Ending.{Ending}
 use Rattle.abstract_unix.specs.Unix.{Unix}
 use Rattle.abstract_unix.specs.Steps.{Steps, after_effects}
-use Rattle.abstract_unix.specs.Calls.{with_handed}
+use Rattle.abstract_unix.specs.Calls.{in_order, with_handed}
 use Rattle.unix_core.specs.Passing.{HasSlot, HaveSlots, woken_by, all_woken, shown_by}
 use Rattle.unix_core.specs.Parts.{unix_of, board_in, IsReady, IsReadyToShow, HasCome}
 use Rattle.unix_core.proofs.GoingLemmas.{going_same}
@@ -135,10 +135,10 @@ module _ (w : World) (entries : List Entry) (slots : HaveSlots entries) where
 
 -- the board of the lines is the one of the table
 pub shown_board : (w new : World) (s : ℕ) (items : List Item) → IsReadyToShow w new s items
-    → board_in (with_woken new new.tape.entries) ≡ (logged {W = Unix} (board_in w) (map Show items)).board
+    → board_in (with_woken new new.tape.entries) ≡ (logged {W = Unix} (board_in w) (map Show (in_order items))).board
 shown_board w new s items shown =
     sym (shown.wakes new.procs.table new.procs.images.kept)
-    ∙ ap (λ (b : Board). (logged {W = Unix} b (map Show items)).board)
+    ∙ ap (λ (b : Board). (logged {W = Unix} b (map Show (in_order items))).board)
     (λ i. record { table = record (shown.table i) { tout = 0 }; texts = map text_place (shown.texts i); core = shown.core i })
 
 -- a world with another table
@@ -154,30 +154,30 @@ module _ (w new : World) (s : ℕ) (state : Handed) (items : List Item) (shown :
   pub passed_ready : IsReady (with_table new t) s
   passed_ready = subst (λ x. IsReady (with_table new x) s) (sym is) (woken_ready new new.tape.entries shown.slots s shown.ready)
 
-  pub passed_board : board_in (with_table new t) ≡ (logged {W = Unix} (board_in w) (map Show items)).board
+  pub passed_board : board_in (with_table new t) ≡ (logged {W = Unix} (board_in w) (map Show (in_order items))).board
   passed_board = ap (λ x. board_in (with_table new x)) is ∙ shown_board w new s items shown
 
-  pub passed_quiet : (logged {W = Unix} (board_in w) (map Show items)).stop ≡ None
-  passed_quiet = ap (λ (l : Logged Unix). l.stop) (logged_shown {W = Unix} (board_in w) items)
+  pub passed_quiet : (logged {W = Unix} (board_in w) (map Show (in_order items))).stop ≡ None
+  passed_quiet = ap (λ (l : Logged Unix). l.stop) (logged_shown {W = Unix} (board_in w) (in_order items))
 
   -- what has been taken is what the log has
-  pub passed_took : (a b : Taken) → Took a (shown_by new.tape) b → Took a (logged {W = Unix} (board_in w) (map Show items)).items b
+  pub passed_took : (a b : Taken) → Took a (shown_by new.tape) b → Took a (logged {W = Unix} (board_in w) (map Show (in_order items))).items b
   passed_took a b took =
-      subst (λ (l : List Item). Took a l b) (shown.shown ∙ sym (ap (λ (l : Logged Unix). l.items) (logged_shown {W = Unix} (board_in w) items))) took
+      subst (λ (l : List Item). Took a l b) (shown.shown ∙ sym (ap (λ (l : Logged Unix). l.items) (logged_shown {W = Unix} (board_in w) (in_order items)))) took
 
   -- The rest of the turn, over the board then.
   module _ (next : Unix → Steps) where
     pub passed_come : (e : Ending) (now : World) → HasCome (board_in (with_table new t)) (next (unix_of (with_table new t))) e now
-        → HasCome (board_in w) (after_effects (map Show items) (next (with_handed (unix_of w) s state))) e now
+        → HasCome (board_in w) (after_effects (map Show (in_order items)) (next (with_handed (unix_of w) s state))) e now
     passed_come e now come =
-        come_then (board_in w) (map Show items) (next (with_handed (unix_of w) s state)) passed_quiet e now
+        come_then (board_in w) (map Show (in_order items)) (next (with_handed (unix_of w) s state)) passed_quiet e now
         (subst (λ (b : Board). HasCome b (next (with_handed (unix_of w) s state)) e now) passed_board
         (subst (λ (u : Unix). HasCome (board_in (with_table new t)) (next u) e now) passed_unix come))
 
     pub passed_items : (a b c : Taken) → Took a (shown_by new.tape) b
         → Took b (logged (board_in (with_table new t)) (next (unix_of (with_table new t))).effects).items c
-        → Took a (logged (board_in w) (after_effects (map Show items) (next (with_handed (unix_of w) s state))).effects).items c
+        → Took a (logged (board_in w) (after_effects (map Show (in_order items)) (next (with_handed (unix_of w) s state))).effects).items c
     passed_items a b c one two =
-        items_then (board_in w) (map Show items) (next (with_handed (unix_of w) s state)) passed_quiet a b c (passed_took a b one)
+        items_then (board_in w) (map Show (in_order items)) (next (with_handed (unix_of w) s state)) passed_quiet a b c (passed_took a b one)
         (subst (λ (x : Board). Took b (logged x (next (with_handed (unix_of w) s state)).effects).items c) passed_board
         (subst (λ (u : Unix). Took b (logged (board_in (with_table new t)) (next u).effects).items c) passed_unix two))

@@ -19,6 +19,7 @@ use Rattle.pick_rules.specs.Board.{Board}
 use Rattle.pick_rules.specs.Effects.{Effect, Show}
 use Rattle.pick_rules.specs.Logged.{Stop, left_by}
 use Rattle.swap_sched.specs.Pass.{pass, stop_over}
+use Rattle.u_area.specs.Pending.{is_on_files}
 use Rattle.sig_core.specs.declared.numbers.TheConstants.{SIGINS, SIGTRC, SIGIOT, SIGEMT, SIGBUS, SIGSEG, SIGSYS}
 use Rattle.sig_core.specs.Signals.{handler_of, due}
 use Rattle.sig_core.specs.Delivery.{makes_core, signal_stack}
@@ -50,7 +51,7 @@ use Rattle.abstract_unix.specs.declared.ending.Ending.TheVariants as ending
 use Rattle.abstract_unix.specs.Unix.{Unix, System, Started, process_of, with_process}
 use Rattle.abstract_unix.specs.Steps.{Steps, quietly, returns, signals, after_effects}
 use Rattle.abstract_unix.specs.Errors.{error_number}
-use Rattle.abstract_unix.specs.Calls.{handed_of, with_handed, world_of, with_world, with_area, entered_area, words_passed, asked, refused_area, refuses, answers, file_row, process_row, did_by, came_by, forks, closes_all, exits_with, grows, grown_by, does_call, sysent_of, does_asked, is_on_files, resumed}
+use Rattle.abstract_unix.specs.Calls.{in_order, handed_of, with_handed, world_of, with_world, with_area, entered_area, words_passed, asked, refused_area, refuses, answers, file_row, process_row, did_by, came_by, forks, closes_all, exits_with, grows, grown_by, does_call, sysent_of, does_asked, resumed}
 use Rattle.abstract_unix.specs.Delivery.{heeds, catches, signal_status, dumped, ends_by, delivers_if, delivers_due, ends_by_ending}
 use Rattle.abstract_unix.specs.Turn.{Happened, settled, stays, settles, calls_for_settling, settled_after, machine_of, with_machine, passes_setd, faults, comes_to, instruction, is_user, begins_turn, turn, end_effects, turn_of, pass_of, slot_of}
 use Rattle.abstract_unix.specs.Outside.{mode_of, timed, charged, ticked, is_as_trap, wakes, tick_effects, tick_delivery, delivers_to, tick_of, calls, with_key, key_lines, typed_of}
@@ -136,7 +137,7 @@ module _ (ts : List (Option Text)) (k s : ℕ) where
   module _ (u : Unix) (h : Stays u) where
     staying_did : (did : Did) → AreStaying (did_by u s did)
     staying_did did =
-        staying_after (map Show did.items) _ (carry_shown Stays did.items)
+        staying_after (map Show (in_order did.items)) _ (carry_shown Stays (in_order did.items))
         (staying_answers (with_handed u s did.state) did.answer h)
 
     staying_came : (c : Comes) → IsStaying ts k c → AreStaying (came_by u s c)
@@ -157,7 +158,7 @@ module _ (ts : List (Option Text)) (k s : ℕ) where
         let c : Comes = end_proc (world_of now) s status in
         let came : IsStaying ts k c = staying_end ts k s (world_of now) status h in
         record {
-          effects = carry_both Stays (map Show closed.items) _ (carry_shown Stays closed.items)
+          effects = carry_both Stays (map Show (in_order closed.items)) _ (carry_shown Stays (in_order closed.items))
               (carry_lifted (with_world now) Stays c.effects came.effects);
           unix = came.state;
         }
@@ -361,21 +362,21 @@ module _ (m : System) (k : ℕ) where
       (carry_both HasStayed (tick_effects m) s.effects (carry_tick HasStayed m) staying_tick.0) staying_tick.1
 
   -- a key that sends a signal
-  stays_key : (key : Keyed) (u : Unix) → u.texts ≡ before → HasStayed (with_key key u)
+  stays_key : (key : Keyed) (u : Unix) → u.texts ≡ before → HasStayed (with_key 0 key u)
   stays_key key u same = subst (λ l. TextStays before l k) (sym (by key ∙ same)) (stays_same before k)
     where
-      by : (key : Keyed) → (with_key key u).texts ≡ u.texts
+      by : (key : Keyed) → (with_key 0 key u).texts ≡ u.texts
       by Nothing = refl
       by Ready = refl
       by Flushed = refl
       by (Signal n) = refl
 
-  stays_typed : (byte : ℕ) → HasStayed (typed_of m byte).unix
+  stays_typed : (byte : ℕ) → HasStayed (typed_of m 0 byte).unix
   stays_typed byte =
       let t : Typed = typed m.unix.line byte in
-      let shown : List Item = sent 0 t.shown ++ key_lines t.keyed m.unix in
+      let shown : List Item = sent 0 t.shown ++ key_lines 0 t.keyed m.unix in
       left_carried HasStayed m.board (map Show shown ++ wakes (calls t.keyed) Keys)
-      (with_key t.keyed (record m.unix { line = t.terminal }))
+      (with_key 0 t.keyed (record m.unix { line = t.terminal }))
       (carry_both HasStayed (map Show shown) (wakes (calls t.keyed) Keys) (carry_shown HasStayed shown)
       (carry_wakes HasStayed (calls t.keyed) Keys)) (stays_key t.keyed (record m.unix { line = t.terminal }) refl)
 
@@ -407,7 +408,7 @@ tick_stays m k = subst (λ (u : Unix). TextStays m.unix.texts u.texts k) (sym (s
 
 pub typed_stays : (m : System) (byte : ℕ) → AllTextsStay m (event_of (Byte byte) m).next
 typed_stays m byte k =
-    subst (λ (u : Unix). TextStays m.unix.texts u.texts k) (sym (settled_unix (typed_of m byte))) (stays_typed m k byte)
+    subst (λ (u : Unix). TextStays m.unix.texts u.texts k) (sym (settled_unix (typed_of m 0 byte))) (stays_typed m k byte)
 
 pub switched_stays : (m : System) (word : ℕ) → AllTextsStay m (event_of (Switch word) m).next
 switched_stays m word k = stays_same m.unix.texts k

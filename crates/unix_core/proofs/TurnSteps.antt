@@ -3,6 +3,7 @@
 use Rattle.std.proofs.Common.{◌≡◌, ◌<◌, ◌∙◌, ◌==◌, if◌then◌else◌, ℕ, zero, suc, false, List, [], Option, Some, None, refl, sym, ap, subst, arith}
 use Rattle.std.proofs.lemmas.List.{set-set}
 use Rattle.v6_base.specs.Image.{Image}
+use Rattle.u_area.specs.declared.layout.TheConstants.{NOTHING_PENDING}
 use Rattle.u_area.specs.declared.area.UArea.{UArea}
 use Rattle.pdp_step.specs.declared.outcome.Outcome.{Outcome}
 use Rattle.pdp_step.specs.declared.outcome.Outcome.TheVariants as came
@@ -89,7 +90,7 @@ module _ (w : World) (s : ℕ) (user : IsUser s w) (holds : IsKept w.procs.image
   pub stepped_user : IsUser s (with_images w x)
   stepped_user = subst (λ (k : Kept). IsUser s (with_kept w x k)) (sym kept) (record {
     ready = area_ready with_image_then x s ready_then area area_like;
-    user = ap is_user process_then ∙ ap (λ (u : UArea). u.pending == 0) (own_area w s user.ready) ∙ user.user;
+    user = ap is_user process_then ∙ ap (λ (u : UArea). u.pending == NOTHING_PENDING) (own_area w s user.ready) ∙ user.user;
     settled = user.settled;
   })
 

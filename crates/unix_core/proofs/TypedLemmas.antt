@@ -41,7 +41,7 @@ line_good w line was = record {
 }
 
 -- the lines of a key know nothing of the line
-same_lines : (k : Keyed) (u : Unix) (line : Terminal) → key_lines k (record u { line = line }) ≡ key_lines k u
+same_lines : (k : Keyed) (u : Unix) (line : Terminal) → key_lines 0 k (record u { line = line }) ≡ key_lines 0 k u
 same_lines key.Nothing u line = refl
 same_lines key.Ready u line = refl
 same_lines key.Flushed u line = refl
@@ -50,8 +50,8 @@ same_lines (key.Signal n) u line = refl
 -- The line has taken the byte, the signal has been sent, and sleepers have been woken.
 module _ (w : World) (byte : ℕ) (line : Terminal) (line_is : line ≡ (typed w.files.line byte).terminal)
     (k : Keyed) (k_is : k ≡ (typed w.files.line byte).keyed) (sent_ : World) (good : IsGood sent_)
-    (unix : unix_of sent_ ≡ with_key k (unix_of (with_line w line)))
-    (board : board_in sent_ ≡ (logged {W = Unix} (board_in w) (map Show (key_lines k (unix_of (with_line w line))))).board)
+    (unix : unix_of sent_ ≡ with_key 0 k (unix_of (with_line w line)))
+    (board : board_in sent_ ≡ (logged {W = Unix} (board_in w) (map Show (key_lines 0 k (unix_of (with_line w line))))).board)
     (called : Bool) (called_is : called ≡ calls k) (t : Table) (table_is : t ≡ called_table called Keys sent_.procs.table) (table : IsTable t)
     (woken : board_of t sent_.procs.images.kept ≡ (logged {W = Unix} (board_in sent_) (wakes called Keys)).board) where
   pub typed_good : IsGood (with_table sent_ t)
@@ -66,16 +66,16 @@ module _ (w : World) (byte : ℕ) (line : Terminal) (line_is : line ≡ (typed w
   does = typed m.unix.line byte
 
   abbrev lines : List Item
-  lines = key_lines k m.unix
+  lines = key_lines 0 k m.unix
 
   abbrev items : List Item
   items = sent 0 does.shown ++ lines
 
   abbrev now : Unix
-  now = with_key does.keyed (record m.unix { line = does.terminal })
+  now = with_key 0 does.keyed (record m.unix { line = does.terminal })
 
   abbrev l : Logged Unix
-  l = logged m.board (map Show (sent 0 does.shown ++ key_lines does.keyed m.unix) ++ wakes (calls does.keyed) Keys)
+  l = logged m.board (map Show (sent 0 does.shown ++ key_lines 0 does.keyed m.unix) ++ wakes (calls does.keyed) Keys)
 
   -- the board when the signal has been sent
   sent_board : (logged {W = Unix} (board_in w) (map Show items)).board ≡ board_in sent_
@@ -88,7 +88,7 @@ module _ (w : World) (byte : ℕ) (line : Terminal) (line_is : line ≡ (typed w
 
   l_is : l ≡ after_items items (logged (board_in sent_) (wakes called Keys))
   l_is =
-      ap (λ x. logged m.board (map Show (sent 0 does.shown ++ key_lines x m.unix) ++ wakes (calls x) Keys)) (sym k_is)
+      ap (λ x. logged m.board (map Show (sent 0 does.shown ++ key_lines 0 x m.unix) ++ wakes (calls x) Keys)) (sym k_is)
       ∙ (ap (λ c. logged m.board (map Show items ++ wakes c Keys)) (sym called_is)
       ∙ (logged_after (board_in w) items (wakes called Keys)
       ∙ ap (λ b. after_items items (logged b (wakes called Keys))) sent_board))
@@ -100,7 +100,7 @@ module _ (w : World) (byte : ℕ) (line : Terminal) (line_is : line ≡ (typed w
   typed_unix =
       let clock : clock_of t ≡ clock_of sent_.procs.table = ap clock_of table_is ∙ called_clock sent_.procs.table called Keys in
       (λ i. record (unix_of sent_) { clock = clock i })
-      ∙ (unix ∙ (ap (λ x. with_key x (record m.unix { line = line })) k_is ∙ ap (λ x. with_key does.keyed (record m.unix { line = x })) line_is))
+      ∙ (unix ∙ (ap (λ x. with_key 0 x (record m.unix { line = line })) k_is ∙ ap (λ x. with_key 0 does.keyed (record m.unix { line = x })) line_is))
 
   typed_is : system_at (with_table sent_ t) ≡ record { unix = now; board = l.board }
   typed_is =
@@ -109,15 +109,15 @@ module _ (w : World) (byte : ℕ) (line : Terminal) (line_is : line ≡ (typed w
       λ i. record { unix = unix_is i; board = board_is i }
 
   pub typed_next : (last : System) → last ≡ record (system_at (with_table sent_ t)) { board = (settled (board_in (with_table sent_ t))).board }
-      → last ≡ (settled_after (typed_of m byte)).next
+      → last ≡ (settled_after (typed_of m 0 byte)).next
   typed_next last final = settles_next (system_at (with_table sent_ t)) last now l typed_stop typed_is final
 
-  pub typed_items : (n : System) → m ≡ n → (a b c d e : Taken) → Took a (sent 0 does.shown) b → Took b (key_lines k (unix_of (with_line w line))) c
+  pub typed_items : (n : System) → m ≡ n → (a b c d e : Taken) → Took a (sent 0 does.shown) b → Took b (key_lines 0 k (unix_of (with_line w line))) c
       → Took c (logged {W = Unix} (board_in sent_) (wakes called Keys)).items d → Took d (settled (board_in (with_table sent_ t))).items e
-      → Took a (settled_after (typed_of n byte)).items e
+      → Took a (settled_after (typed_of n 0 byte)).items e
   typed_items n same a b c d e one two three four =
       let keyed_ : Took b lines c = subst (λ (xs : List Item). Took b xs c) (same_lines k m.unix line) two in
       let shown : Took a items c = took_more a b c (sent 0 does.shown) lines one keyed_ in
-      subst (λ x. Took a (settled_after (typed_of x byte)).items e) same
+      subst (λ x. Took a (settled_after (typed_of x 0 byte)).items e) same
       (settles_items (system_at (with_table sent_ t)) (system_at (with_table sent_ t)) now l typed_stop typed_is a d e
       (took_then a c d items (logged {W = Unix} (board_in sent_) (wakes called Keys)).items l.items shown three (ap (λ (x : Logged Unix). x.items) (sym l_is))) four)

@@ -37,7 +37,7 @@ use Rattle.abstract_unix.specs.Whole.{Told, told_of, told_in, Owes, Owed, CanGoO
 use Rattle.abstract_unix.proofs.Owing.{told_at, refer_told, sound_by, file_owes}
 use Rattle.abstract_unix.proofs.PendingRows.{Pends}
 use Rattle.abstract_unix.proofs.GoingOnLemmas.{file_goes_on}
-use Rattle.unix_core.proofs.FileLemmas.{shown_woken, shown_slots}
+use Rattle.unix_core.proofs.FileLemmas.{ordered_items, shown_woken, shown_slots}
 
 -- who runs lives
 pub ready_alive : (w : World) (s : ℕ) → IsReady w s → IsAlive w.procs s
@@ -178,7 +178,7 @@ module _ (w w' : World) (s : ℕ) (ready : IsReady w s) (u : UArea) (row : Row) 
     table = after.table;
     core = after.core;
     texts = after.texts.texts;
-    shown = (λ i. sent 0 (all.bytes i) ++ map Log (all.entries i)) ∙ sym fits.in_order;
+    shown = (λ i. sent 0 (all.bytes i) ++ map Log (all.entries i)) ∙ sym (ordered_items items);
     slots = subst HaveSlots (sym all.entries) (shown_slots s (entries_of items) ready.user (runs_low w s ready.good.agree ready.runs) fits.only_lines);
     wakes = λ t k. shown_woken s items fits t k ∙ ap (λ l. board_of (all_woken t l) k) (sym all.entries);
   }

@@ -27,6 +27,7 @@ use Rattle.abstract_unix.specs.Unix.{Unix, System, Phase, New, Started, Stopped,
 use Rattle.abstract_unix.specs.Endings.{phase_after}
 use Rattle.abstract_unix.specs.Init.{init_data}
 use Rattle.abstract_unix.specs.Whole.{Owed, CanGoOn}
+use Rattle.abstract_unix.specs.Calls.{in_order}
 use Rattle.abstract_unix.specs.Steps.{Steps, returns}
 use Rattle.abstract_unix.specs.Outside.{delivers_to}
 use Rattle.unix_core.specs.Passing.{HaveSlots, shown_by, all_woken}
@@ -95,15 +96,16 @@ pub record IsReady (w : parts.World) (s : ℕ) : Type 0 where
   pub runs : w.procs.table.running ≡ Some s
   pub user : 0 < s
 
--- A call on files of a process has been done, and what it shows stands on the tape: the table is as it was.
+-- A call on files of a process has been done, and what it shows stands on the tape, in the order in which it goes out: the table is
+-- as it was.
 pub record IsReadyToShow (old new : parts.World) (s : ℕ) (items : List Item) : Type 0 where
   pub ready : IsReady new s
   pub table : new.procs.table ≡ old.procs.table
   pub core : new.procs.images.kept.core ≡ old.procs.images.kept.core
   pub texts : new.procs.images.kept.texts ≡ old.procs.images.kept.texts
-  pub shown : shown_by new.tape ≡ items
+  pub shown : shown_by new.tape ≡ in_order items
   pub slots : HaveSlots new.tape.entries
-  pub wakes : (t : Table) (k : Kept) → (logged {W = Unix} (board_of t k) (map Show items)).board ≡ board_of (all_woken t new.tape.entries) k
+  pub wakes : (t : Table) (k : Kept) → (logged {W = Unix} (board_of t k) (map Show (in_order items))).board ≡ board_of (all_woken t new.tape.entries) k
 
 -- how a turn ends in which a demand may find no place
 abbrev pub ended_as : Option (Stop Unix) → Ending → Ending

@@ -1,7 +1,7 @@
 //! The parts of a kernel, and what each event does to them.
 ghost use Rattle.std.specs.Prelude.{◌≡◌, ◌≢◌, ◌<◌, ℕ, Bool, IsTrue, true, false, None, Some, map};
 ghost use Rattle.v6_base.specs.Trace.{Took};
-ghost use Rattle.fs_laws.specs.Rest.{SameRest};
+ghost use Rattle.fs_nodes.specs.FileSystem.{SameRest};
 ghost use Rattle.pick_rules.specs.Choice.{chosen, settle};
 ghost use Rattle.pick_rules.specs.Effects.{Show};
 ghost use Rattle.pick_rules.specs.Logged.{logged};
@@ -23,14 +23,14 @@ use image_keep::Fixed;
 use pdp_step::Outcome;
 use pick_rules::{Mode, Second};
 use swap_sched::pass;
-use sys_procs::signal_console;
+use sys_procs::signal_line;
 use tty_line::Keyed;
-use u_area::UArea;
+use u_area::{NOTHING_PENDING, UArea};
 use v6_base::{Chan, Entry, PanicKind, Slot, Trace};
 
 /// How far a run has come, and what the next slot finds.
 #[derive(Clone, Copy)]
-pub enum Stage {
+pub(crate) enum Stage {
     /// The run hasn't been started.
     New,
     /// A process executes instructions, of which this is fixed.
@@ -164,7 +164,7 @@ impl Machine {
         ensures started { phase_of self.new.stage ≡ Started }
         ensures world { self.new.world ≡ self.old.world }
     {
-        if self.world.procs.images.area(s).pending != 0 {
+        if self.world.procs.images.area(s).pending != NOTHING_PENDING {
             self.rest();
         } else if !self.stays(s) {
             self.begin(s);
@@ -215,7 +215,7 @@ impl Machine {
         requires runs { self.old.world.procs.table.running ≡ Some 0 }
         ensures answer { result ≡ turned (settled_after (pass_of (system_at self.old.world))) }
         ensures takes { Takes (settled_after (pass_of (system_at self.old.world))) self.new.stage self.new.world }
-        ensures rest { SameRest self.old.world.files.tree.nodes.blocks self.new.world.files.tree.nodes.blocks }
+        ensures rest { SameRest self.old.world.files.tree.nodes self.new.world.files.tree.nodes }
         ensures items { Took (T.taken trace.old)
             (settled_after (pass_of (system_at self.old.world))).items (T.taken trace.new) }
         ensures frame { T.leads_to trace.old trace.new }
@@ -249,7 +249,7 @@ impl Machine {
         ensures good { is_over result ≡ false → IsGood self.new.world }
         ensures covered { is_over result ≡ true → IsCovered self.new.world }
         ensures runs { is_over result ≡ false → result ≢ Ending.Ended → self.new.world.procs.table.running ≡ Some s }
-        ensures rest { SameRest self.old.world.files.tree.nodes.blocks self.new.world.files.tree.nodes.blocks }
+        ensures rest { SameRest self.old.world.files.tree.nodes self.new.world.files.tree.nodes }
         ensures items { Took (T.taken trace.old) (logged (board_in self.old.world)
             (turn (system_at self.old.world) s).effects).items (T.taken trace.new) }
         ensures frame { T.leads_to trace.old trace.new }
@@ -296,7 +296,7 @@ impl Machine {
         ensures takes { (m : System) → HasStepped m self.old.world (slot_in self.old.stage) self.old.came
             → Takes (settled_after (turn_of m (slot_in self.old.stage) (turn m (slot_in self.old.stage)))) self.new.stage self.new.world }
         ensures kernel { IsKernel self.new.stage self.new.world }
-        ensures rest { SameRest self.old.world.files.tree.nodes.blocks self.new.world.files.tree.nodes.blocks }
+        ensures rest { SameRest self.old.world.files.tree.nodes self.new.world.files.tree.nodes }
         ensures items { (m : System) → HasStepped m self.old.world (slot_in self.old.stage) self.old.came → Took (T.taken trace.old)
             (settled_after (turn_of m (slot_in self.old.stage) (turn m (slot_in self.old.stage)))).items (T.taken trace.new) }
         ensures frame { T.leads_to trace.old trace.new }
@@ -322,7 +322,7 @@ impl Machine {
         requires user { 0 < s }
         ensures answer { result ≡ turned (turn_at self.old.world) }
         ensures takes { Takes (turn_at self.old.world) self.new.stage self.new.world }
-        ensures rest { SameRest self.old.world.files.tree.nodes.blocks self.new.world.files.tree.nodes.blocks }
+        ensures rest { SameRest self.old.world.files.tree.nodes self.new.world.files.tree.nodes }
         ensures items { Took (T.taken trace.old)
             (turn_at self.old.world).items (T.taken trace.new) }
         ensures frame { T.leads_to trace.old trace.new }
@@ -340,7 +340,7 @@ impl Machine {
         requires resting { self.old.stage ≡ Stage.Resting }
         ensures answer { result ≡ turned (turn_at self.old.world) }
         ensures takes { Takes (turn_at self.old.world) self.new.stage self.new.world }
-        ensures rest { SameRest self.old.world.files.tree.nodes.blocks self.new.world.files.tree.nodes.blocks }
+        ensures rest { SameRest self.old.world.files.tree.nodes self.new.world.files.tree.nodes }
         ensures items { Took (T.taken trace.old)
             (turn_at self.old.world).items (T.taken trace.new) }
         ensures frame { T.leads_to trace.old trace.new }
@@ -361,7 +361,7 @@ impl Machine {
             None => Mode::Idle,
             Some(0) => Mode::Kernel,
             Some(s) => {
-                if self.world.procs.images.area(s).pending == 0 {
+                if self.world.procs.images.area(s).pending == NOTHING_PENDING {
                     Mode::User
                 } else {
                     Mode::Kernel
@@ -403,7 +403,7 @@ impl Machine {
             (delivers_where as_trap (unix_of self.old.world) self.old.world.procs.table.running).effects).items
             (T.taken trace.new) }
         ensures frame { T.leads_to trace.old trace.new }
-        ensures rest { SameRest self.old.world.files.tree.nodes.blocks self.new.world.files.tree.nodes.blocks }
+        ensures rest { SameRest self.old.world.files.tree.nodes self.new.world.files.tree.nodes }
     {
         match self.world.procs.table.running {
             Some(s) if as_trap => deliver_due(&mut self.world, s, trace),
@@ -421,7 +421,7 @@ impl Machine {
         requires started { phase_of self.old.stage ≡ Started }
         ensures answer { result ≡ ticked_by (settled_after (tick_of (system_at self.old.world))).ending }
         ensures takes { Takes (settled_after (tick_of (system_at self.old.world))) self.new.stage self.new.world }
-        ensures rest { SameRest self.old.world.files.tree.nodes.blocks self.new.world.files.tree.nodes.blocks }
+        ensures rest { SameRest self.old.world.files.tree.nodes self.new.world.files.tree.nodes }
         ensures items { Took (T.taken trace.old)
             (settled_after (tick_of (system_at self.old.world))).items (T.taken trace.new) }
         ensures frame { T.leads_to trace.old trace.new }
@@ -448,30 +448,30 @@ impl Machine {
         }
     }
 
-    /// Sends the signal that a key makes, if it makes one, to all that have the console.
+    /// Sends the signal that a key of line 0 makes, if it makes one, to all that have the line.
     fn send_key<T: Trace>(&mut self, keyed: Keyed, trace: &mut T)
         requires { IsGood self.old.world }
         ensures good { IsGood self.new.world }
-        ensures unix { unix_of self.new.world ≡ with_key keyed (unix_of self.old.world) }
+        ensures unix { unix_of self.new.world ≡ with_key 0 keyed (unix_of self.old.world) }
         ensures board { board_in self.new.world
-            ≡ (logged {W = Unix} (board_in self.old.world) (map Show (key_lines keyed (unix_of self.old.world)))).board }
-        ensures items { Took (T.taken trace.old) (key_lines keyed (unix_of self.old.world)) (T.taken trace.new) }
+            ≡ (logged {W = Unix} (board_in self.old.world) (map Show (key_lines 0 keyed (unix_of self.old.world)))).board }
+        ensures items { Took (T.taken trace.old) (key_lines 0 keyed (unix_of self.old.world)) (T.taken trace.new) }
         ensures frame { T.leads_to trace.old trace.new }
         ensures files { self.new.world.files ≡ self.old.world.files }
     {
         if let Keyed::Signal(sig) = keyed {
-            signal_console(&mut self.world.procs, sig, trace);
+            signal_line(&mut self.world.procs, 0, sig, trace);
         }
     }
 
-    /// Takes a byte that is typed at the console, and sends the signal that it makes.
+    /// Takes a byte that is typed on line 0, and sends the signal that it makes.
     pub(crate) fn typed<T: Trace>(&mut self, byte: u8, trace: &mut T)
         requires kernel { IsKernel self.old.stage self.old.world }
         requires started { phase_of self.old.stage ≡ Started }
-        ensures takes { Takes (settled_after (typed_of (system_at self.old.world) byte)) self.new.stage self.new.world }
-        ensures rest { SameRest self.old.world.files.tree.nodes.blocks self.new.world.files.tree.nodes.blocks }
+        ensures takes { Takes (settled_after (typed_of (system_at self.old.world) 0 byte)) self.new.stage self.new.world }
+        ensures rest { SameRest self.old.world.files.tree.nodes self.new.world.files.tree.nodes }
         ensures items { Took (T.taken trace.old)
-            (settled_after (typed_of (system_at self.old.world) byte)).items (T.taken trace.new) }
+            (settled_after (typed_of (system_at self.old.world) 0 byte)).items (T.taken trace.new) }
         ensures frame { T.leads_to trace.old trace.new }
     {
         let keyed = self.world.files.line.typed(byte, trace);

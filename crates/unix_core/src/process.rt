@@ -1,7 +1,7 @@
 //! Turns and calls of a process: what an instruction comes to, and how a call goes on. `trap` in Lions' Commentary, `trap.c`.
 ghost use Rattle.std.specs.Prelude.{◌≡◌, ◌≢◌, Some, true, false};
 ghost use Rattle.v6_base.specs.Trace.{Took};
-ghost use Rattle.fs_laws.specs.Rest.{SameRest};
+ghost use Rattle.fs_nodes.specs.FileSystem.{SameRest};
 ghost use Rattle.pick_rules.specs.Logged.{logged};
 ghost use Rattle.image_keep.specs.Kept.{HasImage, area_of, with_area};
 ghost use Rattle.open_files.specs.Files.{AreOpen, HaveRoom};
@@ -10,14 +10,15 @@ ghost use Rattle.sys_procs.specs.Resume.{resume_proc};
 ghost use Rattle.image_keep.specs.Running.{IsFixed};
 ghost use Rattle.abstract_unix.specs.Unix.{Unix, process_of};
 ghost use Rattle.abstract_unix.specs.Steps.{signals};
-ghost use Rattle.abstract_unix.specs.Calls.{world_of, words_passed, entered_area, given_area, refused_area, refuses, system_call, does_call, did_by, came_by, shares, forks, exits, grows_to, resumed, answers, handed_of, file_row, process_row, is_on_files};
+ghost use Rattle.abstract_unix.specs.Calls.{world_of, words_passed, entered_area, given_area, refused_area, refuses, system_call, does_call, did_by, came_by, shares, forks, exits, grows_to, resumed, answers, handed_of, file_row, process_row};
+ghost use Rattle.u_area.specs.Pending.{is_on_files};
 ghost use Rattle.abstract_unix.specs.Errors.{error_number};
 ghost use Rattle.abstract_unix.specs.Turn.{faults, comes_to, passes_setd, is_user};
 ghost use Rattle.unix_core.specs.Parts.{unix_of, board_in, IsGood, IsReady, HasCome, IsCovered, is_over};
 
 use crate::asked::ask;
 use crate::delivery::end_with;
-use crate::files::{see_covered, see_kept, see_nodes, see_procs, see_table};
+use crate::files::{see_covered, see_kept, see_procs, see_table};
 use crate::onfiles::{do_on_files, resume_on_files};
 use crate::passing::pass_on;
 use crate::world::World;
@@ -27,14 +28,8 @@ use open_files::OpenTable;
 use pdp_step::{Kind, Outcome};
 use sig_core::{SIGBUS, SIGEMT, SIGINS, SIGIOT, SIGSEG, SIGSYS, SIGTRC};
 use sys_procs::{fork_one, grow, resume_proc, send_signal};
+use u_area::is_on_files;
 use v6_base::{Answer, Errno, PanicKind, Slot, Trace};
-
-/// The pending calls on files: a read of the console, a read and a write of a pipe.
-const PENDING_READ: u8 = 1;
-
-const PENDING_PIPE_READ: u8 = 3;
-
-const PENDING_PIPE_WRITE: u8 = 4;
 
 /// The first number of an error that makes a signal.
 const FIRST_SIGNAL: u16 = 100;
@@ -159,7 +154,7 @@ fn call_files<T: Trace>(
         (handed_of (unix_of world.old) (process_of (unix_of world.old) fixed.now.slot)) fixed.now.slot args world.old.procs.table.now)).effects).items
         (T.taken trace.new) }
     ensures frame { T.leads_to trace.old trace.new }
-    ensures rest { SameRest world.old.files.tree.nodes.blocks world.new.files.tree.nodes.blocks }
+    ensures rest { SameRest world.old.files.tree.nodes world.new.files.tree.nodes }
 {
     let answer = do_on_files(world, fixed, call, args);
     pass_on(&world.tape, &mut world.procs.table, trace);
@@ -184,9 +179,9 @@ fn call_processes<T: Trace>(
     ensures items { Took (T.taken trace.old) (logged (board_in world.old) (came_by (unix_of world.old) s
         (process_row call (world_of (unix_of world.old)) s args)).effects).items (T.taken trace.new) }
     ensures frame { T.leads_to trace.old trace.new }
-    ensures rest { SameRest world.old.files.tree.nodes.blocks world.new.files.tree.nodes.blocks }
+    ensures rest { SameRest world.old.files.tree.nodes world.new.files.tree.nodes }
 {
-    see_nodes(&world.files.tree.nodes);
+    world.files.tree.nodes.see();
     see_table(&world.files.table);
     see_kept(&world.procs.images);
     match do_process_call(
@@ -227,10 +222,10 @@ fn fork<T: Trace>(world: &mut World, s: Slot, trace: &mut T) -> Ending
     ensures items { Took (T.taken trace.old) (logged (board_in world.old) (forks (unix_of world.old) s).effects).items
         (T.taken trace.new) }
     ensures frame { T.leads_to trace.old trace.new }
-    ensures rest { SameRest world.old.files.tree.nodes.blocks world.new.files.tree.nodes.blocks }
+    ensures rest { SameRest world.old.files.tree.nodes world.new.files.tree.nodes }
 {
     let u = world.procs.images.area(s);
-    see_nodes(&world.files.tree.nodes);
+    world.files.tree.nodes.see();
     see_table(&world.files.table);
     match fork_one(&mut world.procs, &mut world.files.tree, s, [0; 4], trace) {
         Ok(answer) => {
@@ -256,7 +251,7 @@ fn exit<T: Trace>(world: &mut World, s: Slot, trace: &mut T) -> Ending
     ensures items { Took (T.taken trace.old) (logged (board_in world.old) (exits (unix_of world.old) s).effects).items
         (T.taken trace.new) }
     ensures frame { T.leads_to trace.old trace.new }
-    ensures rest { SameRest world.old.files.tree.nodes.blocks world.new.files.tree.nodes.blocks }
+    ensures rest { SameRest world.old.files.tree.nodes world.new.files.tree.nodes }
 {
     let r0 = world.procs.images.area(s).r[0];
     end_with(world, s, 256 * (r0 % 256), trace)
@@ -272,9 +267,9 @@ fn grow_stack<T: Trace>(world: &mut World, s: Slot, sp: u16, trace: &mut T) -> E
     ensures items { Took (T.taken trace.old) (logged (board_in world.old) (grows_to (unix_of world.old) s sp).effects).items
         (T.taken trace.new) }
     ensures frame { T.leads_to trace.old trace.new }
-    ensures rest { SameRest world.old.files.tree.nodes.blocks world.new.files.tree.nodes.blocks }
+    ensures rest { SameRest world.old.files.tree.nodes world.new.files.tree.nodes }
 {
-    see_nodes(&world.files.tree.nodes);
+    world.files.tree.nodes.see();
     see_table(&world.files.table);
     see_kept(&world.procs.images);
     let grown = grow(&mut world.procs, &mut world.files.tree, s, sp, trace);
@@ -308,7 +303,7 @@ fn does_call<T: Trace>(
     ensures items { Took (T.taken trace.old) (logged (board_in world.old)
         (does_call (unix_of world.old) fixed.now.slot call args).effects).items (T.taken trace.new) }
     ensures frame { T.leads_to trace.old trace.new }
-    ensures rest { SameRest world.old.files.tree.nodes.blocks world.new.files.tree.nodes.blocks }
+    ensures rest { SameRest world.old.files.tree.nodes world.new.files.tree.nodes }
 {
     let s = fixed.slot;
     match call {
@@ -344,7 +339,7 @@ fn call<T: Trace>(world: &mut World, fixed: &Fixed, number: u8, trace: &mut T) -
     ensures items { Took (T.taken trace.old) (logged (board_in world.old)
         (system_call number (unix_of world.old) fixed.now.slot).effects).items (T.taken trace.new) }
     ensures frame { T.leads_to trace.old trace.new }
-    ensures rest { SameRest world.old.files.tree.nodes.blocks world.new.files.tree.nodes.blocks }
+    ensures rest { SameRest world.old.files.tree.nodes world.new.files.tree.nodes }
 {
     let asked = ask(&world.procs.images, fixed, number);
     let entry = sysent_of(asked.number);
@@ -375,7 +370,7 @@ fn fault<T: Trace>(world: &mut World, s: Slot, kind: Kind, trace: &mut T) -> End
     ensures items { Took (T.taken trace.old) (logged (board_in world.old)
         (faults (unix_of world.old) s kind).effects).items (T.taken trace.new) }
     ensures frame { T.leads_to trace.old trace.new }
-    ensures rest { SameRest world.old.files.tree.nodes.blocks world.new.files.tree.nodes.blocks }
+    ensures rest { SameRest world.old.files.tree.nodes world.new.files.tree.nodes }
 {
     match kind {
         Kind::Odd => signal(world, s, SIGBUS, trace),
@@ -410,7 +405,7 @@ pub(crate) fn come_to<T: Trace>(
     ensures items { Took (T.taken trace.old) (logged (board_in world.old)
         (comes_to (unix_of world.old) fixed.now.slot outcome).effects).items (T.taken trace.new) }
     ensures frame { T.leads_to trace.old trace.new }
-    ensures rest { SameRest world.old.files.tree.nodes.blocks world.new.files.tree.nodes.blocks }
+    ensures rest { SameRest world.old.files.tree.nodes world.new.files.tree.nodes }
 {
     match outcome {
         Outcome::Next => Ending::Next,
@@ -427,13 +422,6 @@ fn pending_of(images: &Images, s: Slot) -> u8
     images.area(s).pending
 }
 
-/// Whether a pending call is one on files.
-fn is_on_files(pending: u8) -> bool
-    ensures { result ≡ is_on_files pending }
-{
-    pending == PENDING_READ || pending == PENDING_PIPE_READ || pending == PENDING_PIPE_WRITE
-}
-
 /// Goes on with a call on files.
 fn go_on_files<T: Trace>(world: &mut World, s: Slot, trace: &mut T) -> Ending
     requires ready { IsReady world.old s }
@@ -446,7 +434,7 @@ fn go_on_files<T: Trace>(world: &mut World, s: Slot, trace: &mut T) -> Ending
         (resumes (handed_of (unix_of world.old) (process_of (unix_of world.old) s)) s world.old.procs.table.now)).effects).items
         (T.taken trace.new) }
     ensures frame { T.leads_to trace.old trace.new }
-    ensures rest { SameRest world.old.files.tree.nodes.blocks world.new.files.tree.nodes.blocks }
+    ensures rest { SameRest world.old.files.tree.nodes world.new.files.tree.nodes }
 {
     let answer = resume_on_files(world, s);
     pass_on(&world.tape, &mut world.procs.table, trace);
@@ -463,9 +451,9 @@ fn go_on_waiting<T: Trace>(world: &mut World, s: Slot, trace: &mut T) -> Ending
     ensures items { Took (T.taken trace.old) (logged (board_in world.old) (came_by (unix_of world.old) s
         (resume_proc (world_of (unix_of world.old)) s)).effects).items (T.taken trace.new) }
     ensures frame { T.leads_to trace.old trace.new }
-    ensures rest { SameRest world.old.files.tree.nodes.blocks world.new.files.tree.nodes.blocks }
+    ensures rest { SameRest world.old.files.tree.nodes world.new.files.tree.nodes }
 {
-    see_nodes(&world.files.tree.nodes);
+    world.files.tree.nodes.see();
     see_table(&world.files.table);
     see_kept(&world.procs.images);
     match resume_proc(&mut world.procs, &mut world.files.tree, s, trace) {
@@ -486,7 +474,7 @@ pub(crate) fn resume<T: Trace>(world: &mut World, s: Slot, trace: &mut T) -> End
     ensures items { Took (T.taken trace.old) (logged (board_in world.old) (resumed (unix_of world.old) s).effects).items
         (T.taken trace.new) }
     ensures frame { T.leads_to trace.old trace.new }
-    ensures rest { SameRest world.old.files.tree.nodes.blocks world.new.files.tree.nodes.blocks }
+    ensures rest { SameRest world.old.files.tree.nodes world.new.files.tree.nodes }
 {
     let pending = pending_of(&world.procs.images, s);
     if is_on_files(pending) {

@@ -62,7 +62,9 @@ impl Kernel {
     /// A byte of core, which holds what `core` says.
     pub fn core_byte(&self, at: u32) -> u8
         requires { at < 64 * self.now.kept.core }
-        ensures { result ≡ slice_index self.now.core at }
+        ensures byte { result ≡ slice_index self.now.core at }
+        ensures holds { MemoryHolds self.now.core self.now.swap self.now.kept }
+        ensures told { self.now.phase ≡ Started → self.now.kept ≡ kept_in self.now.system }
     {
         self.core()[at as usize]
     }
@@ -70,16 +72,21 @@ impl Kernel {
     /// A byte of the swap area, which holds what `swap` says.
     pub fn swap_byte(&self, at: u32) -> u8
         requires { at < 446464 }
-        ensures { result ≡ slice_index self.now.swap at }
+        ensures byte { result ≡ slice_index self.now.swap at }
+        ensures holds { MemoryHolds self.now.core self.now.swap self.now.kept }
+        ensures told { self.now.phase ≡ Started → self.now.kept ≡ kept_in self.now.system }
     {
         self.swap()[at as usize]
     }
 
-    /// Where the image of a slot stands, or what is kept of a process that has ended: nothing, where the slot is free.
+    /// Where the image of a slot stands, or what is kept of a process that has ended: nothing, where the slot is free. Between two
+    /// events of a run that goes on it is the place that the board of the system tells.
     pub fn place(&self, s: Slot) -> Option<Place>
         requires { s < 50 }
-        ensures { result ≡ place_of self.now.kept s }
+        ensures place { result ≡ place_of self.now.kept s }
+        ensures told { self.now.phase ≡ Started → self.now.kept ≡ kept_in self.now.system }
     {
+        see_procs(&self.machine.world.procs);
         self.machine.world.procs.images.place(s)
     }
 

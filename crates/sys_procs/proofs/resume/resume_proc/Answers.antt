@@ -47,7 +47,7 @@ sleep_until-requires g c = calls_alive c.wake_up.new.p c.args.tree.now.nodes c.a
 
 -- A sleep goes on.
 abbrev until : (g : given.Over) → goal.After-sleep_until g → ℕ
-until g c = 65536 * c.from.result + c.from-then-u-eq-SLEEP.result
+until g c = 65536 * c.from.result + c.from-then-u-eq-SLEEP_CALL.result
 
 says : (g : given.Over) (c : goal.After-sleep_until g)
     → let fs : FileSystem = c.args.tree.now.nodes in
@@ -61,9 +61,9 @@ says g c =
     resume_sleep w c.args.s c.area-u.result c.area-u.ensures
     (heard _ (handed c.wake_up.new.p c.args.tree.now.nodes) c.args.s c.is_due.result
     (c.wake_up.ensures.state c.args.tree.now.nodes) c.is_due.ensures
-    ∙ c.if-is_due.false) c.if-u-eq-SLEEP.true
+    ∙ c.if-is_due.false) c.if-u-eq-SLEEP_CALL.true
     ∙ (ap (λ n. sleep_until (change w c.args.s awake) c.args.s n)
-    (ap (λ n. at n (get_or c.area-u.result.call 5 0)) (sym c.from.ensures) ∙ ap (at c.from.result) (sym c.from-then-u-eq-SLEEP.ensures))
+    (ap (λ n. at n (get_or c.area-u.result.call 5 0)) (sym c.from.ensures) ∙ ap (at c.from.result) (sym c.from-then-u-eq-SLEEP_CALL.ensures))
     ∙ ap (λ (v : World). sleep_until v c.args.s (until g c)) (sym (c.wake_up.ensures.state fs))) in
     record {
       shown = ap (λ (d : Comes). logged (board c.args.p.now) d.effects) is
@@ -72,8 +72,8 @@ says g c =
       answer = ap (λ (d : Comes). d.answer) is ∙ sym (c.sleep_until.ensures.answer fs);
     }
 
-pub returns-then-u-eq-SLEEP-clause-does : goal.returns-then-u-eq-SLEEP-clause-does
-returns-then-u-eq-SLEEP-clause-does g c =
+pub returns-then-u-eq-SLEEP_CALL-clause-does : goal.returns-then-u-eq-SLEEP_CALL-clause-does
+returns-then-u-eq-SLEEP_CALL-clause-does g c =
     its_call (says g c) (c.sleep_until.ensures.state c.args.tree.now.nodes) (c.sleep_until.ensures.board ∙ c.wake_up.ensures.board) (took_none _)
 
 -- A wait goes on.
@@ -87,7 +87,7 @@ is g c =
     ∙ sym (resume_wait (handed c.args.p.now c.args.tree.now.nodes) c.args.s c.area-u.result c.area-u.ensures
     (heard _ (handed c.wake_up.new.p c.args.tree.now.nodes) c.args.s c.is_due.result
     (c.wake_up.ensures.state c.args.tree.now.nodes) c.is_due.ensures
-    ∙ c.if-is_due.false) c.if-u-eq-SLEEP.false)
+    ∙ c.if-is_due.false) c.if-u-eq-SLEEP_CALL.false)
 
 -- what is done from where the process is awake is done from before
 pub returns-clause-does : goal.returns-clause-does

@@ -1,4 +1,5 @@
 use Rattle.std.proofs.Common.{◌≡◌, ◌∙◌, ℕ, replicate, slice_index, ap, sym}
+use Rattle.u_area.specs.declared.layout.TheConstants.{NOTHING_PENDING}
 use Rattle.u_area.specs.declared.area.UArea.{UArea}
 use Rattle.pick_rules.specs.declared.table.Table.{Table}
 use Rattle.image_keep.specs.Kept.{Kept, area_of}
@@ -16,7 +17,7 @@ returns-clause-state c = λ fs.
     let p : Procs = c.args.p.now in
     c.put_area.ensures.state fs
     ∙ ap (λ (u : UArea). with_process (handed p fs) c.args.s (record (process_here p c.args.s) { u = u }))
-    (c.awake.ensures ∙ ap (λ (u : UArea). record u { pending = 0; call = replicate 8 0 }) c.area-u.ensures)
+    (c.awake.ensures ∙ ap (λ (u : UArea). record u { pending = NOTHING_PENDING; call = replicate 8 0 }) c.area-u.ensures)
 
 -- the directory is the one of before
 same_dir : (c : goal.After-put_area) → (area_of c.put_area.new.self.images.kept c.args.s).dir ≡ (area_of c.args.p.now.images.kept c.args.s).dir

@@ -1,6 +1,7 @@
 use Rattle.std.proofs.Common.{◌≡◌, ◌∙◌, ◌<◌, ℕ, length, map, Option, Some, None, refl, sym, ap, subst}
 use Rattle.std.specs.Prelude.{Result, Ok, Err}
 use Rattle.v6_base.specs.declared.entry.PanicKind.{PanicKind}
+use Rattle.u_area.specs.declared.layout.TheConstants.{NOTHING_PENDING}
 use Rattle.sys_procs.specs.Agree.{ended_by}
 use Rattle.sys_procs.specs.World as its
 use Rattle.v6_base.specs.Trace.{Took}
@@ -11,10 +12,10 @@ use Rattle.unix_core.specs.declared.world.World.{World}
 use Rattle.abstract_unix.specs.declared.ending.Ending.TheVariants.{Panic}
 use Rattle.open_files.specs.Files.{times}
 use Rattle.abstract_unix.specs.Unix.{Unix, process_of}
-use Rattle.abstract_unix.specs.Calls.{closes_all, handed_of, with_handed}
+use Rattle.abstract_unix.specs.Calls.{in_order, closes_all, handed_of, with_handed}
 use Rattle.sys_files.specs.Handed.{Handed}
 use Rattle.sys_procs.specs.Process.{Process}
-use Rattle.abstract_unix.proofs.NeverWaiting.{close_pending}
+use Rattle.abstract_unix.proofs.PendingRows.{close_user}
 use Rattle.unix_core.proofs.AreaLemmas.{none_pending, own_put}
 use Rattle.unix_core.specs.Parts.{unix_of, board_in, IsReady, IsReadyToShow}
 use Rattle.unix_core.specs.Passing.{all_woken}
@@ -37,18 +38,18 @@ module _ (w new : World) (s : ℕ) (t : Table) (shown : IsReadyToShow w new s (c
   closed_unix : unix_of (with_table new t) ≡ with_handed (unix_of w) s (closes_all (unix_of w) s).state
   closed_unix = passed_unix w new s (closes_all (unix_of w) s).state (closes_all (unix_of w) s).items shown state t is
 
-  closed_board : board_in (with_table new t) ≡ (logged {W = Unix} (board_in w) (map Show (closes_all (unix_of w) s).items)).board
+  closed_board : board_in (with_table new t) ≡ (logged {W = Unix} (board_in w) (map Show (in_order (closes_all (unix_of w) s).items))).board
   closed_board = passed_board w new s (closes_all (unix_of w) s).state (closes_all (unix_of w) s).items shown state t is
 
   -- it goes on with no call
-  closed_free : IsReady w s → (process_of (unix_of w) s).u.pending ≡ 0 → (process_of (unix_of (with_table new t)) s).u.pending ≡ 0
+  closed_free : IsReady w s → (process_of (unix_of w) s).u.pending ≡ NOTHING_PENDING → (process_of (unix_of (with_table new t)) s).u.pending ≡ NOTHING_PENDING
   closed_free ready none =
       let h : Handed = (closes_all (unix_of w) s).state in
       let p : Process = process_of (unix_of w) s in
       ap (λ (x : Unix). (process_of x s).u.pending) closed_unix
       ∙ ap (λ (x : Process). x.u.pending)
       (own_put (unix_of w) s p (record p { u = h.u; row = h.row; «data» = h.image.data; stack = h.image.stack }) (slot_is w s ready))
-      ∙ close_pending (handed_of (unix_of w) p) ∙ none
+      ∙ close_user (handed_of (unix_of w) p) none
 
 -- how an end is answered
 ended_goes : (o : Option (Stop its.World)) (r : Result (Unit {0}) PanicKind) → r ≡ ended_by o → r ≡ Ok tt → o ≡ None
@@ -108,7 +109,7 @@ returns-in-Ok-clause-come g c =
     let e = c.end_proc-ended.ensures in
     let rests : Rests w1 now = record { pipes = refl; line = refl; tape = refl; core = refl } in
     let none = ended_goes _ _ e.does.answer c.in-Ok.is in
-    exit_come w w1 now s ready n c.see_nodes.ensures (closed_unix w new s t shown state is) (closed_board w new s t shown state is) none
+    exit_come w w1 now s ready n c.see.ensures (closed_unix w new s t shown state is) (closed_board w new s t shown state is) none
     (ended_unix w1 now s ready n e.agree none (end_state w1 s ready n _ none e.does.left.state) e.does.left.shown refl rests) e.does.left.shown
 
 pub returns-in-Ok-clause-good : goal.returns-in-Ok-clause-good
@@ -128,7 +129,7 @@ returns-in-Ok-clause-good g c goes =
     let rests : Rests w1 now = record { pipes = refl; line = refl; tape = refl; core = refl } in
     let closed = closed_then w w1 s c.requires.ready ready (closed_unix w new s t shown state is) in
     let none = ended_goes _ _ e.does.answer c.in-Ok.is in
-    ended_good w1 now s ready n e.agree none (end_state w1 s ready n _ none e.does.left.state) e.does.left.shown refl rests c.see_nodes.ensures closed
+    ended_good w1 now s ready n e.agree none (end_state w1 s ready n _ none e.does.left.state) e.does.left.shown refl rests c.see.ensures closed
     (closed_free w new s t shown state is c.requires.ready (none_pending (process_of (unix_of w) s) c.requires.user)) e.marks
 
 pub returns-in-Ok-clause-items : goal.returns-in-Ok-clause-items
@@ -141,7 +142,7 @@ returns-in-Ok-clause-items g c =
     let shown = c.close_files.ensures.shown in
     let state = c.close_files.ensures.unix in
     let is = c.pass_on.ensures.table in
-    exit_took w w1 w1 s (then w new s t shown state is) c.args.status c.see_nodes.ensures (closed_unix w new s t shown state is) (closed_board w new s t shown state is)
+    exit_took w w1 w1 s (then w new s t shown state is) c.args.status c.see.ensures (closed_unix w new s t shown state is) (closed_board w new s t shown state is)
     _ _ _ (subst (λ l. Took (g.T.Trace.taken c.args.trace.now) l (g.T.Trace.taken c.pass_on.new.trace)) shown.shown c.pass_on.ensures.items)
     c.end_proc-ended.ensures.does.left.items
 
@@ -161,7 +162,7 @@ returns-in-Err-clause-come g c =
     let e = c.end_proc-ended.ensures in
     let rests : Rests w1 now = record { pipes = refl; line = refl; tape = refl; core = refl } in
     let halt = ended_stops _ c.in-Err.kind _ e.does.answer c.in-Err.is in
-    exit_stops w w1 now s ready n c.see_nodes.ensures (closed_unix w new s t shown state is) (closed_board w new s t shown state is)
+    exit_stops w w1 now s ready n c.see.ensures (closed_unix w new s t shown state is) (closed_board w new s t shown state is)
     halt.0 halt.1.0 (Panic c.in-Err.kind) (ap Panic halt.1.1)
     (stopped_unix w1 now s ready n halt.0 halt.1.0 e.does.left.state e.does.left.shown refl rests) e.does.left.shown
 
@@ -192,7 +193,7 @@ returns-in-Err-clause-items g c =
     let shown = c.close_files.ensures.shown in
     let state = c.close_files.ensures.unix in
     let is = c.pass_on.ensures.table in
-    exit_took w w1 w1 s (then w new s t shown state is) c.args.status c.see_nodes.ensures (closed_unix w new s t shown state is) (closed_board w new s t shown state is)
+    exit_took w w1 w1 s (then w new s t shown state is) c.args.status c.see.ensures (closed_unix w new s t shown state is) (closed_board w new s t shown state is)
     _ _ _ (subst (λ l. Took (g.T.Trace.taken c.args.trace.now) l (g.T.Trace.taken c.pass_on.new.trace)) shown.shown c.pass_on.ensures.items)
     c.end_proc-ended.ensures.does.left.items
 

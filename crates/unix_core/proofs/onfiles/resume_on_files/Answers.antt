@@ -1,17 +1,14 @@
-use Rattle.std.proofs.Common.{rules, ◌≡◌, ◌∙◌, ◌==◌, ◌||◌, ℕ, Bool, true, false, inl, inr, refl, sym, ap, subst}
-use Rattle.std.specs.Prelude.{unwrap_or}
-use Rattle.std.proofs.lemmas.Bool.{eqb-true}
+use Rattle.std.proofs.Common.{rules, ◌≡◌, ◌∙◌, ℕ, true, refl, sym, ap, subst}
 use Rattle.u_area.specs.declared.area.UArea.{UArea}
+use Rattle.u_area.specs.Pending.{is_on_files}
 use Rattle.image_keep.specs.Kept.{Kept, area_of, image_of, with_area}
-use Rattle.sys_files.specs.Handed.{Handed, handed, no_file}
-use Rattle.sys_files.proofs.Walks.{AwaitsPipe}
+use Rattle.sys_files.specs.Handed.{Handed, handed}
 use Rattle.sys_files.specs.Moving.{resumes}
 use Rattle.sys_files.specs.Sound.{CanGoOn}
 use Rattle.sys_files.proofs.Steady.{Confined, resume_confined}
 use Rattle.unix_core.specs.declared.world.World.{World}
 use Rattle.abstract_unix.specs.Unix.{process_of}
-use Rattle.abstract_unix.specs.Calls.{is_on_files}
-use Rattle.abstract_unix.proofs.PendingRows.{InPipe, Pends, resume_pends}
+use Rattle.abstract_unix.proofs.PendingRows.{Pends, awaited, resume_pends}
 use Rattle.abstract_unix.proofs.GoingOnLemmas.{handed_goes_on, handed_pends}
 use Rattle.unix_core.specs.Parts.{unix_of, IsReady}
 use Rattle.unix_core.proofs.AreaLemmas.{own_area}
@@ -25,34 +22,12 @@ use Rattle.unix_core.proofs.onfiles.resume_on_files.Goals as goal
 pends_on : (w : World) (s : ℕ) → IsReady w s → is_on_files (area_of w.procs.images.kept s).pending ≡ true → is_on_files (process_of (unix_of w) s).u.pending ≡ true
 pends_on w s ready is = ap (λ (u : UArea). is_on_files u.pending) (sym (own_area w s ready)) ∙ is
 
--- What goes on and is no read of the console waits in a pipe.
-in_pipe : (n : ℕ) → is_on_files n ≡ true → (n == 1) ≡ false → InPipe n
-in_pipe n on other = by (n == 1) (n == 3) (n == 4) other refl refl on
-  where
-    by : (a b c : Bool) → a ≡ false → (n == 3) ≡ b → (n == 4) ≡ c → (a || b || c) ≡ true → InPipe n
-    by true b c e f g is = absurd (cc e)
-    by false true c e f g is = inl (eqb-true n 3 f)
-    by false false true e f g is = inr (eqb-true n 4 g)
-    by false false false e f g is = absurd (cc is)
-
 module _ (w : World) (s : ℕ) (ready : IsReady w s) (pending : is_on_files (area_of w.procs.images.kept s).pending ≡ true) where
   its_pends : Pends (given w s)
   its_pends = handed_pends (unix_of w) s ready.good.pending (slot_is w s ready) (is_living w s ready)
 
-  awaits : ((given w s).u.pending == 1) ≡ false → AwaitsPipe (λ ino. Unit {0}) (given w s)
-  awaits other =
-      let end = its_pends (in_pipe (given w s).u.pending (pends_on w s ready pending) other) in
-      record {
-        awaits = record {
-          pipe = ap (λ o. (unwrap_or o no_file).kind.pipe) end.end.there ∙ end.end.pipe;
-          named = end.end.named;
-          few = end.left;
-        };
-        named = tt;
-      }
-
   confined : Confined s (given w s) (resumes (given w s) s w.procs.table.now)
-  confined = resume_confined (given w s) s w.procs.table.now awaits
+  confined = resume_confined (given w s) s w.procs.table.now (awaited (given w s) (pends_on w s ready pending) its_pends)
 
 pub area-u-requires : goal.area-u-requires
 area-u-requires c = c.requires.ready.good.running c.args.s c.requires.ready.runs c.requires.ready.user
@@ -71,7 +46,7 @@ pub resume_file-answer-requires-clause-pending : goal.resume_file-answer-require
 resume_file-answer-requires-clause-pending c =
     let w : World = c.args.world.now in
     let ready = c.requires.ready in
-    let lent = lends w c.args.s _ _ ready c.see_nodes.ensures c.area-u.ensures.sizes c.area-u.ensures.holds c.area-u.ensures.u c.row.ensures
+    let lent = lends w c.args.s _ _ ready c.see.ensures c.area-u.ensures.sizes c.area-u.ensures.holds c.area-u.ensures.u c.row.ensures
     (same_kept c.space-space.ensures.images) c.space-space.ensures.slot in
     subst CanGoOn (sym (lent_parts w c.args.s lent))
     (handed_goes_on (unix_of w) c.args.s ready.good.pending (slot_is w c.args.s ready) (is_living w c.args.s ready) (pends_on w c.args.s ready c.requires.pending))
@@ -81,7 +56,7 @@ pub set_area-requires : goal.set_area-requires
 set_area-requires c =
     let w : World = c.args.world.now in
     let now : Kept = c.resume_file-answer.new.space.images.now.kept in
-    let lent = lends w c.args.s _ _ c.requires.ready c.see_nodes.ensures c.area-u.ensures.sizes c.area-u.ensures.holds c.area-u.ensures.u c.row.ensures
+    let lent = lends w c.args.s _ _ c.requires.ready c.see.ensures c.area-u.ensures.sizes c.area-u.ensures.holds c.area-u.ensures.u c.row.ensures
     (same_kept c.space-space.ensures.images) c.space-space.ensures.slot in
     let back = lent_back w.procs.images.kept c.space-space.result.images.now.kept now c.args.s c.space-space.result.slot c.resume_file-answer.new.space.slot _ _
     (same_kept c.space-space.ensures.images) c.space-space.ensures.slot c.resume_file-answer.ensures.memory in
@@ -92,7 +67,7 @@ set_area-requires c =
 pub set_row-requires-clause-pid : goal.set_row-requires-clause-pid
 set_row-requires-clause-pid c =
     let w : World = c.args.world.now in
-    let lent = lends w c.args.s _ _ c.requires.ready c.see_nodes.ensures c.area-u.ensures.sizes c.area-u.ensures.holds c.area-u.ensures.u c.row.ensures
+    let lent = lends w c.args.s _ _ c.requires.ready c.see.ensures c.area-u.ensures.sizes c.area-u.ensures.holds c.area-u.ensures.u c.row.ensures
     (same_kept c.space-space.ensures.images) c.space-space.ensures.slot in
     (row_put w c.args.s lent (λ h. resumes h c.args.s w.procs.table.now) (confined w c.args.s c.requires.ready c.requires.pending).steady
     c.resume_file-answer.new.f c.resume_file-answer.new.u c.resume_file-answer.new.row _ c.resume_file-answer.ensures.does.state).pid
@@ -100,7 +75,7 @@ set_row-requires-clause-pid c =
 pub set_row-requires-clause-ppid : goal.set_row-requires-clause-ppid
 set_row-requires-clause-ppid c =
     let w : World = c.args.world.now in
-    let lent = lends w c.args.s _ _ c.requires.ready c.see_nodes.ensures c.area-u.ensures.sizes c.area-u.ensures.holds c.area-u.ensures.u c.row.ensures
+    let lent = lends w c.args.s _ _ c.requires.ready c.see.ensures c.area-u.ensures.sizes c.area-u.ensures.holds c.area-u.ensures.u c.row.ensures
     (same_kept c.space-space.ensures.images) c.space-space.ensures.slot in
     (row_put w c.args.s lent (λ h. resumes h c.args.s w.procs.table.now) (confined w c.args.s c.requires.ready c.requires.pending).steady
     c.resume_file-answer.new.f c.resume_file-answer.new.u c.resume_file-answer.new.row _ c.resume_file-answer.ensures.does.state).ppid
@@ -109,7 +84,7 @@ pub returns : goal.returns
 returns c =
     let w : World = c.args.world.now in
     let now : Kept = c.resume_file-answer.new.space.images.now.kept in
-    let lent = lends w c.args.s _ _ c.requires.ready c.see_nodes.ensures c.area-u.ensures.sizes c.area-u.ensures.holds c.area-u.ensures.u c.row.ensures
+    let lent = lends w c.args.s _ _ c.requires.ready c.see.ensures c.area-u.ensures.sizes c.area-u.ensures.holds c.area-u.ensures.u c.row.ensures
     (same_kept c.space-space.ensures.images) c.space-space.ensures.slot in
     let back = lent_back w.procs.images.kept c.space-space.result.images.now.kept now c.args.s c.space-space.result.slot c.resume_file-answer.new.space.slot _ _
     (same_kept c.space-space.ensures.images) c.space-space.ensures.slot c.resume_file-answer.ensures.memory in

@@ -17,7 +17,7 @@ pub returns-clause-phase : goal.returns-clause-phase
 returns-clause-phase g c = c.typed.ensures.takes.phase
 
 pub returns-clause-next : goal.returns-clause-next
-returns-clause-next g c = c.typed.ensures.takes.system ∙ ap (λ (k : KernelState). (settled_after (typed_of k.system c.args.b)).next) c.self.view_is
+returns-clause-next g c = c.typed.ensures.takes.system ∙ ap (λ (k : KernelState). (settled_after (typed_of k.system 0 c.args.b)).next) c.self.view_is
 
 pub returns-clause-private : goal.returns-clause-private
 returns-clause-private g c =
@@ -32,5 +32,5 @@ returns-clause-texts g c =
 
 pub returns-clause-items : goal.returns-clause-items
 returns-clause-items g c =
-    subst (λ (k : KernelState). Took (g.T.Trace.taken c.args.trace.now) (settled_after (typed_of k.system c.args.b)).items (g.T.Trace.taken c.typed.new.trace))
+    subst (λ (k : KernelState). Took (g.T.Trace.taken c.args.trace.now) (settled_after (typed_of k.system 0 c.args.b)).items (g.T.Trace.taken c.typed.new.trace))
     c.self.view_is c.typed.ensures.items

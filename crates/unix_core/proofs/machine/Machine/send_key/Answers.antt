@@ -10,30 +10,30 @@ use Rattle.unix_core.specs.Parts.{unix_of, board_in}
 use Rattle.unix_core.proofs.KeyLemmas.{key_unix, key_board, key_good}
 use Rattle.unix_core.proofs.machine.Machine.send_key.Goals as goal
 
-pub signal_console-requires : goal.signal_console-requires
-signal_console-requires g c = record { agree = c.requires.agree }
+pub signal_line-requires : goal.signal_line-requires
+signal_line-requires g c = record { agree = c.requires.agree }
 
 pub returns-in-Signal-clause-good : goal.returns-in-Signal-clause-good
 returns-in-Signal-clause-good g c =
-    let sent = c.signal_console in
+    let sent = c.signal_line in
     key_good c.args.self.now.world c.requires sent.new.p c.in-Signal.sig sent.ensures.agree sent.ensures.state sent.ensures.board
 
 pub returns-in-Signal-clause-unix : goal.returns-in-Signal-clause-unix
 returns-in-Signal-clause-unix g c =
     let w : World = c.args.self.now.world in
-    let sent = c.signal_console in
+    let sent = c.signal_line in
     key_unix w c.requires sent.new.p c.in-Signal.sig sent.ensures.agree sent.ensures.state sent.ensures.board
-    ∙ ap (λ (k : Keyed). with_key k (unix_of w)) (sym c.in-Signal.is)
+    ∙ ap (λ (k : Keyed). with_key 0 k (unix_of w)) (sym c.in-Signal.is)
 
 pub returns-in-Signal-clause-board : goal.returns-in-Signal-clause-board
 returns-in-Signal-clause-board g c =
     let w : World = c.args.self.now.world in
-    let sent = c.signal_console in
+    let sent = c.signal_line in
     key_board w c.requires sent.new.p c.in-Signal.sig sent.ensures.agree sent.ensures.state sent.ensures.board
-    ∙ ap (λ (k : Keyed). (logged {W = Unix} (board_in w) (map Show (key_lines k (unix_of w)))).board) (sym c.in-Signal.is)
+    ∙ ap (λ (k : Keyed). (logged {W = Unix} (board_in w) (map Show (key_lines 0 k (unix_of w)))).board) (sym c.in-Signal.is)
 
 pub returns-in-Signal-clause-items : goal.returns-in-Signal-clause-items
 returns-in-Signal-clause-items g c =
     let w : World = c.args.self.now.world in
-    subst (λ (k : Keyed). Took (g.T.Trace.taken c.args.trace.now) (key_lines k (unix_of w)) (g.T.Trace.taken c.signal_console.new.trace)) (sym c.in-Signal.is)
-    (c.signal_console.ensures.items w.files.tree.nodes)
+    subst (λ (k : Keyed). Took (g.T.Trace.taken c.args.trace.now) (key_lines 0 k (unix_of w)) (g.T.Trace.taken c.signal_line.new.trace)) (sym c.in-Signal.is)
+    (c.signal_line.ensures.items w.files.tree.nodes)

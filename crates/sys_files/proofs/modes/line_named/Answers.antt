@@ -1,24 +1,24 @@
-use Rattle.std.proofs.Common.{rules, ◌≡◌, Result, Err, ap, ◌∙◌}
+use Rattle.std.proofs.Common.{rules, ◌≡◌, ℕ, Result, Err, ap, ◌∙◌}
 use Rattle.v6_base.specs.declared.errno.Errno.{Errno}
 use Rattle.sys_files.specs.Handed.{Handed, handed}
 use Rattle.sys_files.specs.Did.{check}
 use Rattle.sys_files.proofs.AnyLemmas.{any_row, any_image}
 use Rattle.sys_files.proofs.OffsetLemmas.{referred_there}
 use Rattle.sys_files.proofs.ModesLemmas.{terminal_is, terminal_refused}
-use Rattle.sys_files.proofs.modes.test_terminal.Goals as goal
+use Rattle.sys_files.proofs.modes.line_named.Goals as goal
 
 pub returns-in_err-entry : goal.returns-in_err-entry
 returns-in_err-entry c = λ row image does.
     let h : Handed = handed c.args.f.now c.args.u.now row image in
     let is : Err c.in_err-entry.field-0.0 ≡ c.from_residual.result = search rules in
     terminal_refused h does c.in_err-entry.field-0.0 (c.in_err-entry.ensures.entry row image)
-    ∙ ap (λ (r : Result (Unit {0}) Errno). check h r (λ is. does)) is
+    ∙ ap (λ (r : Result ℕ Errno). check h r does) is
 
 pub file_of-file-requires : goal.file_of-file-requires
 file_of-file-requires c = record { used = c.in_ok-entry.ensures.used (c.requires.sound any_row any_image).is_open }
 
-pub test_device-requires : goal.test_device-requires
-test_device-requires c =
+pub terminal_line-requires : goal.terminal_line-requires
+terminal_line-requires c =
     let h : Handed = handed c.args.f.now c.args.u.now any_row any_image in
     record {
       referenced = referred_there h c.in_ok-entry.entry c.file_of-file.result (c.requires.sound any_row any_image)
@@ -28,4 +28,5 @@ test_device-requires c =
 pub returns : goal.returns
 returns c = λ row image does.
     terminal_is (handed c.args.f.now c.args.u.now row image) does c.in_ok-entry.entry c.file_of-file.result _
-    (c.in_ok-entry.ensures.entry row image) (c.file_of-file.ensures c.args.u.now row image) c.test_device.ensures
+    (c.in_ok-entry.ensures.entry row image) (c.file_of-file.ensures c.args.u.now row image)
+    (c.terminal_line.ensures (handed c.args.f.now c.args.u.now row image))
