@@ -6,8 +6,9 @@ import sys
 import unittest
 
 import expressions
-import symbols
 from common import TOOLS, TOP, V6, Case, read, tool, v6
+
+import symbols
 
 cc, disk_main = tool("cc"), tool("disk").main
 EXAMPLE = os.path.join(TOP, "examples", "c")
