@@ -216,7 +216,7 @@ module _ (w : World) where
       let planned : Unit {0} → exec.Tested = λ free. exec.check out (exec.or_no_memory (plan_of h)) last in
       let idle : Unit {0} → exec.Tested = λ program. exec.check out (must ETXTBSY (not (exec.is_busy now ino h))) planned in
       let good : Unit {0} → exec.Tested = λ read. exec.check out (must ENOEXEC ((head.done == 16) && exec.is_magic (plan_of h))) idle in
-      checked {A = Unit {0}} out (exec.unless_error head.error) good k (λ a e.
+      checked {A = Unit {0}} out (exec.answer_to head.error) good k (λ a e.
       checked {A = Unit {0}} out (must ENOEXEC ((head.done == 16) && exec.is_magic (plan_of h))) idle k (λ b f.
       checked {A = Unit {0}} out (must ETXTBSY (not (exec.is_busy now ino h))) planned k (λ d g.
       checked {A = Plan} out (exec.or_no_memory (plan_of h)) last k (λ plan f. fitting now ino args plan k))))

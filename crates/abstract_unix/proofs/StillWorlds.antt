@@ -413,7 +413,7 @@ module _ (base : World) (s : ℕ) where
       let idle : Unit {0} → exec.Tested = λ program. exec.check out (must ETXTBSY (not (exec.is_busy now ino h))) planned in
       let good : Unit {0} → exec.Tested = λ read. exec.check out
       (must ENOEXEC ((head.done == 16) && exec.is_magic (plan_of h))) idle in
-      check_count {A = Unit {0}} n out (exec.unless_error head.error) good left (λ a.
+      check_count {A = Unit {0}} n out (exec.answer_to head.error) good left (λ a.
       check_count {A = Unit {0}} n out (must ENOEXEC ((head.done == 16) && exec.is_magic (plan_of h))) idle left (λ b.
       check_count {A = Unit {0}} n out (must ETXTBSY (not (exec.is_busy now ino h))) planned left (λ d.
       check_count {A = Plan} n out (exec.or_no_memory (plan_of h)) last left (λ plan.

@@ -2,7 +2,7 @@
 //! Commentary, `sysent.c`.
 ghost use Rattle.std.specs.Prelude.{◌≡◌, ◌≢◌, ◌<◌, ◌≤◌, ◌⊎◌, Some, None, IfOk, IfErr};
 ghost use Rattle.v6_base.specs.Trace.{Took};
-ghost use Rattle.fs_laws.specs.Rest.{SameRest};
+ghost use Rattle.fs_nodes.specs.FileSystem.{SameRest};
 ghost use Rattle.sys_files.specs.Handed as parts;
 ghost use Rattle.sys_files.specs.Sound.{IsSound};
 ghost use Rattle.sys_files.specs.Does.{Does};
@@ -208,7 +208,7 @@ pub fn do_file_call<S: Space, T: Trace>(
         (file_row call (parts.handed files.old u.old row.old (S.image space.old)) slot args now) }
     ensures frame { T.leads_to trace.old trace.new }
     ensures memory { S.rest space.new ≡ S.rest space.old }
-    ensures blocks { SameRest files.old.tree.nodes.blocks files.new.tree.nodes.blocks }
+    ensures blocks { SameRest files.old.tree.nodes files.new.tree.nodes }
 {
     match call {
         FileCall::Read => read_file(files, slot, u, row, space, args, now, trace),
@@ -250,7 +250,7 @@ fn do_other_call<T: Trace>(
     ensures frame { T.leads_to trace.old trace.new }
     ensures agree { AreProcs p.new }
     ensures marks { tree.new.marks ≡ tree.old.marks }
-    ensures blocks { SameRest tree.old.nodes.blocks tree.new.nodes.blocks }
+    ensures blocks { SameRest tree.old.nodes tree.new.nodes }
 {
     match call {
         ProcessCall::Wait => wait_child(p, tree, s, args, trace),
@@ -291,7 +291,7 @@ pub fn do_process_call<T: Trace>(
     ensures agree { IfOk result (λ answer. AreProcs p.new) }
     ensures left { IfErr result (λ kind. AreProcs p.new ⊎ AreBare p.new s) }
     ensures marks { IsMarked p.new tree.new.marks }
-    ensures blocks { SameRest tree.old.nodes.blocks tree.new.nodes.blocks }
+    ensures blocks { SameRest tree.old.nodes tree.new.nodes }
 {
     match call {
         ProcessCall::Exec => exec_file(p, tree, s, args, trace),

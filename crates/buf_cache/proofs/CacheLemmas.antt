@@ -3,7 +3,7 @@ use Rattle.std.proofs.Common.{◌≡◌, ◌≢◌, ℕ, ◌+◌, ◌<◌, ◌�
 use Rattle.std.proofs.lemmas.Bool.Decides.{eqb_tells}
 use Rattle.std.proofs.lemmas.List.Sums.{get_or-le-sum_by}
 use Rattle.std.proofs.lemmas.List.{length-map, same_lists, get_or_default}
-use Rattle.std.proofs.lemmas.List.Elements.{recursion_from_All, All-weaker, All-cons, All-take, All-drop, All-nil, All-filter, All-map}
+use Rattle.std.proofs.lemmas.List.Elements.{recursion_from_All, All-weaker, All-cons, All-take, All-drop, All-filter, All-map}
 use Rattle.std.proofs.lemmas.List.FromFn.{length-map-range_with_len, get_or-map-range_with_len}
 use Rattle.std.specs.List.{range_with_len, All, AllByRecursion}
 use Rattle.fs_codec.specs.declared.layout.TheConstants.{BLOCK_SIZE, DISK_BLOCKS}
@@ -33,11 +33,6 @@ has_of disk k b count is = record {
   low = λ e. (let low = is.low in omega (arith, count, e, low));
   same = λ e f. is.same f ∙ ap (block_at disk) e;
 }
-
-all_have : (c : Cached) (k : ℕ) → IsCached c → AllByRecursion (Has (length c.disk) k (block_at c.disk k)) c.buffers
-all_have c k is =
-    recursion_from_All (Has (length c.disk) k (block_at c.disk k)) c.buffers
-    (All-weaker (IsBuffer c.disk) (Has (length c.disk) k (block_at c.disk k)) (λ b h. has_of c.disk k b is.disk.count h) c.buffers is.each)
 
 -- the buffer of a block
 fresh_is : (disk : List (List ℕ)) (n : ℕ) → IsDisk disk → n < DISK_BLOCKS → IsBuffer disk (fresh n (block_at disk n))
@@ -202,9 +197,6 @@ flushed_is c is = record {
 }
 
 -- no block is in a buffer
-pub new_is : (disk : List (List ℕ)) → IsDisk disk → IsCached (record { disk = disk; buffers = [] })
-new_is disk is = record { disk = is; few = omega arith; once = λ n. omega arith; each = All-nil (IsBuffer disk) }
-
 pub new_blocks : (disk : List (List ℕ)) → IsDisk disk → cached_blocks (record { disk = disk; buffers = [] }) ≡ disk
 new_blocks disk is =
     let c : Cached = record { disk = disk; buffers = [] } in

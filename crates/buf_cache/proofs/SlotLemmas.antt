@@ -156,14 +156,6 @@ brought_kept disk slots hs hs' n s disk' is none t low out = record {
   };
 }
 
--- The slot of one more block, where not all are taken and where the last one goes.
-pub takes_next : (slots : List (List ℕ)) (hs : List Head) → IsSlots slots hs → length hs ≤ 14 → Takes slots hs (length hs) hs
-takes_next slots hs is few = record {
-  heads = sym (take_all 14 hs few);
-  low = omega arith;
-  others = All-weaker (λ (h : Head). h.slot < length hs) (λ (h : Head). (h.slot < length hs + 1) × (h.slot ≢ length hs)) (λ h l. (omega (arith, l), λ e. omega (arith, e, l))) hs is.low;
-}
-
 last_none : (hs : List Head) (m : ℕ) (d : Head) → length hs ≤ m + 1 → m < length hs → drop m hs ≡ get_or hs m d ∷ []
 last_none hs m d few low = drop_more hs m d low ∙ ap (λ l. get_or hs m d ∷ l) (drop_all (m + 1) hs (omega (arith, few)))
 
@@ -190,9 +182,6 @@ takes_last slots hs hs' last is full rest read =
                 omega (arith, part, here, both, there, o),
           )));
     }
-
-pub drops_none : (slots disk : List (List ℕ)) (hs : List Head) → length hs ≤ 14 → disk ≡ written (drop 14 (buffers_in slots hs)) disk
-drops_none slots disk hs few = ap (λ l. written l disk) (sym (drop_all 14 (buffers_in slots hs) (let l = length-map hs (buffer_in slots) in omega (arith, l, few))))
 
 pub drops_last : (slots disk : List (List ℕ)) (hs : List Head) (last : Head) → length hs ≡ 15 → last ≡ get_or hs 14 last → written_head slots last disk ≡ written (drop 14 (buffers_in slots hs)) disk
 drops_last slots disk hs last full read =
@@ -258,11 +247,6 @@ write_more slots disk end hs k h low read before =
     let split : drop k (buffers_in slots hs) ≡ buffer_in slots h ∷ drop (k + 1) (buffers_in slots hs) =
     drop_more (buffers_in slots hs) k (buffer_in slots h) (omega (arith, long, low)) ∙ ap (λ b. b ∷ drop (k + 1) (buffers_in slots hs)) first in
     sym (ap (λ l. written l disk) split) ∙ before
-
-pub write_all : (slots disk end : List (List ℕ)) (hs : List Head) (k : ℕ) → length hs ≤ k → written (drop k (buffers_in slots hs)) disk ≡ end → disk ≡ end
-write_all slots disk end hs k high before =
-    let long = length-map hs (buffer_in slots) in
-    sym (ap (λ l. written l disk) (drop_all k (buffers_in slots hs) (omega (arith, long, high)))) ∙ before
 
 pub write_length : (slots disk : List (List ℕ)) (h : Head) → length (written_head slots h disk) ≡ length disk
 write_length slots disk h = written_length (buffer_in slots h ∷ []) disk

@@ -20,13 +20,6 @@ use Rattle.fs_laws.proofs.HeldGains.{name_data, name_indirect, name_double}
 
 -- Sums over lists and over their places.
 
--- what a list of lists adds up to
-sum_flat : (c : ℕ → ℕ) (f : ℕ → List ℕ) (xs : List ℕ) → sum_by c (flat_map f xs) ≡ sum_by (λ x. sum_by c (f x)) xs
-sum_flat c f [] = refl
-sum_flat c f (x ∷ xs) =
-    let rest = sum_flat c f xs in
-    omega (arith, rest, sum_by-append c (f x) (flat_map f xs), sum_by-cons (λ y. sum_by c (f y)) x xs)
-
 -- what a list of values of a function adds up to
 sum_map : {A B : Type 0} (c : B → ℕ) (f : A → B) (xs : List A) → sum_by c (map f xs) ≡ sum_by (λ x. c (f x)) xs
 sum_map c f [] = refl

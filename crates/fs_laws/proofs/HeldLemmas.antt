@@ -33,20 +33,11 @@ pub flat_same : (f g : ℕ → List ℕ) (xs : List ℕ) → AllByRecursion (λ 
 flat_same f g [] all = refl
 flat_same f g (x ∷ xs) all = ap (λ l. l ++ flat_map g xs) all.0 ∙ ap (λ l. f x ++ l) (flat_same f g xs all.1)
 
-pub all_map : (P Q : ℕ → Type 0) (xs : List ℕ) → ((x : ℕ) → P x → Q x) → AllByRecursion P xs → AllByRecursion Q xs
-all_map P Q [] f all = tt
-all_map P Q (x ∷ xs) f all = (f x all.0, all_map P Q xs f all.1)
-
 -- an element, or 0
 pub all_at : (P : ℕ → Type 0) (xs : List ℕ) (k : ℕ) → P 0 → AllByRecursion P xs → P (slice_index xs k)
 all_at P [] k none all = none
 all_at P (x ∷ xs) zero none all = all.0
 all_at P (x ∷ xs) (suc k) none all = all_at P xs k none all.1
-
-pub all_take : (P : ℕ → Type 0) (n : ℕ) (xs : List ℕ) → AllByRecursion P xs → AllByRecursion P (take n xs)
-all_take P zero xs all = tt
-all_take P (suc n) [] all = tt
-all_take P (suc n) (x ∷ xs) all = (all.0, all_take P n xs all.1)
 
 no_block : (old new : Disk) → Kept old new 0
 no_block old new some = absurd (some refl)

@@ -35,9 +35,6 @@ nodes_changed old new m w change high =
     (λ j l h other. other_node old new (suc m) j w change (omega arith) high l (omega (arith, h)) (λ is. other (omega (arith, is))))
     ∙ (let e : 1 + m ≡ suc m = omega arith in ap (λ i. set (map (λ i. node_of old (inode old i)) (inode_numbers old)) m (node_of new (inode new i))) e)
 
-stored : (nodes : List (Option Node)) (count room : ℕ) (spare : List ℕ) (stamp : ℕ) → Store
-stored nodes count room spare stamp = record { nodes = nodes; count = count; room = room; spare = spare; stamp = stamp; mark = false }
-
 -- The store after one file has changed: its node, the room, and what the super-block says.
 pub store_changed : (old new : Disk) (m : ℕ) → IsWhole old → ChangesFile old new (suc m) → suc m ≤ inode_count old
     → store_of new ≡ record {

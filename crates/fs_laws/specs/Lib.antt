@@ -6,6 +6,7 @@ pub mod Touch
 pub mod Truncation
 pub mod Grows
 pub mod Numbers
+pub mod Keys
 pub mod Pieces
 pub mod Block
 pub mod Sync

@@ -1,6 +1,6 @@
 -- Inodes are taken and given back, and the super-block is written: ialloc, ifree and update in Lions' Commentary, `alloc.c`, and
 -- iput in `iget.c`.
-use Rattle.std.specs.Prelude.{ℕ, Bool, true, false, not, ◌+◌, ◌&&◌, ◌||◌, ◌==◌, nat_le, nat_lt, min, if◌then◌else◌, List, [], ◌∷◌, ◌++◌, length, take, filter, reverse, slice_set, Option, Some, None, is_some, is_none, bit_or}
+use Rattle.std.specs.Prelude.{ℕ, Bool, false, not, ◌+◌, ◌&&◌, ◌||◌, ◌==◌, nat_le, nat_lt, min, if◌then◌else◌, List, [], ◌∷◌, ◌++◌, length, take, filter, reverse, slice_set, Option, Some, None, is_some, is_none, bit_or}
 use Rattle.std.specs.List.{range_with_len}
 use Rattle.fs_codec.specs.Modes.{is_device}
 use Rattle.fs_codec.specs.Store.{Node, Store, node_numbered}

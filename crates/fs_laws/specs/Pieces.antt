@@ -1,5 +1,5 @@
 -- Reads and writes of a file, piece by piece: readi and writei in Lions' Commentary, `rdwri.c`.
-use Rattle.std.specs.Prelude.{ℕ, not, ◌+◌, ◌-◌, ◌*◌, ◌/◌, ◌==◌, nat_le, nat_lt, min, max, if◌then◌else◌, List, [], ◌∷◌, ◌++◌, map, length, take, drop, slice_range, Option, Some, None}
+use Rattle.std.specs.Prelude.{ℕ, not, ◌+◌, ◌-◌, ◌*◌, ◌/◌, ◌==◌, nat_le, nat_lt, min, max, if◌then◌else◌, List, [], ◌∷◌, map, length, slice_range, Option, Some, None}
 use Rattle.std.specs.List.{range_with_len}
 use Rattle.fs_codec.specs.Modes.{is_directory, is_device}
 use Rattle.fs_codec.specs.Store.{Node}

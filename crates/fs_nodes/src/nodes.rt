@@ -60,12 +60,20 @@ impl Nodes {
         }
     }
 
+    /// Sees what holds of every file system, and costs nothing.
+    pub fn see(&self)
+        ensures { IsFileSystem self.now }
+    {
+        see(&self.volume);
+        let _count = self.table.len();
+    }
+
     /// How often an inode is referred to: 0 where there is none of this number.
     pub fn refs(&self, ino: u16) -> u16
         ensures count { result ≡ slice_index self.now.references ino }
         ensures form { IsFileSystem self.now }
     {
-        see(&self.volume);
+        self.see();
         match find(&self.table, ino) {
             Some(k) => self.table[k].references,
             None => 0,

@@ -6,6 +6,7 @@ ghost use Rattle.fs_codec.specs.Store.{Node};
 ghost use Rattle.fs_codec.specs.Stands.{node_of};
 ghost use Rattle.fs_laws.specs.Numbers.{is_free_number, drawn, refill, draw, with_draw, without_node};
 ghost use Rattle.fs_blocks.specs.State.{disk};
+ghost use Rattle.fs_laws.specs.Rest.{SameOutside};
 ghost use Rattle.fs_nodes.specs.FileSystem.{store_now, SameRest};
 ghost use Rattle.fs_nodes.specs.Table.{entries_of, files_of, seen, IsHeld};
 ghost use Rattle.fs_nodes.specs.Numbers.{refers_to, drawn_list, drawn_from, emptied, pushed, ChangesList, ChangesInode, Clears, MakesNode, MakesNone};
@@ -254,7 +255,7 @@ fn make_node(
     ensures outcome { MatchResult result
         (λ i. MakesNode (files_of volume.old table.old.items) mode uid gid time i (files_of volume.new table.new.items))
         (λ e. MakesNone (files_of volume.old table.old.items) e (files_of volume.new table.new.items)) }
-    ensures rest { SameRest volume.old.state.blocks volume.new.state.blocks }
+    ensures rest { SameOutside volume.old.state.blocks volume.new.state.blocks }
 {
     let number = draw_number(volume, table);
     see(volume);
@@ -294,7 +295,7 @@ impl Nodes {
     pub fn new_node(&mut self, mode: u16, uid: u8, gid: u8, time: u32) -> Result<u16, Errno>
         ensures outcome { MatchResult result (λ i. MakesNode self.old mode uid gid time i self.new)
             (λ e. MakesNone self.old e self.new) }
-        ensures rest { SameRest self.old.blocks self.new.blocks }
+        ensures rest { SameRest self.old self.new }
     {
         make_node(&mut self.volume, &mut self.table, mode, uid, gid, time)
     }

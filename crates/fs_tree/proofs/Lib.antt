@@ -3,5 +3,4 @@ pub mod DirectoryLemmas
 pub mod PathLemmas
 pub mod FindingLemmas
 pub mod EntryLemmas
-pub mod SearchLemmas
 pub mod NamingLemmas

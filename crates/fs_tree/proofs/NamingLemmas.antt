@@ -5,7 +5,8 @@ use Rattle.std.proofs.lemmas.List.{get_or_past, set_past, get_or-set_same, get_o
 use Rattle.v6_base.specs.Access.{then_do}
 use Rattle.v6_base.specs.declared.errno.Errno.{Errno}
 use Rattle.v6_base.specs.declared.errno.Errno.TheVariants.{ENFILE}
-use Rattle.fs_codec.specs.Store.{Store, node_numbered}
+use Rattle.fs_codec.specs.Store.{Store}
+use Rattle.fs_laws.specs.Keys.{node_numbered}
 use Rattle.fs_nodes.specs.FileSystem.{FileSystem, IsFileSystem}
 use Rattle.fs_tree.specs.declared.user.User.{User}
 use Rattle.fs_tree.specs.Name.{is_rooted}

@@ -4,8 +4,9 @@ use Rattle.v6_base.specs.Access.{then_do}
 use Rattle.v6_base.specs.declared.errno.Errno.{Errno}
 use Rattle.v6_base.specs.declared.errno.Errno.TheVariants.{ENOENT, EACCES, EFAULT, ENOTDIR}
 use Rattle.fs_codec.specs.Modes.{is_directory}
-use Rattle.fs_codec.specs.Store.{Node, Store, node_numbered}
+use Rattle.fs_codec.specs.Store.{Node, Store}
 use Rattle.fs_codec.specs.declared.node.DiskNode.{DiskNode}
+use Rattle.fs_laws.specs.Keys.{node_numbered}
 use Rattle.fs_nodes.specs.FileSystem.{Shows}
 use Rattle.fs_tree.specs.declared.user.User.{User}
 use Rattle.fs_tree.specs.declared.user.Want.{Want}
@@ -30,13 +31,6 @@ dir_shown node inode r s is = sym (is ∙ ap is_directory s.mode)
 pub may_shown : (node : Node) (inode : DiskNode) (user : User) (want : Want) (r : Bool) → Shows inode node → r ≡ may inode.mode inode.uid inode.gid user want → may_use node user want ≡ r
 may_shown node inode user want r s is = sym (is ∙ (λ i. may (s.mode i) (s.uid i) (s.gid i) user want))
 
--- three tests, one after another
-first_fails : {A : Type 0} (a b c : Bool) (x y z w : A) → a ≡ false → cond (not a) x (cond (not b) y (cond (not c) z w)) ≡ x
-first_fails a b c x y z w h = ap (λ t. cond (not t) x (cond (not b) y (cond (not c) z w))) h
-
-second_fails : {A : Type 0} (a b c : Bool) (x y z w : A) → a ≡ true → b ≡ false → cond (not a) x (cond (not b) y (cond (not c) z w)) ≡ y
-second_fails a b c x y z w h k = ap (λ t. cond (not t) x (cond (not b) y (cond (not c) z w))) h ∙ ap (λ t. cond (not t) y (cond (not c) z w)) k
-
 third_fails : {A : Type 0} (a b c : Bool) (x y z w : A) → a ≡ true → b ≡ true → c ≡ false → cond (not a) x (cond (not b) y (cond (not c) z w)) ≡ z
 third_fails a b c x y z w h k l =
     ap (λ t. cond (not t) x (cond (not b) y (cond (not c) z w))) h ∙ ap (λ t. cond (not t) y (cond (not c) z w)) k ∙ ap (λ t. cond (not t) z w) l
@@ -48,15 +42,6 @@ none_fails a b c x y z w h k l =
 module _ (store : Store) (user : User) (dir : ℕ) (name : List ℕ) (r : Bool) where
   in_found : (node : Node) → node_numbered store dir ≡ Some node → in_directory store user dir name r ≡ looked_in user dir name r node
   in_found node is = ap (λ o. with_node_of o (looked_in user dir name r)) is
-
-  pub in_none : node_numbered store dir ≡ None → Err ENOENT ≡ in_directory store user dir name r
-  in_none is = sym (ap (λ o. with_node_of o (looked_in user dir name r)) is)
-
-  pub in_plain : (node : Node) → node_numbered store dir ≡ Some node → is_directory node.mode ≡ false → Err ENOTDIR ≡ in_directory store user dir name r
-  in_plain node is d = sym (in_found node is ∙ first_fails (is_directory node.mode) (may_use node user Execute) r _ _ _ _ d)
-
-  pub in_closed : (node : Node) → node_numbered store dir ≡ Some node → is_directory node.mode ≡ true → may_use node user Execute ≡ false → Err EACCES ≡ in_directory store user dir name r
-  in_closed node is d m = sym (in_found node is ∙ second_fails (is_directory node.mode) (may_use node user Execute) r _ _ _ _ d m)
 
   pub in_unread : (node : Node) → node_numbered store dir ≡ Some node → is_directory node.mode ≡ true → may_use node user Execute ≡ true → r ≡ false → Err EFAULT ≡ in_directory store user dir name r
   in_unread node is d m f = sym (in_found node is ∙ third_fails (is_directory node.mode) (may_use node user Execute) r _ _ _ _ d m f)

@@ -2,13 +2,13 @@
 use Rattle.std.specs.Prelude.{◌≡◌, ℕ, List, length, Option, Some, None, Result, Ok, Err}
 use Rattle.v6_base.specs.declared.errno.Errno.{Errno}
 use Rattle.fs_codec.specs.Store.{Node, Store}
-use Rattle.fs_laws.specs.Numbers.{with_node}
 use Rattle.fs_laws.specs.Pieces.{Moving, write_file}
+use Rattle.fs_laws.specs.Keys.{room_at, with_node}
 use Rattle.fs_nodes.specs.Copy.{get_kernel}
 
 -- bytes of the kernel's own are written into a file
-abbrev pub written : Store → Node → ℕ → List ℕ → ℕ → Moving (Unit {0})
-written store node offset bytes time = write_file (get_kernel bytes) node store.room tt offset (length bytes) time
+abbrev pub written : Store → ℕ → Node → ℕ → List ℕ → ℕ → Moving (Unit {0})
+written store ino node offset bytes time = write_file (get_kernel bytes) node (room_at store ino) tt offset (length bytes) time
 
 abbrev pub answer_to : Option Errno → Result (Unit {0}) Errno
 answer_to None = Ok tt

@@ -2,7 +2,8 @@
 ghost use Rattle.std.specs.Prelude.{◌≡◌, ◌%◌, ◌<◌, ◌≤◌, ℕ, true, [], ◌∷◌, Some, slice_index};
 ghost use Rattle.fs_codec.specs.Bytes.{entry_bytes};
 ghost use Rattle.fs_codec.specs.Modes.{is_directory};
-ghost use Rattle.fs_codec.specs.Store.{Node, node_numbered};
+ghost use Rattle.fs_codec.specs.Store.{Node};
+ghost use Rattle.fs_laws.specs.Keys.{node_numbered};
 ghost use Rattle.fs_nodes.specs.FileSystem.{SameRest};
 ghost use Rattle.fs_tree.specs.Entries.{written, answer_to, WritesEntry};
 
@@ -61,11 +62,11 @@ impl Tree {
         requires small { offset ≤ 65520 }
         ensures entry { (node : Node) → node_numbered self.old.nodes.store dir ≡ Some node
             → WritesEntry self.old.nodes.store dir
-            (written self.old.nodes.store node offset (entry_bytes (record { ino = ino; name = name })) time)
+            (written self.old.nodes.store dir node offset (entry_bytes (record { ino = ino; name = name })) time)
             self.new.nodes.store result }
         ensures references { self.new.nodes.references ≡ self.old.nodes.references }
         ensures marks { self.new.marks ≡ self.old.marks }
-        ensures rest { SameRest self.old.nodes.blocks self.new.nodes.blocks }
+        ensures rest { SameRest self.old.nodes self.new.nodes }
     {
         let bytes = spelled(ino, name);
         answer(self.nodes.write_kernel(dir, offset, &bytes, time))
@@ -85,11 +86,11 @@ impl Tree {
         requires small { offset ≤ 65520 }
         ensures entry { (node : Node) → node_numbered self.old.nodes.store dir ≡ Some node
             → WritesEntry self.old.nodes.store dir
-            (written self.old.nodes.store node offset (0 ∷ 0 ∷ []) time)
+            (written self.old.nodes.store dir node offset (0 ∷ 0 ∷ []) time)
             self.new.nodes.store result }
         ensures references { self.new.nodes.references ≡ self.old.nodes.references }
         ensures marks { self.new.marks ≡ self.old.marks }
-        ensures rest { SameRest self.old.nodes.blocks self.new.nodes.blocks }
+        ensures rest { SameRest self.old.nodes self.new.nodes }
     {
         let bytes = [0; 2];
         answer(self.nodes.write_kernel(dir, offset, &bytes, time))

@@ -1,39 +1,11 @@
 //! Texts that are shared are marked: xalloc and xfree in Lions' Commentary, `text.c`.
 ghost use Rattle.std.specs.Prelude.{◌≡◌, ◌<◌, ◌≤◌, ℕ, true, false, slice_index};
-ghost use Rattle.fs_nodes.specs.FileSystem.{SameRest, IsFileSystem};
+ghost use Rattle.fs_nodes.specs.FileSystem.{SameRest};
 ghost use Rattle.fs_tree.specs.Finding.{inodes_of, with_reference, put_back};
 ghost use Rattle.fs_tree.specs.Marks.{is_marked, with_mark, without_mark};
 
+use crate::references::{let_go, refer_again};
 use crate::tree::Tree;
-use fs_nodes::Nodes;
-
-/// Sees what holds of every file system.
-fn see(nodes: &Nodes)
-    ensures { IsFileSystem nodes.now }
-{
-    let _ = nodes.refs(0);
-}
-
-/// Refers once more to an inode that is referred to.
-fn refer_again(nodes: &mut Nodes, ino: u16)
-    requires referenced { 0 < slice_index nodes.old.references ino }
-    requires few { slice_index nodes.old.references ino < 65535 }
-    ensures inodes { inodes_of nodes.new ≡ with_reference (inodes_of nodes.old) ino }
-    ensures blocks { nodes.new.blocks ≡ nodes.old.blocks }
-{
-    see(nodes);
-    let _ = nodes.take(ino);
-}
-
-/// Gives a reference to an inode back.
-fn let_go(nodes: &mut Nodes, ino: u16, time: u32)
-    requires referenced { 0 < slice_index nodes.old.references ino }
-    ensures inodes { inodes_of nodes.new ≡ put_back (inodes_of nodes.old) ino }
-    ensures rest { SameRest nodes.old.blocks nodes.new.blocks }
-{
-    see(nodes);
-    nodes.put(ino, time);
-}
 
 /// While a process runs a program whose text is shared, its file is marked, and cannot be written.
 impl Tree {
@@ -57,7 +29,7 @@ impl Tree {
         requires referenced { 0 < slice_index self.old.nodes.references ino }
         ensures marks { self.new.marks ≡ without_mark self.old.marks ino }
         ensures inodes { inodes_of self.new.nodes ≡ put_back (inodes_of self.old.nodes) ino }
-        ensures rest { SameRest self.old.nodes.blocks self.new.nodes.blocks }
+        ensures rest { SameRest self.old.nodes self.new.nodes }
     {
         self.marks.remove(ino);
         let_go(&mut self.nodes, ino, time);

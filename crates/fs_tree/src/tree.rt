@@ -1,7 +1,8 @@
 //! The tree of names over a file system.
 ghost use Rattle.std.specs.Prelude.{◌≡◌, ◌<◌, ◌≤◌, ℕ, true, false, if◌then◌else◌, Some, IsSome, IfOk, IfErr};
 ghost use Rattle.std.specs.Prelude.{slice_index};
-ghost use Rattle.fs_codec.specs.Store.{Node, node_numbered};
+ghost use Rattle.fs_codec.specs.Store.{Node};
+ghost use Rattle.fs_laws.specs.Keys.{node_numbered};
 ghost use Rattle.fs_tree.specs.Marks.{no_marks};
 ghost use Rattle.fs_tree.specs.Permission.{access};
 ghost use Rattle.fs_tree.specs.Finding.{find_in, make_in, remove_in, referring_both, can_refer, with_reference};
@@ -43,7 +44,7 @@ fn put(nodes: &mut Nodes, ino: u16)
     requires referenced { 0 < slice_index nodes.old.references ino }
     requires node { IsSome (node_numbered nodes.old.store ino) }
     ensures inodes { inodes_of nodes.new ≡ put_back (inodes_of nodes.old) ino }
-    ensures rest { SameRest nodes.old.blocks nodes.new.blocks }
+    ensures rest { SameRest nodes.old nodes.new }
 {
     nodes.put(ino, 0);
 }
@@ -55,7 +56,7 @@ fn take_both(nodes: &mut Nodes, entry: (u16, u32, u16)) -> Result<(u16, u32, u16
     requires few { (i : ℕ) → slice_index nodes.old.references i ≤ 65530 }
     ensures answer { result ≡ (referring_both (inodes_of nodes.old) entry).answer }
     ensures inodes { inodes_of nodes.new ≡ (referring_both (inodes_of nodes.old) entry).inodes }
-    ensures rest { SameRest nodes.old.blocks nodes.new.blocks }
+    ensures rest { SameRest nodes.old nodes.new }
 {
     take(nodes, entry.0)?;
     if let Err(e) = take(nodes, entry.2) {
@@ -170,7 +171,7 @@ impl Tree {
         ensures answer { result ≡ (remove_in (inodes_of self.old.nodes) self.old.marks who dir name.entry).answer }
         ensures inodes { inodes_of self.new.nodes ≡ (remove_in (inodes_of self.old.nodes) self.old.marks who dir name.entry).inodes }
         ensures marks { self.new.marks ≡ self.old.marks }
-        ensures rest { SameRest self.old.nodes.blocks self.new.nodes.blocks }
+        ensures rest { SameRest self.old.nodes self.new.nodes }
     {
         see_start(&self.nodes, dir);
         let mut name = name;

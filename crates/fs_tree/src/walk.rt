@@ -1,7 +1,8 @@
 //! The search for a name: namei in Lions' Commentary, `nami.c`.
 ghost use Rattle.std.specs.Prelude.{◌≡◌, ◌≢◌, ◌+◌, ◌*◌, ◌||◌, ◌<◌, ℕ, List, [], ◌∷◌, true, false, not, length, Some};
 ghost use Rattle.std.specs.Prelude.{None, IsSome, IfOk, slice_index};
-ghost use Rattle.fs_codec.specs.Store.{Node, node_numbered};
+ghost use Rattle.fs_codec.specs.Store.{Node};
+ghost use Rattle.fs_laws.specs.Keys.{node_numbered};
 ghost use Rattle.fs_nodes.specs.FileSystem.{SameFiles};
 ghost use Rattle.fs_tree.specs.Name.{components, is_whole, begins, start_of};
 ghost use Rattle.fs_tree.specs.Path.{used_number, entry_number, in_directory, is_last, way, found, to_make, to_remove};
@@ -99,7 +100,7 @@ pub(crate) fn see_start(nodes: &Nodes, dir: u16)
     requires { 0 < slice_index nodes.now.references dir }
     ensures { (bytes : List ℕ) → IsSome (node_numbered nodes.now.store (start_of dir bytes)) }
 {
-    let _ = nodes.refs(dir);
+    nodes.see();
 }
 
 /// Looks for a name, from a directory on.

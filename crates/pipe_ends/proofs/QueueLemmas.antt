@@ -8,9 +8,9 @@ use Rattle.v6_base.specs.Copy.{store_bytes}
 use Rattle.v6_base.specs.declared.errno.Errno.{Errno}
 use Rattle.v6_base.proofs.Copies.{load_wraps}
 use Rattle.fs_codec.specs.Modes.{is_device}
-use Rattle.fs_codec.specs.Store.{Node, Store, node_numbered}
-use Rattle.fs_laws.specs.Numbers.{with_node}
+use Rattle.fs_codec.specs.Store.{Node, Store}
 use Rattle.fs_laws.specs.Pieces.{Moving}
+use Rattle.fs_laws.specs.Keys.{node_numbered, room_at, with_node}
 use Rattle.pipe_ends.specs.declared.ends.Pipe.{Pipe}
 use Rattle.pipe_ends.specs.declared.ends.Piped.{Piped}
 use Rattle.pipe_ends.specs.declared.ends.Piped.TheVariants.{Done, Wait, Broken, Error}
@@ -98,7 +98,7 @@ puts_nothing c w q answer is ino offset done halts =
 -- what an append has put
 append_puts : (c : WriteCall) (w : Writing) → IsQueue w.store w.pipe
     → Puts c.image w.at (fitting w) (pipe_file w.store w.pipe) (append_of c w).node (append_of c w).error
-append_puts c w is = file_puts c.image w.at (fitting w) c.time w.store.room (pipe_file w.store w.pipe) is.plain is.whole
+append_puts c w is = file_puts c.image w.at (fitting w) c.time (room_at w.store w.pipe.ino) (pipe_file w.store w.pipe) is.plain is.whole
 
 appended_stays : (c : WriteCall) (w : Writing) → IsQueue w.store w.pipe
     → IsQueue (behind c w).store (behind c w).pipe
@@ -247,9 +247,9 @@ takes_nothing store ends p image at count is read =
           let no_bytes : length (queue store p) ≡ 0 = ap length none in
           (zero_told, omega (arith, zero_told, no_bytes));
       stored = refl;
-      rest = ap (λ (f : Node). drop q.offset (contents f)) (now_file store p q new store.room is (front ends p).0)
+      rest = ap (λ (f : Node). drop q.offset (contents f)) (now_file store p q new (room_at store p.ino) is (front ends p).0)
           ∙ ap (λ n. drop {A = ℕ} n []) at_0 ∙ sym none;
-      stays = queue_stays store p q new store.room is (front ends p).0 is.plain (omega arith) (omega arith) (omega (arith, at_0));
+      stays = queue_stays store p q new (room_at store p.ino) is (front ends p).0 is.plain (omega arith) (omega arith) (omega (arith, at_0));
     }
 
 -- a read that has told its count has had no error
@@ -262,7 +262,7 @@ pub takes_some : (store : Store) (p : Pipe) (image : Image) (at count time : ℕ
 takes_some store p image at count time is =
     let file : Node = pipe_file store p in
     let m : Moving Image = read_of store p image at count time in
-    let takes = file_takes image at p.offset count time store.room file is.plain is.whole in
+    let takes = file_takes image at p.offset count time (room_at store p.ino) file is.plain is.whole in
     let q : Pipe = record p { offset = (p.offset + m.done) % 2 ^ 32 } in
     let few = takes.few in
     let read = is.read in

@@ -3,7 +3,8 @@ use Rattle.std.specs.Prelude.{◌≡◌, ◌≤◌, ℕ, false, ◌+◌, ◌++�
 use Rattle.v6_base.specs.Image.{Image}
 use Rattle.v6_base.specs.Copy.{load_bytes, store_bytes}
 use Rattle.fs_codec.specs.Modes.{is_device}
-use Rattle.fs_codec.specs.Store.{Node, Store, node_numbered}
+use Rattle.fs_codec.specs.Store.{Node, Store}
+use Rattle.fs_laws.specs.Keys.{node_numbered}
 use Rattle.pipe_ends.specs.declared.ends.Pipe.{Pipe}
 use Rattle.pipe_ends.specs.declared.ends.Piped.TheVariants.{Done, Wait, Broken}
 use Rattle.pipe_ends.specs.declared.ends.TheConstants.{PIPSIZ}

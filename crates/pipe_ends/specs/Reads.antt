@@ -3,8 +3,8 @@ use Rattle.std.specs.Prelude.{ℕ, Bool, true, false, ◌+◌, ◌%◌, ◌^◌,
 use Rattle.v6_base.specs.Image.{Image}
 use Rattle.v6_base.specs.declared.errno.Errno.{Errno}
 use Rattle.fs_codec.specs.Store.{Store}
-use Rattle.fs_laws.specs.Numbers.{with_node}
 use Rattle.fs_laws.specs.Pieces.{Moving, read_file}
+use Rattle.fs_laws.specs.Keys.{room_at, with_node}
 use Rattle.fs_nodes.specs.Copy.{put_into}
 use Rattle.pipe_ends.specs.declared.ends.Pipe.{Pipe}
 use Rattle.pipe_ends.specs.declared.ends.Piped.{Piped}
@@ -39,7 +39,7 @@ ends_with done (Some e) = Error e
 
 -- what is read of the file, from the offset on
 abbrev pub read_of : Store → Pipe → Image → ℕ → ℕ → ℕ → Moving Image
-read_of store p image at count time = read_file (put_into at) (pipe_file store p) store.room image p.offset count time
+read_of store p image at count time = read_file (put_into at) (pipe_file store p) (room_at store p.ino) image p.offset count time
 
 -- The offset moves by what was done, also where an error has ended the read.
 abbrev pub reads_some : Store → Pipe → Moving Image → PipeRead

@@ -3,8 +3,8 @@ use Rattle.std.specs.Prelude.{ℕ, zero, suc, true, false, ◌+◌, ◌-◌, ◌
 use Rattle.v6_base.specs.Image.{Image}
 use Rattle.v6_base.specs.declared.errno.Errno.{Errno}
 use Rattle.fs_codec.specs.Store.{Store}
-use Rattle.fs_laws.specs.Numbers.{with_node}
 use Rattle.fs_laws.specs.Pieces.{Moving, write_file}
+use Rattle.fs_laws.specs.Keys.{room_at, with_node}
 use Rattle.fs_nodes.specs.Copy.{get_from}
 use Rattle.pipe_ends.specs.declared.ends.Pipe.{Pipe}
 use Rattle.pipe_ends.specs.declared.ends.Piped.{Piped}
@@ -41,7 +41,7 @@ fitting w = min w.left (PIPSIZ - size_in w)
 
 abbrev pub append_of : WriteCall → Writing → Moving (Unit {0})
 append_of c w =
-    write_file (get_from c.image w.at) (pipe_file w.store w.pipe) w.store.room (tt {0}) (size_in w) (fitting w) c.time
+    write_file (get_from c.image w.at) (pipe_file w.store w.pipe) (room_at w.store w.pipe.ino) (tt {0}) (size_in w) (fitting w) c.time
 
 -- A reader that waits is woken, also where an error has ended the append.
 abbrev pub appended : Writing → Moving (Unit {0}) → Writing

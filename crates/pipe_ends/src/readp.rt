@@ -15,7 +15,7 @@ fn begin_again(n: &mut Nodes, p: &Pipe)
     requires referenced { 0 < ends_of n.old.references p.now }
     ensures store { n.new.store ≡ begun_again n.old.store p.now }
     ensures references { n.new.references ≡ n.old.references }
-    ensures rest { SameRest n.old.blocks n.new.blocks }
+    ensures rest { SameRest n.old n.new }
 {
     // The inode of this number is known to be there once it has been looked at.
     let _size = size_of(n, p);
@@ -29,7 +29,7 @@ fn read_nothing(n: &mut Nodes, p: &mut Pipe, count: u16) -> Piped
     ensures pipe { p.new ≡ at_front (ends_of n.old.references p.old) p.old }
     ensures answer { result ≡ told_of_nothing (ends_of n.old.references p.old) count }
     ensures references { n.new.references ≡ n.old.references }
-    ensures rest { SameRest n.old.blocks n.new.blocks }
+    ensures rest { SameRest n.old n.new }
 {
     begin_again(n, p);
     p.offset = 0;
@@ -61,7 +61,7 @@ fn read_some<S: Space>(
         ≡ (reads_some n.old.store p.old (read_of n.old.store p.old (S.image space.old) at count time)).answer }
     ensures memory { S.rest space.new ≡ S.rest space.old }
     ensures references { n.new.references ≡ n.old.references }
-    ensures rest { SameRest n.old.blocks n.new.blocks }
+    ensures rest { SameRest n.old n.new }
 {
     let _size = size_of(n, p);
     let read = n.read_at(p.ino, p.offset, space, at, count, time);
@@ -103,7 +103,7 @@ pub fn read<S: Space>(
         (record { store = n.new.store; image = S.image space.new; pipe = p.new; answer = result }) }
     ensures memory { S.rest space.new ≡ S.rest space.old }
     ensures references { n.new.references ≡ n.old.references }
-    ensures rest { SameRest n.old.blocks n.new.blocks }
+    ensures rest { SameRest n.old n.new }
 {
     if p.offset == size_of(n, p) {
         return read_nothing(n, p, count);

@@ -26,7 +26,7 @@ fn append<S: Space>(
         → (n.new.store ≡ (appended w (append_of c w)).store) × (p.new ≡ (appended w (append_of c w)).pipe)
         × (result ≡ (append_of c w).error) }
     ensures references { n.new.references ≡ n.old.references }
-    ensures rest { SameRest n.old.blocks n.new.blocks }
+    ensures rest { SameRest n.old n.new }
 {
     let size = size_of(n, p);
     let written = n.write_at(p.ino, size, space, at, len, time);
@@ -51,7 +51,7 @@ fn repeat_tests<S: Space>(
     ensures answer { result
         ≡ (writes n.old.store (ends_of n.old.references p.old) p.old (S.image space.now) at count time).answer }
     ensures references { n.new.references ≡ n.old.references }
-    ensures rest { SameRest n.old.blocks n.new.blocks }
+    ensures rest { SameRest n.old n.new }
 {
     let mut left = count;
     while left > 0 {
@@ -101,7 +101,7 @@ pub fn write<S: Space>(
     ensures queue { IsQueue n.old.store p.old → GoesToEnd n.old.store p.old (S.image space.now) at count
         (record { store = n.new.store; pipe = p.new; answer = result }) }
     ensures references { n.new.references ≡ n.old.references }
-    ensures rest { SameRest n.old.blocks n.new.blocks }
+    ensures rest { SameRest n.old n.new }
 {
     repeat_tests(n, p, space, at, count, time)
 }

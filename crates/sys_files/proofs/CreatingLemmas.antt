@@ -6,8 +6,8 @@ use Rattle.v6_base.specs.declared.errno.Errno.{Errno}
 use Rattle.v6_base.specs.declared.errno.Errno.TheVariants.{EMFILE, ENFILE, ENXIO}
 use Rattle.fs_codec.specs.Modes.{is_device}
 use Rattle.fs_codec.specs.Store.{Node, Store}
-use Rattle.fs_laws.specs.Numbers.{with_truncated}
 use Rattle.fs_laws.proofs.RestLemmas.{rest_then}
+use Rattle.fs_laws.specs.Keys.{with_truncated}
 use Rattle.fs_nodes.specs.FileSystem.{FileSystem, SameRest}
 use Rattle.open_files.specs.declared.file.FileKind.{FileKind}
 use Rattle.open_files.specs.Files.{AreOpen, free_number, free_entry}
@@ -98,7 +98,7 @@ module _ (old mid last : Handed) (a b c d : FileSystem) (ino : ℕ) (takes : One
     (k : IsKept (with_inodes mid (inodes_of b)) (with_inodes last (inodes_of c)))
     (files : mid.files ≡ old.files) (u : mid.u ≡ old.u)
     (more : (i : ℕ) → slice_index b.references i ≤ slice_index c.references i)
-    (back : inodes_of d ≡ put_back (inodes_of c) ino) (rest : SameRest c.blocks d.blocks) where
+    (back : inodes_of d ≡ put_back (inodes_of c) ino) (rest : SameRest c d) where
   less : OneReferenceLess c ino d
   less = gives c d ino (let some = taken a b ino takes in let m = more ino in omega (arith, some, m)) back rest
 
@@ -118,7 +118,7 @@ module _ (old mid last : Handed) (a b c d : FileSystem) (ino : ℕ) (takes : One
   pub between_more : (i : ℕ) → slice_index a.references i ≤ slice_index d.references i
   between_more i = let t = takes.references i in let m = more i in let l = less.references i in omega (arith, t, m, l)
 
-  pub between_blocks : SameRest b.blocks c.blocks → SameRest a.blocks d.blocks
+  pub between_blocks : SameRest b c → SameRest a d
   between_blocks same =
       rest_then a.blocks b.blocks d.blocks takes.blocks (rest_then b.blocks c.blocks d.blocks same rest)
 

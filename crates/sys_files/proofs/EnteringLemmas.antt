@@ -7,10 +7,12 @@ use Rattle.std.specs.Option.{is_none}
 use Rattle.v6_base.specs.Access.{then_do}
 use Rattle.v6_base.specs.declared.errno.Errno.{Errno}
 use Rattle.v6_base.specs.declared.errno.Errno.TheVariants.{ENFILE}
-use Rattle.fs_codec.specs.Store.{Node, Store, node_numbered}
+use Rattle.fs_codec.specs.Store.{Node, Store}
 use Rattle.fs_laws.specs.Numbers.{is_free_number, new_node}
 use Rattle.fs_laws.specs.Pieces.{Moving}
 use Rattle.fs_laws.proofs.RestLemmas.{rest_stays}
+use Rattle.fs_laws.specs.Keys.{node_numbered}
+use Rattle.fs_laws.specs.Rest.{SameOutside}
 use Rattle.fs_nodes.specs.FileSystem.{FileSystem, SameRest, IsFileSystem}
 use Rattle.fs_nodes.specs.Numbers.{MakesNode, MakesNone}
 use Rattle.fs_nodes.proofs.NumbersMake.{draw_free}
@@ -57,8 +59,8 @@ started : (store : Store) (t : Bool) (dir : ℕ) → IsSome (node_numbered store
 started store true dir root some = root
 started store false dir root some = some
 
-pub rest_same : (old new : List (List ℕ)) → new ≡ old → SameRest old new
-rest_same old new is = subst (λ (l : List (List ℕ)). SameRest old l) (sym is) (rest_stays old)
+pub rest_same : (old new : List (List ℕ)) → new ≡ old → SameOutside old new
+rest_same old new is = subst (λ (l : List (List ℕ)). SameOutside old l) (sym is) (rest_stays old)
 
 module _ (fs : FileSystem) (form : IsFileSystem fs) where
   pub used_low : (ino : ℕ) → IsSome (node_numbered fs.store ino) → ino < length fs.references
@@ -72,7 +74,7 @@ module _ (fs : FileSystem) (form : IsFileSystem fs) where
   start_used dir bytes referred = started fs.store (is_rooted bytes) dir form.root (form.used dir referred)
 
   pub takes_one : (new : FileSystem) (ino : ℕ) → IsSome (node_numbered fs.store ino)
-      → inodes_of new ≡ with_reference (inodes_of fs) ino → SameRest fs.blocks new.blocks → OneReferenceMore fs ino new
+      → inodes_of new ≡ with_reference (inodes_of fs) ino → SameRest fs new → OneReferenceMore fs ino new
   takes_one new ino some is blocks = record {
     references = λ i. ap (λ (n : Inodes). slice_index n.references i) is
         ∙ once_more fs.references ino i (used_low ino some);
@@ -173,7 +175,7 @@ module _ (fs new : FileSystem) (marks : List Bool) (user : User) (dir : ℕ) (by
 pub written_keeps : (old new : FileSystem) (dir : ℕ) (m : Node → Moving (Unit {0})) (r : Result (Unit {0}) Errno)
     → IsSome (node_numbered old.store dir)
     → ((node : Node) → node_numbered old.store dir ≡ Some node → WritesEntry old.store dir (m node) new.store r)
-    → new.references ≡ old.references → SameRest old.blocks new.blocks → SameReferences old new
+    → new.references ≡ old.references → SameRest old new → SameReferences old new
 written_keeps old new dir m r some each references blocks =
     let n = there (node_numbered old.store dir) some in
     let w = each n.0 n.1 in
@@ -205,7 +207,7 @@ module _ (fs new : FileSystem) (form : IsFileSystem fs) (mode uid gid time : ℕ
   makes_new : (ino : ℕ) → MakesNode fs mode uid gid time ino new → IsNew fs ino
   makes_new ino made = new_is fs ino (draw_free fs.store (λ i. nat_lt 0 (slice_index fs.references i)) ino made.number)
 
-  pub new_takes : (ino : ℕ) → SameRest fs.blocks new.blocks → MakesNode fs mode uid gid time ino new
+  pub new_takes : (ino : ℕ) → SameRest fs new → MakesNode fs mode uid gid time ino new
       → OneReferenceMore fs ino new
   new_takes ino blocks made =
       let is = makes_new ino made in
@@ -270,7 +272,7 @@ making_store n (Err e) = refl
 pub changed_keeps : (old new : FileSystem) (ino : ℕ) (f : Node → Store) → IsSome (node_numbered old.store ino)
     → ((node : Node) → node_numbered old.store ino ≡ Some node → new.store ≡ f node)
     → ((node : Node) → (f node).count ≡ old.store.count) → new.references ≡ old.references
-    → SameRest old.blocks new.blocks → SameReferences old new
+    → SameRest old new → SameReferences old new
 changed_keeps old new ino f some each same references blocks =
     let n = there (node_numbered old.store ino) some in
     record {

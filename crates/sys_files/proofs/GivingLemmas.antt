@@ -2,8 +2,8 @@
 use Rattle.std.proofs.Common.{◌≡◌, ◌+◌, ◌<◌, ◌≤◌, ◌==◌, ℕ, Bool, true, false, cond, List, slice_index, Ok, Err, refl, sym, ap, ◌∙◌, arith}
 use Rattle.std.proofs.lemmas.Bool.{eq-eqb}
 use Rattle.v6_base.specs.declared.errno.Errno.{Errno}
-use Rattle.fs_codec.specs.Store.{node_numbered}
 use Rattle.fs_laws.proofs.RestLemmas.{rest_then}
+use Rattle.fs_laws.specs.Keys.{node_numbered}
 use Rattle.fs_nodes.specs.FileSystem.{FileSystem, SameRest, IsFileSystem}
 use Rattle.fs_tree.specs.declared.user.User.{User}
 use Rattle.fs_tree.specs.Finding.{Inodes, inodes_of, find_in, put_back}
@@ -16,10 +16,10 @@ use Rattle.sys_files.proofs.EnteringLemmas.{taken, takes_one, rest_same}
 pub record OneReferenceLess (old : FileSystem) (ino : ℕ) (new : FileSystem) : Type 0 where
   pub references : (i : ℕ) → slice_index new.references i + one_to ino i ≡ slice_index old.references i
   pub count : new.store.count ≡ old.store.count
-  pub blocks : SameRest old.blocks new.blocks
+  pub blocks : SameRest old new
 
 pub gives : (old new : FileSystem) (ino : ℕ) → 0 < slice_index old.references ino
-    → inodes_of new ≡ put_back (inodes_of old) ino → SameRest old.blocks new.blocks → OneReferenceLess old ino new
+    → inodes_of new ≡ put_back (inodes_of old) ino → SameRest old new → OneReferenceLess old ino new
 gives old new ino some is blocks = record {
   references = λ i. ap (λ (n : Inodes). slice_index n.references i + one_to ino i) is
       ∙ once_less old.references ino i some;
@@ -38,7 +38,7 @@ takes_gives a b c ino more less = record {
 
 -- a part of a call between both
 pub takes_keeps_gives : (a b c d : FileSystem) (ino : ℕ) → OneReferenceMore a ino b → SameReferences b c
-    → inodes_of d ≡ put_back (inodes_of c) ino → SameRest c.blocks d.blocks → SameReferences a d
+    → inodes_of d ≡ put_back (inodes_of c) ino → SameRest c d → SameReferences a d
 takes_keeps_gives a b c d ino more kept is blocks =
     let some : 0 < slice_index c.references ino =
     (let m = taken a b ino more in let k = kept.references ino in omega (arith, m, k)) in
@@ -53,7 +53,7 @@ takes_keeps_gives a b c d ino more kept is blocks =
 
 -- Of two references the first goes, after a part of a call.
 pub gives_first : (a b c d : FileSystem) (dir ino : ℕ) → TwoReferencesMore a dir ino b → SameReferences b c
-    → inodes_of d ≡ put_back (inodes_of c) dir → SameRest c.blocks d.blocks → OneReferenceMore a ino d
+    → inodes_of d ≡ put_back (inodes_of c) dir → SameRest c d → OneReferenceMore a ino d
 gives_first a b c d dir ino more kept is blocks =
     let own : one_to dir dir ≡ 1 = ap (λ t. cond t 1 0) (eq-eqb dir dir refl) in
     let some : 0 < slice_index c.references dir =

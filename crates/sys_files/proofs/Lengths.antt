@@ -7,6 +7,7 @@ use Rattle.v6_base.proofs.Copies.{SameLengths, same_lengths, byte_lengths, bytes
 use Rattle.fs_codec.specs.Modes.{is_device}
 use Rattle.fs_codec.specs.Store.{Node}
 use Rattle.fs_laws.specs.Pieces.{Moving, going_on, reading, read_file, pieces, beginning}
+use Rattle.fs_laws.specs.Keys.{room_at}
 use Rattle.fs_nodes.specs.Copy.{put_into}
 use Rattle.tty_line.specs.Terminal.{Terminal}
 use Rattle.tty_line.specs.declared.line.Took.TheVariants.{Wait}
@@ -79,4 +80,4 @@ pub read_lengths : (h : Handed) (entry at count now : ℕ) → SameLengths h.ima
 read_lengths h entry at count now =
     file_keeps (SameLengths h.image) (put_into at)
     (λ image n bytes kept. bytes_lengths h.image image (at + n) bytes kept) (node_at h (file_of h entry).ino)
-    h.inodes.store.room h.image (file_of h entry).offset count now (same_lengths h.image)
+    (room_at h.inodes.store (file_of h entry).ino) h.image (file_of h entry).offset count now (same_lengths h.image)

@@ -15,6 +15,7 @@ use Rattle.sys_files.specs.Handed.{no_node, node_in}
 use Rattle.sys_files.specs.Making.{entry_written}
 use Rattle.fs_laws.specs.Touch.{Touching, touching, take_names, gained}
 use Rattle.fs_laws.specs.Pieces.{pieces, Moving, stopped, going_on, writing, size_limit, with_bytes, beginning, write_file}
+use Rattle.fs_laws.specs.Keys.{room_at}
 
 taken_links : (names : List BlockName) (node : Node) (room : ℕ) → (take_names names node room).node.nlink ≡ node.nlink
 taken_links [] node room = refl
@@ -102,5 +103,5 @@ changed_links nodes dir ino node same = elim (cases_lt dir (length nodes)) [
 pub entry_written-links : (n : Inodes) (dir offset : ℕ) (bytes : List ℕ) (now ino : ℕ)
     → (node_in (entry_written n dir offset bytes now).inodes.store ino).nlink ≡ (node_in n.store ino).nlink
 entry_written-links n dir offset bytes now ino =
-    changed_links n.store.nodes dir ino (written n.store (node_in n.store dir) offset bytes now).node
-    (write_file-links (get_kernel bytes) (node_in n.store dir) n.store.room tt offset (length bytes) now)
+    changed_links n.store.nodes dir ino (written n.store dir (node_in n.store dir) offset bytes now).node
+    (write_file-links (get_kernel bytes) (node_in n.store dir) (room_at n.store dir) tt offset (length bytes) now)

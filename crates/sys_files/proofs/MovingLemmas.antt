@@ -6,9 +6,9 @@ use Rattle.proc_tab.specs.declared.row.Row.{Row}
 use Rattle.u_area.specs.declared.layout.TheConstants.{LINE_READ}
 use Rattle.u_area.specs.declared.area.UArea.{UArea}
 use Rattle.u_area.proofs.AreaLemmas.{one_area}
-use Rattle.fs_codec.specs.Store.{Node, Store, node_numbered}
-use Rattle.fs_laws.specs.Numbers.{with_node}
+use Rattle.fs_codec.specs.Store.{Node, Store}
 use Rattle.fs_laws.specs.Pieces.{Moving}
+use Rattle.fs_laws.specs.Keys.{node_numbered, with_node}
 use Rattle.fs_nodes.specs.FileSystem.{FileSystem}
 use Rattle.open_files.specs.declared.file.OpenFile.{OpenFile}
 use Rattle.open_files.specs.Files.{with_change, with_offset}

@@ -1,11 +1,12 @@
 -- Searches, and what makes, truncates and frees a node, leave the number of nodes; a number that is drawn is one of a node.
-use Rattle.std.proofs.Common.{◌≡◌, ◌≤◌, ◌∙◌, ◌-◌, ◌&&◌, ℕ, Bool, true, false, not, nat_lt, nat_le, cond, List, [], ◌∷◌, reverse, slice_index, slice_set, is_some, is_none, Option, Some, None, Result, Ok, Err, refl, ap, subst}
+use Rattle.std.proofs.Common.{◌≡◌, ◌≤◌, ◌∙◌, ◌&&◌, ℕ, Bool, true, false, not, nat_lt, nat_le, cond, List, [], ◌∷◌, reverse, slice_index, slice_set, is_some, is_none, Option, Some, None, Result, Ok, Err, refl, ap, subst}
 use Rattle.std.proofs.lemmas.Bool.{leb-true, and_parts}
 use Rattle.v6_base.specs.declared.errno.Errno.{Errno}
 use Rattle.v6_base.specs.declared.errno.Errno.TheVariants.{ENFILE}
 use Rattle.fs_codec.specs.Modes.{is_device}
-use Rattle.fs_codec.specs.Store.{Node, Store, node_numbered}
-use Rattle.fs_laws.specs.Numbers.{is_free_number, Draw, drawn, refill, draw, with_draw, new_node, with_node, without_node}
+use Rattle.fs_codec.specs.Store.{Node, Store}
+use Rattle.fs_laws.specs.Numbers.{is_free_number, Draw, drawn, refill, draw, with_draw, new_node, without_node}
+use Rattle.fs_laws.specs.Keys.{node_numbered, with_node, room_at}
 use Rattle.fs_nodes.specs.FileSystem.{referenced}
 use Rattle.fs_tree.specs.declared.made.Made.{Made}
 use Rattle.fs_tree.specs.declared.user.User.{User}
@@ -119,7 +120,7 @@ new_within n mode user now ino is = by (draw n.store (λ i. nat_lt 0 (slice_inde
         → (cond {A = Finding ℕ} b (record {
           answer = Ok i;
           inodes = record {
-            store = with_node (with_draw n.store d) i (new_node mode user.uid user.gid now) n.store.room;
+            store = with_node (with_draw n.store d) i (new_node mode user.uid user.gid now) (room_at n.store i);
             references = slice_set n.references i 1;
           };
         }) (refused (record n { store = with_draw n.store d }) ENFILE)).answer ≡ Ok ino → (1 ≤ ino) × (ino ≤ n.store.count)

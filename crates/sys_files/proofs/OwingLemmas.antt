@@ -4,8 +4,9 @@ use Rattle.std.proofs.lemmas.Bool.{eq-eqb, ne_eqb, cases_lt, cases_eq}
 use Rattle.std.proofs.lemmas.List.{get_or_past, set_past, get_or-set_same, get_or-set_other}
 use Rattle.std.proofs.lemmas.List.Sums.{sum_by-cons}
 use Rattle.v6_base.specs.declared.errno.Errno.{Errno}
-use Rattle.fs_codec.specs.Store.{Node, Store, node_numbered}
+use Rattle.fs_codec.specs.Store.{Node, Store}
 use Rattle.fs_laws.specs.Numbers.{without_node}
+use Rattle.fs_laws.specs.Keys.{node_numbered}
 use Rattle.open_files.specs.Files.{file_at, times, AreOpen}
 use Rattle.fs_nodes.specs.FileSystem.{FileSystem, IsFileSystem}
 use Rattle.fs_tree.specs.Name.{name_at}

@@ -4,6 +4,7 @@ use Rattle.v6_base.specs.Image.{Image}
 use Rattle.v6_base.specs.declared.errno.Errno.{Errno}
 use Rattle.v6_base.proofs.Copies.{SameLengths, same_lengths, bytes_lengths}
 use Rattle.fs_codec.specs.Store.{Store}
+use Rattle.fs_laws.specs.Keys.{room_at}
 use Rattle.fs_nodes.specs.Copy.{put_into}
 use Rattle.pipe_ends.specs.declared.ends.Pipe.{Pipe}
 use Rattle.pipe_ends.specs.declared.ends.Piped.{Piped}
@@ -45,7 +46,7 @@ module _ (store : Store) (ends : ℕ) (p : Pipe) (image : Image) (at count time 
   read_lengths_by true = same_lengths image
   read_lengths_by false =
       file_keeps (SameLengths image) (put_into at) (λ m n bytes kept. bytes_lengths image m (at + n) bytes kept)
-      (pipe_file store p) store.room image p.offset count time (same_lengths image)
+      (pipe_file store p) (room_at store p.ino) image p.offset count time (same_lengths image)
 
   pub pipe_lengths : SameLengths image (reads store ends p image at count time).image
   unfolding reads

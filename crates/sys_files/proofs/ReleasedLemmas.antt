@@ -49,8 +49,11 @@ pub line_closed_is : (h : Handed) (line : Option ℕ) → (closes_line h line).s
 line_closed_is h None = refl
 line_closed_is h (Some l) = by (is_line_open h l)
   where
-    by : (t : Bool) → (cond t h (record h { line = terminal.closed h.line }))
-        ≡ record h { line = (cond t h (record h { line = terminal.closed h.line })).line }
+    shut : Closing
+    shut = record { state = record h { line = terminal.closed h.line }; items = Log (Wake Keys) ∷ [] }
+
+    by : (used : Bool) → (cond used (record { state = h; items = [] }) shut).state
+        ≡ record h { line = (cond used (record { state = h; items = [] }) shut).state.line }
     by true = refl
     by false = refl
 

@@ -6,7 +6,8 @@ use Rattle.std.proofs.lemmas.List.{length-set}
 use Rattle.v6_base.specs.Access.{then_do}
 use Rattle.v6_base.specs.declared.errno.Errno.{Errno}
 use Rattle.v6_base.specs.declared.errno.Errno.TheVariants.{ENFILE}
-use Rattle.fs_codec.specs.Store.{Store, node_numbered}
+use Rattle.fs_codec.specs.Store.{Store}
+use Rattle.fs_laws.specs.Keys.{node_numbered}
 use Rattle.fs_nodes.specs.FileSystem.{FileSystem, SameRest, IsFileSystem}
 use Rattle.fs_tree.specs.declared.user.User.{User}
 use Rattle.fs_tree.specs.Path.{way, to_remove}
@@ -100,7 +101,7 @@ module _ (fs new : FileSystem) (marks : List Bool) (user : User) (dir : ℕ) (by
     (form : IsFileSystem fs) (referred : 0 < slice_index fs.references dir)
     (answer : r ≡ (remove_in (inodes_of fs) marks user dir bytes).answer)
     (inodes : inodes_of new ≡ (remove_in (inodes_of fs) marks user dir bytes).inodes)
-    (blocks : SameRest fs.blocks new.blocks) where
+    (blocks : SameRest fs new) where
   entry_used : (e : Entry) → then_do (way fs.store user dir bytes) (to_remove fs.store marks) ≡ Ok e
       → IsSome (node_numbered fs.store e.0) × IsSome (node_numbered fs.store e.2)
   entry_used e is = removed_used_at fs.store marks user dir bytes e (start_used fs form dir bytes referred) is

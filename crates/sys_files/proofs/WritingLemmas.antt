@@ -6,10 +6,10 @@ use Rattle.v6_base.specs.Image.{Image}
 use Rattle.v6_base.specs.Copy.{load_bytes}
 use Rattle.v6_base.specs.declared.errno.Errno.{Errno}
 use Rattle.v6_base.proofs.Copies.{load_wraps}
-use Rattle.fs_codec.specs.Store.{Node, Store, node_numbered}
-use Rattle.fs_laws.specs.Numbers.{with_node}
+use Rattle.fs_codec.specs.Store.{Node, Store}
 use Rattle.fs_laws.specs.Pieces.{Moving, write_file}
 use Rattle.fs_laws.proofs.RestLemmas.{rest_then}
+use Rattle.fs_laws.specs.Keys.{node_numbered, room_at, with_node}
 use Rattle.fs_nodes.specs.Copy.{get_from, get_kernel}
 use Rattle.fs_nodes.specs.FileSystem.{FileSystem}
 use Rattle.fs_tree.specs.Entries.{written, answer_to, WritesEntry}
@@ -59,7 +59,7 @@ mark_twice mark r s t less least = by mark (cases_eq s r) (cases_eq t s)
         ∙ sym (ap not (ne_eqb t r (λ e. other (omega (arith, e, less, least)))))
 
 -- A node is set twice, and the free blocks do not become more.
-node_twice : (store : Store) (ino : ℕ) (a b : Node) (r s : ℕ) → r ≤ store.room → s ≤ r
+node_twice : (store : Store) (ino : ℕ) (a b : Node) (r s : ℕ) → r ≤ room_at store ino → s ≤ r
     → with_node (with_node store ino a r) ino b s ≡ with_node store ino b s
 node_twice store ino a b r s less least =
     ap (λ nodes. record (with_node (with_node store ino a r) ino b s) { nodes = nodes })
@@ -78,7 +78,7 @@ alike_leaves store ino m x last r same w = record {
 
 -- what a write of bytes of the kernel's own leaves, as the answer and the inodes
 pub entry_is : (old new : FileSystem) (ino offset : ℕ) (bytes : List ℕ) (now : ℕ) (r : Result (Unit {0}) Errno)
-    → WritesEntry old.store ino (written old.store (node_in old.store ino) offset bytes now) new.store r
+    → WritesEntry old.store ino (written old.store ino (node_in old.store ino) offset bytes now) new.store r
     → new.references ≡ old.references
     → (r ≡ (entry_written (inodes_of old) ino offset bytes now).answer)
     × (inodes_of new ≡ (entry_written (inodes_of old) ino offset bytes now).inodes)
@@ -120,24 +120,24 @@ module _ (store middle last : Store) (ino : ℕ) (image : Image) (at rest offset
     parts = ap (load_bytes image at) (sym sum) ∙ loaded
 
     abbrev first : Moving (Unit {0})
-    first = write_file (get_from image at) (node_in store ino) store.room (tt {0}) offset k now
+    first = write_file (get_from image at) (node_in store ino) (room_at store ino) (tt {0}) offset k now
 
     abbrev second : Moving (Unit {0})
     second = write_file (get_from image rest) first.node first.room (tt {0}) (offset + k) n now
 
     abbrev whole : Moving (Unit {0})
-    whole = written store (node_in store ino) offset bytes now
+    whole = written store ino (node_in store ino) offset bytes now
 
     is_two : Alike whole (unless_ended first.error second first)
     is_two =
-        subst (λ c. Alike (write_file (get_kernel bytes) (node_in store ino) store.room (tt {0}) offset c now)
+        subst (λ c. Alike (write_file (get_kernel bytes) (node_in store ino) (room_at store ino) (tt {0}) offset c now)
         (unless_ended first.error second first))
         (sym (bytes_long image at (k + n) bytes parts))
         (two_files offset k n (get_kernel bytes) (get_from image at) (get_from image rest) border
         (λ v j few. sym (loaded_part image at (k + n) v j bytes parts (omega (arith, few))))
         (λ v j few. sym (load_wraps image (rest + v) (at + (k + v)) j (omega (arith, onward)) ∙ loaded_part image at (k + n)
         (k + v) j bytes parts (omega (arith, few))))
-        (node_in store ino) store.room now both)
+        (node_in store ino) (room_at store ino) now both)
 
     -- The first is refused.
     pub first_refused : (e : Errno) → WritesEntry store ino first middle (Err e) → WritesEntry store ino whole middle (Err e)
@@ -148,7 +148,7 @@ module _ (store middle last : Store) (ino : ℕ) (image : Image) (at rest offset
     -- The second finds what the first left.
     pub second_written : (u : Unit {0}) (r : Result (Unit {0}) Errno) → WritesEntry store ino first middle (Ok u)
         → ((node : Node) → node_numbered middle ino ≡ Some node
-        → WritesEntry middle ino (write_file (get_from image rest) node middle.room (tt {0}) (offset + k) n now) last r)
+        → WritesEntry middle ino (write_file (get_from image rest) node (room_at middle ino) (tt {0}) (offset + k) n now) last r)
         → WritesEntry store ino whole last r
     second_written u r w each =
         let low : ino < length store.nodes = numbered_low store ino (node_in store ino) there in
@@ -156,11 +156,11 @@ module _ (store middle last : Store) (ino : ℕ) (image : Image) (at rest offset
         ap (λ (s : Store). node_numbered s ino) w.store ∙ get_or-set_same store.nodes ino (Some first.node) None low in
         let wrote : WritesEntry (with_node store ino first.node first.room) ino second last r =
         subst (λ (s : Store). WritesEntry s ino
-        (write_file (get_from image rest) first.node s.room (tt {0}) (offset + k) n now) last r) w.store
+        (write_file (get_from image rest) first.node (room_at s ino) (tt {0}) (offset + k) n now) last r) w.store
         (each first.node found) in
         let twice : last ≡ with_node store ino second.node second.room =
         wrote.store ∙ node_twice store ino first.node second.node first.room second.room
-        (file_keeps (get_from image at) (node_in store ino) store.room offset k now)
+        (file_keeps (get_from image at) (node_in store ino) (room_at store ino) offset k now)
         (file_keeps (get_from image rest) first.node first.room (offset + k) n now) in
         alike_leaves store ino whole second last r
         (subst (λ o. Alike whole (unless_ended o second first)) (done_by first.error u w.told) is_two)

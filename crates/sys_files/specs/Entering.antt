@@ -3,7 +3,8 @@ use Rattle.std.specs.Prelude.{◌≡◌, ◌+◌, ◌%◌, ◌<◌, ◌≤◌, �
 use Rattle.v6_base.specs.declared.answer.Answer.{Answer}
 use Rattle.v6_base.specs.declared.errno.Errno.{Errno}
 use Rattle.fs_codec.specs.Modes.{is_directory}
-use Rattle.fs_codec.specs.Store.{Node, node_numbered}
+use Rattle.fs_codec.specs.Store.{Node}
+use Rattle.fs_laws.specs.Keys.{node_numbered}
 use Rattle.fs_nodes.specs.FileSystem.{FileSystem, SameRest}
 use Rattle.fs_tree.specs.declared.made.Made.{Made}
 use Rattle.fs_tree.specs.declared.made.Made.TheVariants as made
@@ -26,7 +27,7 @@ HasMade fs (made.Room dir offset name) = HasEntry fs dir offset
 pub record SameReferences (old new : FileSystem) : Type 0 where
   pub references : (i : ℕ) → slice_index new.references i ≡ slice_index old.references i
   pub count : new.store.count ≡ old.store.count
-  pub blocks : SameRest old.blocks new.blocks
+  pub blocks : SameRest old new
 
 -- how many references more there are to an inode where there is one more to this inode
 abbrev pub one_to : ℕ → ℕ → ℕ
@@ -36,14 +37,14 @@ one_to ino i = if ino == i then 1 else 0
 pub record OneReferenceMore (old : FileSystem) (ino : ℕ) (new : FileSystem) : Type 0 where
   pub references : (i : ℕ) → slice_index new.references i ≡ slice_index old.references i + one_to ino i
   pub count : new.store.count ≡ old.store.count
-  pub blocks : SameRest old.blocks new.blocks
+  pub blocks : SameRest old new
 
 -- The same, but for one reference more to a directory, and one more to an inode.
 pub record TwoReferencesMore (old : FileSystem) (dir ino : ℕ) (new : FileSystem) : Type 0 where
   pub references : (i : ℕ)
       → slice_index new.references i ≡ slice_index old.references i + one_to dir i + one_to ino i
   pub count : new.store.count ≡ old.store.count
-  pub blocks : SameRest old.blocks new.blocks
+  pub blocks : SameRest old new
 
 -- a part of a call that is done, or refused
 abbrev pub did_of : Handed → Result (Unit {0}) Errno → Did

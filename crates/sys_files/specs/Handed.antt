@@ -7,7 +7,7 @@ use Rattle.proc_tab.specs.declared.row.Row.{Row}
 use Rattle.u_area.specs.declared.area.UArea.{UArea}
 use Rattle.fs_codec.specs.Modes.{is_character_device}
 use Rattle.fs_codec.specs.Store.{Node, Store}
-use Rattle.fs_laws.specs.Numbers.{with_node}
+use Rattle.fs_laws.specs.Keys.{with_fields}
 use Rattle.open_files.specs.declared.file.OpenFile.{OpenFile}
 use Rattle.open_files.specs.Files.{file_at}
 use Rattle.pipe_ends.specs.declared.ends.Pipe.{Pipe}
@@ -88,7 +88,7 @@ with_store h store = with_inodes h (record h.inodes { store = store })
 
 -- a node is changed, and holds no other blocks
 abbrev pub with_changed : Handed → ℕ → Node → Handed
-with_changed h ino node = with_store h (with_node h.inodes.store ino node h.inodes.store.room)
+with_changed h ino node = with_store h (with_fields h.inodes.store ino node)
 
 -- a number of the process names this entry from now on: one more than the entry, or 0
 abbrev pub with_number : UArea → ℕ → ℕ → UArea

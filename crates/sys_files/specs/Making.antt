@@ -5,8 +5,9 @@ use Rattle.v6_base.specs.declared.errno.Errno.TheVariants.{EPERM, EEXIST, EISDIR
 use Rattle.fs_codec.specs.Bytes.{entry_bytes}
 use Rattle.fs_codec.specs.Modes.{is_device, is_directory}
 use Rattle.fs_codec.specs.Store.{Node}
-use Rattle.fs_laws.specs.Numbers.{Draw, draw, with_draw, with_node, new_node, with_truncated}
+use Rattle.fs_laws.specs.Numbers.{Draw, draw, with_draw, new_node}
 use Rattle.fs_laws.specs.Pieces.{Moving}
+use Rattle.fs_laws.specs.Keys.{room_at, with_node, with_fields, with_truncated}
 use Rattle.fs_nodes.specs.FileSystem.{referenced}
 use Rattle.fs_tree.specs.declared.user.User.{User}
 use Rattle.fs_tree.specs.declared.user.Want.TheVariants.{Write}
@@ -25,7 +26,7 @@ new_numbered n mode user now d (Some ino) =
     if nat_lt (referenced n.references) 100 then record {
       answer = Ok ino;
       inodes = record {
-        store = with_node (with_draw n.store d) ino (new_node mode user.uid user.gid now) n.store.room;
+        store = with_node (with_draw n.store d) ino (new_node mode user.uid user.gid now) (room_at n.store ino);
         references = slice_set n.references ino 1;
       };
     } else refused (record n { store = with_draw n.store d }) ENFILE
@@ -38,7 +39,7 @@ new_in n mode user now =
 -- Bytes of a directory are written.
 abbrev pub entry_written : Inodes → ℕ → ℕ → List ℕ → ℕ → Finding (Unit {0})
 entry_written n dir offset bytes now =
-    let m : Moving (Unit {0}) = written n.store (node_in n.store dir) offset bytes now in
+    let m : Moving (Unit {0}) = written n.store dir (node_in n.store dir) offset bytes now in
     record { answer = answer_to m.error; inodes = record n { store = with_node n.store dir m.node m.room } }
 
 -- The call goes on where they are.
@@ -53,7 +54,7 @@ enters h dir offset name ino now next = writes_entry h dir offset (entry_bytes (
 abbrev pub links_in : Inodes → ℕ → ℕ → ℕ → Inodes
 links_in n ino links now =
     let changed : Node = record (node_in n.store ino) { nlink = links; modtime = now } in
-    record n { store = with_node n.store ino changed n.store.room }
+    record n { store = with_fields n.store ino changed }
 
 abbrev pub with_links : Handed → ℕ → ℕ → ℕ → Handed
 with_links h ino links now = with_inodes h (links_in h.inodes ino links now)
@@ -96,7 +97,7 @@ creat_file h name mode now = makes h name (opens_again now) (makes_file mode now
 abbrev pub device_in : Inodes → ℕ → ℕ → Inodes
 device_in n ino device =
     let changed : Node = record (node_in n.store ino) { device = device } in
-    if is_device (node_in n.store ino).mode then record n { store = with_node n.store ino changed n.store.room } else n
+    if is_device (node_in n.store ino).mode then record n { store = with_fields n.store ino changed } else n
 
 abbrev pub with_device : Handed → ℕ → ℕ → Handed
 with_device h ino device = with_inodes h (device_in h.inodes ino device)

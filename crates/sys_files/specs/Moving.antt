@@ -8,8 +8,8 @@ use Rattle.v6_base.specs.declared.errno.Errno.TheVariants.{EBADF, EFAULT, ESPIPE
 use Rattle.fs_codec.specs.Modes.{is_device}
 use Rattle.fs_codec.specs.Store.{Node}
 use Rattle.u_area.specs.declared.layout.TheConstants.{NOTHING_PENDING, LINE_READ, PIPE_READ}
-use Rattle.fs_laws.specs.Numbers.{with_node}
 use Rattle.fs_laws.specs.Pieces.{Moving, read_file, write_file}
+use Rattle.fs_laws.specs.Keys.{room_at, with_node}
 use Rattle.fs_nodes.specs.Copy.{put_into, get_from}
 use Rattle.fs_tree.specs.Name.{readable}
 use Rattle.open_files.specs.declared.file.OpenFile.{OpenFile}
@@ -55,7 +55,7 @@ waits_for_keys h l entry at count = unless_due h (record {
 abbrev pub read_of : Handed → ℕ → ℕ → ℕ → ℕ → Moving Image
 read_of h entry at count now =
     let file : OpenFile = file_of h entry in
-    read_file (put_into at) (node_at h file.ino) h.inodes.store.room h.image file.offset count now
+    read_file (put_into at) (node_at h file.ino) (room_at h.inodes.store file.ino) h.image file.offset count now
 
 abbrev pub with_read : Handed → ℕ → Moving Image → Handed
 with_read h entry m = record (with_moved h entry m) { image = m.memory }
@@ -118,7 +118,7 @@ writes_line h l count bytes =
 abbrev pub write_of : Handed → ℕ → ℕ → ℕ → ℕ → Moving (Unit {0})
 write_of h entry at count now =
     let file : OpenFile = file_of h entry in
-    write_file (get_from h.image at) (node_at h file.ino) h.inodes.store.room tt file.offset count now
+    write_file (get_from h.image at) (node_at h file.ino) (room_at h.inodes.store file.ino) tt file.offset count now
 
 -- The null device takes all.
 abbrev pub writes_by : Handed → Option ℕ → Bool → ℕ → ℕ → Moving (Unit {0}) → Did

@@ -6,8 +6,9 @@ ghost use Rattle.v6_base.specs.Copy.{load_bytes};
 ghost use Rattle.v6_base.specs.declared.errno.Errno.TheVariants.{EACCES};
 ghost use Rattle.proc_tab.specs.declared.row.Row.{Row};
 ghost use Rattle.u_area.specs.Area.{area_bytes};
-ghost use Rattle.fs_codec.specs.Store.{Node, node_numbered};
+ghost use Rattle.fs_codec.specs.Store.{Node};
 ghost use Rattle.fs_laws.specs.Pieces.{write_file};
+ghost use Rattle.fs_laws.specs.Keys.{node_numbered, room_at};
 ghost use Rattle.fs_nodes.specs.Copy.{get_from};
 ghost use Rattle.fs_nodes.specs.FileSystem.{SameRest};
 ghost use Rattle.fs_tree.specs.Finding.{inodes_of};
@@ -24,11 +25,11 @@ ghost use Rattle.sys_files.specs.Core.{core_file, is_written};
 use crate::creating::truncate;
 use crate::entering::{Room, enter_new, find_to_make, make_inode};
 use crate::files::Files;
-use crate::inodes::{inode_of, let_go, see};
+use crate::inodes::inode_of;
 use crate::naming::user_of;
 use fs_codec::file_type;
 use fs_nodes::{Moved, Nodes};
-use fs_tree::{Made, Want};
+use fs_tree::{Made, Want, let_go};
 use u_area::{AREA_SIZE, UArea};
 use v6_base::{Errno, Fixed, Space};
 
@@ -79,7 +80,7 @@ fn write_area(nodes: &mut Nodes, ino: u16, u: &UArea, now: u32) -> Result<(), Er
     ensures inodes { inodes_of nodes.new ≡ (entry_written (inodes_of nodes.old) ino 0 (area_bytes u.now) now).inodes }
     ensures kept { SameReferences nodes.old nodes.new }
 {
-    see(nodes);
+    nodes.see();
     let mut bytes = [0; AREA_SIZE];
     u.store(&mut bytes);
     outcome_of(nodes.write_kernel(ino, 0, &bytes, now))
@@ -97,13 +98,13 @@ fn write_part<S: Space>(
 ) -> Result<(), Errno>
     requires referenced { 0 < slice_index nodes.old.references ino }
     ensures written { (node : Node) → node_numbered nodes.old.store ino ≡ Some node → WritesEntry nodes.old.store ino
-        (write_file (get_from (S.image space.now) at) node nodes.old.store.room (tt {0}) offset count now)
+        (write_file (get_from (S.image space.now) at) node (room_at nodes.old.store ino) (tt {0}) offset count now)
         nodes.new.store result }
     ensures references { nodes.new.references ≡ nodes.old.references }
     ensures there { node_numbered nodes.old.store ino ≡ Some (node_in nodes.old.store ino) }
     ensures kept { SameReferences nodes.old nodes.new }
 {
-    see(nodes);
+    nodes.see();
     outcome_of(nodes.write_at(ino, offset, space, at, count, now))
 }
 
@@ -258,7 +259,7 @@ fn write_over<S: Space>(
     ensures kept { SameReferences f.old.tree.nodes f.new.tree.nodes }
     ensures table { f.new.table ≡ f.old.table }
 {
-    see(&f.tree.nodes);
+    f.tree.nodes.see();
     test_plain(&f.tree.nodes, ino)?;
     f.tree.access(ino, user_of(u), Want::Write)?;
     truncate(&mut f.tree.nodes, ino, now);
@@ -351,7 +352,7 @@ pub fn write_core<S: Space>(f: &mut Files, u: &UArea, space: &S, now: u32) -> bo
         ≡ (core_file (handed f.old u.now row (S.image space.now)) now).state }
     ensures kept { (row : Row)
         → IsKept (handed f.old u.now row (S.image space.now)) (handed f.new u.now row (S.image space.now)) }
-    ensures blocks { SameRest f.old.tree.nodes.blocks f.new.tree.nodes.blocks }
+    ensures blocks { SameRest f.old.tree.nodes f.new.tree.nodes }
 {
     u.uid == u.ruid && write_named(f, u, space, now).is_ok()
 }

@@ -16,12 +16,12 @@ ghost use Rattle.sys_files.specs.Entering.{HasEntry, SameReferences, did_with};
 
 use crate::entering::{Room, enter_new, find_to_make, make_inode};
 use crate::files::Files;
-use crate::inodes::{inode_of, let_go, see};
+use crate::inodes::inode_of;
 use crate::naming::user_of;
 use crate::opening::open_found;
 use fs_codec::is_directory;
 use fs_nodes::Nodes;
-use fs_tree::{Made, Want};
+use fs_tree::{Made, Want, let_go};
 use open_files::FileKind;
 use proc_tab::Row;
 use u_area::UArea;
@@ -58,7 +58,7 @@ pub(crate) fn truncate(nodes: &mut Nodes, ino: u16, now: u32)
     ensures inodes { inodes_of nodes.new ≡ truncated_in (inodes_of nodes.old) ino now }
     ensures kept { SameReferences nodes.old nodes.new }
 {
-    see(nodes);
+    nodes.see();
     nodes.truncate(ino, now);
 }
 
@@ -73,7 +73,7 @@ fn open_to_write(f: &mut Files, u: &mut UArea, row: &mut Row, ino: u16) -> Answe
     ensures kept { (image : Image) → IsKept (handed f.old u.old row.old image) (handed f.new u.new row.new image) }
     ensures more { (i : ℕ)
         → slice_index f.old.tree.nodes.references i ≤ slice_index f.new.tree.nodes.references i }
-    ensures blocks { SameRest f.old.tree.nodes.blocks f.new.tree.nodes.blocks }
+    ensures blocks { SameRest f.old.tree.nodes f.new.tree.nodes }
 {
     open_found(f, u, row, ino, WRITING)
 }
@@ -89,9 +89,9 @@ fn open_again(f: &mut Files, u: &mut UArea, row: &mut Row, ino: u16, now: u32) -
     ensures kept { (image : Image) → IsKept (handed f.old u.old row.old image) (handed f.new u.new row.new image) }
     ensures more { (i : ℕ)
         → slice_index f.old.tree.nodes.references i ≤ slice_index f.new.tree.nodes.references i }
-    ensures blocks { SameRest f.old.tree.nodes.blocks f.new.tree.nodes.blocks }
+    ensures blocks { SameRest f.old.tree.nodes f.new.tree.nodes }
 {
-    see(&f.tree.nodes);
+    f.tree.nodes.see();
     if let Err(e) = f.tree.access(ino, user_of(u), Want::Write) {
         return Answer::Fail(e);
     }
@@ -115,7 +115,7 @@ fn enter_file(f: &mut Files, u: &mut UArea, row: &mut Row, room: Room, ino: u16,
     ensures kept { (image : Image) → IsKept (handed f.old u.old row.old image) (handed f.new u.new row.new image) }
     ensures more { (i : ℕ)
         → slice_index f.old.tree.nodes.references i ≤ slice_index f.new.tree.nodes.references i }
-    ensures blocks { SameRest f.old.tree.nodes.blocks f.new.tree.nodes.blocks }
+    ensures blocks { SameRest f.old.tree.nodes f.new.tree.nodes }
 {
     match enter_new(f, u, room, ino, now) {
         Ok(()) => open_to_write(f, u, row, ino),
@@ -135,7 +135,7 @@ fn make_file(f: &mut Files, u: &mut UArea, row: &mut Row, room: Room, mode: u16,
     ensures kept { (image : Image) → IsKept (handed f.old u.old row.old image) (handed f.new u.new row.new image) }
     ensures more { (i : ℕ)
         → slice_index f.old.tree.nodes.references i ≤ slice_index f.new.tree.nodes.references i }
-    ensures blocks { SameRest f.old.tree.nodes.blocks f.new.tree.nodes.blocks }
+    ensures blocks { SameRest f.old.tree.nodes f.new.tree.nodes }
 {
     let ino = match make_inode(&mut f.tree.nodes, mode & PERMISSIONS, user_of(u), now) {
         Ok(ino) => ino,
@@ -171,7 +171,7 @@ pub fn creat_file<S: Space, T: Trace>(
         (creat_file (handed f.old u.old row.old (S.image space.old)) (slice_index args 0) (slice_index args 1) now) }
     ensures frame { T.leads_to trace.old trace.new }
     ensures memory { S.rest space.new ≡ S.rest space.old }
-    ensures blocks { SameRest f.old.tree.nodes.blocks f.new.tree.nodes.blocks }
+    ensures blocks { SameRest f.old.tree.nodes f.new.tree.nodes }
 {
     let made = match find_to_make(&mut f.tree, u, space, args[0]) {
         Ok(made) => made,

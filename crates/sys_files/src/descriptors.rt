@@ -17,7 +17,7 @@ ghost use Rattle.sys_files.specs.Descriptors.{open_entry, dup_file, is_of_line, 
 
 use crate::devices::{keys_of, line_at};
 use crate::files::Files;
-use crate::inodes::let_go;
+use fs_tree::let_go;
 use open_files::{Closed, OpenFile, OpenTable};
 use proc_tab::Row;
 use u_area::UArea;
@@ -83,7 +83,7 @@ pub fn dup_file<S: Space, T: Trace>(
         (dup_file (handed f.old u.old row.old (S.image space.old))) }
     ensures frame { T.leads_to trace.old trace.new }
     ensures memory { S.rest space.new ≡ S.rest space.old }
-    ensures blocks { SameRest f.old.tree.nodes.blocks f.new.tree.nodes.blocks }
+    ensures blocks { SameRest f.old.tree.nodes f.new.tree.nodes }
 {
     dup_number(f, u)
 }
@@ -216,7 +216,7 @@ fn release<T: Trace>(f: &mut Files, told: Closed, now: u32, trace: &mut T)
     ensures items { (u : UArea) (row : Row) (image : Image)
         → Took (T.taken trace.old) (released (handed f.old u row image) told).items (T.taken trace.new) }
     ensures frame { T.leads_to trace.old trace.new }
-    ensures blocks { SameRest f.old.tree.nodes.blocks f.new.tree.nodes.blocks }
+    ensures blocks { SameRest f.old.tree.nodes f.new.tree.nodes }
 {
     match told {
         Closed::Still(file) => rouse_pipe(f, file, trace),
@@ -266,7 +266,7 @@ fn close_number<T: Trace>(
     ensures items { (row : Row) (image : Image) → Took (T.taken trace.old)
         (then_closes (record { state = handed f.old u.old row image; items = [] }) fd).items (T.taken trace.new) }
     ensures frame { T.leads_to trace.old trace.new }
-    ensures blocks { SameRest f.old.tree.nodes.blocks f.new.tree.nodes.blocks }
+    ensures blocks { SameRest f.old.tree.nodes f.new.tree.nodes }
 {
     let told = drop_number(f, u, fd)?;
     release(f, told, now, trace);
@@ -294,7 +294,7 @@ pub fn close_file<S: Space, T: Trace>(
         (close_file (handed f.old u.old row.old (S.image space.old))) }
     ensures frame { T.leads_to trace.old trace.new }
     ensures memory { S.rest space.new ≡ S.rest space.old }
-    ensures blocks { SameRest f.old.tree.nodes.blocks f.new.tree.nodes.blocks }
+    ensures blocks { SameRest f.old.tree.nodes f.new.tree.nodes }
 {
     let fd = u.r[0];
     match close_number(f, u, fd, now, trace) {
@@ -313,7 +313,7 @@ pub fn close_all<T: Trace>(f: &mut Files, u: &mut UArea, now: u32, trace: &mut T
     ensures kept { (row : Row) (image : Image)
         → IsKept (handed f.old u.old row image) (handed f.new u.new row image) }
     ensures frame { T.leads_to trace.old trace.new }
-    ensures blocks { SameRest f.old.tree.nodes.blocks f.new.tree.nodes.blocks }
+    ensures blocks { SameRest f.old.tree.nodes f.new.tree.nodes }
 {
     for fd in 0..15 {
         let _ = close_number(f, u, fd, now, trace);

@@ -11,10 +11,10 @@ ghost use Rattle.sys_files.specs.Making.{entry_written, new_in, makes_new, enter
 ghost use Rattle.sys_files.specs.Entering.{HasEntry, HasMade, SameReferences, OneReferenceMore, TwoReferencesMore};
 
 use crate::files::Files;
-use crate::inodes::{inode_of, let_go, see};
+use crate::inodes::inode_of;
 use crate::naming::user_of;
 use fs_nodes::Nodes;
-use fs_tree::{Made, NameBytes, Tree, User};
+use fs_tree::{Made, NameBytes, Tree, User, let_go};
 use u_area::UArea;
 use v6_base::{Errno, Space};
 
@@ -37,7 +37,7 @@ pub(crate) fn find_to_make<S: Space>(
     ensures same { tree.new.nodes.store ≡ tree.old.nodes.store }
     ensures none { IfErr result (λ e. SameReferences tree.old.nodes tree.new.nodes) }
 {
-    see(&tree.nodes);
+    tree.nodes.see();
     tree.find_to_make(u.dir, user_of(u), NameBytes::at(space, name))
 }
 
@@ -103,7 +103,7 @@ pub(crate) fn find_to_remove<S: Space>(
     ensures found { IfOk result (λ entry. TwoReferencesMore tree.old.nodes entry.0 entry.2 tree.new.nodes) }
     ensures none { IfErr result (λ e. SameReferences tree.old.nodes tree.new.nodes) }
 {
-    see(&tree.nodes);
+    tree.nodes.see();
     tree.find_to_remove(u.dir, user_of(u), NameBytes::at(space, name))
 }
 
@@ -116,7 +116,7 @@ pub(crate) fn make_inode(nodes: &mut Nodes, mode: u16, user: User, now: u32) -> 
     ensures entries { (dir offset : ℕ) → HasEntry nodes.old dir offset → HasEntry nodes.new dir offset }
     ensures none { IfErr result (λ e. SameReferences nodes.old nodes.new) }
 {
-    see(nodes);
+    nodes.see();
     nodes.new_node(mode, user.uid, user.gid, now)
 }
 
@@ -134,7 +134,7 @@ pub(crate) fn set_links(nodes: &mut Nodes, ino: u16, nlink: u8, now: u32)
     ensures inodes { inodes_of nodes.new ≡ links_in (inodes_of nodes.old) ino nlink now }
     ensures kept { SameReferences nodes.old nodes.new }
 {
-    see(nodes);
+    nodes.see();
     nodes.set_links(ino, nlink, now);
 }
 
@@ -177,7 +177,7 @@ pub(crate) fn enter(
     ensures marks { tree.new.marks ≡ tree.old.marks }
     ensures kept { SameReferences tree.old.nodes tree.new.nodes }
 {
-    see(&tree.nodes);
+    tree.nodes.see();
     tree.enter(dir, offset, name, ino, now)
 }
 
@@ -190,6 +190,6 @@ pub(crate) fn empty(tree: &mut Tree, dir: u16, offset: u32, now: u32) -> Result<
     ensures marks { tree.new.marks ≡ tree.old.marks }
     ensures kept { SameReferences tree.old.nodes tree.new.nodes }
 {
-    see(&tree.nodes);
+    tree.nodes.see();
     tree.remove(dir, offset, now)
 }

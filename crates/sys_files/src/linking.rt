@@ -13,10 +13,11 @@ ghost use Rattle.sys_files.specs.Entering.{HasEntry, SameReferences, did_of};
 use crate::answers::answer_of;
 use crate::entering::{Room, empty, enter, find_room, find_to_remove, links_of, set_links};
 use crate::files::Files;
-use crate::inodes::{inode_of, let_go};
+use crate::inodes::inode_of;
 use crate::naming::find_name;
 use fs_codec::is_directory;
 use fs_nodes::Nodes;
+use fs_tree::let_go;
 use proc_tab::Row;
 use u_area::UArea;
 use v6_base::{Answer, Errno, Slot, Space, Trace};
@@ -134,7 +135,7 @@ pub fn link_file<S: Space, T: Trace>(
         (link_file (handed f.old u.old row.old (S.image space.old)) (slice_index args 0) (slice_index args 1) now) }
     ensures frame { T.leads_to trace.old trace.new }
     ensures memory { S.rest space.new ≡ S.rest space.old }
-    ensures blocks { SameRest f.old.tree.nodes.blocks f.new.tree.nodes.blocks }
+    ensures blocks { SameRest f.old.tree.nodes f.new.tree.nodes }
 {
     let result = link(f, u, space, args[0], args[1], now);
     answer_of(u, result)
@@ -205,7 +206,7 @@ pub fn unlink_file<S: Space, T: Trace>(
         (unlink_file (handed f.old u.old row.old (S.image space.old)) (slice_index args 0) now) }
     ensures frame { T.leads_to trace.old trace.new }
     ensures memory { S.rest space.new ≡ S.rest space.old }
-    ensures blocks { SameRest f.old.tree.nodes.blocks f.new.tree.nodes.blocks }
+    ensures blocks { SameRest f.old.tree.nodes f.new.tree.nodes }
 {
     let result = unlink(f, u, space, args[0], now);
     answer_of(u, result)

@@ -14,10 +14,11 @@ ghost use Rattle.sys_files.specs.Entering.{HasEntry, SameReferences, did_of};
 use crate::answers::answer_of;
 use crate::entering::{Room, enter_new, find_room, make_inode};
 use crate::files::Files;
-use crate::inodes::{inode_of, let_go, see};
+use crate::inodes::inode_of;
 use crate::naming::user_of;
 use fs_codec::{ILARG, is_device};
 use fs_nodes::Nodes;
+use fs_tree::let_go;
 use proc_tab::Row;
 use u_area::UArea;
 use v6_base::{Answer, Errno, Slot, Space, Trace};
@@ -36,7 +37,7 @@ fn set_device(nodes: &mut Nodes, ino: u16, device: u16)
     ensures inodes { inodes_of nodes.new ≡ device_in (inodes_of nodes.old) ino device }
     ensures kept { SameReferences nodes.old nodes.new }
 {
-    see(nodes);
+    nodes.see();
     if is_device_at(nodes, ino) {
         nodes.set_device(ino, device);
     }
@@ -139,7 +140,7 @@ pub fn mknod_at<S: Space, T: Trace>(
         (mknod_at (handed f.old u.old row.old (S.image space.old)) (slice_index args 0) (slice_index args 1) (slice_index args 2) now) }
     ensures frame { T.leads_to trace.old trace.new }
     ensures memory { S.rest space.new ≡ S.rest space.old }
-    ensures blocks { SameRest f.old.tree.nodes.blocks f.new.tree.nodes.blocks }
+    ensures blocks { SameRest f.old.tree.nodes f.new.tree.nodes }
 {
     let result = mknod(f, u, space, args[0], args[1], args[2], now);
     answer_of(u, result)

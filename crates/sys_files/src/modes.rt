@@ -128,7 +128,7 @@ pub fn stty_set<S: Space, T: Trace>(
         (stty_set (handed f.old u.old row.old (S.image space.old)) (slice_index args 0)) }
     ensures frame { T.leads_to trace.old trace.new }
     ensures memory { S.rest space.new ≡ S.rest space.old }
-    ensures blocks { SameRest f.old.tree.nodes.blocks f.new.tree.nodes.blocks }
+    ensures blocks { SameRest f.old.tree.nodes f.new.tree.nodes }
 {
     let line = match line_named(f, u) {
         Ok(line) => line,
@@ -163,7 +163,7 @@ pub fn gtty_get<S: Space, T: Trace>(
         (gtty_get (handed f.old u.old row.old (S.image space.old)) (slice_index args 0)) }
     ensures frame { T.leads_to trace.old trace.new }
     ensures memory { S.rest space.new ≡ S.rest space.old }
-    ensures blocks { SameRest f.old.tree.nodes.blocks f.new.tree.nodes.blocks }
+    ensures blocks { SameRest f.old.tree.nodes f.new.tree.nodes }
 {
     if let Err(e) = line_named(f, u) {
         return Answer::Fail(e);

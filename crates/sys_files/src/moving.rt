@@ -19,7 +19,6 @@ ghost use Rattle.sys_files.specs.Entering.{did_with};
 use crate::descriptors::{file_of, open_entry};
 use crate::devices::{keys_of, line_at};
 use crate::files::Files;
-use crate::inodes::see;
 use crate::piping::{Transfer, read_pipe, write_pipe};
 use fs_codec::is_device;
 use fs_nodes::{Moved, Nodes};
@@ -119,9 +118,9 @@ fn read_bytes<S: Space>(
         ≡ with_read (handed f.old u row (S.image space.old)) entry (read_of (handed f.old u row
         (S.image space.old)) entry at count now) }
     ensures memory { S.rest space.new ≡ S.rest space.old }
-    ensures blocks { SameRest f.old.tree.nodes.blocks f.new.tree.nodes.blocks }
+    ensures blocks { SameRest f.old.tree.nodes f.new.tree.nodes }
 {
-    see(&f.tree.nodes);
+    f.tree.nodes.see();
     let read = f
         .tree
         .nodes
@@ -146,7 +145,7 @@ fn read_from<S: Space>(
     ensures did { reads_from (handed f.old u.old row.now (S.image space.old)) entry at count now
         ≡ did_with (handed f.new u.new row.now (S.image space.new)) result }
     ensures memory { S.rest space.new ≡ S.rest space.old }
-    ensures blocks { SameRest f.old.tree.nodes.blocks f.new.tree.nodes.blocks }
+    ensures blocks { SameRest f.old.tree.nodes f.new.tree.nodes }
 {
     let line = line_at(&f.tree.nodes, file.ino);
     let moved = read_bytes(f, entry, file, space, at, count, now);
@@ -194,7 +193,7 @@ pub fn read_file<S: Space, T: Trace>(
         (read_file_of (handed f.old u.old row.old (S.image space.old)) (slice_index args 0) (slice_index args 1) now) }
     ensures frame { T.leads_to trace.old trace.new }
     ensures memory { S.rest space.new ≡ S.rest space.old }
-    ensures blocks { SameRest f.old.tree.nodes.blocks f.new.tree.nodes.blocks }
+    ensures blocks { SameRest f.old.tree.nodes f.new.tree.nodes }
 {
     let entry = match open_entry(f, u, u.r[0]) {
         Ok(entry) => entry,
@@ -234,7 +233,7 @@ pub fn resume_file<S: Space, T: Trace>(
         (resumes (handed f.old u.old row.old (S.image space.old)) slot now) }
     ensures frame { T.leads_to trace.old trace.new }
     ensures memory { S.rest space.new ≡ S.rest space.old }
-    ensures blocks { SameRest f.old.tree.nodes.blocks f.new.tree.nodes.blocks }
+    ensures blocks { SameRest f.old.tree.nodes f.new.tree.nodes }
 {
     let pending = u.pending;
     let call = u.call;
@@ -387,9 +386,9 @@ fn write_bytes<S: Space>(
     ensures state { (u : UArea) (row : Row) → handed f.new u row (S.image space.now)
         ≡ with_moved (handed f.old u row (S.image space.now)) entry (write_of (handed f.old u row
         (S.image space.now)) entry at count now) }
-    ensures blocks { SameRest f.old.tree.nodes.blocks f.new.tree.nodes.blocks }
+    ensures blocks { SameRest f.old.tree.nodes f.new.tree.nodes }
 {
-    see(&f.tree.nodes);
+    f.tree.nodes.see();
     let moved = f
         .tree
         .nodes
@@ -419,7 +418,7 @@ fn write_to<S: Space, T: Trace>(
         → Took (T.taken trace.old) (writes_to (handed f.old u.now row (S.image space.now)) entry at count now).items
         (T.taken trace.new) }
     ensures frame { T.leads_to trace.old trace.new }
-    ensures blocks { SameRest f.old.tree.nodes.blocks f.new.tree.nodes.blocks }
+    ensures blocks { SameRest f.old.tree.nodes f.new.tree.nodes }
 {
     let line = line_at(&f.tree.nodes, file.ino);
     let device = is_device_at(&f.tree.nodes, file.ino);
@@ -458,7 +457,7 @@ pub fn write_file<S: Space, T: Trace>(
         (write_file_of (handed f.old u.old row.old (S.image space.old)) slot (slice_index args 0) (slice_index args 1) now) }
     ensures frame { T.leads_to trace.old trace.new }
     ensures memory { S.rest space.new ≡ S.rest space.old }
-    ensures blocks { SameRest f.old.tree.nodes.blocks f.new.tree.nodes.blocks }
+    ensures blocks { SameRest f.old.tree.nodes f.new.tree.nodes }
 {
     let entry = match open_entry(f, u, u.r[0]) {
         Ok(entry) => entry,
@@ -553,7 +552,7 @@ pub fn seek_to<S: Space, T: Trace>(
         (seek_to (handed f.old u.old row.old (S.image space.old)) (slice_index args 0) (slice_index args 1)) }
     ensures frame { T.leads_to trace.old trace.new }
     ensures memory { S.rest space.new ≡ S.rest space.old }
-    ensures blocks { SameRest f.old.tree.nodes.blocks f.new.tree.nodes.blocks }
+    ensures blocks { SameRest f.old.tree.nodes f.new.tree.nodes }
 {
     let entry = match open_entry(f, u, u.r[0]) {
         Ok(entry) => entry,

@@ -4,11 +4,11 @@ ghost use Rattle.std.specs.Prelude.{◌≡◌, ◌+◌, ◌/◌, ◌%◌, ◌<�
 ghost use Rattle.buf_cache.specs.Blocks.{block_at};
 ghost use Rattle.fs_codec.specs.Stands.{StandsFor};
 ghost use Rattle.fs_codec.specs.declared.layout.TheConstants.{DISK_BLOCKS};
-ghost use Rattle.fs_laws.specs.Numbers.{with_node};
 ghost use Rattle.fs_nodes.specs.FileSystem.{SameRest};
 ghost use Rattle.fs_tree.specs.Finding.{inodes_of, with_reference, put_back};
 ghost use Rattle.proc_tab.specs.declared.row.Row.{Row};
 ghost use Rattle.v6_base.specs.Image.{Image};
+ghost use Rattle.fs_laws.specs.Keys.{with_fields};
 ghost use Rattle.sys_files.specs.Handed.{handed, node_in};
 ghost use Rattle.sys_files.specs.Names.{enters_directory, chdir_to, changed_mode, changes_mode, chmod_to};
 ghost use Rattle.sys_files.specs.Names.{chown_to, sync_all};
@@ -17,11 +17,11 @@ ghost use Rattle.sys_files.specs.Does.{Does};
 
 use crate::answers::done;
 use crate::files::Files;
-use crate::inodes::{inode_of, let_go, refer_again, see};
+use crate::inodes::inode_of;
 use crate::naming::{find_name, user_of};
 use fs_codec::{DiskNode, IALLOC, IFMT, ILARG, is_directory};
 use fs_nodes::Nodes;
-use fs_tree::Want;
+use fs_tree::{Want, let_go, refer_again};
 use proc_tab::Row;
 use u_area::UArea;
 use v6_base::{Answer, Errno, Slot, Space, Trace};
@@ -70,15 +70,15 @@ fn is_owner(node: &DiskNode, u: &UArea) -> bool
 /// Gives a file the permissions of a mode.
 fn set_permissions(nodes: &mut Nodes, u: &UArea, ino: u16, mode: u16, now: u32)
     requires referenced { 0 < slice_index nodes.old.references ino }
-    ensures store { nodes.new.store ≡ with_node nodes.old.store ino
+    ensures store { nodes.new.store ≡ with_fields nodes.old.store ino
         (record (node_in nodes.old.store ino) {
           mode = changed_mode (node_in nodes.old.store ino).mode mode (u.now.uid == 0);
           modtime = now;
-        }) nodes.old.store.room }
+        }) }
     ensures references { nodes.new.references ≡ nodes.old.references }
-    ensures rest { SameRest nodes.old.blocks nodes.new.blocks }
+    ensures rest { SameRest nodes.old nodes.new }
 {
-    see(nodes);
+    nodes.see();
     let old = inode_of(nodes, ino).mode;
     nodes.set_mode(ino, changed_mode(old, mode, is_super_user(u)), now);
 }
@@ -97,7 +97,7 @@ fn change_mode(f: &mut Files, u: &UArea, ino: u16, mode: u16, now: u32) -> Answe
     ensures items { (row : Row) (image : Image)
         → (changes_mode mode now (handed f.old u.now row image) ino).items ≡ [] }
     ensures references { f.new.tree.nodes.references ≡ f.old.tree.nodes.references }
-    ensures rest { SameRest f.old.tree.nodes.blocks f.new.tree.nodes.blocks }
+    ensures rest { SameRest f.old.tree.nodes f.new.tree.nodes }
 {
     if !is_owner(&inode_of(&f.tree.nodes, ino), u) {
         return Answer::Fail(Errno::EPERM);
@@ -113,7 +113,7 @@ fn change_directory(nodes: &mut Nodes, u: &mut UArea, ino: u16, now: u32)
     requires few { slice_index nodes.old.references ino < 65535 }
     ensures inodes { inodes_of nodes.new ≡ put_back (with_reference (inodes_of nodes.old) ino) u.old.dir }
     ensures area { u.new ≡ record u.old { dir = ino } }
-    ensures rest { SameRest nodes.old.blocks nodes.new.blocks }
+    ensures rest { SameRest nodes.old nodes.new }
 {
     refer_again(nodes, ino);
     let_go(nodes, u.dir, now);
@@ -135,7 +135,7 @@ fn enter_directory(f: &mut Files, u: &mut UArea, ino: u16, now: u32) -> Answer
         ≡ (enters_directory (handed f.old u.old row image) ino).state }
     ensures items { (row : Row) (image : Image) → (enters_directory (handed f.old u.old row image) ino).items ≡ [] }
     ensures referred { 0 < slice_index f.new.tree.nodes.references ino }
-    ensures rest { SameRest f.old.tree.nodes.blocks f.new.tree.nodes.blocks }
+    ensures rest { SameRest f.old.tree.nodes f.new.tree.nodes }
 {
     if !is_directory(inode_of(&f.tree.nodes, ino).mode) {
         return Answer::Fail(Errno::ENOTDIR);
@@ -169,7 +169,7 @@ pub fn chdir_to<S: Space, T: Trace>(
         (chdir_to (handed f.old u.old row.old (S.image space.old)) (slice_index args 0)) }
     ensures frame { T.leads_to trace.old trace.new }
     ensures memory { S.rest space.new ≡ S.rest space.old }
-    ensures blocks { SameRest f.old.tree.nodes.blocks f.new.tree.nodes.blocks }
+    ensures blocks { SameRest f.old.tree.nodes f.new.tree.nodes }
 {
     let ino = match find_name(&mut f.tree, u, space, args[0]) {
         Ok(ino) => ino,
@@ -202,7 +202,7 @@ pub fn chmod_to<S: Space, T: Trace>(
         (chmod_to (handed f.old u.old row.old (S.image space.old)) (slice_index args 0) (slice_index args 1) now) }
     ensures frame { T.leads_to trace.old trace.new }
     ensures memory { S.rest space.new ≡ S.rest space.old }
-    ensures blocks { SameRest f.old.tree.nodes.blocks f.new.tree.nodes.blocks }
+    ensures blocks { SameRest f.old.tree.nodes f.new.tree.nodes }
 {
     let ino = match find_name(&mut f.tree, u, space, args[0]) {
         Ok(ino) => ino,
@@ -216,13 +216,12 @@ pub fn chmod_to<S: Space, T: Trace>(
 /// Gives a file an owner, the low byte, and a group, the high one.
 fn set_owner(nodes: &mut Nodes, ino: u16, owner: u16, now: u32)
     requires referenced { 0 < slice_index nodes.old.references ino }
-    ensures store { nodes.new.store ≡ with_node nodes.old.store ino
-        (record (node_in nodes.old.store ino) { uid = owner % 256; gid = owner / 256; modtime = now })
-        nodes.old.store.room }
+    ensures store { nodes.new.store ≡ with_fields nodes.old.store ino
+        (record (node_in nodes.old.store ino) { uid = owner % 256; gid = owner / 256; modtime = now }) }
     ensures references { nodes.new.references ≡ nodes.old.references }
-    ensures rest { SameRest nodes.old.blocks nodes.new.blocks }
+    ensures rest { SameRest nodes.old nodes.new }
 {
-    see(nodes);
+    nodes.see();
     nodes.set_owner(ino, (owner % 256) as u8, (owner / 256) as u8, now);
 }
 
@@ -249,7 +248,7 @@ pub fn chown_to<S: Space, T: Trace>(
         (chown_to (handed f.old u.old row.old (S.image space.old)) (slice_index args 0) (slice_index args 1) now) }
     ensures frame { T.leads_to trace.old trace.new }
     ensures memory { S.rest space.new ≡ S.rest space.old }
-    ensures blocks { SameRest f.old.tree.nodes.blocks f.new.tree.nodes.blocks }
+    ensures blocks { SameRest f.old.tree.nodes f.new.tree.nodes }
 {
     if !is_super_user(u) {
         return Answer::Fail(Errno::EPERM);
@@ -282,7 +281,7 @@ pub fn sync_all<S: Space, T: Trace>(
         (sync_all (handed f.old u.old row.old (S.image space.old)) now) }
     ensures frame { T.leads_to trace.old trace.new }
     ensures memory { S.rest space.new ≡ S.rest space.old }
-    ensures blocks { SameRest f.old.tree.nodes.blocks f.new.tree.nodes.blocks }
+    ensures blocks { SameRest f.old.tree.nodes f.new.tree.nodes }
     ensures stored { f.new.tree.nodes.stored ≡ f.new.tree.nodes.blocks }
     ensures stands { StandsFor DISK_BLOCKS (block_at f.new.tree.nodes.stored) f.new.tree.nodes.store }
 {

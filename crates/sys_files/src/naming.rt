@@ -1,12 +1,11 @@
 //! The names that calls are given: `namei` in Lions' Commentary, `nami.c`.
 ghost use Rattle.std.specs.Prelude.{◌≡◌, ◌<◌, ◌≤◌, ℕ, IsSome, IfOk, slice_index};
-ghost use Rattle.fs_codec.specs.Store.{node_numbered};
+ghost use Rattle.fs_laws.specs.Keys.{node_numbered};
 ghost use Rattle.fs_nodes.specs.FileSystem.{IsFileSystem};
 ghost use Rattle.fs_tree.specs.Finding.{inodes_of, find_in};
 ghost use Rattle.fs_tree.specs.Name.{name_at};
 ghost use Rattle.sys_files.specs.Handed.{user_of};
 
-use crate::inodes::see;
 use fs_tree::{NameBytes, Tree, User};
 use u_area::UArea;
 use v6_base::{Errno, Space};
@@ -44,6 +43,6 @@ pub(crate) fn find_name<S: Space>(
     ensures node { IfOk result (λ ino. IsSome (node_numbered tree.new.nodes.store ino)) }
     ensures referred { IfOk result (λ ino. 0 < slice_index tree.new.nodes.references ino) }
 {
-    see(&tree.nodes);
+    tree.nodes.see();
     tree.find(u.dir, user_of(u), NameBytes::at(space, name))
 }

@@ -16,11 +16,11 @@ ghost use Rattle.sys_files.specs.Does.{Does};
 
 use crate::devices::{is_line, is_null, line_at};
 use crate::files::Files;
-use crate::inodes::{inode_of, let_go, refer_again, see};
+use crate::inodes::inode_of;
 use crate::naming::{find_name, user_of};
 use fs_codec::{is_device, is_directory};
 use fs_nodes::Nodes;
-use fs_tree::{Tree, User, Want};
+use fs_tree::{Tree, User, Want, let_go, refer_again};
 use open_files::FileKind;
 use proc_tab::Row;
 use tty_line::Line;
@@ -50,7 +50,7 @@ fn access(tree: &Tree, ino: u16, who: User, want: Want) -> Result<(), Errno>
     requires { 0 < slice_index tree.now.nodes.references ino }
     ensures { result ≡ access tree.now.marks ino (node_in tree.now.nodes.store ino) who want }
 {
-    see(&tree.nodes);
+    tree.nodes.see();
     tree.access(ino, who, want)
 }
 
@@ -237,7 +237,7 @@ pub fn open_file<S: Space, T: Trace>(
         (open_file (handed f.old u.old row.old (S.image space.old)) (slice_index args 0) (slice_index args 1)) }
     ensures frame { T.leads_to trace.old trace.new }
     ensures memory { S.rest space.new ≡ S.rest space.old }
-    ensures blocks { SameRest f.old.tree.nodes.blocks f.new.tree.nodes.blocks }
+    ensures blocks { SameRest f.old.tree.nodes f.new.tree.nodes }
 {
     let ino = match find_name(&mut f.tree, u, space, args[0]) {
         Ok(ino) => ino,

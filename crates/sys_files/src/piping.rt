@@ -18,9 +18,8 @@ ghost use Rattle.sys_files.specs.Entering.{did_with};
 use crate::descriptors::see_entries;
 use crate::entering::make_inode;
 use crate::files::Files;
-use crate::inodes::{let_go, refer_again};
 use fs_codec::IALLOC;
-use fs_tree::User;
+use fs_tree::{User, let_go, refer_again};
 use open_files::FileKind;
 use pipe_ends::{Pipe, Piped};
 use proc_tab::Row;
@@ -120,7 +119,7 @@ fn make_pipe(f: &mut Files, u: &mut UArea, now: u32) -> Answer
     ensures did { (row : Row) (image : Image) → pipe_new (handed f.old u.old row image) now
         ≡ did_with (handed f.new u.new row image) result }
     ensures kept { (row : Row) (image : Image) → IsKept (handed f.old u.old row image) (handed f.new u.new row image) }
-    ensures blocks { SameRest f.old.tree.nodes.blocks f.new.tree.nodes.blocks }
+    ensures blocks { SameRest f.old.tree.nodes f.new.tree.nodes }
 {
     let ino = match make_inode(&mut f.tree.nodes, IALLOC, NOBODY, now) {
         Ok(ino) => ino,
@@ -154,7 +153,7 @@ pub fn pipe_new<S: Space, T: Trace>(
         (pipe_new (handed f.old u.old row.old (S.image space.old)) now) }
     ensures frame { T.leads_to trace.old trace.new }
     ensures memory { S.rest space.new ≡ S.rest space.old }
-    ensures blocks { SameRest f.old.tree.nodes.blocks f.new.tree.nodes.blocks }
+    ensures blocks { SameRest f.old.tree.nodes f.new.tree.nodes }
 {
     make_pipe(f, u, now)
 }
@@ -257,7 +256,7 @@ pub(crate) fn read_pipe<S: Space, T: Trace>(
         (reads_pipe (handed f.old u.old row.now (S.image space.old)) transfer.entry transfer.at transfer.count now).items (T.taken trace.new) }
     ensures frame { T.leads_to trace.old trace.new }
     ensures memory { S.rest space.new ≡ S.rest space.old }
-    ensures blocks { SameRest f.old.tree.nodes.blocks f.new.tree.nodes.blocks }
+    ensures blocks { SameRest f.old.tree.nodes f.new.tree.nodes }
 {
     let old = pipe_at(f, transfer.entry);
     let mut pipe = old;
@@ -342,7 +341,7 @@ pub(crate) fn write_pipe<S: Space, T: Trace>(
     ensures items { Took (T.taken trace.old) (writes_pipe (handed f.old u.old row.old (S.image space.now)) slot
         transfer.entry transfer.at transfer.count transfer.left now).items (T.taken trace.new) }
     ensures frame { T.leads_to trace.old trace.new }
-    ensures blocks { SameRest f.old.tree.nodes.blocks f.new.tree.nodes.blocks }
+    ensures blocks { SameRest f.old.tree.nodes f.new.tree.nodes }
 {
     let old = pipe_at(f, transfer.entry);
     let mut pipe = old;

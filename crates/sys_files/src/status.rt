@@ -15,10 +15,11 @@ ghost use Rattle.sys_files.specs.Does.{Does};
 use crate::answers::done;
 use crate::descriptors::{file_of, open_entry};
 use crate::files::Files;
-use crate::inodes::{inode_of, let_go};
+use crate::inodes::inode_of;
 use crate::naming::find_name;
 use fs_codec::{DiskNode, is_device, put_words, write_node};
 use fs_nodes::Nodes;
+use fs_tree::let_go;
 use proc_tab::Row;
 use u_area::UArea;
 use v6_base::{Answer, Errno, Slot, Space, Trace};
@@ -138,7 +139,7 @@ pub fn stat_file<S: Space, T: Trace>(
         (stat_file (handed f.old u.old row.old (S.image space.old)) (slice_index args 0) (slice_index args 1)) }
     ensures frame { T.leads_to trace.old trace.new }
     ensures memory { S.rest space.new ≡ S.rest space.old }
-    ensures blocks { SameRest f.old.tree.nodes.blocks f.new.tree.nodes.blocks }
+    ensures blocks { SameRest f.old.tree.nodes f.new.tree.nodes }
 {
     let ino = match find_name(&mut f.tree, u, space, args[0]) {
         Ok(ino) => ino,
@@ -171,7 +172,7 @@ pub fn stat_open<S: Space, T: Trace>(
         (stat_open (handed f.old u.old row.old (S.image space.old)) (slice_index args 0)) }
     ensures frame { T.leads_to trace.old trace.new }
     ensures memory { S.rest space.new ≡ S.rest space.old }
-    ensures blocks { SameRest f.old.tree.nodes.blocks f.new.tree.nodes.blocks }
+    ensures blocks { SameRest f.old.tree.nodes f.new.tree.nodes }
 {
     let entry = match open_entry(f, u, u.r[0]) {
         Ok(entry) => entry,

@@ -9,7 +9,8 @@ use Rattle.v6_base.specs.declared.entry.PanicKind.{PanicKind}
 use Rattle.v6_base.specs.declared.entry.PanicKind.TheVariants as panic
 use Rattle.u_area.specs.declared.area.UArea.{UArea}
 use Rattle.proc_tab.specs.declared.row.Row.{Row}
-use Rattle.fs_codec.specs.Store.{Store, node_numbered}
+use Rattle.fs_codec.specs.Store.{Store}
+use Rattle.fs_laws.specs.Keys.{node_numbered}
 use Rattle.image_keep.specs.Kept.{Kept, Shared, shared, shared_clicks, text_of, text_clicks}
 use Rattle.image_keep.specs.SharedTexts.{AreLong}
 use Rattle.pick_rules.specs.Board.{Board}

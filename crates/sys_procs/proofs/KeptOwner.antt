@@ -9,11 +9,11 @@ use Rattle.bmap_path.specs.declared.BlockName.{BlockName}
 use Rattle.bmap_path.specs.declared.BlockName.TheVariants.{Data, Ind, Dbl}
 use Rattle.bmap_path.specs.Path.{path_of}
 use Rattle.fs_codec.specs.Modes.{is_large, is_device}
-use Rattle.fs_codec.specs.Store.{Node, Store, node_numbered, holds}
+use Rattle.fs_codec.specs.Store.{Node, Store, holds}
 use Rattle.fs_codec.specs.declared.modes.TheConstants.{ISUID, ISGID, ILARG}
-use Rattle.fs_laws.specs.Numbers.{with_node}
 use Rattle.fs_laws.specs.Touch.{Touching, gained, take_names, touching}
 use Rattle.fs_laws.specs.Pieces.{Moving, going_on, reading, read_file, pieces, beginning}
+use Rattle.fs_laws.specs.Keys.{node_numbered, room_at, with_node}
 use Rattle.fs_nodes.specs.Copy.{put_kernel}
 use Rattle.sys_procs.specs.declared.program.Program.{Program}
 use Rattle.sys_procs.specs.World.{World}
@@ -132,5 +132,5 @@ text_owner w s program true there =
     let m : Moving (List ℕ) = text_read w program in
     subst (λ (node : Node). SameOwner (node_at w program.ino) node)
     (sym (node_put w.inodes.store program.ino m.node m.room there))
-    (read_same put_kernel (node_at w program.ino) w.inodes.store.room (replicate (text_room program) 0) 16
+    (read_same put_kernel (node_at w program.ino) (room_at w.inodes.store program.ino) (replicate (text_room program) 0) 16
     (text_room program) w.clock.time)

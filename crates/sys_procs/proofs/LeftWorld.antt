@@ -10,7 +10,8 @@ use Rattle.v6_base.specs.declared.entry.Entry.TheVariants.{Bare}
 use Rattle.v6_base.specs.declared.answer.Answer.{Answer}
 use Rattle.v6_base.specs.declared.entry.PanicKind.{PanicKind}
 use Rattle.fs_codec.specs.Store.{Node, Store}
-use Rattle.fs_laws.specs.Numbers.{without_reference, without_node}
+use Rattle.fs_laws.specs.Numbers.{without_node}
+use Rattle.fs_laws.specs.Keys.{without_reference}
 use Rattle.fs_nodes.specs.FileSystem.{FileSystem}
 use Rattle.fs_tree.specs.Finding.{Inodes, put_in, put_back}
 use Rattle.image_keep.specs.Kept.{text_of}

@@ -9,10 +9,11 @@ use Rattle.v6_base.specs.Image.{Image, nseg, data_base, named_by}
 use Rattle.v6_base.specs.Access.{store_byte, with_byte}
 use Rattle.v6_base.specs.Copy.{then_store, store_bytes}
 use Rattle.fs_codec.specs.Modes.{is_device}
-use Rattle.fs_codec.specs.Store.{Node, Store, node_numbered}
+use Rattle.fs_codec.specs.Store.{Node, Store}
 use Rattle.fs_laws.specs.Touch.{Touching, touching}
 use Rattle.fs_laws.specs.Pieces.{Moving, going_on, reading, read_file, pieces, piece_end, beginning}
 use Rattle.fs_laws.proofs.PieceLemmas.{pieces_step, no_pieces}
+use Rattle.fs_laws.specs.Keys.{node_numbered, room_at}
 use Rattle.fs_nodes.specs.Copy.{put_into}
 use Rattle.seg_regs.specs.Sizes.{is_refused}
 use Rattle.sys_procs.specs.declared.program.Program.{Program}
@@ -178,7 +179,7 @@ stack_stays store text program time long fits =
     let has : HasData text (64 * d) (replicate 1280 0) (cleared_image text program.plan) =
     record { text_is = refl; long = length-replicate (64 * d) nought; same = refl } in
     (file_read text (8192 * nseg t) (64 * d) (replicate 1280 0) (begins_at text t d long (few_segments t d 20 2048 fits))
-    (node_in store program.ino) store.room (cleared_image text program.plan) (16 + program.plan.text)
+    (node_in store program.ino) (room_at store program.ino) (cleared_image text program.plan) (16 + program.plan.text)
     program.plan.init time has (omega arith)).same
 
 -- the node of a number that has one

@@ -21,7 +21,7 @@ use Rattle.sys_procs.specs.Process.{Process, image_of}
 use Rattle.sys_procs.specs.World.{World, process_of, with_inodes, let_go}
 use Rattle.sys_procs.specs.Tests.{must, user_of, node_at}
 use Rattle.sys_procs.specs.Stack.{arguments, stack_clicks}
-use Rattle.sys_procs.specs.ExecFile.{Tested, text_clicks_in, data_clicks, check, with_moved, header_read, unless_error, is_magic, or_no_memory, is_busy, tests_header, tests_file, tests}
+use Rattle.sys_procs.specs.ExecFile.{Tested, text_clicks_in, data_clicks, check, with_moved, header_read, answer_to, is_magic, or_no_memory, is_busy, tests_header, tests_file, tests}
 
 abbrev Keeps : World → Tested → Type 0
 Keeps w t = t.world.processes ≡ w.processes
@@ -36,7 +36,7 @@ keeps_header : (w v : World) (ino : ℕ) (args : List (List ℕ)) (head : Moving
 keeps_header w v ino args head same =
     let h : Header = header_of head.memory in
     let out : World = let_go v ino in
-    keeps_check w out (unless_error head.error) _ same (λ read.
+    keeps_check w out (answer_to head.error) _ same (λ read.
     keeps_check w out (must ENOEXEC ((head.done == 16) && is_magic (plan_of h))) _ same (λ program.
     keeps_check w out (must ETXTBSY (not (is_busy v ino h))) _ same (λ free.
     keeps_check w out (or_no_memory (plan_of h)) _ same (λ plan.
@@ -86,7 +86,7 @@ refers_header : (base : List ℕ) (v : World) (ino : ℕ) (args : List (List ℕ
 refers_header base v ino args head is =
     let h : Header = header_of head.memory in
     let out : World = let_go v ino in
-    refers_check base out (unless_error head.error) _ (λ read _.
+    refers_check base out (answer_to head.error) _ (λ read _.
     refers_check base out (must ENOEXEC ((head.done == 16) && is_magic (plan_of h))) _ (λ program _.
     refers_check base out (must ETXTBSY (not (is_busy v ino h))) _ (λ free _.
     refers_check base out (or_no_memory (plan_of h)) _ (λ plan _.

@@ -8,8 +8,9 @@ use Rattle.v6_base.specs.Access.{then_do}
 use Rattle.v6_base.specs.declared.errno.Errno.{Errno}
 use Rattle.v6_base.specs.declared.errno.Errno.TheVariants.{ENOEXEC, ENOMEM, EACCES, ETXTBSY}
 use Rattle.fs_codec.specs.Modes.{file_type}
-use Rattle.fs_codec.specs.Store.{Node, Store, node_numbered}
+use Rattle.fs_codec.specs.Store.{Node, Store}
 use Rattle.fs_laws.specs.Pieces.{Moving}
+use Rattle.fs_laws.specs.Keys.{node_numbered}
 use Rattle.fs_nodes.specs.FileSystem.{FileSystem}
 use Rattle.fs_tree.specs.declared.user.Want.TheVariants.{Execute}
 use Rattle.fs_tree.specs.Permission.{permission}
@@ -30,7 +31,7 @@ use Rattle.sys_procs.specs.Stack.{arguments, stack_clicks}
 use Rattle.sys_procs.specs.Tests.{must, user_of, no_node, node_in}
 use Rattle.sys_procs.specs.Handed.{handed, process_here, memory_here}
 use Rattle.sys_procs.specs.ExecFile.{Tested, check, with_moved, clicks, entry_clicks, text_clicks_by, text_clicks_in, data_clicks, AreSized}
-use Rattle.sys_procs.specs.ExecFile.{unless_error, is_magic, or_no_memory, is_busy, header_read}
+use Rattle.sys_procs.specs.ExecFile.{answer_to, is_magic, or_no_memory, is_busy, header_read}
 use Rattle.sys_procs.specs.ExecFile.{tests_header, tests_file, tests}
 use Rattle.sys_procs.proofs.MemoryLemmas.{bytes_at}
 
@@ -103,18 +104,18 @@ sized_by texts ino there plan sized = by (plan.text == 0)
 -- what the header comes to, where none of the refusals before it comes
 pub none_refuses : {A : Type 0} (error : Option Errno) (is_program is_busy : Bool) (rest : Result A Errno)
     → error ≡ None → is_program ≡ true → is_busy ≡ false
-    → rest ≡ then_do (unless_error error) (λ _. then_do (must ENOEXEC is_program) (λ _.
+    → rest ≡ then_do (answer_to error) (λ _. then_do (must ENOEXEC is_program) (λ _.
     then_do (must ETXTBSY (not is_busy)) (λ _. rest)))
 none_refuses error is_program is_busy rest whole program free =
-    sym (λ i. then_do (unless_error (whole i)) (λ _. then_do (must ENOEXEC (program i)) (λ _.
+    sym (λ i. then_do (answer_to (whole i)) (λ _. then_do (must ENOEXEC (program i)) (λ _.
     then_do (must ETXTBSY (not (free i))) (λ _. rest))))
 
 pub busy_refuses : {A : Type 0} (error : Option Errno) (is_program is_busy : Bool) (rest : Result A Errno)
     → error ≡ None → is_program ≡ true → is_busy ≡ true
-    → Err ETXTBSY ≡ then_do (unless_error error) (λ _. then_do (must ENOEXEC is_program) (λ _.
+    → Err ETXTBSY ≡ then_do (answer_to error) (λ _. then_do (must ENOEXEC is_program) (λ _.
     then_do (must ETXTBSY (not is_busy)) (λ _. rest)))
 busy_refuses error is_program is_busy rest whole program busy =
-    sym (λ i. then_do (unless_error (whole i)) (λ _. then_do (must ENOEXEC (program i)) (λ _.
+    sym (λ i. then_do (answer_to (whole i)) (λ _. then_do (must ENOEXEC (program i)) (λ _.
     then_do (must ETXTBSY (not (busy i))) (λ _. rest))))
 
 -- where no image can have the sizes of the plan, or there is none
@@ -143,7 +144,7 @@ program_in w ino args plan = record { ino = ino; plan = plan; text_clicks = text
 
 abbrev pub judged : World → ℕ → List (List ℕ) → List ℕ → ℕ → Option Errno → ℕ → Result Program Errno
 judged w ino args head done error limit =
-    then_do (unless_error error) (λ whole.
+    then_do (answer_to error) (λ whole.
     then_do (must ENOEXEC ((done == 16) && is_magic (plan_of (header_of head)))) (λ program.
     then_do (must ETXTBSY (not (is_busy w ino (header_of head)))) (λ free.
     then_do (or_no_memory (plan_of (header_of head))) (λ plan.
@@ -181,7 +182,7 @@ pub header_tested : (w : World) (ino : ℕ) (args : List (List ℕ)) (m : Moving
 header_tested w ino args m head done error limit r memory number ended most is =
     ap (λ r. check (let_go w ino) r (goes_on w))
     (is ∙ sym (λ i. judged w ino args (memory i) (number i) (ended i) (sym most i)))
-    ∙ sym (five_checks (let_go w ino) (unless_error m.error)
+    ∙ sym (five_checks (let_go w ino) (answer_to m.error)
     (must ENOEXEC ((m.done == 16) && is_magic (plan_of (header_of m.memory))))
     (must ETXTBSY (not (is_busy w ino (header_of m.memory))))
     (or_no_memory (plan_of (header_of m.memory)))

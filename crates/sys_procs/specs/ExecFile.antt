@@ -9,12 +9,13 @@ use Rattle.buf_cache.specs.Blocks.{patched}
 use Rattle.fs_codec.specs.Modes.{file_type}
 use Rattle.fs_codec.specs.Store.{Node, Store}
 use Rattle.fs_codec.specs.declared.modes.TheConstants.{ISUID, ISGID}
-use Rattle.fs_laws.specs.Numbers.{with_node}
 use Rattle.fs_laws.specs.Pieces.{Moving, read_file}
+use Rattle.fs_laws.specs.Keys.{room_at, with_node}
 use Rattle.fs_nodes.specs.Copy.{put_into, put_kernel}
 use Rattle.fs_tree.specs.declared.user.Want.TheVariants.{Execute}
 use Rattle.fs_tree.specs.Permission.{permission}
 use Rattle.fs_tree.specs.Name.{name_at}
+pub use Rattle.fs_tree.specs.Entries.{answer_to}
 use Rattle.fs_tree.specs.Finding.{Finding, find_in}
 use Rattle.aout_head.specs.Header.{Header, header_of, plan_of}
 use Rattle.aout_head.specs.declared.parts.Plan.{Plan}
@@ -23,11 +24,12 @@ use Rattle.aout_head.specs.declared.parts.ExecFault.TheVariants.{NotExecutable, 
 use Rattle.seg_regs.specs.Sizes.{is_refused}
 use Rattle.u_area.specs.declared.area.UArea.{UArea}
 use Rattle.image_keep.specs.Area.{no_area}
+use Rattle.image_keep.specs.Running.{with_state}
 use Rattle.pick_rules.specs.Board.{Board}
 use Rattle.pick_rules.specs.Apply.{applied}
 use Rattle.pick_rules.specs.Effects as effect
 use Rattle.sys_procs.specs.declared.program.Program.{Program}
-use Rattle.sys_procs.specs.Process.{Process, with_state, image_of}
+use Rattle.sys_procs.specs.Process.{Process, image_of}
 use Rattle.sys_procs.specs.TextTable.{Text, text_of, with_text, text_bytes, entry_of}
 use Rattle.sys_procs.specs.Texts.{xfree, xalloc}
 use Rattle.sys_procs.specs.World.{World, process_of, change, with_inodes, let_go}
@@ -60,11 +62,7 @@ with_moved w ino m = with_inodes w (record w.inodes { store = with_node w.inodes
 
 -- sixteen bytes of a file go into the kernel: that sets the time of access, and may touch a hole
 abbrev pub header_read : World → ℕ → Moving (List ℕ)
-header_read w ino = read_file put_kernel (node_at w ino) w.inodes.store.room (replicate 16 0) 0 16 w.clock.time
-
-abbrev pub unless_error : Option Errno → Result (Unit {0}) Errno
-unless_error None = Ok tt
-unless_error (Some e) = Err e
+header_read w ino = read_file put_kernel (node_at w ino) (room_at w.inodes.store ino) (replicate 16 0) 0 16 w.clock.time
 
 abbrev pub is_magic : Result Plan ExecFault → Bool
 is_magic (Ok plan) = true
@@ -101,7 +99,7 @@ abbrev pub tests_header : World → ℕ → List (List ℕ) → Moving (List ℕ
 tests_header w ino args head =
     let h : Header = header_of head.memory in
     let out : World = let_go w ino in
-    check out (unless_error head.error) (λ read.
+    check out (answer_to head.error) (λ read.
     check out (must ENOEXEC ((head.done == 16) && is_magic (plan_of h))) (λ program.
     check out (must ETXTBSY (not (is_busy w ino h))) (λ free.
     check out (or_no_memory (plan_of h)) (λ plan.
@@ -145,7 +143,7 @@ text_room program = min program.plan.text (64 * program.text_clicks)
 
 abbrev pub text_in : Store → Program → ℕ → Moving (List ℕ)
 text_in store program time =
-    read_file put_kernel (node_in store program.ino) store.room (replicate (text_room program) 0) 16 (text_room program) time
+    read_file put_kernel (node_in store program.ino) (room_at store program.ino) (replicate (text_room program) 0) 16 (text_room program) time
 
 abbrev pub text_read : World → Program → Moving (List ℕ)
 text_read w program = text_in w.inodes.store program w.clock.time
@@ -175,7 +173,7 @@ cleared_image text plan = record {
 
 abbrev pub data_in : Store → List ℕ → Program → ℕ → Moving Image
 data_in store text program time =
-    read_file (put_into (8192 * nseg program.text_clicks)) (node_in store program.ino) store.room
+    read_file (put_into (8192 * nseg program.text_clicks)) (node_in store program.ino) (room_at store program.ino)
     (cleared_image text program.plan) (16 + program.plan.text) program.plan.init time
 
 abbrev pub data_read : World → ℕ → Program → Moving Image

@@ -1,7 +1,7 @@
 //! exec(II).
 ghost use Rattle.std.specs.Prelude.{◌≡◌, ◌≤◌, ◌<◌, ◌+◌, ◌*◌, ◌%◌, ◌==◌, if◌then◌else◌, ℕ, false, Some, None, List, length, IfOk, IfErr, IfSome, map, replicate, slice_index, is_some, count_by};
 ghost use Rattle.v6_base.specs.Image.{nseg};
-ghost use Rattle.fs_laws.specs.Numbers.{with_node};
+ghost use Rattle.fs_laws.specs.Keys.{with_node};
 ghost use Rattle.fs_nodes.specs.FileSystem.{FileSystem, SameRest};
 ghost use Rattle.seg_regs.specs.Sizes.{is_refused};
 ghost use Rattle.image_keep.specs.Kept.{Shared, shared, text_of};
@@ -14,7 +14,6 @@ ghost use Rattle.sys_procs.specs.inside.Begun.{fills, begins_in, user_in, group_
 ghost use Rattle.sys_procs.specs.Handed.{AreProcs, AreBare, Calls, IsAlive, IsBare, IsMarked, board, handed, process_here, memory_here};
 ghost use Rattle.sys_procs.specs.Done.{HasDone};
 
-use crate::inodes::{let_go, see as see_nodes};
 use crate::placing::{STACK, leave_place, place_image};
 use crate::procs::Procs;
 use crate::program::Program;
@@ -25,7 +24,7 @@ use crate::texts::{leave_text, take_text};
 use aout_head::Plan;
 use fs_codec::{ISGID, ISUID};
 use fs_nodes::Nodes;
-use fs_tree::Tree;
+use fs_tree::{Tree, let_go};
 use proc_tab::Row;
 use text_tab::TextId;
 use u_area::UArea;
@@ -137,9 +136,9 @@ fn read_bytes(nodes: &mut Nodes, program: &Program, part: &mut [u8], now: u32)
     ensures store { nodes.new.store ≡ with_node nodes.old.store program.now.ino (text_in nodes.old.store program.now now).node
         (text_in nodes.old.store program.now now).room }
     ensures references { nodes.new.references ≡ nodes.old.references }
-    ensures blocks { SameRest nodes.old.blocks nodes.new.blocks }
+    ensures blocks { SameRest nodes.old nodes.new }
 {
-    let _ = nodes.refs(program.ino);
+    nodes.see();
     let _ = nodes.read_kernel(program.ino, HEADER, part, now);
 }
 
@@ -156,7 +155,7 @@ fn read_text(p: &mut Procs, tree: &mut Tree, s: Slot, t: TextId, program: &Progr
     ensures board { board p.new ≡ board p.old }
     ensures references { tree.new.nodes.references ≡ tree.old.nodes.references }
     ensures marks { tree.new.marks ≡ tree.old.marks }
-    ensures blocks { SameRest tree.old.nodes.blocks tree.new.nodes.blocks }
+    ensures blocks { SameRest tree.old.nodes tree.new.nodes }
     ensures marked { marks_of (texts_in p.new.images.kept) ≡ marks_of (texts_in p.old.images.kept) }
     ensures alive { IsAlive p.new s }
 {
@@ -178,7 +177,7 @@ fn fill_text(p: &mut Procs, tree: &mut Tree, s: Slot, new: Option<TextId>, progr
     ensures board { board p.new ≡ board p.old }
     ensures references { tree.new.nodes.references ≡ tree.old.nodes.references }
     ensures marks { tree.new.marks ≡ tree.old.marks }
-    ensures blocks { SameRest tree.old.nodes.blocks tree.new.nodes.blocks }
+    ensures blocks { SameRest tree.old.nodes tree.new.nodes }
     ensures marked { marks_of (texts_in p.new.images.kept) ≡ marks_of (texts_in p.old.images.kept) }
     ensures alive { IsAlive p.new s }
 {
@@ -209,9 +208,9 @@ fn fill<S: Space>(nodes: &mut Nodes, space: &mut S, program: &Program, now: u32)
         ≡ with_node nodes.old.store program.now.ino (data_in nodes.old.store text program.now now).node
         (data_in nodes.old.store text program.now now).room }
     ensures references { nodes.new.references ≡ nodes.old.references }
-    ensures blocks { SameRest nodes.old.blocks nodes.new.blocks }
+    ensures blocks { SameRest nodes.old nodes.new }
 {
-    let _ = nodes.refs(program.ino);
+    nodes.see();
     let count = program.plan.init as u16;
     let at = data_at(program.text_clicks);
     let _ = nodes.read_at(
@@ -235,7 +234,7 @@ fn fill_image(p: &mut Procs, tree: &mut Tree, s: Slot, program: &Program)
     ensures state { handed p.new tree.new.nodes ≡ fills (handed p.old tree.old.nodes) s program.now }
     ensures references { tree.new.nodes.references ≡ tree.old.nodes.references }
     ensures marks { tree.new.marks ≡ tree.old.marks }
-    ensures blocks { SameRest tree.old.nodes.blocks tree.new.nodes.blocks }
+    ensures blocks { SameRest tree.old.nodes tree.new.nodes }
     ensures board { board p.new ≡ board p.old }
     ensures alive { IsAlive p.new s }
 {
@@ -293,7 +292,7 @@ fn fill_program(
     ensures board { board p.new ≡ board p.old }
     ensures marks { tree.new.marks ≡ tree.old.marks }
     ensures marked { marks_of (texts_in p.new.images.kept) ≡ marks_of (texts_in p.old.images.kept) }
-    ensures blocks { SameRest tree.old.nodes.blocks tree.new.nodes.blocks }
+    ensures blocks { SameRest tree.old.nodes tree.new.nodes }
     ensures alive { IsAlive p.new s }
 {
     fill_text(p, tree, s, new, program);
@@ -334,9 +333,9 @@ fn begin_program<T: Trace>(
     ensures agree { IfOk result (λ answer. AreProcs p.new) }
     ensures bare { IfErr result (λ kind. AreBare p.new s) }
     ensures marks { IsMarked p.new tree.new.marks }
-    ensures blocks { SameRest tree.old.nodes.blocks tree.new.nodes.blocks }
+    ensures blocks { SameRest tree.old.nodes tree.new.nodes }
 {
-    see_nodes(&tree.nodes);
+    tree.nodes.see();
     let new = take_text(p, tree, s, program, trace)?;
     see_texts(&p.images);
     place_image(p, s, program.text_clicks, data_clicks(&program.plan), trace)?;
@@ -368,7 +367,7 @@ fn load<T: Trace>(
     ensures agree { IfOk result (λ answer. AreProcs p.new) }
     ensures bare { IfErr result (λ kind. AreBare p.new s) }
     ensures marks { IsMarked p.new tree.new.marks }
-    ensures blocks { SameRest tree.old.nodes.blocks tree.new.nodes.blocks }
+    ensures blocks { SameRest tree.old.nodes tree.new.nodes }
 {
     see(p, s);
     see_texts(&p.images);
@@ -410,7 +409,7 @@ pub fn exec_file<T: Trace>(
     ensures agree { IfOk result (λ answer. AreProcs p.new) }
     ensures bare { IfErr result (λ kind. AreBare p.new s) }
     ensures marks { IsMarked p.new tree.new.marks }
-    ensures blocks { SameRest tree.old.nodes.blocks tree.new.nodes.blocks }
+    ensures blocks { SameRest tree.old.nodes tree.new.nodes }
 {
     match test_program(p, tree, s, args[0], args[1]) {
         Ok(program) => load(p, tree, s, &program, trace),

@@ -16,11 +16,10 @@ ghost use Rattle.sys_procs.specs.Exit.{leaves, dies, end_proc, exit_now};
 ghost use Rattle.sys_procs.specs.Handed.{AreProcs, Calls, IsAlive, IsMarked, board, handed};
 ghost use Rattle.sys_procs.specs.Done.{HasDone, HasEnded};
 
-use crate::inodes::let_go;
 use crate::procs::Procs;
 use crate::seen::see;
 use crate::texts::leave_text;
-use fs_tree::Tree;
+use fs_tree::{Tree, let_go};
 use pick_rules::{Stat, Table};
 use proc_tab::Rows;
 use u_area::UArea;
@@ -52,7 +51,7 @@ fn leave(p: &mut Procs, tree: &mut Tree, s: Slot, status: u16)
     ensures texts { p.new.images.kept.texts ≡ p.old.images.kept.texts }
     ensures referred { (ino : ℕ) → count_by (is_text_of ino) (texts_in p.new.images.kept) ≤ slice_index tree.new.nodes.references ino }
     ensures marks { tree.new.marks ≡ tree.old.marks }
-    ensures blocks { SameRest tree.old.nodes.blocks tree.new.nodes.blocks }
+    ensures blocks { SameRest tree.old.nodes tree.new.nodes }
 {
     let u = p.area(s);
     let_go(&mut tree.nodes, u.dir, p.table.now);
@@ -96,18 +95,6 @@ fn end_slot(table: &mut Table, s: Slot, block: u16)
     table.running = None;
 }
 
-/// Wakes those who sleep for a channel.
-fn wake<T: Trace>(table: &mut Table, chan: Chan, trace: &mut T)
-    requires { IsTable table.old }
-    ensures table { table.new ≡ wakeup table.old chan }
-    ensures good { IsTable table.new }
-    ensures items { Took (T.taken trace.old) (Log (Entry.Wake chan) ∷ []) (T.taken trace.new) }
-    ensures frame { T.leads_to trace.old trace.new }
-{
-    table.wakeup(chan);
-    trace.entry(Entry::Wake(chan));
-}
-
 /// Makes the process in a slot one that has ended, of which a block of the swap area is kept; wakes process 1 and the
 /// parent, where they wait for a child; and gives its children to process 1, which is the parent where no slot is.
 #[tactic(auto, using(v6_base::proofs::Took::takes))]
@@ -134,8 +121,8 @@ fn end_row<T: Trace>(p: &mut Procs, s: Slot, block: u16, parent: Option<Slot>, t
     end_slot(&mut p.table, s, block);
     p.rows.end_row(s);
     trace.entry(Entry::Exit { slot: s, block });
-    wake(&mut p.table, Chan::Wait(INIT), trace);
-    wake(&mut p.table, Chan::Wait(parent.unwrap_or(INIT)), trace);
+    p.table.wake(Chan::Wait(INIT), trace);
+    p.table.wake(Chan::Wait(parent.unwrap_or(INIT)), trace);
     adopt_strays(&mut p.rows, row.ppid, parent);
     p.rows.adopt(row.pid);
 }
@@ -187,7 +174,7 @@ pub fn end_proc<T: Trace>(
     ensures frame { T.leads_to trace.old trace.new }
     ensures agree { AreProcs p.new }
     ensures marks { IsMarked p.new tree.new.marks }
-    ensures blocks { SameRest tree.old.nodes.blocks tree.new.nodes.blocks }
+    ensures blocks { SameRest tree.old.nodes tree.new.nodes }
 {
     leave(p, tree, s, status);
     leave_text(p, tree, s, trace);
@@ -213,7 +200,7 @@ pub fn exit_now<T: Trace>(
     ensures frame { T.leads_to trace.old trace.new }
     ensures agree { AreProcs p.new }
     ensures marks { IsMarked p.new tree.new.marks }
-    ensures blocks { SameRest tree.old.nodes.blocks tree.new.nodes.blocks }
+    ensures blocks { SameRest tree.old.nodes tree.new.nodes }
 {
     let u = p.area(s);
     match end_proc(p, tree, s, 256 * (u.r[0] % 256), trace) {

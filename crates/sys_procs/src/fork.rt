@@ -13,10 +13,9 @@ ghost use Rattle.sys_procs.specs.Seats.{with_image_row};
 ghost use Rattle.sys_procs.specs.Handed.{AreProcs, Calls, IsAlive, board, handed, process_here};
 ghost use Rattle.sys_procs.specs.Done.{HasDone};
 
-use crate::inodes::refer_again;
 use crate::procs::Procs;
 use crate::seen::see;
-use fs_tree::Tree;
+use fs_tree::{Tree, refer_again};
 use pick_rules::{Stat, Table, TableRow};
 use proc_tab::Rows;
 use u_area::UArea;
@@ -107,7 +106,7 @@ fn go_on(p: &mut Procs, tree: &mut Tree, s: Slot, child: Slot) -> Answer
     ensures board { board p.new ≡ board p.old }
     ensures agree { AreProcs p.new }
     ensures marks { tree.new.marks ≡ tree.old.marks }
-    ensures blocks { SameRest tree.old.nodes.blocks tree.new.nodes.blocks }
+    ensures blocks { SameRest tree.old.nodes tree.new.nodes }
 {
     let u = p.area(s);
     let row = p.row(s);
@@ -141,7 +140,7 @@ fn fork_into<T: Trace>(
     ensures frame { T.leads_to trace.old trace.new }
     ensures agree { AreProcs p.new }
     ensures marks { tree.new.marks ≡ tree.old.marks }
-    ensures blocks { SameRest tree.old.nodes.blocks tree.new.nodes.blocks }
+    ensures blocks { SameRest tree.old.nodes tree.new.nodes }
 {
     see(p, s);
     match p.images.copy_for_fork(s, child) {
@@ -183,7 +182,7 @@ pub fn fork_one<T: Trace>(
     ensures frame { T.leads_to trace.old trace.new }
     ensures agree { AreProcs p.new }
     ensures marks { tree.new.marks ≡ tree.old.marks }
-    ensures blocks { SameRest tree.old.nodes.blocks tree.new.nodes.blocks }
+    ensures blocks { SameRest tree.old.nodes tree.new.nodes }
 {
     see(p, s);
     let mut rows = p.rows;

@@ -8,7 +8,6 @@ mod exit;
 mod fork;
 mod growth;
 mod ids;
-mod inodes;
 mod placing;
 mod procs;
 mod program;

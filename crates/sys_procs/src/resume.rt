@@ -1,8 +1,7 @@
 //! Calls that go on when their process wakes: sleep(II), wait(II).
 ghost use Rattle.std.specs.Prelude.{◌≡◌, ◌+◌, ◌*◌, replicate};
 ghost use Rattle.u_area.specs.declared.layout.TheConstants.{NOTHING_PENDING};
-ghost use Rattle.fs_laws.specs.Rest.{SameRest};
-ghost use Rattle.fs_nodes.specs.FileSystem.{FileSystem};
+ghost use Rattle.fs_nodes.specs.FileSystem.{FileSystem, SameRest};
 ghost use Rattle.sys_procs.specs.World.{change};
 ghost use Rattle.sys_procs.specs.Handed.{Calls, AreProcs, IsAlive, handed, board};
 ghost use Rattle.sys_procs.specs.Resume.{awake, resume_proc};
@@ -54,7 +53,7 @@ pub fn resume_proc<T: Trace>(
     ensures frame { T.leads_to trace.old trace.new }
     ensures agree { AreProcs p.new }
     ensures marks { tree.new.marks ≡ tree.old.marks }
-    ensures blocks { SameRest tree.old.nodes.blocks tree.new.nodes.blocks }
+    ensures blocks { SameRest tree.old.nodes tree.new.nodes }
 {
     let u = p.area(s);
     wake_up(p, s);

@@ -15,20 +15,19 @@ ghost use Rattle.seg_regs.specs.Sizes.{is_refused};
 ghost use Rattle.sys_procs.specs.Stack.{arguments, stack_clicks};
 ghost use Rattle.sys_procs.specs.Tests.{must, user_of, node_in};
 ghost use Rattle.sys_procs.specs.Handed.{Calls, IsAlive, handed, process_here, memory_here};
-ghost use Rattle.sys_procs.specs.ExecFile.{clicks, text_clicks_by, text_clicks_in, entry_clicks, data_clicks, unless_error, is_magic, or_no_memory};
+ghost use Rattle.sys_procs.specs.ExecFile.{clicks, text_clicks_by, text_clicks_in, entry_clicks, data_clicks, answer_to, is_magic, or_no_memory};
 ghost use Rattle.sys_procs.specs.World.{texts_in};
 ghost use Rattle.sys_procs.specs.TextTable.{entry_of};
 ghost use Rattle.image_keep.specs.Growth.{most_clicks};
 ghost use Rattle.sys_procs.specs.ExecFile.{is_busy_in, with_moved, header_read, tests_header, tests_file, tests, AreSized, IsTested};
 
 use crate::arguments::{Arguments, read_arguments};
-use crate::inodes::{let_go, see};
 use crate::procs::Procs;
 use crate::program::Program;
 use aout_head::{ExecFault, Plan, plan};
 use fs_codec::{file_type, word_at};
 use fs_nodes::{Moved, Nodes};
-use fs_tree::{NameBytes, Tree, User, Want};
+use fs_tree::{NameBytes, Tree, User, Want, let_go};
 use image_keep::Images;
 use seg_regs::Proto;
 use u_area::UArea;
@@ -71,7 +70,7 @@ fn find_name<S: Space>(tree: &mut Tree, u: &UArea, space: &S, name: u16) -> Resu
     ensures marks { tree.new.marks ≡ tree.old.marks }
     ensures blocks { tree.new.nodes.blocks ≡ tree.old.nodes.blocks }
 {
-    see(&tree.nodes);
+    tree.nodes.see();
     tree.find(u.dir, user_of(u), NameBytes::at(space, name))
 }
 
@@ -107,7 +106,7 @@ fn may_execute(tree: &Tree, ino: u16, who: User) -> Result<(), Errno>
     requires { 0 < slice_index tree.now.nodes.references ino }
     ensures { result ≡ permission (node_in tree.now.nodes.store ino) who Execute }
 {
-    see(&tree.nodes);
+    tree.nodes.see();
     tree.access(ino, who, Want::Execute)
 }
 
@@ -234,7 +233,7 @@ fn judge_header(
     head: &[u8; 16],
     read: Moved,
 ) -> Result<Program, Errno>
-    ensures answer { result ≡ then_do (unless_error read.error) (λ whole.
+    ensures answer { result ≡ then_do (answer_to read.error) (λ whole.
         then_do (must ENOEXEC ((read.done == 16) && is_magic (plan_of (header_of head.now)))) (λ program.
         then_do (must ETXTBSY (not (is_busy_in (texts_in images.now.kept) (slice_index nodes.now.references ino) ino
         (header_of head.now)))) (λ free.
@@ -294,9 +293,9 @@ fn test_header(
         → handed p.now tree.new.nodes ≡ (tests_header (handed p.now tree.old.nodes) ino args m).world }
     ensures tested { IfOk result (IsTested (handed p.now tree.new.nodes)) }
     ensures marks { tree.new.marks ≡ tree.old.marks }
-    ensures blocks { SameRest tree.old.nodes.blocks tree.new.nodes.blocks }
+    ensures blocks { SameRest tree.old.nodes tree.new.nodes }
 {
-    see(&tree.nodes);
+    tree.nodes.see();
     match judge_header(&p.images, &tree.nodes, ino, args, head, read) {
         Ok(program) => Ok(program),
         Err(e) => {
@@ -321,9 +320,9 @@ fn read_header(p: &Procs, tree: &mut Tree, ino: u16, args: Arguments) -> Result<
         (header_read (handed p.now tree.old.nodes) ino)).world }
     ensures tested { IfOk result (IsTested (handed p.now tree.new.nodes)) }
     ensures marks { tree.new.marks ≡ tree.old.marks }
-    ensures blocks { SameRest tree.old.nodes.blocks tree.new.nodes.blocks }
+    ensures blocks { SameRest tree.old.nodes tree.new.nodes }
 {
-    see(&tree.nodes);
+    tree.nodes.see();
     let mut head = [0; 16];
     let read = tree.nodes.read_kernel(ino, 0, &mut head, p.table.now);
     test_header(p, tree, ino, args, &head, read)
@@ -342,7 +341,7 @@ fn test_file(p: &mut Procs, tree: &mut Tree, s: Slot, ino: u16, list: u16) -> Re
     ensures procs { p.new ≡ p.old }
     ensures tested { IfOk result (IsTested (handed p.new tree.new.nodes)) }
     ensures marks { tree.new.marks ≡ tree.old.marks }
-    ensures blocks { SameRest tree.old.nodes.blocks tree.new.nodes.blocks }
+    ensures blocks { SameRest tree.old.nodes tree.new.nodes }
 {
     match test_call(p, tree, s, ino, list) {
         Ok(args) => read_header(p, tree, ino, args),
@@ -372,7 +371,7 @@ pub(crate) fn test_program(
     ensures procs { p.new ≡ p.old }
     ensures tested { IfOk result (IsTested (handed p.new tree.new.nodes)) }
     ensures marks { tree.new.marks ≡ tree.old.marks }
-    ensures blocks { SameRest tree.old.nodes.blocks tree.new.nodes.blocks }
+    ensures blocks { SameRest tree.old.nodes tree.new.nodes }
 {
     let ino = find_program(p, tree, s, name)?;
     test_file(p, tree, s, ino, list)

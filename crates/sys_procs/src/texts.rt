@@ -65,7 +65,7 @@ fn leave_entry<T: Trace>(p: &mut Procs, tree: &mut Tree, s: Slot, t: TextId, tra
     ensures alive { IsAlive p.new s }
     ensures none { text_of p.new.images.kept s ≡ None }
     ensures marks { IsMarked p.new tree.new.marks }
-    ensures blocks { SameRest tree.old.nodes.blocks tree.new.nodes.blocks }
+    ensures blocks { SameRest tree.old.nodes tree.new.nodes }
 {
     see(p, s);
     see_texts(&p.images);
@@ -95,7 +95,7 @@ pub(crate) fn leave_text<T: Trace>(p: &mut Procs, tree: &mut Tree, s: Slot, trac
     ensures alive { IsAlive p.new s }
     ensures none { text_of p.new.images.kept s ≡ None }
     ensures marks { IsMarked p.new tree.new.marks }
-    ensures blocks { SameRest tree.old.nodes.blocks tree.new.nodes.blocks }
+    ensures blocks { SameRest tree.old.nodes tree.new.nodes }
 {
     if let Some(t) = p.table.rows[s as usize].text {
         leave_entry(p, tree, s, t, trace);

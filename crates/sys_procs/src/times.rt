@@ -5,8 +5,7 @@ ghost use Rattle.v6_base.specs.Copy.{store_bytes};
 ghost use Rattle.fs_codec.specs.Bytes.{bytes_of};
 ghost use Rattle.u_area.specs.Area.{times};
 ghost use Rattle.u_area.specs.declared.layout.TheConstants.{SLEEP_CALL};
-ghost use Rattle.fs_laws.specs.Rest.{SameRest};
-ghost use Rattle.fs_nodes.specs.FileSystem.{FileSystem};
+ghost use Rattle.fs_nodes.specs.FileSystem.{FileSystem, SameRest};
 ghost use Rattle.pick_rules.specs.Apply.{applied};
 ghost use Rattle.sys_procs.specs.World.{change};
 ghost use Rattle.sys_procs.specs.Handed.{Calls, AreProcs, IsAlive, handed, board, process_here, memory_here};
@@ -37,7 +36,7 @@ pub fn time_now<T: Trace>(
     ensures frame { T.leads_to trace.old trace.new }
     ensures agree { AreProcs p.new }
     ensures marks { tree.new.marks ≡ tree.old.marks }
-    ensures blocks { SameRest tree.old.nodes.blocks tree.new.nodes.blocks }
+    ensures blocks { SameRest tree.old.nodes tree.new.nodes }
 {
     Ok(Answer::Ret {
         r0: (p.table.now / 65536) as u16,
@@ -58,8 +57,7 @@ fn put_time<T: Trace>(p: &mut Procs, s: Slot, time: u32, trace: &mut T)
 {
     p.table.now = time;
     trace.entry(Entry::Time(time));
-    p.table.wakeup(Chan::Tout);
-    trace.entry(Entry::Wake(Chan::Tout));
+    p.table.wake(Chan::Tout, trace);
 }
 
 /// The time in its high and its low word.
@@ -89,7 +87,7 @@ pub fn set_time<T: Trace>(
     ensures frame { T.leads_to trace.old trace.new }
     ensures agree { AreProcs p.new }
     ensures marks { tree.new.marks ≡ tree.old.marks }
-    ensures blocks { SameRest tree.old.nodes.blocks tree.new.nodes.blocks }
+    ensures blocks { SameRest tree.old.nodes tree.new.nodes }
 {
     let u = p.area(s);
     if u.uid != 0 {
@@ -185,7 +183,7 @@ pub fn sleep_for<T: Trace>(
     ensures frame { T.leads_to trace.old trace.new }
     ensures agree { AreProcs p.new }
     ensures marks { tree.new.marks ≡ tree.old.marks }
-    ensures blocks { SameRest tree.old.nodes.blocks tree.new.nodes.blocks }
+    ensures blocks { SameRest tree.old.nodes tree.new.nodes }
 {
     let u = p.area(s);
     let until = p.table.now.wrapping_add(u32::from(u.r[0]));
@@ -258,7 +256,7 @@ pub fn times_to<T: Trace>(
     ensures frame { T.leads_to trace.old trace.new }
     ensures agree { AreProcs p.new }
     ensures marks { tree.new.marks ≡ tree.old.marks }
-    ensures blocks { SameRest tree.old.nodes.blocks tree.new.nodes.blocks }
+    ensures blocks { SameRest tree.old.nodes tree.new.nodes }
 {
     let at = args[0];
     let u = p.area(s);

@@ -6,8 +6,9 @@ use Rattle.v6_base.specs.Access.{then_do}
 use Rattle.v6_base.specs.declared.errno.Errno.{Errno}
 use Rattle.v6_base.specs.declared.errno.Errno.TheVariants.{ENOEXEC, ENOMEM, ENFILE, EACCES, ETXTBSY}
 use Rattle.fs_codec.specs.Modes.{file_type}
-use Rattle.fs_codec.specs.Store.{Node, Store, node_numbered}
+use Rattle.fs_codec.specs.Store.{Node, Store}
 use Rattle.fs_laws.specs.Pieces.{Moving}
+use Rattle.fs_laws.specs.Keys.{node_numbered}
 use Rattle.fs_nodes.specs.FileSystem.{IsFileSystem}
 use Rattle.fs_tree.specs.declared.user.User.{User}
 use Rattle.fs_tree.specs.declared.user.Want.TheVariants.{Execute}
@@ -24,7 +25,7 @@ use Rattle.sys_procs.specs.World as its
 use Rattle.sys_procs.specs.World.{with_inodes, let_go}
 use Rattle.sys_procs.specs.Tests.{must, user_of, node_at}
 use Rattle.sys_procs.specs.Stack.{arguments, stack_clicks}
-use Rattle.sys_procs.specs.ExecFile.{Tested, check, with_moved, header_read, unless_error, is_magic, or_no_memory, is_busy, tests_header, tests_file, tests, text_clicks_in, data_clicks}
+use Rattle.sys_procs.specs.ExecFile.{Tested, check, with_moved, header_read, answer_to, is_magic, or_no_memory, is_busy, tests_header, tests_file, tests, text_clicks_in, data_clicks}
 use Rattle.unix_core.specs.declared.world.World.{World}
 use Rattle.unix_core.specs.Parts.{unix_of, IsReady}
 use Rattle.abstract_unix.specs.Whole.{told_in, told_of}
@@ -98,7 +99,7 @@ module _ (w : World) (s : ℕ) (ready : IsReady w s) (form : IsFileSystem w.file
       let h : Header = header_of head.memory in
       let out : its.World = let_go x d in
       let gone = out_again base x d is in
-      leaves_check base out (unless_error head.error) _ gone (λ read.
+      leaves_check base out (answer_to head.error) _ gone (λ read.
       leaves_check base out (must ENOEXEC ((head.done == 16) && is_magic (plan_of h))) _ gone (λ program.
       leaves_check base out (must ETXTBSY (not (is_busy x d h))) _ gone (λ free.
       leaves_check base out (or_no_memory (plan_of h)) _ gone (λ plan.

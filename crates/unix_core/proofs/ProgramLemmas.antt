@@ -9,11 +9,12 @@ use Rattle.v6_base.specs.declared.errno.Errno.{Errno}
 use Rattle.v6_base.specs.declared.entry.Entry.{Entry}
 use Rattle.v6_base.specs.declared.entry.Entry.TheVariants as line
 use Rattle.v6_base.specs.declared.entry.PanicKind.TheVariants as panic
-use Rattle.fs_codec.specs.Store.{Node, node_numbered}
+use Rattle.fs_codec.specs.Store.{Node}
 use Rattle.fs_codec.specs.declared.modes.TheConstants.{ISUID, ISGID}
 use Rattle.fs_nodes.specs.FileSystem.{IsFileSystem}
 use Rattle.fs_laws.specs.Pieces.{Moving}
 use Rattle.v6_base.specs.Image.{Image}
+use Rattle.fs_laws.specs.Keys.{node_numbered}
 use Rattle.sys_procs.specs.Stack.{first_stack}
 use Rattle.u_area.specs.declared.area.UArea.{UArea}
 use Rattle.pick_rules.specs.Apply.{applied}

@@ -29,7 +29,7 @@ use Rattle.sys_procs.specs.Texts.{free_entry, new_text, remaining, leaves_text, 
 use Rattle.sys_procs.specs.Comes.{Comes, fails, logs, does}
 use Rattle.sys_procs.specs.Tests.{must, user_of, node_at}
 use Rattle.sys_procs.specs.Stack.{arguments, stack_clicks}
-use Rattle.sys_procs.specs.ExecFile.{Tested, text_clicks_in, data_clicks, image_clicks, check, with_moved, header_read, unless_error, is_magic, or_no_memory, is_busy, tests_header, tests_file, tests, entry_in, with_text_read, reads_text, bared, executes, begins_anew, loads, done_by, exec_file}
+use Rattle.sys_procs.specs.ExecFile.{Tested, text_clicks_in, data_clicks, image_clicks, check, with_moved, header_read, answer_to, is_magic, or_no_memory, is_busy, tests_header, tests_file, tests, entry_in, with_text_read, reads_text, bared, executes, begins_anew, loads, done_by, exec_file}
 use Rattle.sys_procs.proofs.TestedSlots.{tests_processes}
 use Rattle.abstract_unix.specs.Unix.{Unix}
 use Rattle.abstract_unix.specs.Calls.{with_world}
@@ -54,7 +54,7 @@ keeps_header : (w v : World) (ino : ℕ) (args : List (List ℕ)) (head : Moving
 keeps_header w v ino args head same =
     let h : Header = header_of head.memory in
     let out : World = let_go v ino in
-    keeps_check w out (unless_error head.error) _ same (λ read.
+    keeps_check w out (answer_to head.error) _ same (λ read.
     keeps_check w out (must ENOEXEC ((head.done == 16) && is_magic (plan_of h))) _ same (λ program.
     keeps_check w out (must ETXTBSY (not (is_busy v ino h))) _ same (λ free.
     keeps_check w out (or_no_memory (plan_of h)) _ same (λ plan.

@@ -1,7 +1,7 @@
 //! A signal that is due comes to its process: signal(II), core(V); `psig` and `core` in Lions' Commentary, `sig.c`.
 ghost use Rattle.std.specs.Prelude.{◌≡◌, ◌≢◌, ◌<◌, ◌%◌, ◌==◌, if◌then◌else◌, Bool, Some, true, false};
 ghost use Rattle.v6_base.specs.Trace.{Taken, Took};
-ghost use Rattle.fs_laws.specs.Rest.{SameRest};
+ghost use Rattle.fs_nodes.specs.FileSystem.{SameRest};
 ghost use Rattle.pick_rules.specs.Board.{Board};
 ghost use Rattle.pick_rules.specs.Logged.{logged};
 ghost use Rattle.proc_tab.specs.Processes.{IsUsed};
@@ -16,7 +16,7 @@ ghost use Rattle.abstract_unix.specs.Turn.{is_user};
 ghost use Rattle.abstract_unix.specs.Delivery.{heeds, catches, dumped, ends_by, delivers, delivers_due, ends_turn};
 ghost use Rattle.unix_core.specs.Parts.{unix_of, board_in, IsGood, IsReady, HasCome, IsCovered, is_over};
 
-use crate::files::{see_covered, see_kept, see_nodes, see_table};
+use crate::files::{see_covered, see_kept, see_table};
 use crate::onfiles::{close_files, put_core};
 use crate::passing::pass_on;
 use crate::world::World;
@@ -110,9 +110,9 @@ fn catch<T: Trace>(world: &mut World, s: Slot, sig: u8, trace: &mut T) -> Ending
     ensures items { Took (T.taken trace.old) (logged (board_in world.old) (catches (unix_of world.old) s sig).effects).items
         (T.taken trace.new) }
     ensures frame { T.leads_to trace.old trace.new }
-    ensures rest { SameRest world.old.files.tree.nodes.blocks world.new.files.tree.nodes.blocks }
+    ensures rest { SameRest world.old.files.tree.nodes world.new.files.tree.nodes }
 {
-    see_nodes(&world.files.tree.nodes);
+    world.files.tree.nodes.see();
     see_table(&world.files.table);
     see_kept(&world.procs.images);
     let sp = world.procs.images.area(s).r[6].wrapping_sub(4);
@@ -139,11 +139,11 @@ pub(crate) fn end_with<T: Trace>(world: &mut World, s: Slot, status: u16, trace:
     ensures items { Took (T.taken trace.old) (logged (board_in world.old) (exits_with (unix_of world.old) s status).effects).items
         (T.taken trace.new) }
     ensures frame { T.leads_to trace.old trace.new }
-    ensures rest { SameRest world.old.files.tree.nodes.blocks world.new.files.tree.nodes.blocks }
+    ensures rest { SameRest world.old.files.tree.nodes world.new.files.tree.nodes }
 {
     close_files(world, s);
     pass_on(&world.tape, &mut world.procs.table, trace);
-    see_nodes(&world.files.tree.nodes);
+    world.files.tree.nodes.see();
     see_table(&world.files.table);
     see_kept(&world.procs.images);
     let ended = end_proc(&mut world.procs, &mut world.files.tree, s, status, trace);
@@ -174,7 +174,7 @@ fn end_by<T: Trace>(world: &mut World, s: Slot, sig: u8, trace: &mut T) -> Endin
     ensures covered { is_over result ≡ true → IsCovered world.new }
     ensures runs { result ≢ Ending.Ended → world.new.procs.table.running ≡ Some s }
     ensures frame { T.leads_to trace.old trace.new }
-    ensures rest { SameRest world.old.files.tree.nodes.blocks world.new.files.tree.nodes.blocks }
+    ensures rest { SameRest world.old.files.tree.nodes world.new.files.tree.nodes }
 {
     let r0 = world.procs.images.area(s).r[0];
     let status = 256 * (r0 % 256) + u16::from(sig);
@@ -200,7 +200,7 @@ fn deliver_to<T: Trace>(world: &mut World, s: Slot, sig: u8, trace: &mut T) -> E
     ensures items { Took (T.taken trace.old) (logged (board_in world.old) (delivers (unix_of world.old) s sig).effects).items
         (T.taken trace.new) }
     ensures frame { T.leads_to trace.old trace.new }
-    ensures rest { SameRest world.old.files.tree.nodes.blocks world.new.files.tree.nodes.blocks }
+    ensures rest { SameRest world.old.files.tree.nodes world.new.files.tree.nodes }
 {
     heed(world, s);
     if is_default(&world.procs.images, s, sig) {
@@ -221,7 +221,7 @@ pub(crate) fn deliver_due<T: Trace>(world: &mut World, s: Slot, trace: &mut T) -
     ensures items { Took (T.taken trace.old) (logged (board_in world.old) (delivers_due (unix_of world.old) s).effects).items
         (T.taken trace.new) }
     ensures frame { T.leads_to trace.old trace.new }
-    ensures rest { SameRest world.old.files.tree.nodes.blocks world.new.files.tree.nodes.blocks }
+    ensures rest { SameRest world.old.files.tree.nodes world.new.files.tree.nodes }
 {
     match due_to(&world.procs, s) {
         Some(sig) => deliver_to(world, s, sig, trace),
@@ -250,7 +250,7 @@ pub(crate) fn deliver_after<T: Trace>(
         → Took start (logged b steps.effects).items (T.taken trace.old)
         → Took start (logged b (ends_turn s steps).effects).items (T.taken trace.new) }
     ensures frame { T.leads_to trace.old trace.new }
-    ensures rest { SameRest world.old.files.tree.nodes.blocks world.new.files.tree.nodes.blocks }
+    ensures rest { SameRest world.old.files.tree.nodes world.new.files.tree.nodes }
 {
     match ending {
         Ending::Trapped => deliver_due(world, s, trace),

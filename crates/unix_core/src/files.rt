@@ -1,9 +1,5 @@
 //! The inodes that the kernel and its process refer to.
-ghost use Rattle.std.specs.Prelude.{◌≡◌, ℕ, ◌+◌, ◌<◌, ◌≤◌, ◌==◌, if◌then◌else◌, IsSome, slice_index, replicate, length};
-ghost use Rattle.fs_codec.specs.Store.{node_numbered};
-ghost use Rattle.fs_laws.specs.Rest.{SameRest};
-ghost use Rattle.fs_nodes.specs.FileSystem.{IsFileSystem};
-ghost use Rattle.fs_tree.specs.Finding.{inodes_of, put_back};
+ghost use Rattle.std.specs.Prelude.{◌≡◌, ℕ, ◌+◌, ◌≤◌, ◌==◌, if◌then◌else◌, slice_index, replicate, length};
 ghost use Rattle.image_keep.specs.Kept.{IsKept};
 ghost use Rattle.proc_tab.specs.Processes.{AreProcesses};
 ghost use Rattle.sys_procs.specs.Handed.{AreProcs};
@@ -17,13 +13,6 @@ use sys_procs::Procs;
 
 /// The inode of the root.
 pub(crate) const ROOT: u16 = 1;
-
-/// Sees that what is referred to is a node, and that the disk has its blocks.
-pub(crate) fn see_nodes(nodes: &Nodes)
-    ensures { IsFileSystem nodes.now }
-{
-    let _none = nodes.refs(0);
-}
 
 /// Sees how many entries the table of open files has.
 pub(crate) fn see_table(table: &OpenTable)
@@ -78,17 +67,7 @@ pub(crate) fn take_root(nodes: &mut Nodes)
     ensures blocks { nodes.new.blocks ≡ nodes.old.blocks }
     ensures referred { (ino : ℕ) → slice_index nodes.new.references ino ≡ (if ino == 1 then 2 else 0) }
 {
-    see_nodes(nodes);
+    nodes.see();
     let _ = nodes.take(ROOT);
     let _ = nodes.take(ROOT);
-}
-
-/// Gives a reference to an inode back.
-pub(crate) fn let_go(nodes: &mut Nodes, ino: u16, time: u32)
-    requires referred { 0 < slice_index nodes.old.references ino }
-    ensures inodes { inodes_of nodes.new ≡ put_back (inodes_of nodes.old) ino }
-    ensures rest { SameRest nodes.old.blocks nodes.new.blocks }
-{
-    see_nodes(nodes);
-    nodes.put(ino, time);
 }

@@ -5,7 +5,6 @@ ghost use Rattle.fs_codec.specs.Disk.{head};
 ghost use Rattle.fs_codec.specs.Stands.{StandsFor};
 ghost use Rattle.fs_codec.specs.declared.layout.TheConstants.{SWAP_START};
 ghost use Rattle.buf_cache.specs.Blocks.{block_at, IsDisk};
-ghost use Rattle.fs_laws.specs.Rest.{SameRest};
 ghost use Rattle.image_keep.specs.Kept.{Alive, first_kept, with_keeping};
 ghost use Rattle.image_keep.specs.Deposits.{memory_size, HasByte, IsNobodys};
 ghost use Rattle.unix_core.specs.Parts.{first_held};
@@ -14,8 +13,9 @@ ghost use Rattle.abstract_unix.specs.declared.ends.Ends.TheVariants.{AtEnd};
 ghost use Rattle.abstract_unix.specs.Turn.{turned, ticked_by, NobodyCanRun};
 ghost use Rattle.abstract_unix.specs.Private.{AllUndisturbed, TickUndisturbed, OthersUndisturbed};
 ghost use Rattle.abstract_unix.specs.Shared.{AllTextsStay, OtherTextsStay};
+ghost use Rattle.unix_core.specs.State.{KeepsRest};
 
-use crate::files::{ROOT, see_kept, see_nodes, see_procs};
+use crate::files::{ROOT, see_kept, see_procs};
 use crate::init::put_program;
 use crate::machine::{Machine, Stage};
 use crate::world::World;
@@ -113,7 +113,7 @@ impl Kernel {
         ensures blocks { result.blocks ≡ nodes.blocks }
         ensures phase { result.phase ≡ New }
     {
-        see_nodes(&nodes);
+        nodes.see();
         let tree = Tree::new(nodes);
         let files = Files {
             tree,
@@ -152,7 +152,7 @@ impl Kernel {
         ensures goes { (start_of self.old.system).ending ≡ AtEnd }
         ensures private { AllUndisturbed self.old.system self.new.system }
         ensures texts { AllTextsStay self.old.system self.new.system }
-        ensures rest { SameRest self.old.blocks self.new.blocks }
+        ensures rest { KeepsRest self.old self.new }
         ensures items { Took (T.taken trace.old) (start_of self.old.system).items (T.taken trace.new) }
         ensures frame { T.leads_to trace.old trace.new }
     {
@@ -175,7 +175,7 @@ impl Kernel {
         ensures next { self.new.system ≡ (event_of Slot self.old.system).next }
         ensures private { OthersUndisturbed self.old.system self.new.system }
         ensures texts { OtherTextsStay self.old.system (event_of Slot self.old.system).items self.new.system }
-        ensures rest { SameRest self.old.blocks self.new.blocks }
+        ensures rest { KeepsRest self.old self.new }
         ensures items { Took (T.taken trace.old) (event_of Slot self.old.system).items (T.taken trace.new) }
         ensures frame { T.leads_to trace.old trace.new }
     {
@@ -206,7 +206,7 @@ impl Kernel {
         ensures next { self.new.system ≡ (event_of Tick self.old.system).next }
         ensures private { TickUndisturbed self.old.system self.new.system }
         ensures texts { AllTextsStay self.old.system self.new.system }
-        ensures rest { SameRest self.old.blocks self.new.blocks }
+        ensures rest { KeepsRest self.old self.new }
         ensures items { Took (T.taken trace.old) (event_of Tick self.old.system).items (T.taken trace.new) }
         ensures frame { T.leads_to trace.old trace.new }
     {
@@ -221,7 +221,7 @@ impl Kernel {
         ensures next { self.new.system ≡ (event_of (Byte b) self.old.system).next }
         ensures private { AllUndisturbed self.old.system self.new.system }
         ensures texts { AllTextsStay self.old.system self.new.system }
-        ensures rest { SameRest self.old.blocks self.new.blocks }
+        ensures rest { KeepsRest self.old self.new }
         ensures items { Took (T.taken trace.old) (event_of (Byte b) self.old.system).items (T.taken trace.new) }
         ensures frame { T.leads_to trace.old trace.new }
     {
@@ -277,7 +277,7 @@ impl Kernel {
         ensures stands { StandsFor DISK_BLOCKS (block_at self.new.stored) self.new.system.unix.store }
         ensures below { (head (block_at self.old.blocks)).f_size ≤ SWAP_START
             → StandsFor SWAP_START (block_at self.new.stored) self.new.system.unix.store }
-        ensures rest { SameRest self.old.blocks self.new.blocks }
+        ensures rest { KeepsRest self.old self.new }
         ensures form { IsDisk self.new.blocks }
     {
         self.machine.stage = Stage::Finished;
@@ -287,7 +287,7 @@ impl Kernel {
             .tree
             .nodes
             .update_all(self.machine.world.procs.table.now);
-        see_nodes(&self.machine.world.files.tree.nodes);
+        self.machine.world.files.tree.nodes.see();
         see_procs(&self.machine.world.procs);
     }
 }

@@ -1,7 +1,7 @@
 //! The parts of a kernel, and what each event does to them.
 ghost use Rattle.std.specs.Prelude.{◌≡◌, ◌≢◌, ◌<◌, ℕ, Bool, IsTrue, true, false, None, Some, map};
 ghost use Rattle.v6_base.specs.Trace.{Took};
-ghost use Rattle.fs_laws.specs.Rest.{SameRest};
+ghost use Rattle.fs_nodes.specs.FileSystem.{SameRest};
 ghost use Rattle.pick_rules.specs.Choice.{chosen, settle};
 ghost use Rattle.pick_rules.specs.Effects.{Show};
 ghost use Rattle.pick_rules.specs.Logged.{logged};
@@ -30,7 +30,7 @@ use v6_base::{Chan, Entry, PanicKind, Slot, Trace};
 
 /// How far a run has come, and what the next slot finds.
 #[derive(Clone, Copy)]
-pub enum Stage {
+pub(crate) enum Stage {
     /// The run hasn't been started.
     New,
     /// A process executes instructions, of which this is fixed.
@@ -215,7 +215,7 @@ impl Machine {
         requires runs { self.old.world.procs.table.running ≡ Some 0 }
         ensures answer { result ≡ turned (settled_after (pass_of (system_at self.old.world))) }
         ensures takes { Takes (settled_after (pass_of (system_at self.old.world))) self.new.stage self.new.world }
-        ensures rest { SameRest self.old.world.files.tree.nodes.blocks self.new.world.files.tree.nodes.blocks }
+        ensures rest { SameRest self.old.world.files.tree.nodes self.new.world.files.tree.nodes }
         ensures items { Took (T.taken trace.old)
             (settled_after (pass_of (system_at self.old.world))).items (T.taken trace.new) }
         ensures frame { T.leads_to trace.old trace.new }
@@ -249,7 +249,7 @@ impl Machine {
         ensures good { is_over result ≡ false → IsGood self.new.world }
         ensures covered { is_over result ≡ true → IsCovered self.new.world }
         ensures runs { is_over result ≡ false → result ≢ Ending.Ended → self.new.world.procs.table.running ≡ Some s }
-        ensures rest { SameRest self.old.world.files.tree.nodes.blocks self.new.world.files.tree.nodes.blocks }
+        ensures rest { SameRest self.old.world.files.tree.nodes self.new.world.files.tree.nodes }
         ensures items { Took (T.taken trace.old) (logged (board_in self.old.world)
             (turn (system_at self.old.world) s).effects).items (T.taken trace.new) }
         ensures frame { T.leads_to trace.old trace.new }
@@ -296,7 +296,7 @@ impl Machine {
         ensures takes { (m : System) → HasStepped m self.old.world (slot_in self.old.stage) self.old.came
             → Takes (settled_after (turn_of m (slot_in self.old.stage) (turn m (slot_in self.old.stage)))) self.new.stage self.new.world }
         ensures kernel { IsKernel self.new.stage self.new.world }
-        ensures rest { SameRest self.old.world.files.tree.nodes.blocks self.new.world.files.tree.nodes.blocks }
+        ensures rest { SameRest self.old.world.files.tree.nodes self.new.world.files.tree.nodes }
         ensures items { (m : System) → HasStepped m self.old.world (slot_in self.old.stage) self.old.came → Took (T.taken trace.old)
             (settled_after (turn_of m (slot_in self.old.stage) (turn m (slot_in self.old.stage)))).items (T.taken trace.new) }
         ensures frame { T.leads_to trace.old trace.new }
@@ -322,7 +322,7 @@ impl Machine {
         requires user { 0 < s }
         ensures answer { result ≡ turned (turn_at self.old.world) }
         ensures takes { Takes (turn_at self.old.world) self.new.stage self.new.world }
-        ensures rest { SameRest self.old.world.files.tree.nodes.blocks self.new.world.files.tree.nodes.blocks }
+        ensures rest { SameRest self.old.world.files.tree.nodes self.new.world.files.tree.nodes }
         ensures items { Took (T.taken trace.old)
             (turn_at self.old.world).items (T.taken trace.new) }
         ensures frame { T.leads_to trace.old trace.new }
@@ -340,7 +340,7 @@ impl Machine {
         requires resting { self.old.stage ≡ Stage.Resting }
         ensures answer { result ≡ turned (turn_at self.old.world) }
         ensures takes { Takes (turn_at self.old.world) self.new.stage self.new.world }
-        ensures rest { SameRest self.old.world.files.tree.nodes.blocks self.new.world.files.tree.nodes.blocks }
+        ensures rest { SameRest self.old.world.files.tree.nodes self.new.world.files.tree.nodes }
         ensures items { Took (T.taken trace.old)
             (turn_at self.old.world).items (T.taken trace.new) }
         ensures frame { T.leads_to trace.old trace.new }
@@ -403,7 +403,7 @@ impl Machine {
             (delivers_where as_trap (unix_of self.old.world) self.old.world.procs.table.running).effects).items
             (T.taken trace.new) }
         ensures frame { T.leads_to trace.old trace.new }
-        ensures rest { SameRest self.old.world.files.tree.nodes.blocks self.new.world.files.tree.nodes.blocks }
+        ensures rest { SameRest self.old.world.files.tree.nodes self.new.world.files.tree.nodes }
     {
         match self.world.procs.table.running {
             Some(s) if as_trap => deliver_due(&mut self.world, s, trace),
@@ -421,7 +421,7 @@ impl Machine {
         requires started { phase_of self.old.stage ≡ Started }
         ensures answer { result ≡ ticked_by (settled_after (tick_of (system_at self.old.world))).ending }
         ensures takes { Takes (settled_after (tick_of (system_at self.old.world))) self.new.stage self.new.world }
-        ensures rest { SameRest self.old.world.files.tree.nodes.blocks self.new.world.files.tree.nodes.blocks }
+        ensures rest { SameRest self.old.world.files.tree.nodes self.new.world.files.tree.nodes }
         ensures items { Took (T.taken trace.old)
             (settled_after (tick_of (system_at self.old.world))).items (T.taken trace.new) }
         ensures frame { T.leads_to trace.old trace.new }
@@ -469,7 +469,7 @@ impl Machine {
         requires kernel { IsKernel self.old.stage self.old.world }
         requires started { phase_of self.old.stage ≡ Started }
         ensures takes { Takes (settled_after (typed_of (system_at self.old.world) 0 byte)) self.new.stage self.new.world }
-        ensures rest { SameRest self.old.world.files.tree.nodes.blocks self.new.world.files.tree.nodes.blocks }
+        ensures rest { SameRest self.old.world.files.tree.nodes self.new.world.files.tree.nodes }
         ensures items { Took (T.taken trace.old)
             (settled_after (typed_of (system_at self.old.world) 0 byte)).items (T.taken trace.new) }
         ensures frame { T.leads_to trace.old trace.new }

@@ -1,6 +1,6 @@
 //! Calls on files: the parts that each is handed are lent to it, and put back. What it shows goes to the kernel's tape.
 ghost use Rattle.std.specs.Prelude.{◌≡◌, ℕ, List, true, false};
-ghost use Rattle.fs_laws.specs.Rest.{SameRest};
+ghost use Rattle.fs_nodes.specs.FileSystem.{SameRest};
 ghost use Rattle.sys_files.specs.Handed.{Handed};
 ghost use Rattle.sys_files.specs.Descriptors.{close_all};
 ghost use Rattle.sys_files.specs.Moving.{resumes};
@@ -13,7 +13,7 @@ ghost use Rattle.u_area.specs.Pending.{is_on_files};
 ghost use Rattle.abstract_unix.specs.Turn.{is_user};
 ghost use Rattle.unix_core.specs.Parts.{unix_of, board_in, IsReady, IsReadyToShow};
 
-use crate::files::{see_count, see_nodes, see_numbers, see_table};
+use crate::files::{see_count, see_numbers, see_table};
 use crate::world::World;
 use abstract_unix::{FileCall, do_file_call};
 use image_keep::{Fixed, Images};
@@ -37,10 +37,10 @@ pub(crate) fn do_on_files(
         (handed_of (unix_of world.old) (process_of (unix_of world.old) fixed.now.slot)) fixed.now.slot args world.old.procs.table.now).state }
     ensures shown { IsReadyToShow world.old world.new fixed.now.slot (file_row call
         (handed_of (unix_of world.old) (process_of (unix_of world.old) fixed.now.slot)) fixed.now.slot args world.old.procs.table.now).items }
-    ensures rest { SameRest world.old.files.tree.nodes.blocks world.new.files.tree.nodes.blocks }
+    ensures rest { SameRest world.old.files.tree.nodes world.new.files.tree.nodes }
 {
     see_count(&args);
-    see_nodes(&world.files.tree.nodes);
+    world.files.tree.nodes.see();
     see_table(&world.files.table);
     world.tape.clear();
     let s = fixed.slot;
@@ -108,9 +108,9 @@ pub(crate) fn resume_on_files(world: &mut World, s: Slot) -> Answer
         (resumes (handed_of (unix_of world.old) (process_of (unix_of world.old) s)) s world.old.procs.table.now).state }
     ensures shown { IsReadyToShow world.old world.new s
         (resumes (handed_of (unix_of world.old) (process_of (unix_of world.old) s)) s world.old.procs.table.now).items }
-    ensures rest { SameRest world.old.files.tree.nodes.blocks world.new.files.tree.nodes.blocks }
+    ensures rest { SameRest world.old.files.tree.nodes world.new.files.tree.nodes }
 {
-    see_nodes(&world.files.tree.nodes);
+    world.files.tree.nodes.see();
     see_table(&world.files.table);
     world.tape.clear();
     let now = world.procs.table.now;
@@ -145,9 +145,9 @@ pub(crate) fn put_core(world: &mut World, s: Slot) -> bool
     ensures ready { IsReady world.new s }
     ensures user { is_user (process_of (unix_of world.new) s) ≡ true }
     ensures procs { world.new.procs ≡ world.old.procs }
-    ensures rest { SameRest world.old.files.tree.nodes.blocks world.new.files.tree.nodes.blocks }
+    ensures rest { SameRest world.old.files.tree.nodes world.new.files.tree.nodes }
 {
-    see_nodes(&world.files.tree.nodes);
+    world.files.tree.nodes.see();
     see_table(&world.files.table);
     let now = world.procs.table.now;
     let u = world.procs.images.area(s);
@@ -163,9 +163,9 @@ pub(crate) fn close_files(world: &mut World, s: Slot)
         (close_all (handed_of (unix_of world.old) (process_of (unix_of world.old) s))).state }
     ensures shown { IsReadyToShow world.old world.new s
         (close_all (handed_of (unix_of world.old) (process_of (unix_of world.old) s))).items }
-    ensures rest { SameRest world.old.files.tree.nodes.blocks world.new.files.tree.nodes.blocks }
+    ensures rest { SameRest world.old.files.tree.nodes world.new.files.tree.nodes }
 {
-    see_nodes(&world.files.tree.nodes);
+    world.files.tree.nodes.see();
     see_table(&world.files.table);
     world.tape.clear();
     let now = world.procs.table.now;

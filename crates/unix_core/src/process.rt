@@ -1,7 +1,7 @@
 //! Turns and calls of a process: what an instruction comes to, and how a call goes on. `trap` in Lions' Commentary, `trap.c`.
 ghost use Rattle.std.specs.Prelude.{◌≡◌, ◌≢◌, Some, true, false};
 ghost use Rattle.v6_base.specs.Trace.{Took};
-ghost use Rattle.fs_laws.specs.Rest.{SameRest};
+ghost use Rattle.fs_nodes.specs.FileSystem.{SameRest};
 ghost use Rattle.pick_rules.specs.Logged.{logged};
 ghost use Rattle.image_keep.specs.Kept.{HasImage, area_of, with_area};
 ghost use Rattle.open_files.specs.Files.{AreOpen, HaveRoom};
@@ -18,7 +18,7 @@ ghost use Rattle.unix_core.specs.Parts.{unix_of, board_in, IsGood, IsReady, HasC
 
 use crate::asked::ask;
 use crate::delivery::end_with;
-use crate::files::{see_covered, see_kept, see_nodes, see_procs, see_table};
+use crate::files::{see_covered, see_kept, see_procs, see_table};
 use crate::onfiles::{do_on_files, resume_on_files};
 use crate::passing::pass_on;
 use crate::world::World;
@@ -154,7 +154,7 @@ fn call_files<T: Trace>(
         (handed_of (unix_of world.old) (process_of (unix_of world.old) fixed.now.slot)) fixed.now.slot args world.old.procs.table.now)).effects).items
         (T.taken trace.new) }
     ensures frame { T.leads_to trace.old trace.new }
-    ensures rest { SameRest world.old.files.tree.nodes.blocks world.new.files.tree.nodes.blocks }
+    ensures rest { SameRest world.old.files.tree.nodes world.new.files.tree.nodes }
 {
     let answer = do_on_files(world, fixed, call, args);
     pass_on(&world.tape, &mut world.procs.table, trace);
@@ -179,9 +179,9 @@ fn call_processes<T: Trace>(
     ensures items { Took (T.taken trace.old) (logged (board_in world.old) (came_by (unix_of world.old) s
         (process_row call (world_of (unix_of world.old)) s args)).effects).items (T.taken trace.new) }
     ensures frame { T.leads_to trace.old trace.new }
-    ensures rest { SameRest world.old.files.tree.nodes.blocks world.new.files.tree.nodes.blocks }
+    ensures rest { SameRest world.old.files.tree.nodes world.new.files.tree.nodes }
 {
-    see_nodes(&world.files.tree.nodes);
+    world.files.tree.nodes.see();
     see_table(&world.files.table);
     see_kept(&world.procs.images);
     match do_process_call(
@@ -222,10 +222,10 @@ fn fork<T: Trace>(world: &mut World, s: Slot, trace: &mut T) -> Ending
     ensures items { Took (T.taken trace.old) (logged (board_in world.old) (forks (unix_of world.old) s).effects).items
         (T.taken trace.new) }
     ensures frame { T.leads_to trace.old trace.new }
-    ensures rest { SameRest world.old.files.tree.nodes.blocks world.new.files.tree.nodes.blocks }
+    ensures rest { SameRest world.old.files.tree.nodes world.new.files.tree.nodes }
 {
     let u = world.procs.images.area(s);
-    see_nodes(&world.files.tree.nodes);
+    world.files.tree.nodes.see();
     see_table(&world.files.table);
     match fork_one(&mut world.procs, &mut world.files.tree, s, [0; 4], trace) {
         Ok(answer) => {
@@ -251,7 +251,7 @@ fn exit<T: Trace>(world: &mut World, s: Slot, trace: &mut T) -> Ending
     ensures items { Took (T.taken trace.old) (logged (board_in world.old) (exits (unix_of world.old) s).effects).items
         (T.taken trace.new) }
     ensures frame { T.leads_to trace.old trace.new }
-    ensures rest { SameRest world.old.files.tree.nodes.blocks world.new.files.tree.nodes.blocks }
+    ensures rest { SameRest world.old.files.tree.nodes world.new.files.tree.nodes }
 {
     let r0 = world.procs.images.area(s).r[0];
     end_with(world, s, 256 * (r0 % 256), trace)
@@ -267,9 +267,9 @@ fn grow_stack<T: Trace>(world: &mut World, s: Slot, sp: u16, trace: &mut T) -> E
     ensures items { Took (T.taken trace.old) (logged (board_in world.old) (grows_to (unix_of world.old) s sp).effects).items
         (T.taken trace.new) }
     ensures frame { T.leads_to trace.old trace.new }
-    ensures rest { SameRest world.old.files.tree.nodes.blocks world.new.files.tree.nodes.blocks }
+    ensures rest { SameRest world.old.files.tree.nodes world.new.files.tree.nodes }
 {
-    see_nodes(&world.files.tree.nodes);
+    world.files.tree.nodes.see();
     see_table(&world.files.table);
     see_kept(&world.procs.images);
     let grown = grow(&mut world.procs, &mut world.files.tree, s, sp, trace);
@@ -303,7 +303,7 @@ fn does_call<T: Trace>(
     ensures items { Took (T.taken trace.old) (logged (board_in world.old)
         (does_call (unix_of world.old) fixed.now.slot call args).effects).items (T.taken trace.new) }
     ensures frame { T.leads_to trace.old trace.new }
-    ensures rest { SameRest world.old.files.tree.nodes.blocks world.new.files.tree.nodes.blocks }
+    ensures rest { SameRest world.old.files.tree.nodes world.new.files.tree.nodes }
 {
     let s = fixed.slot;
     match call {
@@ -339,7 +339,7 @@ fn call<T: Trace>(world: &mut World, fixed: &Fixed, number: u8, trace: &mut T) -
     ensures items { Took (T.taken trace.old) (logged (board_in world.old)
         (system_call number (unix_of world.old) fixed.now.slot).effects).items (T.taken trace.new) }
     ensures frame { T.leads_to trace.old trace.new }
-    ensures rest { SameRest world.old.files.tree.nodes.blocks world.new.files.tree.nodes.blocks }
+    ensures rest { SameRest world.old.files.tree.nodes world.new.files.tree.nodes }
 {
     let asked = ask(&world.procs.images, fixed, number);
     let entry = sysent_of(asked.number);
@@ -370,7 +370,7 @@ fn fault<T: Trace>(world: &mut World, s: Slot, kind: Kind, trace: &mut T) -> End
     ensures items { Took (T.taken trace.old) (logged (board_in world.old)
         (faults (unix_of world.old) s kind).effects).items (T.taken trace.new) }
     ensures frame { T.leads_to trace.old trace.new }
-    ensures rest { SameRest world.old.files.tree.nodes.blocks world.new.files.tree.nodes.blocks }
+    ensures rest { SameRest world.old.files.tree.nodes world.new.files.tree.nodes }
 {
     match kind {
         Kind::Odd => signal(world, s, SIGBUS, trace),
@@ -405,7 +405,7 @@ pub(crate) fn come_to<T: Trace>(
     ensures items { Took (T.taken trace.old) (logged (board_in world.old)
         (comes_to (unix_of world.old) fixed.now.slot outcome).effects).items (T.taken trace.new) }
     ensures frame { T.leads_to trace.old trace.new }
-    ensures rest { SameRest world.old.files.tree.nodes.blocks world.new.files.tree.nodes.blocks }
+    ensures rest { SameRest world.old.files.tree.nodes world.new.files.tree.nodes }
 {
     match outcome {
         Outcome::Next => Ending::Next,
@@ -434,7 +434,7 @@ fn go_on_files<T: Trace>(world: &mut World, s: Slot, trace: &mut T) -> Ending
         (resumes (handed_of (unix_of world.old) (process_of (unix_of world.old) s)) s world.old.procs.table.now)).effects).items
         (T.taken trace.new) }
     ensures frame { T.leads_to trace.old trace.new }
-    ensures rest { SameRest world.old.files.tree.nodes.blocks world.new.files.tree.nodes.blocks }
+    ensures rest { SameRest world.old.files.tree.nodes world.new.files.tree.nodes }
 {
     let answer = resume_on_files(world, s);
     pass_on(&world.tape, &mut world.procs.table, trace);
@@ -451,9 +451,9 @@ fn go_on_waiting<T: Trace>(world: &mut World, s: Slot, trace: &mut T) -> Ending
     ensures items { Took (T.taken trace.old) (logged (board_in world.old) (came_by (unix_of world.old) s
         (resume_proc (world_of (unix_of world.old)) s)).effects).items (T.taken trace.new) }
     ensures frame { T.leads_to trace.old trace.new }
-    ensures rest { SameRest world.old.files.tree.nodes.blocks world.new.files.tree.nodes.blocks }
+    ensures rest { SameRest world.old.files.tree.nodes world.new.files.tree.nodes }
 {
-    see_nodes(&world.files.tree.nodes);
+    world.files.tree.nodes.see();
     see_table(&world.files.table);
     see_kept(&world.procs.images);
     match resume_proc(&mut world.procs, &mut world.files.tree, s, trace) {
@@ -474,7 +474,7 @@ pub(crate) fn resume<T: Trace>(world: &mut World, s: Slot, trace: &mut T) -> End
     ensures items { Took (T.taken trace.old) (logged (board_in world.old) (resumed (unix_of world.old) s).effects).items
         (T.taken trace.new) }
     ensures frame { T.leads_to trace.old trace.new }
-    ensures rest { SameRest world.old.files.tree.nodes.blocks world.new.files.tree.nodes.blocks }
+    ensures rest { SameRest world.old.files.tree.nodes world.new.files.tree.nodes }
 {
     let pending = pending_of(&world.procs.images, s);
     if is_on_files(pending) {

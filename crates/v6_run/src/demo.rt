@@ -5,13 +5,13 @@ ghost use Rattle.fs_codec.specs.Faults.{image_fault};
 ghost use Rattle.fs_codec.specs.Disk.{head};
 ghost use Rattle.buf_cache.specs.Blocks.{block_at, IsDisk};
 ghost use Rattle.core_mem.specs.Bytes.{over};
-ghost use Rattle.fs_laws.specs.Rest.{SameRest};
 ghost use Rattle.script_text.specs.Script.{script_of};
 ghost use Rattle.make_image.specs.Image.{build_of};
 ghost use Rattle.make_image.specs.Demo.{demo_text};
 ghost use Rattle.abstract_unix.specs.Unix.{New, Started, Finished};
 ghost use Rattle.abstract_unix.specs.Endings.{phase_after};
 ghost use Rattle.abstract_unix.specs.Runs.{started, course, shown_by, finished};
+ghost use Rattle.unix_core.specs.State.{KeepsRest};
 ghost use Rattle.v6_run.specs.Events.{events_of};
 ghost use Rattle.v6_run.specs.Words.{Demo};
 ghost use Rattle.v6_run.specs.Final.{disk_text};
@@ -24,13 +24,12 @@ ghost use Rattle.v6_run.specs.Answers.{Answers};
 use crate::image::ImageError;
 use crate::ports::Ports;
 use crate::run::{RunError, boot};
-use crate::script::read_script;
 use crate::slots::show_run;
 use crate::status::Status;
 use fs_check::{Tally, accept, tally};
 use fs_codec::{BLOCK_SIZE, SWAP_START};
 use make_image::{build, demo_script};
-use script_text::{Event, Script};
+use script_text::{Event, Script, read};
 use std::alloc::Global;
 use unix_core::{Ends, Kernel};
 use v6_port::Host;
@@ -66,7 +65,7 @@ fn play_counted<H: Host>(kernel: &mut Kernel, events: &[Event], host: &mut H) ->
     ensures shown { IfSome result (λ played. played.shown
         ≡ length (line_bytes 0 (shown_by (course (started kernel.old.system) (events_of events.now))))) }
     ensures system { kernel.new.system ≡ (course (started kernel.old.system) (events_of events.now)).system }
-    ensures rest { SameRest kernel.old.blocks kernel.new.blocks }
+    ensures rest { KeepsRest kernel.old kernel.new }
 {
     let mut ports = Ports::counting(host);
     let ends = show_run(kernel, events, &mut ports);
@@ -164,9 +163,9 @@ fn demo_events(alloc: Global) -> Result<Script, RunError>
     let Ok(text) = demo_script(alloc) else {
         return Err(RunError::NoMemory);
     };
-    match read_script(alloc, &text) {
+    match read(alloc, &text) {
         Ok(script) => Ok(script),
-        Err(error) => Err(RunError::Refused(error)),
+        Err(fault) => Err(RunError::Refused(fault)),
     }
 }
 

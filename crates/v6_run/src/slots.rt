@@ -1,7 +1,6 @@
 //! A run over the events of a script.
 ghost use Rattle.std.specs.Prelude.{◌≡◌, ◌<◌, ◌+◌, Ok, Err, replicate, flat_map};
 ghost use Rattle.std.specs.List.{range_with_len};
-ghost use Rattle.fs_laws.specs.Rest.{SameRest};
 ghost use Rattle.abstract_unix.specs.Unix.{New, Started};
 ghost use Rattle.abstract_unix.specs.declared.ends.Ends.TheVariants.{AtEnd};
 ghost use Rattle.abstract_unix.specs.Endings.{phase_after, last_line};
@@ -9,6 +8,7 @@ ghost use Rattle.abstract_unix.specs.Runs.{Slot, begun, started, course, shown_b
 ghost use Rattle.v6_run.specs.Events.{slot_with, slot_numbered, happens, clock_after, events_of};
 ghost use Rattle.v6_run.specs.Clocks.{clock_value, TicksAlike};
 ghost use Rattle.v6_base.specs.Trace.{Took};
+ghost use Rattle.unix_core.specs.State.{KeepsRest};
 ghost use Rattle.v6_run.specs.Courses.{HasRun};
 
 use crate::clock::{Clock, since_after, since_next};
@@ -24,7 +24,7 @@ fn run_slots<T: Trace>(kernel: &mut Kernel, count: u32, trace: &mut T) -> Ends
     ensures phase { kernel.new.phase ≡ phase_after result }
     ensures run { HasRun (begun kernel.old.system) (replicate count Slot) result kernel.new.system
         (T.taken trace.old) (T.taken trace.new) }
-    ensures rest { SameRest kernel.old.blocks kernel.new.blocks }
+    ensures rest { KeepsRest kernel.old kernel.new }
     ensures frame { T.leads_to trace.old trace.new }
 {
     'slots: for _ in 0..count {
@@ -54,7 +54,7 @@ fn take_slot<T: Trace>(kernel: &mut Kernel, ticks: bool, trace: &mut T) -> Ends
     ensures phase { kernel.new.phase ≡ phase_after result }
     ensures run { HasRun (begun kernel.old.system) (slot_with ticks) result kernel.new.system
         (T.taken trace.old) (T.taken trace.new) }
-    ensures rest { SameRest kernel.old.blocks kernel.new.blocks }
+    ensures rest { KeepsRest kernel.old kernel.new }
     ensures frame { T.leads_to trace.old trace.new }
 {
     match run_slots(kernel, 1, trace) {
@@ -82,7 +82,7 @@ fn run_clocked<T: Trace>(
     ensures phase { kernel.new.phase ≡ phase_after result }
     ensures run { HasRun (begun kernel.old.system) (flat_map (slot_numbered every) (range_with_len (since + 1) count))
         result kernel.new.system (T.taken trace.old) (T.taken trace.new) }
-    ensures rest { SameRest kernel.old.blocks kernel.new.blocks }
+    ensures rest { KeepsRest kernel.old kernel.new }
     ensures frame { T.leads_to trace.old trace.new }
 {
     let mut gone = since;
@@ -102,7 +102,7 @@ fn run_line<T: Trace>(kernel: &mut Kernel, clock: &mut Clock, count: u32, trace:
     ensures phase { kernel.new.phase ≡ phase_after result }
     ensures run { HasRun (begun kernel.old.system) (happens (clock_value clock.old) (Event.Run count)) result kernel.new.system
         (T.taken trace.old) (T.taken trace.new) }
-    ensures rest { SameRest kernel.old.blocks kernel.new.blocks }
+    ensures rest { KeepsRest kernel.old kernel.new }
     ensures frame { T.leads_to trace.old trace.new }
     ensures clock { TicksAlike (clock_after (clock_value clock.old) (Event.Run count)) (clock_value clock.new) }
 {
@@ -123,7 +123,7 @@ fn take_event<T: Trace>(kernel: &mut Kernel, clock: &mut Clock, event: Event, tr
     ensures phase { kernel.new.phase ≡ phase_after result }
     ensures run { HasRun (begun kernel.old.system) (happens (clock_value clock.old) event) result kernel.new.system
         (T.taken trace.old) (T.taken trace.new) }
-    ensures rest { SameRest kernel.old.blocks kernel.new.blocks }
+    ensures rest { KeepsRest kernel.old kernel.new }
     ensures frame { T.leads_to trace.old trace.new }
     ensures clock { TicksAlike (clock_after (clock_value clock.old) event) (clock_value clock.new) }
 {
@@ -151,7 +151,7 @@ fn run_events<T: Trace>(kernel: &mut Kernel, events: &[Event], trace: &mut T) ->
     ensures phase { kernel.new.phase ≡ phase_after result }
     ensures run { HasRun (begun kernel.old.system) (events_of events.now) result kernel.new.system
         (T.taken trace.old) (T.taken trace.new) }
-    ensures rest { SameRest kernel.old.blocks kernel.new.blocks }
+    ensures rest { KeepsRest kernel.old kernel.new }
     ensures frame { T.leads_to trace.old trace.new }
 {
     let mut clock = Clock { every: 0, since: 0 };
@@ -170,7 +170,7 @@ fn run_script<T: Trace>(kernel: &mut Kernel, events: &[Event], trace: &mut T) ->
     ensures phase { kernel.new.phase ≡ phase_after result }
     ensures run { HasRun (started kernel.old.system) (events_of events.now) result kernel.new.system
         (T.taken trace.old) (T.taken trace.new) }
-    ensures rest { SameRest kernel.old.blocks kernel.new.blocks }
+    ensures rest { KeepsRest kernel.old kernel.new }
     ensures frame { T.leads_to trace.old trace.new }
 {
     kernel.start(trace);
@@ -196,7 +196,7 @@ pub(crate) fn show_run<T: Trace>(kernel: &mut Kernel, events: &[Event], trace: &
     ensures system { kernel.new.system ≡ (course (started kernel.old.system) (events_of events.now)).system }
     ensures shown { Took (T.taken trace.old) (shown_by (course (started kernel.old.system) (events_of events.now)))
         (T.taken trace.new) }
-    ensures rest { SameRest kernel.old.blocks kernel.new.blocks }
+    ensures rest { KeepsRest kernel.old kernel.new }
     ensures frame { T.leads_to trace.old trace.new }
 {
     let ends = run_script(kernel, events, trace);

@@ -1,5 +1,6 @@
 use Rattle.std.proofs.Common.{◌≡◌, ◌+◌, ◌*◌, ◌≤◌, IsSome, Some, refl, sym, ap, ◌∙◌, subst, arith}
-use Rattle.fs_codec.specs.Store.{Node, Store, node_numbered}
+use Rattle.fs_codec.specs.Store.{Node, Store}
+use Rattle.fs_laws.specs.Keys.{node_numbered}
 use Rattle.fs_tree.specs.Directory.{entry_count}
 use Rattle.fs_tree.proofs.DirectoryLemmas.{passed_none, passed_more, same_block, found_here, room_here}
 use Rattle.fs_tree.proofs.FindingLemmas.{same_refl, same_then}

@@ -1,5 +1,6 @@
 use Rattle.std.proofs.Common.{◌||◌, not, sym, ap, ◌∙◌}
-use Rattle.fs_codec.specs.Store.{Store, node_numbered}
+use Rattle.fs_codec.specs.Store.{Store}
+use Rattle.fs_laws.specs.Keys.{node_numbered}
 use Rattle.fs_tree.specs.declared.user.Want.TheVariants.{Write, Execute}
 use Rattle.fs_tree.specs.Name.{components, is_whole}
 use Rattle.fs_tree.specs.Path.{in_directory, is_last}

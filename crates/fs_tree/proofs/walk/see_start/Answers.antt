@@ -1,5 +1,6 @@
 use Rattle.std.proofs.Common.{true, false, IsSome, Bool, ℕ, cond}
-use Rattle.fs_codec.specs.Store.{Store, node_numbered}
+use Rattle.fs_codec.specs.Store.{Store}
+use Rattle.fs_laws.specs.Keys.{node_numbered}
 use Rattle.fs_tree.specs.Name.{is_rooted}
 use Rattle.fs_tree.proofs.walk.see_start.Goals as goal
 
@@ -8,4 +9,4 @@ either store true dir root some = root
 either store false dir root some = some
 
 pub returns : goal.returns
-returns c = λ bytes. either c.args.nodes.now.store (is_rooted bytes) c.args.dir c.refs.ensures.form.root (c.refs.ensures.form.used c.args.dir c.requires)
+returns c = λ bytes. either c.args.nodes.now.store (is_rooted bytes) c.args.dir c.see.ensures.root (c.see.ensures.used c.args.dir c.requires)

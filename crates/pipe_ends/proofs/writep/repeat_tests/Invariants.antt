@@ -17,7 +17,7 @@ invariant-loop-left g l =
       few : l.left ≤ l.count;
       ino : l.p.ino ≡ l.fn.p.ino;
       references : l.n.references ≡ l.fn.n.references;
-      rest : SameRest l.fn.n.blocks l.n.blocks;
+      rest : SameRest l.fn.n l.n;
     }
 
 abbrev pub decreases-loop-left : goal.decreases-loop-left

@@ -16,7 +16,7 @@ returns-in_err-write_part-clause-written g c = λ bytes loaded.
     (c.in_err-write_part.ensures.written _ c.write_part.ensures.there) in
     entry_is old new c.args.ino c.args.offset bytes c.args.now c.from_residual.result
     (subst (λ r. WritesEntry old.store c.args.ino
-    (written old.store (node_in old.store c.args.ino) c.args.offset bytes c.args.now) new.store r) is w)
+    (written old.store c.args.ino (node_in old.store c.args.ino) c.args.offset bytes c.args.now) new.store r) is w)
     c.write_part.ensures.references
 
 pub returns-clause-written : goal.returns-clause-written

@@ -15,5 +15,5 @@ invariant-loop-fd g l = record {
   state : (row : Row) (image : Image) → handed l.f l.u row image ≡ (closed_below (handed l.fn.f l.fn.u row image) l.fd).state;
   items : (row : Row) (image : Image) → Took (g.T.Trace.taken l.fn.trace) (closed_below (handed l.fn.f l.fn.u row image) l.fd).items (g.T.Trace.taken l.trace);
   frame : g.T.Trace.leads_to l.fn.trace l.trace;
-  blocks : SameRest l.fn.f.tree.nodes.blocks l.f.tree.nodes.blocks;
+  blocks : SameRest l.fn.f.tree.nodes l.f.tree.nodes;
 }

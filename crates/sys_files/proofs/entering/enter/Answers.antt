@@ -6,7 +6,7 @@ use Rattle.sys_files.proofs.entering.enter.Goals as goal
 pub returns-clause-kept : goal.returns-clause-kept
 returns-clause-kept c =
     written_keeps c.args.tree.now.nodes c.enter.new.self.nodes c.args.dir
-    (λ node. written c.args.tree.now.nodes.store node c.args.offset
+    (λ node. written c.args.tree.now.nodes.store c.args.dir node c.args.offset
     (entry_bytes (record { ino = c.args.ino; name = c.args.name })) c.args.now) c.enter.result
     (c.see.ensures.used c.args.dir c.requires.referenced) c.enter.ensures.entry c.enter.ensures.references
     c.enter.ensures.rest

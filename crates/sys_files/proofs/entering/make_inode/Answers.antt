@@ -8,7 +8,7 @@ use Rattle.sys_files.proofs.entering.make_inode.Goals as goal
 
 module _ (fs new : FileSystem) (mode uid gid time : ℕ) (form : IsFileSystem fs) where
   takes : (r : Result ℕ Errno) → MatchResult r (λ i. MakesNode fs mode uid gid time i new) (λ e. MakesNone fs e new)
-      → SameRest fs.blocks new.blocks → IfOk r (λ i. OneReferenceMore fs i new)
+      → SameRest fs new → IfOk r (λ i. OneReferenceMore fs i new)
   takes (Ok i) made blocks = new_takes fs new form mode uid gid time i blocks made
   takes (Err e) made blocks = tt
 

@@ -1,5 +1,5 @@
 use Rattle.std.proofs.Common.{refl}
-use Rattle.fs_laws.specs.Numbers.{with_node}
+use Rattle.fs_laws.specs.Keys.{with_fields}
 use Rattle.sys_files.proofs.EnteringLemmas.{changed_keeps}
 use Rattle.sys_files.proofs.entering.set_links.Goals as goal
 
@@ -7,7 +7,6 @@ pub returns-clause-kept : goal.returns-clause-kept
 returns-clause-kept c =
     let old = c.args.nodes.now in
     changed_keeps old c.set_links.new.self c.args.ino
-    (λ node. with_node old.store c.args.ino (record node { nlink = c.args.nlink; modtime = c.args.now })
-    old.store.room)
+    (λ node. with_fields old.store c.args.ino (record node { nlink = c.args.nlink; modtime = c.args.now }))
     (c.see.ensures.used c.args.ino c.requires.referenced) c.set_links.ensures.store (λ node. refl)
     c.set_links.ensures.references c.set_links.ensures.rest

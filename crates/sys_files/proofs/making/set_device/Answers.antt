@@ -1,5 +1,5 @@
 use Rattle.std.proofs.Common.{refl}
-use Rattle.fs_laws.specs.Numbers.{with_node}
+use Rattle.fs_laws.specs.Keys.{with_fields}
 use Rattle.sys_files.proofs.EnteringLemmas.{changed_keeps}
 use Rattle.sys_files.proofs.making.set_device.Goals as goal
 
@@ -7,6 +7,6 @@ pub returns-then-is_device_at-clause-kept : goal.returns-then-is_device_at-claus
 returns-then-is_device_at-clause-kept c =
     let old = c.args.nodes.now in
     changed_keeps old c.set_device.new.self c.args.ino
-    (λ node. with_node old.store c.args.ino (record node { device = c.args.device }) old.store.room)
+    (λ node. with_fields old.store c.args.ino (record node { device = c.args.device }))
     (c.see.ensures.used c.args.ino c.requires.referenced) c.set_device.ensures.store (λ node. refl)
     c.set_device.ensures.references c.set_device.ensures.rest

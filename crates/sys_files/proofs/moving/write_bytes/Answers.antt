@@ -2,6 +2,7 @@ use Rattle.std.proofs.Common.{ap, ◌∙◌}
 use Rattle.v6_base.specs.Image.{Image}
 use Rattle.fs_codec.specs.Store.{Store}
 use Rattle.fs_laws.specs.Pieces.{Moving, write_file}
+use Rattle.fs_laws.specs.Keys.{room_at}
 use Rattle.fs_nodes.specs.Copy.{get_from}
 use Rattle.open_files.specs.declared.file.OpenFile.{OpenFile}
 use Rattle.sys_files.specs.Handed.{Handed, handed, node_in}
@@ -14,7 +15,7 @@ returns-clause-done g c u row =
     let store : Store = c.args.f.now.tree.nodes.store in
     let node = node_there store c.args.file.now.ino (c.see.ensures.used c.args.file.now.ino c.requires.file.referred) in
     let moves = c.write_at-moved.ensures.moved (node_in store c.args.file.now.ino) node in
-    moves.done ∙ ap (λ (x : OpenFile). (write_file (get_from image c.args.at) (node_in store x.ino) store.room (tt {0}) x.offset c.args.count c.args.now).done) (file_is c.args.f.now c.args.entry c.args.file.now c.requires.file u row image)
+    moves.done ∙ ap (λ (x : OpenFile). (write_file (get_from image c.args.at) (node_in store x.ino) (room_at store x.ino) (tt {0}) x.offset c.args.count c.args.now).done) (file_is c.args.f.now c.args.entry c.args.file.now c.requires.file u row image)
 
 pub returns-clause-error : goal.returns-clause-error
 returns-clause-error g c u row =
@@ -22,7 +23,7 @@ returns-clause-error g c u row =
     let store : Store = c.args.f.now.tree.nodes.store in
     let node = node_there store c.args.file.now.ino (c.see.ensures.used c.args.file.now.ino c.requires.file.referred) in
     let moves = c.write_at-moved.ensures.moved (node_in store c.args.file.now.ino) node in
-    moves.error ∙ ap (λ (x : OpenFile). (write_file (get_from image c.args.at) (node_in store x.ino) store.room (tt {0}) x.offset c.args.count c.args.now).error) (file_is c.args.f.now c.args.entry c.args.file.now c.requires.file u row image)
+    moves.error ∙ ap (λ (x : OpenFile). (write_file (get_from image c.args.at) (node_in store x.ino) (room_at store x.ino) (tt {0}) x.offset c.args.count c.args.now).error) (file_is c.args.f.now c.args.entry c.args.file.now c.requires.file u row image)
 
 pub returns-clause-state : goal.returns-clause-state
 returns-clause-state g c u row =
@@ -31,7 +32,7 @@ returns-clause-state g c u row =
     let store : Store = c.args.f.now.tree.nodes.store in
     let file : OpenFile = c.args.file.now in
     let is = file_is c.args.f.now c.args.entry c.args.file.now c.requires.file u row image in
-    let m : OpenFile → Moving (Unit {0}) = λ x. write_file (get_from image c.args.at) (node_in store x.ino) store.room (tt {0}) x.offset c.args.count c.args.now in
+    let m : OpenFile → Moving (Unit {0}) = λ x. write_file (get_from image c.args.at) (node_in store x.ino) (room_at store x.ino) (tt {0}) x.offset c.args.count c.args.now in
     let node = node_there store file.ino (c.see.ensures.used file.ino c.requires.file.referred) in
     let moves = c.write_at-moved.ensures.moved (node_in store file.ino) node in
     moved_state h c.args.entry c.write_at-moved.result.done file m c.write_at-moved.new.self c.move_on.new.table is moves.store c.write_at-moved.ensures.references c.move_on.ensures moves.done

@@ -1,8 +1,8 @@
 use Rattle.std.proofs.Common.{◌≡◌, ◌∙◌, ℕ, ◌+◌, ◌*◌, ◌%◌, List, ap, arith}
 use Rattle.v6_base.specs.Image.{Image, nseg}
 use Rattle.fs_codec.specs.Store.{Store}
-use Rattle.fs_laws.specs.Numbers.{with_node}
 use Rattle.fs_laws.specs.Pieces.{Moving, read_file}
+use Rattle.fs_laws.specs.Keys.{room_at, with_node}
 use Rattle.fs_nodes.specs.Copy.{put_into}
 use Rattle.sys_procs.specs.declared.program.Program.{Program}
 use Rattle.sys_procs.specs.Tests.{node_in}
@@ -25,23 +25,23 @@ at_is g c =
 read_is : (g : given.Over) (c : After-read_at g) (text : List ℕ) → g.S.Space.image c.args.space.now
     ≡ cleared_image text c.args.program.now.plan
     → ◌≡◌ {A = Moving Image}
-    (read_file (put_into c.data_at-at.result) (node_in c.args.nodes.now.store c.args.program.now.ino) c.args.nodes.now.store.room
+    (read_file (put_into c.data_at-at.result) (node_in c.args.nodes.now.store c.args.program.now.ino) (room_at c.args.nodes.now.store c.args.program.now.ino)
     (g.S.Space.image c.args.space.now) (16 + c.from.result) c.args.program.now.plan.init c.args.now)
     (data_in c.args.nodes.now.store text c.args.program.now c.args.now)
 read_is g c text is =
     let store : Store = c.args.nodes.now.store in
     let program : Program = c.args.program.now in
-    (λ i. read_file (put_into (at_is g c i)) (node_in store program.ino) store.room (is i)
+    (λ i. read_file (put_into (at_is g c i)) (node_in store program.ino) (room_at store program.ino) (is i)
     (16 + c.from.ensures i) program.plan.init c.args.now)
 
 moved_is : (g : given.Over) (c : After-read_at g) → g.S.Space.image c.read_at.new.space
     ≡ (read_file (put_into c.data_at-at.result) (node_in c.args.nodes.now.store c.args.program.now.ino)
-    c.args.nodes.now.store.room
+    (room_at c.args.nodes.now.store c.args.program.now.ino)
     (g.S.Space.image c.args.space.now) (16 + c.from.result) c.args.program.now.plan.init c.args.now).memory
 moved_is g c =
     let program : Program = c.args.program.now in
     (c.read_at.ensures.moved (node_in c.args.nodes.now.store program.ino)
-    (node_there c.args.nodes.now.store program.ino (c.refs.ensures.form.used program.ino c.requires.referenced))).memory
+    (node_there c.args.nodes.now.store program.ino (c.see.ensures.used program.ino c.requires.referenced))).memory
 
 pub put_stack-requires : goal.put_stack-requires
 put_stack-requires g c =
@@ -63,5 +63,5 @@ returns-clause-store g c = λ text is.
     let store : Store = c.args.nodes.now.store in
     let program : Program = c.args.program.now in
     (c.read_at.ensures.moved (node_in store program.ino)
-    (node_there store program.ino (c.refs.ensures.form.used program.ino c.requires.referenced))).store
+    (node_there store program.ino (c.see.ensures.used program.ino c.requires.referenced))).store
     ∙ ap (λ (m : Moving Image). with_node store program.ino m.node m.room) (read_is g at text is)

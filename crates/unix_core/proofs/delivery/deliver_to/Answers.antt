@@ -1,7 +1,7 @@
 use Rattle.std.proofs.Common.{◌≡◌, ◌≢◌, ◌∙◌, ◌%◌, ◌==◌, ℕ, Bool, true, false, if◌then◌else◌, Some, sym, ap, subst}
 use Rattle.std.proofs.lemmas.Bool.{eq-eqb, eqb-true}
 use Rattle.v6_base.specs.Trace.{Took}
-use Rattle.fs_laws.specs.Rest.{SameRest}
+use Rattle.fs_nodes.specs.FileSystem.{SameRest}
 use Rattle.pick_rules.specs.Logged.{logged}
 use Rattle.u_area.specs.declared.area.UArea.{UArea}
 use Rattle.image_keep.specs.Kept.{Kept, area_of}
@@ -83,7 +83,7 @@ returns-then-is_default-clause-items g c =
 
 pub returns-then-is_default-clause-rest : goal.returns-then-is_default-clause-rest
 returns-then-is_default-clause-rest g c =
-    subst (λ (f : Files). SameRest f.tree.nodes.blocks c.end_by.new.world.files.tree.nodes.blocks) c.heed.ensures.files c.end_by.ensures.rest
+    subst (λ (f : Files). SameRest f.tree.nodes c.end_by.new.world.files.tree.nodes) c.heed.ensures.files c.end_by.ensures.rest
 
 pub catch-requires : goal.catch-requires
 catch-requires g c =
@@ -118,4 +118,4 @@ returns-clause-items g c =
 
 pub returns-clause-rest : goal.returns-clause-rest
 returns-clause-rest g c =
-    subst (λ (f : Files). SameRest f.tree.nodes.blocks c.catch.new.world.files.tree.nodes.blocks) c.heed.ensures.files c.catch.ensures.rest
+    subst (λ (f : Files). SameRest f.tree.nodes c.catch.new.world.files.tree.nodes) c.heed.ensures.files c.catch.ensures.rest

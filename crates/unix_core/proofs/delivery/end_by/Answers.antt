@@ -1,7 +1,7 @@
 use Rattle.std.proofs.Common.{◌≡◌, ◌∙◌, ◌+◌, ◌*◌, ◌%◌, ℕ, Bool, true, false, if◌then◌else◌, slice_index, sym, ap, subst}
 use Rattle.v6_base.specs.Trace.{Took}
-use Rattle.fs_laws.specs.Rest.{SameRest}
 use Rattle.fs_laws.proofs.RestLemmas.{rest_then}
+use Rattle.fs_nodes.specs.FileSystem.{SameRest}
 use Rattle.pick_rules.specs.Logged.{logged}
 use Rattle.u_area.specs.declared.area.UArea.{UArea}
 use Rattle.image_keep.specs.Kept.{Kept, IsKept, area_of, image_of, with_area, with_image}
@@ -142,7 +142,7 @@ returns-then-leaves_core-clause-items g c =
 pub returns-then-leaves_core-clause-rest : goal.returns-then-leaves_core-clause-rest
 returns-then-leaves_core-clause-rest g c =
     let t = c.tell-told.ensures in
-    subst (λ (x : World). SameRest x.files.tree.nodes.blocks c.end_with.new.world.files.tree.nodes.blocks) t.others
+    subst (λ (x : World). SameRest x.files.tree.nodes c.end_with.new.world.files.tree.nodes) t.others
     (rest_then _ _ _ c.put_core-whole.ensures.rest c.end_with.ensures.rest)
 
 pub end_with-requires-2-clause-ready : goal.end_with-requires-2-clause-ready
@@ -186,4 +186,4 @@ returns-clause-items g c =
 pub returns-clause-rest : goal.returns-clause-rest
 returns-clause-rest g c =
     let t = c.tell-told.ensures in
-    subst (λ (x : World). SameRest x.files.tree.nodes.blocks c.end_with-2.new.world.files.tree.nodes.blocks) t.others c.end_with-2.ensures.rest
+    subst (λ (x : World). SameRest x.files.tree.nodes c.end_with-2.new.world.files.tree.nodes) t.others c.end_with-2.ensures.rest

@@ -109,7 +109,7 @@ returns-in-Ok-clause-come g c =
     let e = c.end_proc-ended.ensures in
     let rests : Rests w1 now = record { pipes = refl; line = refl; tape = refl; core = refl } in
     let none = ended_goes _ _ e.does.answer c.in-Ok.is in
-    exit_come w w1 now s ready n c.see_nodes.ensures (closed_unix w new s t shown state is) (closed_board w new s t shown state is) none
+    exit_come w w1 now s ready n c.see.ensures (closed_unix w new s t shown state is) (closed_board w new s t shown state is) none
     (ended_unix w1 now s ready n e.agree none (end_state w1 s ready n _ none e.does.left.state) e.does.left.shown refl rests) e.does.left.shown
 
 pub returns-in-Ok-clause-good : goal.returns-in-Ok-clause-good
@@ -129,7 +129,7 @@ returns-in-Ok-clause-good g c goes =
     let rests : Rests w1 now = record { pipes = refl; line = refl; tape = refl; core = refl } in
     let closed = closed_then w w1 s c.requires.ready ready (closed_unix w new s t shown state is) in
     let none = ended_goes _ _ e.does.answer c.in-Ok.is in
-    ended_good w1 now s ready n e.agree none (end_state w1 s ready n _ none e.does.left.state) e.does.left.shown refl rests c.see_nodes.ensures closed
+    ended_good w1 now s ready n e.agree none (end_state w1 s ready n _ none e.does.left.state) e.does.left.shown refl rests c.see.ensures closed
     (closed_free w new s t shown state is c.requires.ready (none_pending (process_of (unix_of w) s) c.requires.user)) e.marks
 
 pub returns-in-Ok-clause-items : goal.returns-in-Ok-clause-items
@@ -142,7 +142,7 @@ returns-in-Ok-clause-items g c =
     let shown = c.close_files.ensures.shown in
     let state = c.close_files.ensures.unix in
     let is = c.pass_on.ensures.table in
-    exit_took w w1 w1 s (then w new s t shown state is) c.args.status c.see_nodes.ensures (closed_unix w new s t shown state is) (closed_board w new s t shown state is)
+    exit_took w w1 w1 s (then w new s t shown state is) c.args.status c.see.ensures (closed_unix w new s t shown state is) (closed_board w new s t shown state is)
     _ _ _ (subst (λ l. Took (g.T.Trace.taken c.args.trace.now) l (g.T.Trace.taken c.pass_on.new.trace)) shown.shown c.pass_on.ensures.items)
     c.end_proc-ended.ensures.does.left.items
 
@@ -162,7 +162,7 @@ returns-in-Err-clause-come g c =
     let e = c.end_proc-ended.ensures in
     let rests : Rests w1 now = record { pipes = refl; line = refl; tape = refl; core = refl } in
     let halt = ended_stops _ c.in-Err.kind _ e.does.answer c.in-Err.is in
-    exit_stops w w1 now s ready n c.see_nodes.ensures (closed_unix w new s t shown state is) (closed_board w new s t shown state is)
+    exit_stops w w1 now s ready n c.see.ensures (closed_unix w new s t shown state is) (closed_board w new s t shown state is)
     halt.0 halt.1.0 (Panic c.in-Err.kind) (ap Panic halt.1.1)
     (stopped_unix w1 now s ready n halt.0 halt.1.0 e.does.left.state e.does.left.shown refl rests) e.does.left.shown
 
@@ -193,7 +193,7 @@ returns-in-Err-clause-items g c =
     let shown = c.close_files.ensures.shown in
     let state = c.close_files.ensures.unix in
     let is = c.pass_on.ensures.table in
-    exit_took w w1 w1 s (then w new s t shown state is) c.args.status c.see_nodes.ensures (closed_unix w new s t shown state is) (closed_board w new s t shown state is)
+    exit_took w w1 w1 s (then w new s t shown state is) c.args.status c.see.ensures (closed_unix w new s t shown state is) (closed_board w new s t shown state is)
     _ _ _ (subst (λ l. Took (g.T.Trace.taken c.args.trace.now) l (g.T.Trace.taken c.pass_on.new.trace)) shown.shown c.pass_on.ensures.items)
     c.end_proc-ended.ensures.does.left.items
 

@@ -34,7 +34,7 @@ set_area-requires c =
     let w : World = c.args.world.now in
     let row : Row = row_at w.procs.rows c.args.s in
     let image : Image = image_of w.procs.images.kept c.args.s in
-    let lent = lends w c.args.s {r = row} w.procs.images.kept c.args.s c.requires.ready c.see_nodes.ensures c.area-u.ensures.sizes c.area-u.ensures.holds c.area-u.ensures.u refl refl refl in
+    let lent = lends w c.args.s {r = row} w.procs.images.kept c.args.s c.requires.ready c.see.ensures c.area-u.ensures.sizes c.area-u.ensures.holds c.area-u.ensures.u refl refl refl in
     record {
       image = c.requires.ready.good.running c.args.s c.requires.ready.runs c.requires.ready.user;
       sizes = sizes_put w c.args.s lent closing (closing_confined c.args.s (given w c.args.s)).steady c.close_all.new.f c.close_all.new.u row image (c.close_all.ensures.state row image);
@@ -45,7 +45,7 @@ returns c =
     let w : World = c.args.world.now in
     let row : Row = row_at w.procs.rows c.args.s in
     let image : Image = image_of w.procs.images.kept c.args.s in
-    let lent = lends w c.args.s {r = row} w.procs.images.kept c.args.s c.requires.ready c.see_nodes.ensures c.area-u.ensures.sizes c.area-u.ensures.holds c.area-u.ensures.u refl refl refl in
+    let lent = lends w c.args.s {r = row} w.procs.images.kept c.args.s c.requires.ready c.see.ensures c.area-u.ensures.sizes c.area-u.ensures.holds c.area-u.ensures.u refl refl refl in
     let done = call_done w c.args.s lent closing (closing_confined c.args.s (given w c.args.s))
     (close_pends (given w c.args.s) (none_pending (process_of (unix_of w) c.args.s) c.requires.user)) c.clear.new.self c.close_all.new.trace c.close_all.new.f c.close_all.new.u row image
     {a = Ret 0 0}

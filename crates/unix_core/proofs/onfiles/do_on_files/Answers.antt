@@ -32,7 +32,7 @@ put_back-requires c =
     let w : World = c.args.world.now in
     let s : ℕ = c.args.fixed.now.slot in
     let now : Kept = c.do_file_call-answer.new.space.images.now.kept in
-    let lent = lends w s _ _ c.requires.ready c.see_nodes.ensures c.area-u.ensures.sizes c.area-u.ensures.holds c.area-u.ensures.u c.row.ensures
+    let lent = lends w s _ _ c.requires.ready c.see.ensures c.area-u.ensures.sizes c.area-u.ensures.holds c.area-u.ensures.u c.row.ensures
     (same_kept c.space_at-space.ensures.images) c.space_at-space.ensures.slot in
     let back = lent_back w.procs.images.kept c.space_at-space.result.images.now.kept now s c.space_at-space.result.slot c.do_file_call-answer.new.space.slot _ _
     (same_kept c.space_at-space.ensures.images) c.space_at-space.ensures.slot c.do_file_call-answer.ensures.memory in
@@ -52,7 +52,7 @@ pub set_row-requires-clause-pid : goal.set_row-requires-clause-pid
 set_row-requires-clause-pid c =
     let w : World = c.args.world.now in
     let s : ℕ = c.args.fixed.now.slot in
-    let lent = lends w s _ _ c.requires.ready c.see_nodes.ensures c.area-u.ensures.sizes c.area-u.ensures.holds c.area-u.ensures.u c.row.ensures
+    let lent = lends w s _ _ c.requires.ready c.see.ensures c.area-u.ensures.sizes c.area-u.ensures.holds c.area-u.ensures.u c.row.ensures
     (same_kept c.space_at-space.ensures.images) c.space_at-space.ensures.slot in
     (row_put w s lent (λ h. file_row c.args.call h s c.args.args w.procs.table.now) (row_confined c.args.call (given w s) s c.args.args w.procs.table.now c.see_count.ensures).steady
     c.do_file_call-answer.new.files c.do_file_call-answer.new.u c.do_file_call-answer.new.row _ c.do_file_call-answer.ensures.does.state).pid
@@ -61,7 +61,7 @@ pub set_row-requires-clause-ppid : goal.set_row-requires-clause-ppid
 set_row-requires-clause-ppid c =
     let w : World = c.args.world.now in
     let s : ℕ = c.args.fixed.now.slot in
-    let lent = lends w s _ _ c.requires.ready c.see_nodes.ensures c.area-u.ensures.sizes c.area-u.ensures.holds c.area-u.ensures.u c.row.ensures
+    let lent = lends w s _ _ c.requires.ready c.see.ensures c.area-u.ensures.sizes c.area-u.ensures.holds c.area-u.ensures.u c.row.ensures
     (same_kept c.space_at-space.ensures.images) c.space_at-space.ensures.slot in
     (row_put w s lent (λ h. file_row c.args.call h s c.args.args w.procs.table.now) (row_confined c.args.call (given w s) s c.args.args w.procs.table.now c.see_count.ensures).steady
     c.do_file_call-answer.new.files c.do_file_call-answer.new.u c.do_file_call-answer.new.row _ c.do_file_call-answer.ensures.does.state).ppid
@@ -71,7 +71,7 @@ returns c =
     let w : World = c.args.world.now in
     let s : ℕ = c.args.fixed.now.slot in
     let now : Kept = c.do_file_call-answer.new.space.images.now.kept in
-    let lent = lends w s _ _ c.requires.ready c.see_nodes.ensures c.area-u.ensures.sizes c.area-u.ensures.holds c.area-u.ensures.u c.row.ensures
+    let lent = lends w s _ _ c.requires.ready c.see.ensures c.area-u.ensures.sizes c.area-u.ensures.holds c.area-u.ensures.u c.row.ensures
     (same_kept c.space_at-space.ensures.images) c.space_at-space.ensures.slot in
     let back = lent_back w.procs.images.kept c.space_at-space.result.images.now.kept now s c.space_at-space.result.slot c.do_file_call-answer.new.space.slot _ _
     (same_kept c.space_at-space.ensures.images) c.space_at-space.ensures.slot c.do_file_call-answer.ensures.memory in

@@ -31,7 +31,7 @@ pub returns-clause-whole : goal.returns-clause-whole
 returns-clause-whole c =
     let w : World = c.args.world.now in
     let row : Row = row_at w.procs.rows c.args.s in
-    let lent = lends w c.args.s {r = row} _ _ c.requires.ready c.see_nodes.ensures c.area-u.ensures.sizes c.area-u.ensures.holds c.area-u.ensures.u refl
+    let lent = lends w c.args.s {r = row} _ _ c.requires.ready c.see.ensures c.area-u.ensures.sizes c.area-u.ensures.holds c.area-u.ensures.u refl
     (same_kept c.space-space.ensures.images) c.space-space.ensures.slot in
     c.write_core.ensures.whole row ∙ ap (λ h. is_written (core_file h w.procs.table.now).answer) (lent_parts w c.args.s lent)
 
@@ -39,7 +39,7 @@ pub returns-clause-unix : goal.returns-clause-unix
 returns-clause-unix c =
     let w : World = c.args.world.now in
     let row : Row = row_at w.procs.rows c.args.s in
-    let lent = lends w c.args.s {r = row} _ _ c.requires.ready c.see_nodes.ensures c.area-u.ensures.sizes c.area-u.ensures.holds c.area-u.ensures.u refl
+    let lent = lends w c.args.s {r = row} _ _ c.requires.ready c.see.ensures c.area-u.ensures.sizes c.area-u.ensures.holds c.area-u.ensures.u refl
     (same_kept c.space-space.ensures.images) c.space-space.ensures.slot in
     dumped_unix w c.args.s lent (none_pending (process_of (unix_of w) c.args.s) c.requires.user) w.procs.table.now c.write_core.new.f
     c.space-space.result.images.now (same_kept c.space-space.ensures.images) (c.write_core.ensures.state row) (c.write_core.ensures.kept row)
@@ -48,7 +48,7 @@ pub returns-clause-ready : goal.returns-clause-ready
 returns-clause-ready c =
     let w : World = c.args.world.now in
     let row : Row = row_at w.procs.rows c.args.s in
-    let lent = lends w c.args.s {r = row} _ _ c.requires.ready c.see_nodes.ensures c.area-u.ensures.sizes c.area-u.ensures.holds c.area-u.ensures.u refl
+    let lent = lends w c.args.s {r = row} _ _ c.requires.ready c.see.ensures c.area-u.ensures.sizes c.area-u.ensures.holds c.area-u.ensures.u refl
     (same_kept c.space-space.ensures.images) c.space-space.ensures.slot in
     dumped_ready w c.args.s lent (none_pending (process_of (unix_of w) c.args.s) c.requires.user) w.procs.table.now c.write_core.new.f
     c.space-space.result.images.now (same_kept c.space-space.ensures.images) (c.write_core.ensures.state row) (c.write_core.ensures.kept row)
@@ -57,7 +57,7 @@ pub returns-clause-user : goal.returns-clause-user
 returns-clause-user c =
     let w : World = c.args.world.now in
     let row : Row = row_at w.procs.rows c.args.s in
-    let lent = lends w c.args.s {r = row} _ _ c.requires.ready c.see_nodes.ensures c.area-u.ensures.sizes c.area-u.ensures.holds c.area-u.ensures.u refl
+    let lent = lends w c.args.s {r = row} _ _ c.requires.ready c.see.ensures c.area-u.ensures.sizes c.area-u.ensures.holds c.area-u.ensures.u refl
     (same_kept c.space-space.ensures.images) c.space-space.ensures.slot in
     dumped_user w c.args.s lent (none_pending (process_of (unix_of w) c.args.s) c.requires.user) w.procs.table.now c.write_core.new.f
     c.space-space.result.images.now (same_kept c.space-space.ensures.images) (c.write_core.ensures.state row) (c.write_core.ensures.kept row)

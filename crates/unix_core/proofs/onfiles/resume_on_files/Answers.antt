@@ -46,7 +46,7 @@ pub resume_file-answer-requires-clause-pending : goal.resume_file-answer-require
 resume_file-answer-requires-clause-pending c =
     let w : World = c.args.world.now in
     let ready = c.requires.ready in
-    let lent = lends w c.args.s _ _ ready c.see_nodes.ensures c.area-u.ensures.sizes c.area-u.ensures.holds c.area-u.ensures.u c.row.ensures
+    let lent = lends w c.args.s _ _ ready c.see.ensures c.area-u.ensures.sizes c.area-u.ensures.holds c.area-u.ensures.u c.row.ensures
     (same_kept c.space-space.ensures.images) c.space-space.ensures.slot in
     subst CanGoOn (sym (lent_parts w c.args.s lent))
     (handed_goes_on (unix_of w) c.args.s ready.good.pending (slot_is w c.args.s ready) (is_living w c.args.s ready) (pends_on w c.args.s ready c.requires.pending))
@@ -56,7 +56,7 @@ pub set_area-requires : goal.set_area-requires
 set_area-requires c =
     let w : World = c.args.world.now in
     let now : Kept = c.resume_file-answer.new.space.images.now.kept in
-    let lent = lends w c.args.s _ _ c.requires.ready c.see_nodes.ensures c.area-u.ensures.sizes c.area-u.ensures.holds c.area-u.ensures.u c.row.ensures
+    let lent = lends w c.args.s _ _ c.requires.ready c.see.ensures c.area-u.ensures.sizes c.area-u.ensures.holds c.area-u.ensures.u c.row.ensures
     (same_kept c.space-space.ensures.images) c.space-space.ensures.slot in
     let back = lent_back w.procs.images.kept c.space-space.result.images.now.kept now c.args.s c.space-space.result.slot c.resume_file-answer.new.space.slot _ _
     (same_kept c.space-space.ensures.images) c.space-space.ensures.slot c.resume_file-answer.ensures.memory in
@@ -67,7 +67,7 @@ set_area-requires c =
 pub set_row-requires-clause-pid : goal.set_row-requires-clause-pid
 set_row-requires-clause-pid c =
     let w : World = c.args.world.now in
-    let lent = lends w c.args.s _ _ c.requires.ready c.see_nodes.ensures c.area-u.ensures.sizes c.area-u.ensures.holds c.area-u.ensures.u c.row.ensures
+    let lent = lends w c.args.s _ _ c.requires.ready c.see.ensures c.area-u.ensures.sizes c.area-u.ensures.holds c.area-u.ensures.u c.row.ensures
     (same_kept c.space-space.ensures.images) c.space-space.ensures.slot in
     (row_put w c.args.s lent (λ h. resumes h c.args.s w.procs.table.now) (confined w c.args.s c.requires.ready c.requires.pending).steady
     c.resume_file-answer.new.f c.resume_file-answer.new.u c.resume_file-answer.new.row _ c.resume_file-answer.ensures.does.state).pid
@@ -75,7 +75,7 @@ set_row-requires-clause-pid c =
 pub set_row-requires-clause-ppid : goal.set_row-requires-clause-ppid
 set_row-requires-clause-ppid c =
     let w : World = c.args.world.now in
-    let lent = lends w c.args.s _ _ c.requires.ready c.see_nodes.ensures c.area-u.ensures.sizes c.area-u.ensures.holds c.area-u.ensures.u c.row.ensures
+    let lent = lends w c.args.s _ _ c.requires.ready c.see.ensures c.area-u.ensures.sizes c.area-u.ensures.holds c.area-u.ensures.u c.row.ensures
     (same_kept c.space-space.ensures.images) c.space-space.ensures.slot in
     (row_put w c.args.s lent (λ h. resumes h c.args.s w.procs.table.now) (confined w c.args.s c.requires.ready c.requires.pending).steady
     c.resume_file-answer.new.f c.resume_file-answer.new.u c.resume_file-answer.new.row _ c.resume_file-answer.ensures.does.state).ppid
@@ -84,7 +84,7 @@ pub returns : goal.returns
 returns c =
     let w : World = c.args.world.now in
     let now : Kept = c.resume_file-answer.new.space.images.now.kept in
-    let lent = lends w c.args.s _ _ c.requires.ready c.see_nodes.ensures c.area-u.ensures.sizes c.area-u.ensures.holds c.area-u.ensures.u c.row.ensures
+    let lent = lends w c.args.s _ _ c.requires.ready c.see.ensures c.area-u.ensures.sizes c.area-u.ensures.holds c.area-u.ensures.u c.row.ensures
     (same_kept c.space-space.ensures.images) c.space-space.ensures.slot in
     let back = lent_back w.procs.images.kept c.space-space.result.images.now.kept now c.args.s c.space-space.result.slot c.resume_file-answer.new.space.slot _ _
     (same_kept c.space-space.ensures.images) c.space-space.ensures.slot c.resume_file-answer.ensures.memory in

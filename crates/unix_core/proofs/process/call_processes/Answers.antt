@@ -3,7 +3,7 @@ use Rattle.std.proofs.lemmas.Result.{IfOk-at_ok, IfErr-at_err}
 use Rattle.v6_base.specs.Trace.{Took}
 use Rattle.v6_base.specs.declared.answer.Answer.{Answer}
 use Rattle.v6_base.specs.declared.entry.PanicKind.{PanicKind}
-use Rattle.fs_laws.specs.Rest.{SameRest}
+use Rattle.fs_laws.specs.Rest.{SameOutside}
 use Rattle.pick_rules.specs.Logged.{logged}
 use Rattle.fs_nodes.specs.FileSystem.{IsFileSystem}
 use Rattle.image_keep.specs.Kept.{IsKept}
@@ -49,7 +49,7 @@ conclude-requires g c =
     let w : World = c.args.world.now in
     let e = c.do_process_call.ensures in
     call_ready w (after w c.do_process_call.new.tree c.do_process_call.new.p) c.args.s (row w c.args.call c.args.s c.args.args)
-    (tame w c.args.call c.args.s c.args.args c.requires.ready c.see_nodes.ensures c.see_kept.ensures) (beside w c.do_process_call.new.tree c.do_process_call.new.p) e.does
+    (tame w c.args.call c.args.s c.args.args c.requires.ready c.see.ensures c.see_kept.ensures) (beside w c.do_process_call.new.tree c.do_process_call.new.p) e.does
     c.in-Ok.answer c.in-Ok.is c.requires.ready
     (IfOk-at_ok (λ (a : Answer). AreProcs c.do_process_call.new.p) c.in-Ok.is e.agree)
     (waits w c.args.call c.args.s c.args.args c.requires.ready c.requires.user) e.marks
@@ -60,9 +60,9 @@ returns-in-Ok-clause-come g c =
     let s = c.args.s in
     let e = c.do_process_call.ensures in
     subst (λ x. HasCome (board_in w) (came_by (unix_of w) s (process_row c.args.call x s c.args.args)) c.conclude.result c.conclude.new.world)
-    (world_is w s c.requires.ready c.see_nodes.ensures)
+    (world_is w s c.requires.ready c.see.ensures)
     (call_come w (after w c.do_process_call.new.tree c.do_process_call.new.p) s (row w c.args.call s c.args.args)
-    (tame w c.args.call s c.args.args c.requires.ready c.see_nodes.ensures c.see_kept.ensures) (beside w c.do_process_call.new.tree c.do_process_call.new.p) e.does
+    (tame w c.args.call s c.args.args c.requires.ready c.see.ensures c.see_kept.ensures) (beside w c.do_process_call.new.tree c.do_process_call.new.p) e.does
     c.in-Ok.answer c.in-Ok.is c.conclude.result c.conclude.new.world c.conclude.ensures.come)
 
 pub returns-in-Ok-clause-items : goal.returns-in-Ok-clause-items
@@ -72,9 +72,9 @@ returns-in-Ok-clause-items g c =
     let e = c.do_process_call.ensures in
     subst (λ x. Took (g.T.Trace.taken c.args.trace.now) (logged (board_in w) (came_by (unix_of w) s (process_row c.args.call x s c.args.args)).effects).items
     (g.T.Trace.taken c.conclude.new.trace))
-    (world_is w s c.requires.ready c.see_nodes.ensures)
+    (world_is w s c.requires.ready c.see.ensures)
     (call_took w (after w c.do_process_call.new.tree c.do_process_call.new.p) s (row w c.args.call s c.args.args)
-    (tame w c.args.call s c.args.args c.requires.ready c.see_nodes.ensures c.see_kept.ensures) (beside w c.do_process_call.new.tree c.do_process_call.new.p) e.does
+    (tame w c.args.call s c.args.args c.requires.ready c.see.ensures c.see_kept.ensures) (beside w c.do_process_call.new.tree c.do_process_call.new.p) e.does
     c.in-Ok.answer c.in-Ok.is _ c.conclude.ensures.items)
 
 pub returns-in-Ok-clause-covered : goal.returns-in-Ok-clause-covered
@@ -85,7 +85,7 @@ returns-in-Ok-clause-frame g c = g.met.T.Trace.goes_on _ _ _ c.do_process_call.e
 
 pub returns-in-Ok-clause-rest : goal.returns-in-Ok-clause-rest
 returns-in-Ok-clause-rest g c =
-    subst (λ b. SameRest c.args.world.now.files.tree.nodes.blocks b) (sym c.conclude.ensures.blocks) c.do_process_call.ensures.blocks
+    subst (λ b. SameOutside c.args.world.now.files.tree.nodes.blocks b) (sym c.conclude.ensures.blocks) c.do_process_call.ensures.blocks
 
 pub returns-in-Err-clause-come : goal.returns-in-Err-clause-come
 returns-in-Err-clause-come g c =
@@ -94,9 +94,9 @@ returns-in-Err-clause-come g c =
     let e = c.do_process_call.ensures in
     subst (λ x. HasCome (board_in w) (came_by (unix_of w) s (process_row c.args.call x s c.args.args)) (Panic c.in-Err.kind)
     (after w c.do_process_call.new.tree c.do_process_call.new.p))
-    (world_is w s c.requires.ready c.see_nodes.ensures)
+    (world_is w s c.requires.ready c.see.ensures)
     (call_stops w (after w c.do_process_call.new.tree c.do_process_call.new.p) s (row w c.args.call s c.args.args)
-    (tame w c.args.call s c.args.args c.requires.ready c.see_nodes.ensures c.see_kept.ensures) (beside w c.do_process_call.new.tree c.do_process_call.new.p) e.does
+    (tame w c.args.call s c.args.args c.requires.ready c.see.ensures c.see_kept.ensures) (beside w c.do_process_call.new.tree c.do_process_call.new.p) e.does
     c.in-Err.kind c.in-Err.is (Panic c.in-Err.kind) refl)
 
 pub returns-in-Err-clause-ready : goal.returns-in-Err-clause-ready
@@ -109,9 +109,9 @@ returns-in-Err-clause-items g c =
     let e = c.do_process_call.ensures in
     subst (λ x. Took (g.T.Trace.taken c.args.trace.now) (logged (board_in w) (came_by (unix_of w) s (process_row c.args.call x s c.args.args)).effects).items
     (g.T.Trace.taken c.do_process_call.new.trace))
-    (world_is w s c.requires.ready c.see_nodes.ensures)
+    (world_is w s c.requires.ready c.see.ensures)
     (call_cut w (after w c.do_process_call.new.tree c.do_process_call.new.p) s (row w c.args.call s c.args.args)
-    (tame w c.args.call s c.args.args c.requires.ready c.see_nodes.ensures c.see_kept.ensures) (beside w c.do_process_call.new.tree c.do_process_call.new.p) e.does
+    (tame w c.args.call s c.args.args c.requires.ready c.see.ensures c.see_kept.ensures) (beside w c.do_process_call.new.tree c.do_process_call.new.p) e.does
     c.in-Err.kind c.in-Err.is)
 
 pub returns-in-Err-clause-covered : goal.returns-in-Err-clause-covered

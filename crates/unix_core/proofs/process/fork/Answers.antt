@@ -1,6 +1,6 @@
 use Rattle.std.proofs.Common.{◌≡◌, ◌∙◌, ℕ, List, Option, refl, sym, ap, subst, arith}
 use Rattle.v6_base.specs.declared.answer.Answer.{Answer}
-use Rattle.fs_laws.specs.Rest.{SameRest}
+use Rattle.fs_laws.specs.Rest.{SameOutside}
 use Rattle.image_keep.specs.Kept.{area_of}
 use Rattle.open_files.specs.declared.file.OpenFile.{OpenFile}
 use Rattle.open_files.specs.Files.{AreOpen, HaveRoom}
@@ -53,7 +53,7 @@ pub conclude-requires : goal.conclude-requires
 conclude-requires g c =
     let w : World = c.args.world.now in
     let e = c.fork_one.ensures in
-    fork_ready w (after w c.fork_one.new.tree c.fork_one.new.p) c.args.s c.requires.ready c.see_nodes.ensures
+    fork_ready w (after w c.fork_one.new.tree c.fork_one.new.p) c.args.s c.requires.ready c.see.ensures
     (beside w c.fork_one.new.tree c.fork_one.new.p) e.does
     c.in-Ok.answer c.in-Ok.is (shared w c.fork_one.new.tree c.share_files.new.table c.fork_one.new.p) refl refl
     (its_table w c.args.s c.area-u.result _ c.in-Ok.answer c.requires.ready c.area-u.ensures.u c.share_files.ensures) refl refl refl refl
@@ -63,7 +63,7 @@ pub returns-in-Ok-clause-come : goal.returns-in-Ok-clause-come
 returns-in-Ok-clause-come g c =
     let w : World = c.args.world.now in
     let e = c.fork_one.ensures in
-    fork_come w (after w c.fork_one.new.tree c.fork_one.new.p) c.args.s c.requires.ready c.see_nodes.ensures
+    fork_come w (after w c.fork_one.new.tree c.fork_one.new.p) c.args.s c.requires.ready c.see.ensures
     (beside w c.fork_one.new.tree c.fork_one.new.p) e.does
     c.in-Ok.answer c.in-Ok.is (shared w c.fork_one.new.tree c.share_files.new.table c.fork_one.new.p) refl refl
     (its_table w c.args.s c.area-u.result _ c.in-Ok.answer c.requires.ready c.area-u.ensures.u c.share_files.ensures) refl refl refl refl
@@ -74,7 +74,7 @@ pub returns-in-Ok-clause-items : goal.returns-in-Ok-clause-items
 returns-in-Ok-clause-items g c =
     let w : World = c.args.world.now in
     let e = c.fork_one.ensures in
-    fork_took w (after w c.fork_one.new.tree c.fork_one.new.p) c.args.s c.requires.ready c.see_nodes.ensures
+    fork_took w (after w c.fork_one.new.tree c.fork_one.new.p) c.args.s c.requires.ready c.see.ensures
     (beside w c.fork_one.new.tree c.fork_one.new.p) e.does
     c.in-Ok.answer c.in-Ok.is (shared w c.fork_one.new.tree c.share_files.new.table c.fork_one.new.p) refl refl
     (its_table w c.args.s c.area-u.result _ c.in-Ok.answer c.requires.ready c.area-u.ensures.u c.share_files.ensures) refl refl refl refl
@@ -88,13 +88,13 @@ returns-in-Ok-clause-frame g c = g.met.T.Trace.goes_on _ _ _ c.fork_one.ensures.
 
 pub returns-in-Ok-clause-rest : goal.returns-in-Ok-clause-rest
 returns-in-Ok-clause-rest g c =
-    subst (λ b. SameRest c.args.world.now.files.tree.nodes.blocks b) (sym c.conclude.ensures.blocks) c.fork_one.ensures.blocks
+    subst (λ b. SameOutside c.args.world.now.files.tree.nodes.blocks b) (sym c.conclude.ensures.blocks) c.fork_one.ensures.blocks
 
 pub returns-in-Err-clause-come : goal.returns-in-Err-clause-come
 returns-in-Err-clause-come g c =
     let w : World = c.args.world.now in
     let e = c.fork_one.ensures in
-    fork_stops w (after w c.fork_one.new.tree c.fork_one.new.p) c.args.s c.requires.ready c.see_nodes.ensures
+    fork_stops w (after w c.fork_one.new.tree c.fork_one.new.p) c.args.s c.requires.ready c.see.ensures
     (beside w c.fork_one.new.tree c.fork_one.new.p) e.does c.in-Err.kind c.in-Err.is
 
 pub returns-in-Err-clause-ready : goal.returns-in-Err-clause-ready
@@ -104,7 +104,7 @@ pub returns-in-Err-clause-items : goal.returns-in-Err-clause-items
 returns-in-Err-clause-items g c =
     let w : World = c.args.world.now in
     let e = c.fork_one.ensures in
-    fork_cut w (after w c.fork_one.new.tree c.fork_one.new.p) c.args.s c.requires.ready c.see_nodes.ensures
+    fork_cut w (after w c.fork_one.new.tree c.fork_one.new.p) c.args.s c.requires.ready c.see.ensures
     (beside w c.fork_one.new.tree c.fork_one.new.p) e.does c.in-Err.kind c.in-Err.is
 
 pub see_covered-requires : goal.see_covered-requires

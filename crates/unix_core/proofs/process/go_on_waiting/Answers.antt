@@ -3,7 +3,7 @@ use Rattle.std.specs.Prelude.{Result, Err}
 use Rattle.v6_base.specs.Trace.{Took}
 use Rattle.v6_base.specs.declared.answer.Answer.{Answer}
 use Rattle.v6_base.specs.declared.entry.PanicKind.{PanicKind}
-use Rattle.fs_laws.specs.Rest.{SameRest}
+use Rattle.fs_laws.specs.Rest.{SameOutside}
 use Rattle.pick_rules.specs.Logged.{logged}
 use Rattle.sys_procs.specs.Comes.{Comes}
 use Rattle.sys_procs.specs.Agree.{answered}
@@ -54,7 +54,7 @@ returns-in-Ok-clause-come g c =
     let s = c.args.s in
     let e = c.resume_proc.ensures in
     subst (λ x. HasCome (board_in w) (came_by (unix_of w) s (resume_proc x s)) c.conclude.result c.conclude.new.world)
-    (world_is w s c.requires c.see_nodes.ensures)
+    (world_is w s c.requires c.see.ensures)
     (call_come w (after w c.resume_proc.new.tree c.resume_proc.new.p) s (row w s)
     (tame w s c.requires) (beside w c.resume_proc.new.tree c.resume_proc.new.p) e.does
     c.in-Ok.answer c.in-Ok.is c.conclude.result c.conclude.new.world c.conclude.ensures.come)
@@ -66,7 +66,7 @@ returns-in-Ok-clause-items g c =
     let e = c.resume_proc.ensures in
     subst (λ x. Took (g.T.Trace.taken c.args.trace.now) (logged (board_in w) (came_by (unix_of w) s (resume_proc x s)).effects).items
     (g.T.Trace.taken c.conclude.new.trace))
-    (world_is w s c.requires c.see_nodes.ensures)
+    (world_is w s c.requires c.see.ensures)
     (call_took w (after w c.resume_proc.new.tree c.resume_proc.new.p) s (row w s)
     (tame w s c.requires) (beside w c.resume_proc.new.tree c.resume_proc.new.p) e.does
     c.in-Ok.answer c.in-Ok.is _ c.conclude.ensures.items)
@@ -79,7 +79,7 @@ returns-in-Ok-clause-frame g c = g.met.T.Trace.goes_on _ _ _ c.resume_proc.ensur
 
 pub returns-in-Ok-clause-rest : goal.returns-in-Ok-clause-rest
 returns-in-Ok-clause-rest g c =
-    subst (λ b. SameRest c.args.world.now.files.tree.nodes.blocks b) (sym c.conclude.ensures.blocks) c.resume_proc.ensures.blocks
+    subst (λ b. SameOutside c.args.world.now.files.tree.nodes.blocks b) (sym c.conclude.ensures.blocks) c.resume_proc.ensures.blocks
 
 -- it never stops
 never : (w : World) (s : ℕ) (kind : PanicKind) (r : Result Answer PanicKind) → IsReady w s

@@ -1,8 +1,8 @@
 use Rattle.std.proofs.Common.{◌≡◌, replicate}
-use Rattle.fs_laws.specs.Rest.{SameRest}
 use Rattle.abstract_unix.specs.declared.ends.Ends.TheVariants.{AtEnd}
 use Rattle.abstract_unix.specs.Unix.{Started}
 use Rattle.abstract_unix.specs.Runs.{Slot, begun}
+use Rattle.unix_core.specs.State.{KeepsRest}
 use Rattle.v6_run.specs.Courses.{HasRun}
 use Rattle.v6_run.proofs.slots.run_slots.Given as goal
 
@@ -10,6 +10,6 @@ abbrev pub invariant-slots : goal.invariant-slots
 invariant-slots g l = record {
   run : HasRun (begun l.initial.kernel.system) (replicate l.counter Slot) AtEnd l.kernel.system (g.T.Trace.taken l.initial.trace) (g.T.Trace.taken l.trace);
   phase : l.kernel.phase ≡ Started;
-  rest : SameRest l.initial.kernel.blocks l.kernel.blocks;
+  rest : KeepsRest l.initial.kernel l.kernel;
   frame : g.T.Trace.leads_to l.initial.trace l.trace;
 }

@@ -1,5 +1,5 @@
 use Rattle.std.proofs.Common.{◌+◌, ◌==◌, if◌then◌else◌, slice_index, IsSome, ap, ◌∙◌, rules}
-use Rattle.fs_codec.specs.Store.{node_numbered}
+use Rattle.fs_laws.specs.Keys.{node_numbered}
 use Rattle.sys_files.proofs.OwingLemmas.{once_more}
 use Rattle.sys_files.proofs.EnteringLemmas.{used_low}
 use Rattle.file_rows.proofs.system_calls.shared.refer.Goals as goal

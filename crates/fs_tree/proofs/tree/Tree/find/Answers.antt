@@ -1,5 +1,6 @@
 use Rattle.std.proofs.Common.{IsSome, sym, ap, ◌∙◌, subst}
-use Rattle.fs_codec.specs.Store.{Store, node_numbered}
+use Rattle.fs_codec.specs.Store.{Store}
+use Rattle.fs_laws.specs.Keys.{node_numbered}
 use Rattle.fs_tree.specs.Path.{found}
 use Rattle.fs_tree.proofs.PathLemmas.{way_used, found_used}
 use Rattle.fs_tree.proofs.tree.Tree.find.Goals as goal

@@ -1,5 +1,6 @@
 use Rattle.std.proofs.Common.{IsSome, sym, ap, ◌∙◌, subst}
-use Rattle.fs_codec.specs.Store.{Store, node_numbered}
+use Rattle.fs_codec.specs.Store.{Store}
+use Rattle.fs_laws.specs.Keys.{node_numbered}
 use Rattle.fs_tree.specs.Path.{to_make}
 use Rattle.fs_tree.specs.Finding.{named_by_made}
 use Rattle.fs_tree.proofs.PathLemmas.{way_used, made_used}

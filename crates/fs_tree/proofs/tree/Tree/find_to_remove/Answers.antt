@@ -1,5 +1,6 @@
 use Rattle.std.proofs.Common.{IsSome, sym, ap, ◌∙◌, subst}
-use Rattle.fs_codec.specs.Store.{Store, node_numbered}
+use Rattle.fs_codec.specs.Store.{Store}
+use Rattle.fs_laws.specs.Keys.{node_numbered}
 use Rattle.fs_tree.specs.Path.{to_remove}
 use Rattle.fs_tree.proofs.PathLemmas.{way_used, removed_used}
 use Rattle.fs_tree.proofs.tree.Tree.find_to_remove.Goals as goal
