@@ -60,11 +60,11 @@ line_closed_is h (Some l) = by (is_line_open h l)
 -- It is closed where no file of it is open, and who waits for its keys is woken.
 pub line_shut : (h : Handed) (l : ℕ) → is_line_open h l ≡ false
     → closes_line h (Some l) ≡ record { state = record h { line = terminal.closed h.line }; items = Log (Wake Keys) ∷ [] }
-line_shut h l is = ap (λ (open : Bool). cond {A = Closing} open (record { state = h; items = [] })
+line_shut h l is = ap (λ (others : Bool). cond {A = Closing} others (record { state = h; items = [] })
     (record { state = record h { line = terminal.closed h.line }; items = Log (Wake Keys) ∷ [] })) is
 
 pub line_stays : (h : Handed) (l : ℕ) → is_line_open h l ≡ true → closes_line h (Some l) ≡ record { state = h; items = [] }
-line_stays h l is = ap (λ (open : Bool). cond {A = Closing} open (record { state = h; items = [] })
+line_stays h l is = ap (λ (others : Bool). cond {A = Closing} others (record { state = h; items = [] })
     (record { state = record h { line = terminal.closed h.line }; items = Log (Wake Keys) ∷ [] })) is
 
 -- Where it is freed a line may be another, and a reference goes.
