@@ -15,7 +15,7 @@ returns-then-not-is_device c = λ h.
 pub returns-then-is_line : goal.returns-then-is_line
 returns-then-is_line c = λ h.
     let shown = c.inode_of-inode.ensures in
-    sym (ap (λ (o : Option Node). can_open h (unwrap_or o no_node)) shown.1
+    c.if-is_line.true ∙ sym (ap (λ (o : Option Node). can_open h (unwrap_or o no_node)) shown.1
     ∙ can_line h shown.0 (sym (c.is_line.ensures h shown.0 shown.2) ∙ c.if-is_line.true))
 
 pub returns-else-is_line : goal.returns-else-is_line
