@@ -9,6 +9,7 @@ import argparse
 import errno
 import itertools
 import os
+import re
 import sys
 import tempfile
 from dataclasses import dataclass
@@ -21,6 +22,7 @@ from processes import Processes, programs_of
 from program import CORE, V6, ProgramError, add_version
 from screen import without_echo
 from scriptfile import HEADER
+from silent import why_silent
 
 HELP = """~.      ends, and so does the end of a file that is read in the place of the keyboard
 ~^X     types a control character: ~^D is 004, ~^? is 0177
@@ -33,6 +35,7 @@ HELP = """~.      ends, and so does the end of a file that is read in the place 
 ~?      prints these lines
 """
 ENDS = signal.SIGTERM, signal.SIGHUP
+LINE = re.compile(r"^(script: (?:too many slots at )?line )([0-9]+)")  # of a script that has a head, which a file needn't have
 LONGEST = 254  # of a line that is tried with others in one run: more than 255 keys don't wait
 
 
@@ -337,8 +340,8 @@ def check_header(options, machine, found):
 
 def run(options, folder):
     script = Script(options.script)
-    old, found = script.lines()
-    core = options.core if options.core is not None else int(found[2]) if found else CORE
+    old, head = script.lines()
+    core = options.core if options.core is not None else int(head[2]) if head else CORE
     machine = Machine(options.v6, options.image, core, folder)
     start = [b"clock %d" % options.clock] if options.clock else []
     console = Console(Dialogue(machine, options.slots, start), Keyboard(sys.stdin.buffer))
@@ -349,11 +352,14 @@ def run(options, folder):
     if options.disk:
         place_of(options.disk)  # what can't be written is told before anything is typed
     try:
-        check_header(options, machine, found)
+        check_header(options, machine, head)
         found = console.dialogue.begin(old)
         console.show(console.dialogue.played.term)
+        why = None if console.dialogue.played.term else why_silent(read_bytes(machine.image), console.dialogue.played.log)
+        if why:
+            tell(why)
     except DialogueError as error:
-        tell(error)
+        tell(error if head else LINE.sub(lambda line: f"{line[1]}{int(line[2]) - 1}", str(error), count=1))
         return 1
     save()
     status = 0

@@ -463,9 +463,9 @@ class Sessions(Case):
         bad = self.put("bad", bytes(2000))
         self.assertEqual(self.session("", image=bad), (1, b"", "\nconsole: image: bad super-block\n"))
         script = self.put("script", b"walk\n")
-        self.assertEqual(self.session("", "--script", script), (1, b"", "\nconsole: script: line 2: 'walk'\n"))
+        self.assertEqual(self.session("", "--script", script), (1, b"", "\nconsole: script: line 1: 'walk'\n"))
         self.assertEqual(read(script), b"walk\n")
-        self.assertEqual(self.session("", "--core", "63"), (1, b"", "\nconsole: core size\n"))
+        self.assertEqual(self.session("", "--core", "63"), (1, b"", "\nconsole: core size: 63 clicks, and 64 to 3968 are wanted\n"))
         absent = os.path.join(self.folder, "no", "file")
         for option in ("--script", "--disk"):
             status, term, said = self.session("ls\n", option, absent)
