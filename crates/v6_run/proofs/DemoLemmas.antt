@@ -8,7 +8,7 @@ use Rattle.fs_codec.specs.Faults.{image_fault}
 use Rattle.fs_codec.specs.declared.fault.ImageFault as codec
 use Rattle.script_text.specs.declared.script.Event as asked
 use Rattle.script_text.specs.declared.script.Event.TheVariants as ask
-use Rattle.script_text.specs.declared.script.ScriptFault.{ScriptFault}
+use Rattle.script_text.specs.declared.script.ScriptFault as text
 use Rattle.script_text.specs.declared.script.ScriptFault.TheVariants as fault
 use Rattle.script_text.specs.Script.{script_of, Refuses}
 use Rattle.make_image.specs.Image.{build_of}
@@ -46,20 +46,20 @@ unfolding demo_text demo_events
 demo_read = refl
 
 -- So it is refused for want of memory alone.
-pub only_memory : (f : ScriptFault) → Refuses demo_text f → f ≡ fault.NoMemory
+pub only_memory : (f : text.ScriptFault) → Refuses demo_text f → f ≡ fault.NoMemory
 only_memory fault.TooLong refused = let never : Ok demo_events ≡ Err fault.TooLong = sym demo_read ∙ refused in cc
 only_memory (fault.BadLine n) refused = let never : Ok demo_events ≡ Err (fault.BadLine n) = sym demo_read ∙ refused in cc
 only_memory (fault.TooManySlots n) refused = let never : Ok demo_events ≡ Err (fault.TooManySlots n) = sym demo_read ∙ refused in cc
 only_memory fault.NoMemory refused = refl
 
 -- `demo` opens nothing
-none_passed : {fixed : Environment} (s : Status) → AreGood fixed (ports_passed s [])
-none_passed Done = tt
-none_passed (Panic kind) = tt
-none_passed (ScriptFault fault) = tt
-none_passed (ReadFault p) = tt
-none_passed (WriteFault p) = tt
-none_passed _ = tt
+none_passed : (fixed : Environment) (s : Status) → AreGood fixed (ports_passed s [])
+none_passed fixed Done = tt
+none_passed fixed (Panic kind) = tt
+none_passed fixed (ScriptFault fault) = tt
+none_passed fixed (ReadFault p) = tt
+none_passed fixed (WriteFault p) = tt
+none_passed fixed _ = tt
 
 -- Nothing of the outside changes, and no port is at fault.
 module _ (number : ℕ) (o : Outside) where
@@ -71,7 +71,7 @@ module _ (number : ℕ) (o : Outside) where
     unreported = λ is. let some : fault_port s ≡ Some (Out out_port.Report) = ap fault_port is in cc;
     complete = λ decided told. complete decided;
     partial = λ p is. absurd (let some : fault_port s ≡ Some (Out p) = ap fault_port is in cc);
-    order = λ told. none_passed s;
+    order = λ told. none_passed o.fixed s;
     opened = λ told p grew. tt;
     none = λ before p. refl;
     closed = λ is p named. not_so _ named;
