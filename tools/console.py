@@ -1,9 +1,15 @@
 #!/usr/bin/env python3
 """A person types at the terminal of a machine that runs a disk: see docs/tools/console.md."""
+import signal
+
+if __name__ == "__main__":
+    signal.signal(signal.SIGINT, signal.SIG_DFL)  # an interrupt before main ends it without a word
+
 import argparse
+import errno
 import itertools
 import os
-import signal
+import re
 import sys
 import tempfile
 from dataclasses import dataclass
@@ -16,6 +22,7 @@ from processes import Processes, programs_of
 from program import CORE, V6, ProgramError, add_version
 from screen import without_echo
 from scriptfile import HEADER
+from silent import why_silent
 
 HELP = """~.      ends, and so does the end of a file that is read in the place of the keyboard
 ~^X     types a control character: ~^D is 004, ~^? is 0177
@@ -27,6 +34,8 @@ HELP = """~.      ends, and so does the end of a file that is read in the place 
 ~w      tells what each process does
 ~?      prints these lines
 """
+ENDS = signal.SIGTERM, signal.SIGHUP
+LINE = re.compile(r"^(script: (?:too many slots at )?line )([0-9]+)")  # of a script that has a head, which a file needn't have
 LONGEST = 254  # of a line that is tried with others in one run: more than 255 keys don't wait
 
 
@@ -56,6 +65,16 @@ class Quit(KeyboardInterrupt):
 
 def quit_key(*_):
     raise Quit
+
+
+class Ended(BaseException):
+    """Another program has ended this one by a signal, or the terminal has gone."""
+
+
+def ended(number, _):
+    for other in ENDS:
+        signal.signal(other, signal.SIG_IGN)
+    raise Ended(number)
 
 
 class Keyboard:
@@ -215,7 +234,11 @@ ORDERS = {"?": Console.help, "l": Console.list, "u": Console.back, "g": Console.
 
 
 def tell(text):
-    print(f"\nconsole: {text}", file=sys.stderr, flush=True)
+    try:
+        print(f"\nconsole: {text}", file=sys.stderr, flush=True)
+    except OSError as error:
+        if error.errno != errno.EIO:  # of a terminal that has gone
+            raise
 
 
 def talk(console, found, save):
@@ -317,8 +340,8 @@ def check_header(options, machine, found):
 
 def run(options, folder):
     script = Script(options.script)
-    old, found = script.lines()
-    core = options.core if options.core is not None else int(found[2]) if found else CORE
+    old, head = script.lines()
+    core = options.core if options.core is not None else int(head[2]) if head else CORE
     machine = Machine(options.v6, options.image, core, folder)
     start = [b"clock %d" % options.clock] if options.clock else []
     console = Console(Dialogue(machine, options.slots, start), Keyboard(sys.stdin.buffer))
@@ -329,16 +352,24 @@ def run(options, folder):
     if options.disk:
         place_of(options.disk)  # what can't be written is told before anything is typed
     try:
-        check_header(options, machine, found)
+        check_header(options, machine, head)
         found = console.dialogue.begin(old)
         console.show(console.dialogue.played.term)
+        why = None if console.dialogue.played.term else why_silent(read_bytes(machine.image), console.dialogue.played.log)
+        if why:
+            tell(why)
     except DialogueError as error:
-        tell(error)
+        tell(error if head else LINE.sub(lambda line: f"{line[1]}{int(line[2]) - 1}", str(error), count=1))
         return 1
     save()
-    talk(console, found, save)
+    status = 0
+    try:
+        talk(console, found, save)
+    except Ended as error:  # what has been typed is kept, as at the end
+        status = 128 + error.args[0]
+        save()
     is_kept = not options.disk or put_disk(options, machine, console.dialogue.lines())
-    return int(console.refused and not console.keyboard.person or script.moved or not is_kept)
+    return status or int(console.refused and not console.keyboard.person or script.moved or not is_kept)
 
 
 def put_disk(options, machine, lines):
@@ -362,7 +393,10 @@ def beside(name):
 
 def main(words):
     options = options_of(words)
+    signal.signal(signal.SIGINT, signal.default_int_handler)
     signal.signal(signal.SIGQUIT, quit_key)
+    for number in ENDS:
+        signal.signal(number, ended)
     try:
         with tempfile.TemporaryDirectory() as folder:
             return run(options, folder)
@@ -374,6 +408,8 @@ def main(words):
         tell(told(error))
     except KeyboardInterrupt:
         tell("stopped")
+    except Ended as error:
+        return 128 + error.args[0]
     return 1
 
 

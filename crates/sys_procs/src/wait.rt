@@ -3,9 +3,9 @@ ghost use Rattle.std.specs.Prelude.{◌≡◌, ◌<◌, ◌∷◌, [], replicate
 ghost use Rattle.v6_base.specs.Trace.{Took, Log};
 ghost use Rattle.fs_nodes.specs.FileSystem.{FileSystem, SameRest};
 ghost use Rattle.u_area.specs.declared.area.UArea.{UArea};
-ghost use Rattle.u_area.specs.Area.{IsSized};
+ghost use Rattle.u_area.specs.Area.{IsSized, half_bytes};
 ghost use Rattle.u_area.specs.declared.layout.TheConstants.{WAIT_CALL};
-ghost use Rattle.image_keep.specs.Kept.{half_of, with_keeping, HasGrave, IsKept, Nothing};
+ghost use Rattle.image_keep.specs.Kept.{with_keeping, HasGrave, IsKept, Nothing};
 ghost use Rattle.pick_rules.specs.Table.{IsTable, empty_row, with_row};
 ghost use Rattle.pick_rules.specs.Apply.{applied};
 ghost use Rattle.proc_tab.specs.Processes.{AreProcesses};
@@ -18,27 +18,13 @@ use crate::procs::Procs;
 use crate::seen::see;
 use fs_codec::{long_at, word_at};
 use fs_tree::Tree;
-use pick_rules::{Stat, Table, TableRow};
+use pick_rules::{EMPTY_ROW, Table};
 use proc_tab::Child;
 use u_area::{STATUS, TIMES, UArea, WAIT_CALL};
 use v6_base::{Answer, Chan, Entry, Errno, PanicKind, Slot, Trace};
 
 /// What a process sleeps at that waits for a child: Lions' Commentary, `param.h`.
 const PWAIT: i8 = 40;
-
-/// A slot with no process.
-const EMPTY: TableRow = TableRow {
-    stat: Stat::Empty,
-    pri: 0,
-    cpu: 0,
-    time: 0,
-    nice: 0,
-    size: 0,
-    text: None,
-    place: None,
-    channel: None,
-    calling: false,
-};
 
 /// The u area of a process whose pending call is a wait.
 fn waiting(u: UArea) -> UArea
@@ -53,7 +39,7 @@ fn waiting(u: UArea) -> UArea
 /// The u area of a process that has waited for a child, of whose own u area half is kept: the times of the child and of
 /// its children are added, modulo 2^32.
 fn with_times_of(own: UArea, half: &[u8; 512]) -> UArea
-    ensures { (dead : UArea) → IsSized dead → half.now ≡ half_of dead → result ≡ with_times_of own dead }
+    ensures { (dead : UArea) → IsSized dead → half.now ≡ half_bytes dead → result ≡ with_times_of own dead }
 {
     let user_time = word_at(half, TIMES);
     let system_time = word_at(half, TIMES + 2);
@@ -73,7 +59,7 @@ fn with_times_of(own: UArea, half: &[u8; 512]) -> UArea
 
 /// The status with which a process has ended, of whose u area half is kept.
 fn status_of(half: &[u8; 512]) -> u16
-    ensures { (dead : UArea) → IsSized dead → half.now ≡ half_of dead → result ≡ dead.status }
+    ensures { (dead : UArea) → IsSized dead → half.now ≡ half_bytes dead → result ≡ dead.status }
 {
     word_at(half, STATUS)
 }
@@ -85,7 +71,7 @@ fn clear_slot(table: &mut Table, s: Slot)
     ensures table { table.new ≡ with_row table.old s empty_row }
     ensures good { IsTable table.new }
 {
-    table.rows[s as usize] = EMPTY;
+    table.rows[s as usize] = EMPTY_ROW;
 }
 
 /// Makes the slot of a process that has ended free. Half of its u area was kept for its parent.
@@ -96,7 +82,7 @@ fn clear(p: &mut Procs, dead: Slot) -> [u8; 512]
     requires grave { HasGrave p.old.images.kept dead }
     requires rows { AreProcesses p.old.rows }
     requires images { IsKept p.old.images.kept }
-    ensures half { result ≡ half_of (process_here p.old dead).u }
+    ensures half { result ≡ half_bytes (process_here p.old dead).u }
     ensures sized { IsSized (process_here p.old dead).u }
     ensures state { (fs : FileSystem) → handed p.new fs ≡ without_process (handed p.old fs) dead }
     ensures board { board p.new ≡ applied (board p.old) (Entry.Reap dead) }
