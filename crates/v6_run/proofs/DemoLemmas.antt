@@ -81,17 +81,6 @@ module _ (number : ℕ) (o : Outside) where
   no_memory : Answers (Demo number) NoMemory o o
   no_memory = answers_by NoMemory refl refl (λ decided. not_so _ decided)
 
-  pub disk_refused : (e : RunError) → RefusesDisk number e → Answers (Demo number) (run_status e) o o
-  disk_refused (run.Image (image.Faulty f)) refused = answers_by (ImageFault f) refl refl
-      (λ _. subst (λ x. IsKnownAnd (fault_completion x (Known (run_completion DEMO_CORE no_writing (build_of number) demo_text))) (IsComplete (ImageFault f) o o))
-      (sym refused) (complete_unwritten (ImageFault f) o o (λ p. refl)))
-  disk_refused run.NoMemory refused = no_memory
-  disk_refused (run.Image (image.Unread e)) refused = absurd refused
-  disk_refused (run.Script e) refused = absurd refused
-  disk_refused (run.Refused e) refused = absurd refused
-  disk_refused (run.Write output) refused = absurd refused
-  disk_refused (run.Panic kind) refused = absurd refused
-
   -- the disk has no fault, and the script is read
   module _ (good : image_fault (build_of number) ≡ None) (events : List asked.Event) (read : script_of demo_text ≡ Ok events) where
     abbrev system : System

@@ -251,9 +251,6 @@ module _ (old new : Outside) (before after : Kept) (entry : Entry) (was : is_wan
       takes told ∙ ap (λ l. l ++ (entry_line entry ++ 0o012 ∷ [])) (sym (append-nil (log_of old).bytes) ∙ ap (λ l. (log_of old).bytes ++ l) (sym (no_text before goes)))
       ∙ ap (λ l. ((log_of old).bytes ++ kept_text before) ++ l) (sym (append-nil (entry_line entry ++ 0o012 ∷ [])))
 
-  holds_line : HoldsMore (taken_of old before) (trace.Log entry ∷ []) (taken_of new after)
-  holds_line = holds_item old new before after (trace.Log entry) was stays only.fixed line_bytes_same line_text
-
   took_line : Took (taken_of old before) (trace.Log entry ∷ []) (taken_of new after)
   took_line = took_item old new before after (trace.Log entry) was stays only.fixed line_bytes_same line_text goes
 

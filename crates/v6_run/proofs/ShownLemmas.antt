@@ -71,21 +71,3 @@ module _ (old start new : Outside) (start_kept kept : Kept) (items : List Item) 
 
   pub all_from : is_some (failed_port kept) ≡ false → Tells old → HasShown items old new
   all_from uncut told = all_shown old new kept items took_all goes_all told uncut
-
--- What was counted, where it all had room, are the bytes that the run shows.
-counted_on : (bytes : List ℕ) (items : List Item) → Took (shown_on []) items (shown_on bytes) → nat_le SCREEN_ROOM (length bytes) ≡ false → bytes ≡ line_bytes 0 items
-counted_on bytes items took room =
-    let all : items ≡ took.part = took.split ∙ ap (λ l. took.part ++ l) (took.whole room) ∙ append-nil took.part in
-    took.holds.bytes refl 0 ∙ ap (line_bytes 0) (sym all)
-
-counted_by : (new : Outside) (k : Kept) (items : List Item) (count : ℕ) → Took (shown_on []) items (taken_by new k) → HasCounted k count → count ≡ length (line_bytes 0 items)
-counted_by new (kept.Screen bytes) items count took has =
-    has.0 ∙ ap length (counted_on bytes.items items took (ap (nat_le SCREEN_ROOM) (sym has.0) ∙ has.1))
-counted_by new kept.Nothing items count took has = absurd has
-counted_by new (kept.Byte byte) items count took has = absurd has
-counted_by new (kept.Line rest) items count took has = absurd has
-counted_by new kept.Unwanted items count took has = absurd has
-
-pub counted_from : (start new : Outside) (start_kept k : Kept) (items : List Item) (count : ℕ) → start_kept ≡ kept.Screen (record { items = [] })
-    → Took (taken_by start start_kept) items (taken_by new k) → HasCounted k count → count ≡ length (line_bytes 0 items)
-counted_from start new start_kept k items count fresh took has = counted_by new k items count (subst (λ s. Took (taken_by start s) items (taken_by new k)) fresh took) has

@@ -2,14 +2,8 @@ use Rattle.abstract_unix.specs.Runs.{started, course}
 use Rattle.v6_run.specs.Events.{events_of}
 use Rattle.v6_run.specs.Words.{disk_files_value}
 use Rattle.v6_run.proofs.ResultLemmas.{match_passed}
-use Rattle.v6_run.proofs.OutputLemmas.{stopped_opening, stopped_playing, stopped_writing, stopped_finishing, came_to_end, run_leaves, phase_ended, fault_where_err, calm_where_ok, told_where_ok}
+use Rattle.v6_run.proofs.OutputLemmas.{stopped_playing, stopped_writing, stopped_finishing, came_to_end, run_leaves, phase_ended, fault_where_err, calm_where_ok, told_where_ok}
 use Rattle.v6_run.proofs.run.run_to_disk.Goals as goal
-
-pub returns-in_err-open_outputs-clause-outcome : goal.returns-in_err-open_outputs-clause-outcome
-returns-in_err-open_outputs-clause-outcome g c =
-    let opened = c.in_err-open_outputs.ensures in
-    match_passed _ _ _ _ c.from_residual.ensures.1
-    (stopped_opening (disk_files_value c.args.files.now) _ (course (started c.args.kernel.now.system) (events_of c.args.events.now)) _ _ _ opened.bytes opened.named opened.order opened.cause)
 
 pub returns-in_err-ends-clause-outcome : goal.returns-in_err-ends-clause-outcome
 returns-in_err-ends-clause-outcome g c =
