@@ -1,4 +1,4 @@
-use Rattle.std.proofs.Common.{◌∙◌, ◌==◌, ap, sym}
+use Rattle.std.proofs.Common.{◌∙◌, ◌+◌, ◌==◌, ap, sym}
 use Rattle.proc_tab.specs.declared.row.Row.{Row}
 use Rattle.sys_procs.specs.declared.procs.Procs.{Procs}
 use Rattle.sys_procs.specs.Signals.{has_line}
