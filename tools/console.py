@@ -191,23 +191,24 @@ class Console:
 
     def list(self, _):
         first = self.dialogue.first()
-        lines = [f"{n:5}  {shown(step)}" for n, step in enumerate(self.dialogue.steps[first:], 1)]
+        told = [f"{n:5}  {shown(step)}" for n, step in enumerate(self.dialogue.steps[first:], 1)]
         at = self.dialogue.at - first
-        listed = lines[:at] + (["taken back:"] if lines[at:] else []) + lines[at:]
-        tell("\n".join([f"{at} lines, as they were typed", *listed]))
+        listed = told[:at] + (["taken back:"] if told[at:] else []) + told[at:]
+        tell("\n".join([f"{lines(at)}, as they were typed" if at != 1 else "1 line, as it was typed", *listed]))
 
     def back(self, count):
         at = self.dialogue.at - (1 if count is None else count)
         if at < self.dialogue.first():
-            raise ConsoleError(f"{self.dialogue.at - self.dialogue.first()} lines can be taken back")
+            most = self.dialogue.at - self.dialogue.first()
+            raise ConsoleError(f"{lines(most)} can be taken back" + (f": ~u {most}, or ~g 0" if most else ""))
         return self.dialogue.go_to(at)
 
     def go(self, line):
         if line is None:
             raise ConsoleError("~g wants the number of a line; ~l lists them")
-        lines = len(self.dialogue.steps) - self.dialogue.first()
-        if line > lines:
-            raise ConsoleError(f"there are {lines} lines")
+        count = len(self.dialogue.steps) - self.dialogue.first()
+        if line > count:
+            raise ConsoleError(f"there {'is' if count == 1 else 'are'} {lines(count)}")
         before, old = self.dialogue.at, self.shown
         found = self.dialogue.go_to(line + self.dialogue.first())
         if self.dialogue.at > before:
@@ -231,6 +232,10 @@ class Console:
 
 
 ORDERS = {"?": Console.help, "l": Console.list, "u": Console.back, "g": Console.go, "w": Console.who}
+
+
+def lines(count):
+    return f"{count} line{'' if count == 1 else 's'}"
 
 
 def tell(text):
@@ -305,6 +310,8 @@ class Script:
 
     def __init__(self, name):
         self.name, self.known, self.moved = name, None, False
+        if name:
+            place_of(name)  # what can't be written is told before anything is typed
         if name and os.path.exists(name):
             self.known = read_bytes(name)
 

@@ -3,6 +3,9 @@ import hashlib
 import os
 import re
 
+from files import read_bytes
+
+MOST = 1048576  # bytes of a script
 COUNT = re.compile(rb"(clock|run) ([0-9]{1,9})")
 HEADER = re.compile(rb"; console: image sha256 ([0-9a-f]{64}) core ([0-9]{1,9})")  # the first line of one of the console
 OTHER = re.compile(rb"tick|type(?: [\x20-\x7e]*)?|byte [0-3][0-7]{2}|switch [01][0-7]{5}|(?:;.*)?", re.DOTALL)
@@ -29,6 +32,11 @@ def with_line(said, data):
     """What the program says, with the text of the line of the script that it names."""
     found, lines = FAULT.fullmatch(said), lines_of(data)
     return f"{said}: {shown(lines[int(found[2]) - 1])}" if found and int(found[2]) <= len(lines) else said
+
+
+def read_script(name):
+    """The bytes of a script; of one that is too long, or has no end, one more than a script may have."""
+    return read_bytes(name, MOST + 1)
 
 
 def head_of(name):
