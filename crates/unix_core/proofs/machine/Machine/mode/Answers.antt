@@ -10,14 +10,14 @@ area-requires c =
     let above : 0 < c.in-Some.s = search rules in
     (good_alive c.args.self.now.world c.in-Some.s c.requires c.in-Some.is above).image
 
-pub returns-then-area-eq0 : goal.returns-then-area-eq0
-returns-then-area-eq0 c =
+pub returns-then-area-eq-NOTHING_PENDING : goal.returns-then-area-eq-NOTHING_PENDING
+returns-then-area-eq-NOTHING_PENDING c =
     let above : 0 < c.in-Some.s = search rules in
     sym (mode_is c.args.self.now.world c.in-Some.s _ c.requires c.in-Some.is above
-    (eq-eqb _ 0 (ap (λ (u : UArea). u.pending) (sym c.area.ensures.u) ∙ c.if-area-eq0.true)))
+    (eq-eqb _ 0 (ap (λ (u : UArea). u.pending) (sym c.area.ensures.u) ∙ c.if-area-eq-NOTHING_PENDING.true)))
 
-pub returns-else-area-eq0 : goal.returns-else-area-eq0
-returns-else-area-eq0 c =
+pub returns-else-area-eq-NOTHING_PENDING : goal.returns-else-area-eq-NOTHING_PENDING
+returns-else-area-eq-NOTHING_PENDING c =
     let above : 0 < c.in-Some.s = search rules in
     sym (mode_is c.args.self.now.world c.in-Some.s _ c.requires c.in-Some.is above
-    (ne_eqb _ 0 (λ e. c.if-area-eq0.false (ap (λ (u : UArea). u.pending) c.area.ensures.u ∙ e))))
+    (ne_eqb _ 0 (λ e. c.if-area-eq-NOTHING_PENDING.false (ap (λ (u : UArea). u.pending) c.area.ensures.u ∙ e))))
