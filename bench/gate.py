@@ -28,7 +28,7 @@ def edits_of(crate):
     return sorted(it[:-5] for it in os.listdir(folder) if it.endswith(".edit")) if os.path.isdir(folder) else []
 
 
-def part_of(words, seeded):
+def part_of(words, seeded, tried):
     """The crate, the part of the gate and the edit of a command of the prover, or None."""
     if len(words) < 2 or words[1] not in ("check", "build") or "--crate-name" not in words:
         return None
@@ -44,6 +44,14 @@ def part_of(words, seeded):
             return crate, part, ""
         if over.isdigit():
             return crate, "edits", (edits_of(crate) + ["?"] * 999)[int(over)]
+        if over.startswith("rt-edits-"):
+            # a kit that tries the edits of a crate in turn over one folder: the first fills it, and after the last the crate itself
+            # is proved over it
+            tried[crate] += 1
+            names = edits_of(crate)
+            if tried[crate] > len(names):
+                return crate, "sound", ""
+            return crate, "edits" if tried[crate] > 1 else "seed", names[tried[crate] - 1]
     return crate, "tests" if "--test" in words else "proof", ""
 
 
@@ -51,7 +59,7 @@ class Watch:
     """What has been seen of the processes below one."""
 
     def __init__(self):
-        self.costs, self.parts, self.seeded = {}, {}, set()
+        self.costs, self.parts, self.seeded, self.tried = {}, {}, set(), collections.Counter()
 
     def look(self, top):
         stats = {}
@@ -84,7 +92,7 @@ class Watch:
                 words = file.read().split("\0")
             if os.path.basename(words[0]) != "rattle":
                 return None
-            part = part_of(words, self.seeded)
+            part = part_of(words, self.seeded, self.tried)
             # an edit without a seed is tried from nothing, in a folder of its own
             if part and part[1] == "proof" and re.match("rt-edit-", os.path.basename(os.readlink(f"/proc/{pid}/cwd"))):
                 names = edits_of(part[0])

@@ -13,6 +13,7 @@ HOME = os.environ.get("V6_CC") or os.path.join(os.path.expanduser("~"), ".cache"
 COMMON = re.compile(r"^\s*\.comm\s+([\w.~]+),\s*([0-7]+)$", re.M)
 FLOATS = re.compile(r"^\.globl\s+fltused$|\bjsr\tpc,___\w*[sd]f\w*$", re.M)
 UNKNOWN = re.compile(r"'(?:_(\w+)|([\w.~]+))' isn't defined$")
+TEXTS = re.compile(r"""//[^\n]*|/\*.*?\*/|"(?:\\.|[^"\\\n])*"|'(?:\\.|[^'\\\n])*'""", re.S)  # and comments
 BETWEEN = "\n\t.data\n\t.even\n\t.text\n\t.even"  # after each source, that the next one begins in the text
 ROOM = re.compile(r"^(_[\w.]+):\s+\.=\.\+ (\d+)\n(?=\t\.(?:globl|even|text|data)\b|\.globl|[\w.]+:|\Z)", re.M)
 GCC_WORDS = ["-quiet", "-w", "-m40", "-munix-asm", "-O", "-std=gnu99", "-nostdinc", "-fno-builtin", "-fwrapv",
@@ -67,6 +68,17 @@ def gcc(compiler, source, out):
     return re.sub(r"^\t(br|b(\w+))(?=\tL_\d+~?$)", lambda found: f"\tj{found[2] or found[1]}", text, flags=re.M)
 
 
+def check_bytes(path):
+    """Refuses a byte in a text of C that the machine has no character for; in a comment any byte may stand."""
+    source = read_bytes(path).decode("latin-1")
+    for found in TEXTS.finditer(source):
+        odd = next((at for at in range(*found.span()) if source[at] > "\177"), None)
+        if odd is not None and found[0][0] != "/":
+            line, byte = source.count("\n", 0, odd) + 1, ord(source[odd])
+            raise CompileError(f"{path}, line {line}: the byte {byte:03o} in a text: a character has seven bits, and \\{byte:03o} "
+                               "writes a byte with eight")
+
+
 class Compiler:
     """A compiler in a folder, pcc or GCC, and words for its preprocessor."""
 
@@ -84,6 +96,7 @@ class Compiler:
 
     def assembly(self, path):
         """What the compiler makes of a file in C."""
+        check_bytes(path)
         with tempfile.TemporaryDirectory() as folder:
             name = os.path.join(os.curdir, path) if path.startswith("-") else path
             source = self.make(self, name, os.path.join(folder, "out.s"))

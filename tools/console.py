@@ -1,6 +1,7 @@
 #!/usr/bin/env python3
 """A person types at the terminal of a machine that runs a disk: see docs/tools/console.md."""
 import argparse
+import itertools
 import os
 import signal
 import sys
@@ -8,12 +9,13 @@ import tempfile
 from dataclasses import dataclass
 
 sys.path.insert(0, os.path.dirname(os.path.abspath(__file__)))
-from dialogue import (END_OF_FILE, HEADER, INTERRUPT, MANY, OVER, QUIT, RETURN, RUNS, SLEEPS, WAITS, Dialogue, DialogueError,
+from dialogue import (END_OF_FILE, INTERRUPT, MANY, OVER, QUIT, RETURN, RUNS, SLEEPS, WAITS, Dialogue, DialogueError,
                       Machine, Refused, keys, shown)
 from files import place_of, read_bytes, replace, same_file, told
 from processes import Processes, programs_of
 from program import CORE, V6, ProgramError, add_version
 from screen import without_echo
+from scriptfile import HEADER
 
 HELP = """~.      ends, and so does the end of a file that is read in the place of the keyboard
 ~^X     types a control character: ~^D is 004, ~^? is 0177
@@ -274,13 +276,33 @@ def options_of(words):
     return options
 
 
-def old_script(options):
-    """The lines of a script that is there, with the core that they were typed at."""
-    if not (options.script and os.path.exists(options.script)):
-        return [], None
-    lines = read_bytes(options.script).removesuffix(b"\n").split(b"\n")
-    found = HEADER.fullmatch(lines[0])
-    return (lines[1:] if found else lines if lines != [b""] else []), found
+class Script:
+    """The file in which a dialogue is kept, if any. One that another program writes meanwhile, as a second console does that was
+    begun with the same name, isn't written over."""
+
+    def __init__(self, name):
+        self.name, self.known, self.moved = name, None, False
+        if name and os.path.exists(name):
+            self.known = read_bytes(name)
+
+    def lines(self):
+        """The lines of a script that is there, with the core that they were typed at."""
+        if self.known is None:
+            return [], None
+        lines = self.known.removesuffix(b"\n").split(b"\n")
+        found = HEADER.fullmatch(lines[0])
+        return (lines[1:] if found else lines if lines != [b""] else []), found
+
+    def save(self, data):
+        if not self.name:
+            return
+        now = read_bytes(self.name) if os.path.lexists(self.name) else None
+        if now != self.known and now != data:
+            self.moved, old = True, self.name
+            self.name = beside(old)
+            tell(f"another program has changed {old}, and its lines stay there; this dialogue is kept in {self.name}")
+        replace(self.name, data)
+        self.known = data
 
 
 def check_header(options, machine, found):
@@ -294,15 +316,15 @@ def check_header(options, machine, found):
 
 
 def run(options, folder):
-    old, found = old_script(options)
+    script = Script(options.script)
+    old, found = script.lines()
     core = options.core if options.core is not None else int(found[2]) if found else CORE
     machine = Machine(options.v6, options.image, core, folder)
     start = [b"clock %d" % options.clock] if options.clock else []
     console = Console(Dialogue(machine, options.slots, start), Keyboard(sys.stdin.buffer))
 
     def save():
-        if options.script:
-            replace(options.script, console.dialogue.script())
+        script.save(console.dialogue.script())
 
     if options.disk:
         place_of(options.disk)  # what can't be written is told before anything is typed
@@ -315,9 +337,27 @@ def run(options, folder):
         return 1
     save()
     talk(console, found, save)
-    if options.disk:
-        replace(options.disk, machine.disk(console.dialogue.lines()))
-    return int(console.refused and not console.keyboard.person)
+    is_kept = not options.disk or put_disk(options, machine, console.dialogue.lines())
+    return int(console.refused and not console.keyboard.person or script.moved or not is_kept)
+
+
+def put_disk(options, machine, lines):
+    """Writes the disk that is left. It doesn't take the place of an image that another program has changed since it was read: what
+    that has done would be lost. Gives whether the disk is where it was asked for."""
+    disk, place = machine.disk(lines), options.disk
+    if machine.has_changed():
+        told = f"{options.image} isn't any more what it was when the dialogue began: another program has changed it"
+        if same_file(options.disk, options.image):
+            place = beside(options.disk)
+            told += f". It is left so, and the disk of this dialogue goes to {place}"
+        tell(told)
+    replace(place, disk)
+    return place == options.disk
+
+
+def beside(name):
+    """The first name of a file that isn't there: NAME.1, NAME.2 .."""
+    return next(found for found in (f"{name}.{number}" for number in itertools.count(1)) if not os.path.lexists(found))
 
 
 def main(words):

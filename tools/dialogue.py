@@ -14,7 +14,6 @@ FIRST_TICKS = 36000  # ten minutes: what is tried first to find when the next sl
 PAUSES = 100  # how often in a line time is given to those who sleep
 TYPE_BYTES = 290  # a longer line is typed byte by byte
 RETURN, END_OF_FILE, INTERRUPT, QUIT = 0o15, 0o4, 0o177, 0o34
-HEADER = re.compile(rb"; console: image sha256 ([0-9a-f]{64}) core ([0-9]{1,9})")
 PASSES = b"; time passes until the next sleeper wakes"
 MANY = 1024  # lines that are tried in one run
 
@@ -34,11 +33,24 @@ class Played:
 
 
 class Machine:
-    """The program, an image and a core; it plays a script from the start."""
+    """The program, an image and a core; it plays a script from the start. The image is read once, and the program gets a copy, so
+    that each run of a dialogue has the same disk whatever becomes of the file meanwhile."""
 
     def __init__(self, v6, image, core, folder):
-        self.v6, self.image, self.core, self.folder = v6, image, str(core), folder
-        self.header = b"; console: image sha256 %s core %d" % (hashlib.sha256(read_bytes(image)).hexdigest().encode(), core)
+        self.v6, self.named, self.core, self.folder = v6, image, str(core), folder
+        data = read_bytes(image)
+        self.digest = hashlib.sha256(data).hexdigest().encode()
+        self.header = b"; console: image sha256 %s core %d" % (self.digest, core)
+        self.image = self.path("image")
+        with open(self.image, "wb") as file:
+            file.write(data)
+
+    def has_changed(self):
+        """Whether the file of the image isn't any more what was read of it."""
+        try:
+            return hashlib.sha256(read_bytes(self.named)).hexdigest().encode() != self.digest
+        except OSError:
+            return True
 
     def path(self, name):
         return os.path.join(self.folder, name)

@@ -12,7 +12,7 @@ from faultplace import FaultPlace
 from files import STREAMS, guarded, place_of, put_out, read_bytes, replace, same_file, uninterrupted
 from program import V6, ProgramError, add_version, call
 from repair import Repair, grow
-from survey import Survey, damaged, walk
+from survey import Survey, behind_end, damaged, walk
 from tree import KINDS, MOST_TIME, PERMISSIONS, Item, above, apply_table, number, own, place_all, plain_name, row, scan
 from volume import BLOCK, BLOCKS, DIRECTORY, PACK, PLAIN, ROOT, DiskError, Volume, check_name, components, shown
 
@@ -33,7 +33,16 @@ def open_disk(options):
     """The volume of the disk, which v6 has accepted as it was read."""
     options.image = read_bytes(options.disk, MOST)
     check(options.v6, options.image, options.disk)
-    return Volume(options.image)
+    return uncut(Volume(options.image), options.disk)
+
+
+def uncut(volume, name):
+    """A volume whose image doesn't end before what its files hold: v6 takes what is behind the end for zeros."""
+    found = behind_end(volume, [n for n in range(1, 16 * volume.isize + 1) if volume.is_used(n)])
+    if found or volume.length // BLOCK < volume.isize + 2:
+        raise DiskError(f"{name}: it ends at byte {volume.length}, before what its files hold: `check` names them, and "
+                        "--damaged reads what is there")
+    return volume
 
 
 def open_for_reading(options):
@@ -52,7 +61,7 @@ def open_for_reading(options):
         if faults.outside or faults.twice or len(faults.lines) > 1 or not volume.inode(ROOT).is_directory():
             raise DiskError(f"{options.disk}: a pack with faults: `check` tells them, and --damaged reads it") from None
         return volume
-    return Volume(image)
+    return uncut(Volume(image), options.disk)
 
 
 def save(options, volume, short=False):

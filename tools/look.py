@@ -14,7 +14,7 @@ from moments import MomentError, Run
 from processes import programs_of
 from program import CORE, V6, ProgramError, add_version
 from proctable import LogFault
-from scriptfile import ScriptError
+from scriptfile import ScriptError, add_replay, check_head
 from symbols import Programs
 from volume import DiskError
 
@@ -37,6 +37,8 @@ def compare(run, name):
 
 
 def looker_of(options, folder):
+    if not options.replay:
+        check_head(options.script, options.image, options.core)
     run = Run(options.v6, options.image, options.core, read_bytes(options.script), folder)
     if options.log:
         compare(run, options.log)
@@ -101,6 +103,7 @@ def options_of(words):
     parser.add_argument("--log", metavar="LOG", help="a log that is to be that of this run")
     parser.add_argument("--symbols", metavar="FILE", action="append", default=[], help="a program with names, if the disk's has none")
     parser.add_argument("--v6", metavar="COMMAND", default=V6, help="the program (bin/v6)")
+    add_replay(parser)
     add_version(parser)
     return parser.parse_args(words)
 

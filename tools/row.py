@@ -215,20 +215,35 @@ def main(words):
 
 def run(options):
     """The status: 1 where a row that was run didn't come out as it says."""
+    failed = 0
     if not options.names:
         for name in names(options.data):
-            print(f"{name}: {Row(name, options.data).remarks[0]}")
-        return 0
-    failed = 0
+            try:
+                print(f"{name}: {''.join(Row(name, options.data).remarks[:1])}")
+            except RowError as error:
+                failed += unread(error)
+        return int(failed > 0)
     with tempfile.TemporaryDirectory() as folder:
         runner = Runner(options.v6, folder)
         for name in chosen(options.names, options.data):
-            row = Row(name, options.data)
-            image, came = runner.run(row)
+            try:
+                row = Row(name, options.data)
+                row.check_sources()
+                image, came = runner.run(row)
+            except RowError as error:
+                failed += unread(error)
+                continue
             found = differences(row, image, came)
             failed += bool(found)
             tell(row, found) if options.quiet else show(row, image, came, found)
     return int(failed > 0)
+
+
+def unread(error):
+    """Tells what is wrong with a row that can't be read, and counts it."""
+    sys.stdout.flush()
+    print(f"row.py: {error}", file=sys.stderr)
+    return 1
 
 
 if __name__ == "__main__":

@@ -1,7 +1,9 @@
 """Row files: whole runs, each with what it must come to. docs/rows.md has the language."""
+import functools
 import os
 import re
 
+from assembler import Assembler
 from program import TOP
 
 DATA = os.path.join(TOP, "crates", "run_rows", "data")
@@ -43,6 +45,13 @@ def unquoted(text):
     return data
 
 
+def ascii_text(line):
+    odd = next((byte for byte in line if byte > 0o177), None)
+    if odd is not None:
+        raise RowError(f"the byte {odd:03o} isn't ASCII")
+    return line.decode("ascii")
+
+
 def item(text):
     """The bytes of a line of a script, of the terminal or of the log: in quotes, or itself with a new line."""
     return unquoted(text) if text.startswith('"') else text.encode("ascii") + b"\n"
@@ -80,12 +89,12 @@ class Row:
         self.read(os.path.join("rows", name))
 
     def read(self, path):
-        with open(os.path.join(self.data, path), encoding="ascii") as file:
-            lines = file.read().split("\n")
+        with open(os.path.join(self.data, path), "rb") as file:
+            lines = file.read().split(b"\n")
         self.section, self.own = None, path.startswith("rows")
         for number, line in enumerate(lines, 1):
             try:
-                self.line(line)
+                self.line(ascii_text(line))
             except (RowError, ValueError) as error:
                 raise RowError(f"{path}:{number}: {error}") from None
 
@@ -178,6 +187,25 @@ class Row:
             sources.append((address, data, source))
         whole += data
 
+    def programs(self):
+        """The lines of each program that have a source: the part or the file, and (address, words, source) each."""
+        parts = [*self.sources.items(), *((f"file {inode}", sources) for inode, _, _, sources in self.files)]
+        for name, sources in parts:
+            lines = tuple((at, bytes(data), source) for at, data, source in sources if source)
+            if lines:
+                yield name, lines
+
+    def check_sources(self):
+        """Holds the words of each program to the sources beside them."""
+        for name, lines in self.programs():
+            made, errors = assembled(lines)
+            for at, data, source in lines:
+                came = made and made[at : at + len(data)]
+                if came is not None and came != data:
+                    raise RowError(f"{self.name}: {name}, {at:o}: '{source.strip()}' is {octal(came)}, and {octal(data)} stands there")
+            if errors:
+                raise RowError(f"{self.name}: {name}: {errors[0]}")
+
     def program(self):
         """The bytes of /etc/init behind its header, or None where the disk's own program stays."""
         parts = [part for part in self.parts.values() if part is not None]
@@ -230,6 +258,21 @@ class Row:
         return bytes(disk)
 
 
+@functools.lru_cache(maxsize=None)
+def assembled(lines):
+    """The bytes of a program, of which each line with a source is assembled at its address, and zeros are between."""
+    assembler, text, end = Assembler(), "", 0
+    for at, words, source in lines:
+        text += f"\t.=.+{at - end:o}\n\t{source}\n"
+        end = at + len(words)
+    made = assembler.assemble([("row", text)])
+    return made and made[16:], assembler.errors
+
+
+def octal(data):
+    return " ".join(f"{int.from_bytes(data[at : at + 2], 'little'):06o}" for at in range(0, len(data), 2))
+
+
 def put(disk, pieces):
     for at, data in pieces:
         end = min(len(disk), at + len(data))
@@ -237,13 +280,16 @@ def put(disk, pieces):
 
 
 def piece(text):
-    """A line of bytes of a disk: where they stand, and the bytes in hexadecimal or a text."""
+    """A line of bytes of a disk: where they stand, and the bytes in hexadecimal or a text. Its comment names the place."""
     at, rest = text.split(None, 1)
     if rest.startswith('"'):
         return int(at), unquoted(rest)
-    found = rest.partition(";")[0].split()
+    found, _, comment = rest.partition(";")
+    found, wanted = found.split(), place(int(at), len(found.split()))
     if not all(re.fullmatch("[0-9a-f]{2}", byte) for byte in found):
         raise RowError(f"{rest}: bytes in hexadecimal are wanted")
+    if comment and comment.strip() != wanted:
+        raise RowError(f"'{comment.strip()}': what stands at {at} is '{wanted}'")
     return int(at), bytes(int(byte, 16) for byte in found)
 
 

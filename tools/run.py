@@ -9,6 +9,7 @@ import tempfile
 sys.path.insert(0, os.path.dirname(os.path.abspath(__file__)))
 from files import STREAMS, guarded, place_of, put_out, read_bytes, same_file
 from program import CORE, V6, ProgramError, add_version, call
+from scriptfile import ScriptError, add_replay, check_head, head_of
 
 OUTPUTS = ("term", "log", "disk")
 
@@ -21,7 +22,8 @@ def options_of(words):
                         help="where what the terminal shows goes (the standard output)")
     parser.add_argument("--log", metavar="FILE", help="where the log goes")
     parser.add_argument("--disk", metavar="FILE", help="where the disk goes that the run leaves; it may be the image")
-    parser.add_argument("--core", type=int, default=CORE, help=f"the size of core, in clicks ({CORE})")
+    parser.add_argument("--core", type=int, help=f"the size of core, in clicks ({CORE}, or that of a script of the console)")
+    add_replay(parser)
     parser.add_argument("--v6", metavar="COMMAND", default=V6, help="the program (bin/v6)")
     add_version(parser)
     options = parser.parse_args(words)
@@ -36,12 +38,18 @@ def run(options):
     """The status of the program. What it writes goes to files of its own first. The disk takes its place where the run is
     done; what was shown and logged up to there is kept in any case, but not of a run that never began."""
     outputs = {name: getattr(options, name) for name in OUTPUTS if getattr(options, name)}
+    core = options.core
+    if core is None:
+        head = head_of(options.script)
+        core = int(head[2]) if head else CORE
+    if not options.replay:
+        check_head(options.script, options.image, core)
     for name in outputs.values():
         if name not in STREAMS:
             place_of(name)
     with tempfile.TemporaryDirectory() as folder:
         made = {name: os.path.join(folder, name) for name in OUTPUTS}
-        words = ["run", options.image, str(options.core), options.script, *made.values()]
+        words = ["run", options.image, str(core), options.script, *made.values()]
         status, said = call(options.v6, *words)
         for name, target in outputs.items():
             if os.path.exists(made[name]) and (name != "disk" or not status):
@@ -53,7 +61,7 @@ def run(options):
 
 def main(words):
     options = options_of(words)
-    return guarded("run.py", lambda: run(options), ProgramError, failed=3)
+    return guarded("run.py", lambda: run(options), ProgramError, ScriptError, failed=3)
 
 
 if __name__ == "__main__":

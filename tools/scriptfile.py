@@ -1,12 +1,40 @@
-"""Scripts, as docs/manual/scripts.md has them: when their ticks come, in slots of the run."""
+"""Scripts, as docs/manual/scripts.md has them: when their ticks come, in slots of the run, and what the console's begin with."""
+import hashlib
+import os
 import re
 
 COUNT = re.compile(rb"(clock|run) ([0-9]{1,9})")
+HEADER = re.compile(rb"; console: image sha256 ([0-9a-f]{64}) core ([0-9]{1,9})")  # the first line of one of the console
 OTHER = re.compile(rb"tick|type(?: [\x20-\x7e]*)?|byte [0-3][0-7]{2}|switch [01][0-7]{5}|(?:;.*)?", re.DOTALL)
 
 
 class ScriptError(Exception):
     """What is wrong with a script: the number of the line."""
+
+
+def head_of(name):
+    """The first line of a script of the console, parted: the disk and the core that it was typed at. None of another script, and of
+    what isn't a file, as a pipe."""
+    if not os.path.isfile(name):
+        return None
+    with open(name, "rb") as file:
+        return HEADER.fullmatch(file.readline(200).rstrip(b"\n"))
+
+
+def check_head(name, image, core):
+    """Refuses a script of the console that was typed at another disk or core."""
+    found = head_of(name)
+    if not found or not os.path.isfile(image):
+        return
+    with open(image, "rb") as file:
+        same = hashlib.sha256(file.read()).hexdigest().encode() == found[1]
+    if not same or int(found[2]) != core:
+        what = "with another size of core" if same else f"at another disk than {image}"
+        raise ScriptError(f"{name} was typed {what}: --replay plays it all the same")
+
+
+def add_replay(parser):
+    parser.add_argument("--replay", action="store_true", help="play a script of the console at another disk or core too")
 
 
 def lines_of(data):

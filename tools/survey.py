@@ -5,7 +5,7 @@ names and blocks that are lost.
 """
 import struct
 
-from volume import BLOCK, GROUP, PACK, ROOT, SWAP, USED, Volume, shown
+from volume import BLOCK, GROUP, LARGE, PACK, ROOT, SWAP, USED, Volume, shown
 
 FREE = 0  # stands for the free list where the owners of a block are told
 INODES = 16  # in a block
@@ -25,12 +25,22 @@ def walk(volume, number, path):
 
 
 def damaged(image):
-    """A volume of an image that may have any fault, to be read alone. A super-block that can't be is told by the inodes."""
+    """A volume of an image that may have any fault, to be read alone. A super-block that can't be is told by the inodes: how many
+    there are, and, where they name blocks after the end of the file system, that this end isn't right either."""
     volume = Volume(image[: PACK * BLOCK])
     if not volume.isize or not volume.isize + 2 <= volume.fsize <= PACK:
-        volume.fsize = SWAP
+        fsize, volume.fsize = volume.fsize, SWAP
         volume.isize = guessed_isize(volume)
+        if max(last_block(volume), volume.isize + 2) < fsize < SWAP:
+            volume.fsize = fsize
     return volume
+
+
+def last_block(volume):
+    """The greatest block that a file or the free list names."""
+    files = (volume.inode(number) for number in range(1, INODES * volume.isize + 1) if volume.is_used(number))
+    held = [block for inode in files for _, block in volume.held(inode)]
+    return max([0, *held, *(block for block in volume.group if block < volume.fsize)])
 
 
 def guessed_isize(volume):
@@ -49,6 +59,31 @@ def guessed_isize(volume):
     return end - 2
 
 
+def behind_end(volume, inodes):
+    """The blocks of each file that lie behind the end of the image, as far as the file has bytes there: by the file's inode."""
+    found = {}
+    if volume.length >= volume.fsize * BLOCK:
+        return found
+    for number in inodes:
+        inode = volume.inode(number)
+        for n, block in volume.held(inode):
+            needs = BLOCK if n is None else min(max(inode.size - n * BLOCK, 0), BLOCK)
+            if needs and block * BLOCK + needs > volume.length:
+                found.setdefault(number, []).append(block)
+    return found
+
+
+def is_odd(inode):
+    """Whether an inode is of a device that can't be: it has the marks of a file."""
+    return inode.is_device() and bool(inode.mode & LARGE or inode.size or any(inode.addresses[1:]))
+
+
+def told_odd(inode):
+    marks = [(inode.mode & LARGE, "the bit of a large file"), (inode.size, f"a size of {inode.size}"),
+             (any(inode.addresses[1:]), "blocks")]
+    return " and ".join(text for there, text in marks if there)
+
+
 class Survey:
     """What each block is for, what each inode's names are, and all that is wrong."""
 
@@ -60,8 +95,9 @@ class Survey:
         self.names = self.all_names()
         self.blocks()
         self.free_list()
+        self.behind, self.odd = behind_end(self.volume, self.inodes), [n for n in self.inodes if is_odd(self.volume.inode(n))]
         self.twice = {block: who for block, who in self.owners.items() if len(who) > 1}
-        self.hurt = set(self.outside)  # the inodes of files that aren't whole
+        self.hurt = {*self.outside, *self.behind, *self.odd}  # the inodes of files that aren't whole
         for who in self.twice.values():
             files = [number for number in who if number != FREE]
             self.hurt |= set(files) if len(files) > 1 else set()
@@ -143,7 +179,18 @@ class Survey:
             lines.append(f"block {block} twice: {' and '.join(self.called(n) for n in who)}")
         if not self.volume.is_used(ROOT) or not self.volume.inode(ROOT).is_directory():
             lines.append("no root")
-        return lines + self.links() + self.lost()
+        return lines + self.cut() + self.links() + self.lost()
+
+    def cut(self):
+        """What lies behind the image's end, and devices that can't be."""
+        lines, first = [], self.volume.length // BLOCK
+        if self.behind or first < self.volume.isize + 2:
+            lines.append(f"the image ends at byte {self.volume.length}, before what its files hold")
+        if first < self.volume.isize + 2:
+            lines.append(f"the inodes from {max((first - 2) * INODES, 0) + 1} on are behind that end")
+        for number, blocks in self.behind.items():
+            lines.append(f"{self.called(number)}: block {', '.join(map(str, blocks))} behind that end")
+        return lines + [f"{self.called(number)}: a device with {told_odd(self.volume.inode(number))}" for number in self.odd]
 
     def links(self):
         """Entries whose inode is free, and inodes whose count isn't that of their entries."""

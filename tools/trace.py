@@ -16,7 +16,7 @@ from logwords import CHANNELS, clicks
 from moments import WORKERS, MomentError, Run, is_turn
 from program import CORE, V6, ProgramError, add_version
 from proctable import LogFault, Table
-from scriptfile import ScriptError
+from scriptfile import ScriptError, add_replay, check_head
 
 AT_ONCE = 32  # moments whose memory is kept at a time
 
@@ -187,6 +187,8 @@ class Tracer:
 def trace(options):
     image = options.image
     with tempfile.TemporaryDirectory() as folder:
+        if not options.replay:
+            check_head(options.script, image, options.core)
         run = Run(options.v6, image, options.core, read_bytes(options.script), folder)
         shown = 0
         for _, said in Tracer(run, options).follow():
@@ -208,6 +210,7 @@ def options_of(words):
     parser.add_argument("--from", dest="first", type=int, default=1, metavar="LINE", help="the first line of the log that counts")
     parser.add_argument("--to", dest="last", type=int, default=sys.maxsize, metavar="LINE", help="the last one")
     parser.add_argument("--v6", metavar="COMMAND", default=V6, help="the program (bin/v6)")
+    add_replay(parser)
     add_version(parser)
     return parser.parse_args(words)
 

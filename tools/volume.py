@@ -128,7 +128,7 @@ class Volume:
 
     def image(self, short=False):
         """The bytes of the disk: as many as it had, or more where blocks after them are used. A short one ends with the
-        last block that isn't zeros."""
+        last block that isn't zeros, or that a file holds."""
         count = len(self.group)
         group = self.group + [0] * (GROUP - count)
         spares = self.spares + [0] * (GROUP - len(self.spares))
@@ -136,8 +136,13 @@ class Volume:
         self.change(1, 0, SUPER.pack(self.isize, self.fsize, count, *group, len(self.spares), *spares, *self.flags, *times))
         data = bytes(self.data)
         used = -(-len(data.rstrip(b"\0")) // BLOCK) * BLOCK
-        wanted = used if short else max(used, self.length)
+        wanted = max(used, self.end_of_files()) if short else max(used, self.length)
         return data[:wanted].ljust(wanted, b"\0")
+
+    def end_of_files(self):
+        """Where the last block ends that is of inodes, or that a file holds."""
+        inodes = (self.inode(number) for number in range(1, 16 * self.isize + 1) if self.is_used(number))
+        return BLOCK * (max([self.isize + 1, *(block for inode in inodes for _, block in self.held(inode))]) + 1)
 
     # blocks
 

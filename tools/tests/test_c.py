@@ -59,6 +59,14 @@ class WithoutCompiler(Program):
         wrong = self.put("it.s", MAIN.encode() + b"\tjsr\tpc,_none\n\tmov\tr9,r0\n")
         self.assertEqual(self.call(cc.main, "--compiler", TOP, "-o", self.path("it"), wrong)[0], 1)
 
+    def test_a_byte_of_eight_bits(self):
+        """It is refused in a text, with its line; in a comment it may stand."""
+        source = self.put("it.c", 'int main(void)\n{\n\treturn *"\303\244"; /* \303 " */ // \303\'\n}\n'.encode("latin-1"))
+        wanted = (f"cc.py: {source}, line 3: the byte 303 in a text: a character has seven bits, and \\303 writes a byte with eight\n")
+        self.assertEqual(self.call(cc.main, "--compiler", self.folder, "-o", self.path("it"), source), (1, "", wanted))
+        self.put("it.c", "/* \303 */ int main(void) { return '\\''; } // \303\n".encode("latin-1"))
+        self.assertIn("no compiler there", self.call(cc.main, "--compiler", self.folder, "-o", self.path("it"), source)[2])
+
     def test_another_archive(self):
         """build.sh and build-gcc.sh build of the archive alone whose sum they know."""
         wrong, folder = self.put("it.tar.gz", b"no archive"), self.path("made")
@@ -240,6 +248,24 @@ class Programs(Program):
                   'printf("%ld %lu %lo %lx %d\\n", -2147483647L - 1, 4294967295UL, 8L, 0xabcdef01L, printf("four"));\n'
                   'sprintf(text, "%d-%s", 7, "x"); puts(text); fprintf(stderr, "e\\n");',
                   "e\n-5 65535 10 ff A s %|   42|42   |-0042|   ab|cd  |xy|\nfour-2147483648 4294967295 10 abcdef01 4\n7-x\n")
+
+    def test_printf_of_numbers(self):
+        """Digits, signs, blanks and zeros, as Python has them by the same letters."""
+        forms = [("%5.2d", 7), ("%i", 42), ("%+d", 5), ("%+i", -5), ("% d", 3), ("%-6.3d|", -4), ("%06d", -42), ("%+06d", 42),
+                 ("%5.3x", 10), ("%-5u|", 9), ("%.3o", 1), ("%8.4d", -77), ("%+.3d", 0), ("%-+7d|", 12), ("% 05d", 33)]
+        source = "".join(f'printf("{form}\\n", {value});\n' for form, value in forms)
+        wanted = "".join(form % value + "\n" for form, value in forms)
+        self.body(source + 'printf("%05ld %.10ld [%.0d] [%.2s]\\n", -12L, 123456L, 0, "abc");',
+                  wanted + "-0012 0000123456 [] [ab]\n")
+
+    def test_a_product_that_is_too_large(self):
+        self.body('printf("%d %d %d", calloc(256, 257) == NULL, calloc(257, 256) == NULL, calloc(300, 2) != NULL);', "1 1 1")
+
+    def test_fgets_at_the_end(self):
+        """What was read last stays; a line is read in parts where there is less room."""
+        self.body('char line[5] = "old";\nprintf("%d", fgets(line, 1, stdin) == line && !*line); strcpy(line, "old");\n'
+                  'while (fgets(line, 5, stdin)) printf("[%s]", line);\nprintf("%s\\n", line);', "1[abcd][ef\n][gh]gh\n",
+                  typed=b"abcdef\ngh")
 
     def test_strings(self):
         self.body('char a[20], b[20]; strcpy(a, "one"); strcat(a, "two"); strncpy(b, "abcdef", 3); b[3] = 0;\n'

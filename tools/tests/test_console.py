@@ -238,6 +238,39 @@ class Sessions(Case):
         self.assertEqual(self.session("hello\n~^D\n", "--disk", disk, image=image), (0, term, OVER))
         self.assertEqual(v6("check", disk), (0, "ok 7 nodes 3933 free\n"))
 
+    def test_an_image_that_changes_meanwhile(self):
+        """Each line is played on the disk that was read when the dialogue began, and a disk that another program has put in its
+        place isn't written over."""
+        image, other = self.put("image", read(os.path.join(SHELL, "image"))), self.path("made")
+        v6("make", "12", other)
+        for words, disk in ((("--disk", self.path("disk")), self.path("disk")), (("--disk", image), image + ".1")):
+            write(image, read(os.path.join(SHELL, "image")))
+            command = [sys.executable, os.path.join(TOOLS, "console.py"), image, "--v6", V6, *words]
+            with subprocess.Popen(command, stdin=subprocess.PIPE, stdout=subprocess.PIPE, stderr=subprocess.PIPE) as ran:
+                self.assertEqual(ran.stdout.read(2), b"# ")
+                write(image, read(other))
+                out, said = ran.communicate(b"echo a >b\nls /b\n")
+            self.assertEqual(out, b"ECHO A >B\r\n# LS /B\r\n/B\r\n# ")
+            self.assertIn(f"{image} isn't any more what it was", said.decode())
+            self.assertEqual(ran.returncode, int(disk != words[1]))
+            self.assertEqual((len(read(disk)), read(image)), (DISK_BYTES, read(other)))
+
+    def test_two_consoles_with_one_script(self):
+        """The lines of neither are lost: the later one is told, and keeps its own beside them."""
+        script = self.path("script")
+        command = [sys.executable, os.path.join(TOOLS, "console.py"), os.path.join(SHELL, "image"), "--v6", V6, "--script", script]
+        pipes = {"stdin": subprocess.PIPE, "stdout": subprocess.PIPE, "stderr": subprocess.PIPE}
+        with subprocess.Popen(command, **pipes) as one, subprocess.Popen(command, **pipes) as other:
+            self.assertEqual((one.stdout.read(2), other.stdout.read(2)), (b"# ", b"# "))
+            self.assertEqual(one.communicate(b"echo one\n")[0], b"ECHO ONE\r\nONE\r\n# ")
+            out, said = other.communicate(b"echo two\necho more\n")
+        self.assertEqual(out, b"ECHO TWO\r\nTWO\r\n# ECHO MORE\r\nMORE\r\n# ")
+        self.assertEqual(said.decode(), f"\nconsole: another program has changed {script}, and its lines stay there; this dialogue is "
+                                        f"kept in {script}.1\n")
+        self.assertEqual((one.returncode, other.returncode), (0, 1))
+        self.assertEqual(read(script), self.script("run 10000\ntype echo one\nrun 10000\n"))
+        self.assertEqual(read(script + ".1"), self.script("run 10000\ntype echo two\nrun 10000\ntype echo more\nrun 10000\n"))
+
     def test_a_script_goes_on(self):
         script = self.put("script", b"run 10000\ntype chdir /usr\nrun 10000\n")
         self.assertEqual(self.session("ls\n", "--script", script), (0, b"# CHDIR /USR\r\n# LS\r\nSYS\r\n# ", ""))

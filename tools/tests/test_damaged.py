@@ -58,6 +58,44 @@ class Damaged(Hurt):
                   "v6 refuses it: image: inode 2 has block 21 outside",
                   "21 is address 1 of inode 2, at byte 1066 in block 2: /a", "data blocks are 3 to 19")
 
+    def test_an_image_that_ends_too_early(self):
+        """/b holds the blocks 6 and 7, /c 8 and 9: the image ends within block 7. `v6` takes what is missing for zeros."""
+        bad, good = self.put("cut", read(self.hurt())[: 7 * 512 + 100]), self.path("good")
+        self.assertEqual(v6("check", bad)[0], 0)
+        self.told(bad, "the image ends at byte 3684, before what its files hold", "/b: block 7 behind that end",
+                  "/c: block 8, 9 behind that end")
+        refused = f"{bad}: it ends at byte 3684, before what its files hold: `check` names them, and --damaged reads what is there"
+        self.refused(refused, "cat", bad, "/a")
+        self.refused(refused, "put", bad, bad, "/d")
+        self.assertEqual(self.done("cat", "--damaged", bad, "/a"), "a" * 1024)
+        self.assertEqual(self.disk("repair", bad, good),
+                         (0, f"{bad}: lost: /b: not whole\n{bad}: lost: /c: not whole\n{good}: 2 files and directories, 2 lost\n", ""))
+        self.told(good)
+        within = self.put("within", read(self.hurt())[:1060])
+        self.assertIn("the image ends at byte 1060, before what its files hold\n", self.disk("check", within)[1])
+        self.refused(refused.replace(bad, within).replace("3684", "1060"), "list", within)
+
+    def test_a_short_disk_has_all_that_its_files_hold(self):
+        """Blocks of zeros at its end are there: else it would count as cut."""
+        self.new({"a": b"a", "z": bytes(2000)}, "--blocks", "20", "--inodes", "16", "--short")
+        self.told(self.path("image"))
+        self.assertEqual(self.done("cat", self.path("image"), "/z"), "\0" * 2000)
+
+    def test_a_device_that_cannot_be(self):
+        """An inode of bytes 0377 has the mode of a device, with the marks of a large file."""
+        bad, good = self.hurt(*((1024 + 32 + 2 * n, 0xFFFF) for n in range(16))), self.path("good")
+        line = "/a: a device with the bit of a large file and a size of 16777215 and blocks"
+        self.assertIn(f"{bad}: {line}\n", self.disk("check", bad)[1])
+        self.assertEqual(self.disk("repair", bad, good),
+                         (0, f"{bad}: lost: /a: not whole\n{good}: 3 files and directories, 1 lost\n", ""))
+        self.told(good)
+
+    def test_the_size_of_the_file_system_stays(self):
+        """Where the blocks of inodes alone are spoiled, the good disk is as large as the damaged one."""
+        bad, good = self.hurt((512, 0)), self.path("good")
+        self.done("repair", bad, good)
+        self.assertEqual(struct.unpack("<H", read(good)[514:516]), (20,))
+
     def test_names(self):
         root = 3 * 512
         bad = self.hurt((root + 2 * 16, 0), (root + 3 * 16, 9))

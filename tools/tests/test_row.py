@@ -9,7 +9,6 @@ from common import TOP, Case, tool
 
 row_main = tool("row").main
 import rowfile
-from assembler import Assembler
 
 DATA = rowfile.DATA
 ROW = """\
@@ -31,17 +30,6 @@ log
 """
 
 
-def assembled(lines):
-    """The bytes of a program, of which each line with a source is assembled at its address, and zeros are between."""
-    assembler, text, end = Assembler(), "", 0
-    for at, words, source in lines:
-        if source:
-            text += f"\t.=.+{at - end:o}\n\t{source}\n"
-            end = at + len(words)
-    made = assembler.assemble([("row", text)])
-    return made and made[16:], assembler.errors
-
-
 def comments(path):
     """The lines of bytes of a disk with their comments: (place, count of bytes, comment)."""
     with open(path, encoding="ascii") as file:
@@ -52,25 +40,15 @@ def comments(path):
 
 
 class Comments(Case):
-    def parts(self):
-        """The lines of each program, of each frame once: (address, words, source)."""
-        seen = set()
+    def test_sources_make_their_words(self):
+        """Words without a source are zeros."""
         for name in rowfile.names():
             row = rowfile.Row(name)
-            for key, sources in [*row.sources.items(), *((file[:2], file[3]) for file in row.files)]:
-                lines = tuple(line for line in sources if line[2] is not None)
-                if lines and lines not in seen:
-                    seen.add(lines)
-                    yield f"{name}: {key}", lines
-
-    def test_sources_make_their_words(self):
-        for name, lines in self.parts():
             with self.subTest(name):
-                made, errors = assembled(lines)
-                self.assertEqual(errors, [])
-                for at, words, source in lines:
-                    wanted = made[at : at + len(words)] if source else bytes(len(words))
-                    self.assertEqual(wanted, words, f"at {at:o}")
+                row.check_sources()
+                for sources in (*row.sources.values(), *(file[3] for file in row.files)):
+                    for at, words, source in sources:
+                        self.assertTrue(source or source is None or not any(words), f"at {at:o}")
 
     def test_places_are_told(self):
         for folder, _, files in os.walk(DATA):
@@ -153,6 +131,19 @@ class Command(Case):
         for line in ("# wait: a child is told of once", "      32  104402                  ; sys fork",
                      "      42  010037 000014           ; mov r0,*$14", '    "run 60\\n"', '    "\\r\\n"', "ok calls/wait_a_child_is_told_of_once"):
             self.assertIn(line, out.split("\n"))
+
+    def test_rows_that_cannot_be_read(self):
+        """Each is told in a line, and the others are listed and run."""
+        os.makedirs(self.path("rows/some"))
+        self.put("rows/some/good", b"# good\ncore 63\nstatus 4\nreport core size\n")
+        self.put("rows/some/odd", "# one\n# Ä\ncore 63\n".encode())
+        self.put("rows/some/other", b"# word\ninit\n    0  010001  ; mov r0,r1\n    2  010002  ; mov r0,r1\nscript\n    run 5\n")
+        self.put("rows/some/place", b"# place\ndisk\n    924  05  ; super-block: nfree\nscript\n    run 5\n")
+        odd = "row.py: rows/some/odd:2: the byte 303 isn't ASCII\n"
+        place = "row.py: rows/some/place:3: 'super-block: nfree': what stands at 924 is 'super-block: time'\n"
+        self.assertEqual(self.call(row_main, "--data", self.folder), (1, "some/good: good\nsome/other: word\n", odd + place))
+        word = "row.py: some/other: init, 2: 'mov r0,r1' is 010001, and 010002 stands there\n"
+        self.assertEqual(self.call(row_main, "--data", self.folder, "-q", "*"), (1, "ok some/good\n", odd + word + place))
 
     def test_another_folder(self):
         os.makedirs(self.path("rows/fuzz"))

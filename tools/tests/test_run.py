@@ -1,4 +1,5 @@
 """run.py: what it refuses, and that no file is lost where a run isn't done."""
+import hashlib
 import os
 import unittest
 
@@ -46,6 +47,25 @@ class Run(Case):
         said = "run.py: panic: out of swap space\n"
         self.assertEqual(self.run_it(image, script, "--core", "900", "--log", log, "--disk", image), (7, SHOWN, said))
         self.assertEqual((read(image), b"panic swap" in read(log)), (before, True))
+
+    def test_a_script_of_another_disk(self):
+        """Scripts of the console name disk and core in their first line; nobody plays one over others without being told to."""
+        image, digest = self.image(), hashlib.sha256(read(os.path.join(HI, "image"))).hexdigest()
+        script = self.put("script", f"; console: image sha256 {digest} core 1200\nrun 100\n".encode())
+        other = self.put("other", read(os.path.join(HI, "image")) + bytes(512))
+        log = self.path("log")
+        self.assertEqual(self.run_it(image, script, "--log", log), (0, SHOWN, ""))
+        self.assertEqual(read(log)[:10], b"boot 1200 ")
+        for disk, core, what in ((other, "1200", f"at another disk than {other}"), (image, "1000", "with another size of core")):
+            said = f"{script} was typed {what}: --replay plays it all the same\n"
+            self.assertEqual(self.run_it(disk, script, "--core", core), (3, "", "run.py: " + said))
+            self.assertEqual(self.run_it(disk, script, "--core", core, "--replay"), (0, SHOWN, ""))
+            for name in ("look", "trace"):
+                main = tool(name).main
+                words = ("--v6", V6, disk, core, script, *(("-c", "log 1") if name == "look" else ()))
+                self.assertEqual(self.call(main, *words), (1, "", f"{name}.py: {said}"))
+                status, out, error = self.call(main, "--replay", *words)
+                self.assertEqual((status, bool(out), error), (0, True, ""))
 
     def test_a_run_that_does_not_begin(self):
         term = self.put("term", b"before")

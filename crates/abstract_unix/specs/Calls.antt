@@ -13,6 +13,7 @@ use Rattle.open_files.specs.declared.file.OpenFile.{OpenFile}
 use Rattle.open_files.specs.Files.{shared}
 use Rattle.u_area.specs.declared.area.UArea.{UArea}
 use Rattle.u_area.specs.Pending.{is_on_files}
+use Rattle.image_keep.specs.Running.{with_state}
 use Rattle.sys_files.specs.declared.devices.TheConstants.{LINES}
 use Rattle.sys_files.specs.Handed.{Handed}
 use Rattle.sys_files.specs.Did.{Did}
@@ -24,7 +25,7 @@ use Rattle.sys_files.specs.Names.{chdir_to, chmod_to, chown_to, sync_all}
 use Rattle.sys_files.specs.Opening.{open_file}
 use Rattle.sys_files.specs.Piping.{pipe_new}
 use Rattle.sys_files.specs.Status.{stat_file, stat_open}
-use Rattle.sys_procs.specs.Process.{Process, with_state, register, image_of}
+use Rattle.sys_procs.specs.Process.{Process, register, image_of}
 use Rattle.sys_procs.specs.TextTable.{marks_of}
 use Rattle.sys_procs.specs.World.{World}
 use Rattle.sys_procs.specs.Comes.{Comes}

@@ -19,7 +19,8 @@ use Rattle.pick_rules.specs.Effects.{Effect, Show}
 use Rattle.pick_rules.specs.Logged.{Logged, Stop, nothing_logged, logged, left_by}
 use Rattle.swap_sched.specs.Pass.{pass, over}
 use Rattle.u_area.specs.declared.layout.TheConstants.{NOTHING_PENDING}
-use Rattle.sys_procs.specs.Process.{Process, with_state, image_of}
+use Rattle.image_keep.specs.Running.{with_state}
+use Rattle.sys_procs.specs.Process.{Process, image_of}
 use Rattle.abstract_unix.specs.declared.ending.Ending.{Ending}
 use Rattle.abstract_unix.specs.declared.ending.Ending.TheVariants as ending
 use Rattle.abstract_unix.specs.declared.ends.Ends.{Ends}

@@ -421,22 +421,3 @@ module _ (s : ℕ) (v : Seats) (seen : Seen) (i : InExec s v seen) (bare : i.tur
             ),
             rest (seen_after seen (line.Text s k clicks block)) k (free_same ∙ e) (text_in s v seen i k low clicks block),
           )
-
--- the limit is that of the board before
-size_after : (s : ℕ) (seen : Seen) (clicks : ℕ) → IsSize seen.board clicks
-    → IsSize (applied seen.board (line.Bare s)) clicks
-unfolding applied
-size_after s seen clicks z = record { least = z.least; most = rw (bare_core seen.board s) z.most }
-
--- an exec of a program without a text, by a process without one
-pub exec_apt : {W : Type 0}
-    → (Q : Seen → Type 0) (s : ℕ) (v : Seats) (seen : Seen) (clicks : ℕ) (before : W) (es : List (Effect W))
-    → (i : InCall s false v seen)
-    → i.turn.seat.text ≡ None → IsSize seen.board clicks
-    → ((now : Seen) → InCall s false (with_own s v (sized i.turn.seat clicks)) now → Apt Q now es)
-    → Apt Q seen (Show (Log (line.Bare s)) ∷ effect.Image s clicks before ∷ es)
-unfolding Apt came bare_in same_turn
-exec_apt Q s v seen clicks before es i bare z rest = (
-  bare_fits s v seen i bare,
-  image_apt s v (seen_after seen (line.Bare s)) (bare_in s v seen i bare) Q clicks before es (size_after s seen clicks z) rest,
-)

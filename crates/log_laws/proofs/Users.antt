@@ -1,5 +1,5 @@
 -- The users of the texts that are shared: which lines leave them as they are, and what the others do to them.
-use Rattle.std.proofs.Common.{◌≡◌, ◌≢◌, ◌∙◌, ◌+◌, ◌-◌, ◌≤◌, ◌==◌, ℕ, zero, suc, Bool, true, false, cond, List, map, Option, Some, None, is_none, find, length, length-set, get_or, set, set-set, get_or-set_same, refl, sym, ap, subst, inl, inr}
+use Rattle.std.proofs.Common.{◌≡◌, ◌∙◌, ◌+◌, ◌-◌, ◌≤◌, ◌==◌, ℕ, zero, suc, Bool, true, false, cond, List, map, Option, Some, None, is_none, find, length, length-set, get_or, set, set-set, get_or-set_same, refl, sym, ap, subst, inl, inr}
 use Rattle.std.specs.List.{range_with_len}
 use Rattle.std.proofs.lemmas.Bool.{cases_lt}
 use Rattle.std.proofs.lemmas.List.{map-set, set-get_or, get_or_past}

@@ -1,11 +1,10 @@
 -- What is taken from the front of a hole.
-use Rattle.std.proofs.Common.{◌≡◌, ◌+◌, ◌-◌, ◌<◌, ◌≤◌, ◌==◌, inl, inr, ℕ, zero, suc, Bool, true, false, not, ◌&&◌, ◌||◌, cond, List, [], ◌∷◌, length, set, remove, nat_le, position, Option, Some, None, refl, sym, ap, ◌∙◌, arith, subst}
+use Rattle.std.proofs.Common.{◌≡◌, ◌+◌, ◌-◌, ◌<◌, ◌≤◌, ◌==◌, inl, inr, ℕ, zero, suc, Bool, true, false, not, ◌&&◌, ◌||◌, cond, List, [], ◌∷◌, length, set, remove, nat_le, position, Some, None, refl, sym, ap, ◌∙◌, arith, subst}
 use Rattle.std.proofs.lemmas.Bool.{cases_lt, le-leb, leb-true, eqb-true, eqb-false, and_from, and_parts, both_ways, false_from_ne_true}
 use Rattle.std.proofs.lemmas.List.Quantifiers.{position-Some}
 use Rattle.std.proofs.lemmas.List.Sums.{fails_before_first}
 use Rattle.std.proofs.lemmas.Grind.{common_steps}
 use Rattle.std.specs.List.{position_or_len}
-use Rattle.std.specs.Option.{is_some}
 use Rattle.map_fit.specs.declared.holes.Hole.{Hole}
 use Rattle.map_fit.specs.Fit.{Range, is_clear, first_fit}
 use Rattle.map_fit.specs.Free.{is_within, is_free, AreFrom, AreHoles, IsMap}
@@ -154,12 +153,6 @@ none_fits hs taken first last n are p map is =
   where
     past : position (λ h. nat_le n h.size) hs ≡ None → length hs ≤ position_or_len (λ h. nat_le n h.size) hs
     past e = grind (arith, common_steps)
-
--- whether a hole is large enough
-pub fits_is : (hs : List Hole) (taken : List Range) (first last n : ℕ) (o : Option ℕ) → AreHoles hs → 0 < n → IsMap hs taken first last
-    → o ≡ position (λ h. nat_le n h.size) hs → is_some o ≡ is_some (first_fit taken first last n)
-fits_is hs taken first last n None are p map e = ap is_some (none_fits hs taken first last n are p map (sym e))
-fits_is hs taken first last n (Some i) are p map e = ap is_some (found_fit hs taken first last n i are p map (sym e))
 
 pub first_large : (hs : List Hole) (n i : ℕ) → position (λ h. nat_le n h.size) hs ≡ Some i → (i < length hs) × (n ≤ (hole_at hs i).size)
 first_large hs n i e = let k = position-Some (λ (h : Hole). nat_le n h.size) hs i no_hole e in (k.0, leb-true n (hole_at hs i).size k.1)

@@ -1,5 +1,5 @@
 //! Maps of what is free: `coremap` and `swapmap` in Lions' Commentary, `malloc.c`.
-ghost use Rattle.std.specs.Prelude.{◌≡◌, ◌↔◌, ℕ, ◌+◌, ◌<◌, ◌≤◌, ◌&&◌, ◌||◌, not, true, false, List, ◌∷◌, length, nat_le, position, is_some, IfSome, None, MatchOption, slice_index_or, slice_set};
+ghost use Rattle.std.specs.Prelude.{◌≡◌, ◌↔◌, ℕ, ◌+◌, ◌<◌, ◌≤◌, ◌&&◌, ◌||◌, not, true, false, List, ◌∷◌, length, nat_le, position, IfSome, None, MatchOption, slice_index_or, slice_set};
 ghost use Rattle.std.specs.List.{position_or_len, list_all};
 ghost use Rattle.arrayvec.specs.ArrayVec.{array_vec_len};
 ghost use Rattle.map_fit.specs.Fit.{Range, first_fit};
@@ -177,12 +177,16 @@ impl Holes {
         }
     }
 
-    /// Whether `n` units are free in one piece: exactly where `take` would find them. Nothing changes.
-    pub fn fits(&self, n: u16) -> bool
+    /// Where `take` would find `n` units. Nothing changes.
+    pub fn find(&self, n: u16) -> Option<u16>
         requires { 0 < n }
-        ensures { (taken : List Range) (first last : ℕ) → IsMap self.now taken first last → result ≡ is_some (first_fit taken first last n) }
+        ensures { (taken : List Range) (first last : ℕ) → IsMap self.now taken first last → result ≡ first_fit taken first last n }
     {
-        large_enough(self.holes.as_slice(), n).is_some()
+        let holes = self.holes.as_slice();
+        match large_enough(holes, n) {
+            Some(i) => Some(holes[i].at),
+            None => None,
+        }
     }
 
     /// Gives back `n` units from `at` on, which are taken: `mfree`. What is free next to them becomes one hole with them.

@@ -1,7 +1,5 @@
--- What sleeping, waking, a tick and the choice leave of a table: the clock, who runs, slots without a process, and what
--- each slot does.
-use Rattle.std.proofs.Common.{◌≡◌, ◌∙◌, ◌≢◌, ℕ, zero, suc, ◌+◌, ◌-◌, ◌%◌, ◌^◌, ◌<◌, ◌≤◌, min, ℤ, pos, int_lt, nat_lt, Bool, true, false, not, cond, if◌then◌else◌, ◌==◌, ◌&&◌, ◌||◌, List, [], ◌∷◌, filter, fold, get_or, set, Option, Some, None, refl, ap, subst, arith}
-use Rattle.std.proofs.lemmas.Bool.{ltb-true, ltb-false, eqb-true}
+-- What sleeping, waking, a tick and the choice leave of a table: the clock, who runs, and who was ready.
+use Rattle.std.proofs.Common.{◌≡◌, ◌∙◌, ℕ, zero, suc, ◌+◌, ◌-◌, ◌%◌, ◌^◌, min, ℤ, pos, int_lt, Bool, true, false, not, cond, if◌then◌else◌, ◌==◌, ◌&&◌, ◌||◌, List, [], ◌∷◌, filter, fold, get_or, set, Option, Some, None, refl, subst}
 use Rattle.v6_base.specs.declared.entry.Chan.{Chan}
 use Rattle.v6_base.specs.declared.entry.Chan.TheVariants.{RunIn, RunOut}
 use Rattle.pick_rules.specs.declared.row.Mode.{Mode}
@@ -10,15 +8,11 @@ use Rattle.pick_rules.specs.declared.row.Stat.TheVariants.{Ready}
 use Rattle.pick_rules.specs.declared.row.TableRow.{TableRow}
 use Rattle.pick_rules.specs.declared.table.Table.{Table}
 use Rattle.pick_rules.specs.Search.{slots, first_of_two, least}
-use Rattle.pick_rules.specs.Table.{empty_row, row_at, with_row, is_empty, is_ready, is_loaded, is_on, same_chan}
+use Rattle.pick_rules.specs.Table.{empty_row, row_at, with_row, is_empty, is_ready, is_loaded, same_chan}
 use Rattle.pick_rules.specs.Priority.{user_pri, setpri}
-use Rattle.pick_rules.specs.Sleepers.{made_ready, sleeps_on, process_0_woken, runout_told, runin_told, setrun, wakeup, sleep_stat, flagged, asleep, fall_asleep}
+use Rattle.pick_rules.specs.Sleepers.{made_ready, sleeps_on, process_0_woken, runout_told, runin_told, setrun, wakeup, flagged, asleep, fall_asleep}
 use Rattle.pick_rules.specs.Clock.{charged_slot, charged, aged, second, ticked, tick}
 use Rattle.pick_rules.specs.Choice.{can_run, round_from, chosen, settled_by, line_of_choice, settle}
-
--- no process but those in slots 0 and 1
-pub record AreFree (t : Table) : Type 0 where
-  pub rows : (s : ℕ) → 2 ≤ s → row_at t s ≡ empty_row
 
 -- the clock and who runs stay, and who was ready is ready
 pub record Kept (old new : Table) : Type 0 where
@@ -28,16 +22,8 @@ pub record Kept (old new : Table) : Type 0 where
   pub running : new.running ≡ old.running
   pub ready : (s : ℕ) → is_ready (row_at old s).stat ≡ true → is_ready (row_at new s).stat ≡ true
 
--- a slot that sleeps for nothing does what it did
-pub record Awake (old new : Table) : Type 0 where
-  pub stat : (s : ℕ) → (row_at old s).channel ≡ None → (row_at new s).stat ≡ (row_at old s).stat
-  pub channel : (s : ℕ) → (row_at old s).channel ≡ None → (row_at new s).channel ≡ None
-
 pub kept_none : (t : Table) → Kept t t
 kept_none t = record { now = refl; ticks = refl; tout = refl; running = refl; ready = λ s e. e }
-
-pub awake_none : (t : Table) → Awake t t
-awake_none t = record { stat = λ s e. refl; channel = λ s e. e }
 
 pub kept_trans : (a b c : Table) → Kept a b → Kept b c → Kept a c
 kept_trans a b c k l = record {
@@ -46,12 +32,6 @@ kept_trans a b c k l = record {
   tout = l.tout ∙ k.tout;
   running = l.running ∙ k.running;
   ready = λ s e. l.ready s (k.ready s e);
-}
-
-pub awake_trans : (a b c : Table) → Awake a b → Awake b c → Awake a c
-awake_trans a b c k l = record {
-  stat = λ s e. l.stat s (k.channel s e) ∙ k.stat s e;
-  channel = λ s e. l.channel s (k.channel s e);
 }
 
 -- a fact of each row stays where it holds of a new one
@@ -76,54 +56,15 @@ row_kept t s row runrun h = record {
   ready = set_each (λ r x. is_ready (row_at t r).stat ≡ true → is_ready x.stat ≡ true) t.rows s row (λ r e. e) h;
 }
 
-row_awake : (t : Table) (s : ℕ) (row : TableRow) (runrun : Bool) → ((row_at t s).channel ≡ None → row.stat ≡ (row_at t s).stat)
-    → ((row_at t s).channel ≡ None → row.channel ≡ None) → Awake t (with_other t s row runrun)
-row_awake t s row runrun h g = record {
-  stat = set_each (λ r x. (row_at t r).channel ≡ None → x.stat ≡ (row_at t r).stat) t.rows s row (λ r e. refl) h;
-  channel = set_each (λ r x. (row_at t r).channel ≡ None → x.channel ≡ None) t.rows s row (λ r e. e) g;
-}
-
-row_free : (t : Table) (s : ℕ) (row : TableRow) (runrun : Bool) → (2 ≤ s → ⊥) → AreFree t → AreFree (with_other t s row runrun)
-row_free t s row runrun low f = record { rows = set_each (λ r x. 2 ≤ r → x ≡ empty_row) t.rows s row f.rows (λ h. absurd (low h)) }
-
-is_low : (s : ℕ) → s < 2 → 2 ≤ s → ⊥
-is_low s h l = omega arith
-
 -- Priorities.
 pub setpri_kept : (t : Table) (s : ℕ) → Kept t (setpri t s)
 unfolding setpri
 setpri_kept t s = row_kept t s (record (row_at t s) { pri = user_pri (row_at t s) }) (t.runrun || int_lt t.curpri (user_pri (row_at t s))) (λ e. e)
 
-pub setpri_awake : (t : Table) (s : ℕ) → Awake t (setpri t s)
-unfolding setpri
-setpri_awake t s = row_awake t s (record (row_at t s) { pri = user_pri (row_at t s) }) (t.runrun || int_lt t.curpri (user_pri (row_at t s))) (λ e. refl) (λ e. e)
-
-free_by : (t : Table) (s : ℕ) → (2 ≤ s → ⊥) → AreFree t → AreFree (setpri t s)
-unfolding setpri
-free_by t s low f = row_free t s (record (row_at t s) { pri = user_pri (row_at t s) }) (t.runrun || int_lt t.curpri (user_pri (row_at t s))) low f
-
-pub setpri_free : (t : Table) (s : ℕ) → s < 2 → AreFree t → AreFree (setpri t s)
-setpri_free t s low f = free_by t s (is_low s low) f
-
 -- A slot becomes ready.
 ready_kept : (t : Table) (s : ℕ) → Kept t (made_ready t s)
 unfolding made_ready
 ready_kept t s = row_kept t s (record (row_at t s) { stat = Ready; channel = None }) (t.runrun || int_lt (row_at t s).pri t.curpri) (λ e. refl)
-
-ready_free : (t : Table) (s : ℕ) → (2 ≤ s → ⊥) → AreFree t → AreFree (made_ready t s)
-unfolding made_ready
-ready_free t s low f = row_free t s (record (row_at t s) { stat = Ready; channel = None }) (t.runrun || int_lt (row_at t s).pri t.curpri) low f
-
-has_channel : (row : TableRow) (w : Chan) → is_on row.channel w ≡ true → row.channel ≡ None → ⊥
-has_channel row w e f = let g : is_on row.channel w ≡ false = rw f refl in cc (e, g)
-
-ready_awake : (t : Table) (s : ℕ) (w : Chan) → sleeps_on t s w ≡ true → Awake t (made_ready t s)
-unfolding made_ready
-ready_awake t s w e = row_awake t s (record (row_at t s) { stat = Ready; channel = None }) (t.runrun || int_lt (row_at t s).pri t.curpri)
-    (λ f. absurd (has_channel (row_at t s) w e f)) (λ f. refl)
-
-not_free : (t : Table) (s : ℕ) (w : Chan) → sleeps_on t s w ≡ true → AreFree t → 2 ≤ s → ⊥
-not_free t s w e f l = has_channel (row_at t s) w e (ap (λ r. r.channel) (f.rows s l))
 
 pub fold_keeps : {A X : Type 0} (P : A → Type 0) (f : A → X → A) → ((a : A) (x : X) → P a → P (f a x)) → (xs : List X) (a : A) → P a → P (fold f a xs)
 fold_keeps P f step [] a p = p
@@ -185,34 +126,11 @@ kept_stays old = record {
   runin = λ t k. record { now = k.now; ticks = k.ticks; tout = k.tout; running = k.running; ready = k.ready };
 }
 
-awake_stays : (old : Table) → Stays (Awake old)
-awake_stays old = record {
-  woken = λ t s w e k. awake_trans old t (made_ready t s) k (ready_awake t s w e);
-  runout = λ t k. record { stat = k.stat; channel = k.channel };
-  runin = λ t k. record { stat = k.stat; channel = k.channel };
-}
-
-free_stays : Stays AreFree
-free_stays = record {
-  woken = λ t s w e f. ready_free t s (not_free t s w e f) f;
-  runout = λ t f. record { rows = f.rows };
-  runin = λ t f. record { rows = f.rows };
-}
-
 pub setrun_kept : (t : Table) (s : ℕ) → Kept t (setrun t s)
 setrun_kept t s = setrun_stays (Kept t) (kept_stays t) t s (ready_kept t s)
 
-pub setrun_free : (t : Table) (s : ℕ) → s < 2 → AreFree t → AreFree (setrun t s)
-setrun_free t s low f = setrun_stays AreFree free_stays t s (ready_free t s (is_low s low) f)
-
 pub wakeup_kept : (t : Table) (w : Chan) → Kept t (wakeup t w)
 wakeup_kept t w = wakeup_stays (Kept t) (kept_stays t) t w (kept_none t)
-
-pub wakeup_awake : (t : Table) (w : Chan) → Awake t (wakeup t w)
-wakeup_awake t w = wakeup_stays (Awake t) (awake_stays t) t w (awake_none t)
-
-pub wakeup_free : (t : Table) (w : Chan) → AreFree t → AreFree (wakeup t w)
-wakeup_free t w f = wakeup_stays AreFree free_stays t w f
 
 -- Sleeping.
 flagged_kept : (t : Table) (s : ℕ) (w : Chan) → Kept t (flagged t s w)
@@ -222,14 +140,6 @@ flagged_kept t s w = by (s == 0) (same_chan w RunIn)
     by true true = record { now = refl; ticks = refl; tout = refl; running = refl; ready = λ r e. e }
     by true false = record { now = refl; ticks = refl; tout = refl; running = refl; ready = λ r e. e }
     by false b = kept_none t
-
-flagged_free : (t : Table) (s : ℕ) (w : Chan) → AreFree t → AreFree (flagged t s w)
-flagged_free t s w f = by (s == 0) (same_chan w RunIn)
-  where
-    by : (a b : Bool) → AreFree (cond a (cond b (record t { runin = true }) (record t { runout = true })) t)
-    by true true = record { rows = f.rows }
-    by true false = record { rows = f.rows }
-    by false b = f
 
 -- what is left of a table in which the slot has lain down and nobody runs
 pub asleep_kept : (t : Table) (s : ℕ) (pri : ℤ) (w : Chan) → Kept (asleep t s pri w) (fall_asleep t s pri w)
@@ -255,29 +165,9 @@ sleep_tout t s pri w = (asleep_kept t s pri w).tout
 pub sleep_running : (t : Table) (s : ℕ) (pri : ℤ) (w : Chan) → (fall_asleep t s pri w).running ≡ None
 sleep_running t s pri w = (asleep_kept t s pri w).running
 
-pub sleep_free : (t : Table) (s : ℕ) (pri : ℤ) (w : Chan) → s < 2 → AreFree t → AreFree (fall_asleep t s pri w)
-unfolding fall_asleep
-sleep_free t s pri w low f = flagged_free _ s w (by (int_lt pri (pos 0)))
-  where
-    lain : Table
-    lain = asleep t s pri w
-
-    lain_free : AreFree lain
-    lain_free = record { rows = (row_free t s (record (row_at t s) { stat = sleep_stat pri; pri = pri; channel = Some w; calling = true }) t.runrun (is_low s low) f).rows }
-
-    by : (b : Bool) → AreFree (cond b lain (runin_told lain))
-    by true = lain_free
-    by false = runin_stays AreFree free_stays lain lain_free
-
 -- The clock.
 pub charged_kept : (t : Table) → Kept t (charged t)
 charged_kept t = row_kept t (charged_slot t) (record (row_at t (charged_slot t)) { cpu = min ((row_at t (charged_slot t)).cpu + 1) 255 }) t.runrun (λ e. e)
-
-charged_awake : (t : Table) → Awake t (charged t)
-charged_awake t = row_awake t (charged_slot t) (record (row_at t (charged_slot t)) { cpu = min ((row_at t (charged_slot t)).cpu + 1) 255 }) t.runrun (λ e. refl) (λ e. e)
-
-charged_free : (t : Table) → charged_slot t < 2 → AreFree t → AreFree (charged t)
-charged_free t low f = row_free t (charged_slot t) (record (row_at t (charged_slot t)) { cpu = min ((row_at t (charged_slot t)).cpu + 1) 255 }) t.runrun (is_low (charged_slot t) low) f
 
 -- a slot in use a second later
 abbrev older_row : TableRow → TableRow
@@ -297,36 +187,6 @@ aged_kept t s = by (is_empty (row_at t s).stat) (int_lt (pos 100) (row_at t s).p
     by true y = kept_none t
     by false true = kept_trans t older (setpri older s) kept (setpri_kept older s)
     by false false = kept
-
-aged_awake : (t : Table) (s : ℕ) → Awake t (aged t s)
-unfolding aged
-aged_awake t s = by (is_empty (row_at t s).stat) (int_lt (pos 100) (row_at t s).pri)
-  where
-    older : Table
-    older = with_row t s (older_row (row_at t s))
-
-    kept : Awake t older
-    kept = row_awake t s (older_row (row_at t s)) t.runrun (λ e. refl) (λ e. e)
-
-    by : (x y : Bool) → Awake t (cond x t (cond y (setpri older s) older))
-    by true y = awake_none t
-    by false true = awake_trans t older (setpri older s) kept (setpri_awake older s)
-    by false false = kept
-
-aged_free : (t : Table) (s : ℕ) → AreFree t → AreFree (aged t s)
-unfolding aged
-aged_free t s f = by (is_empty (row_at t s).stat) (int_lt (pos 100) (row_at t s).pri) refl
-  where
-    older : Table
-    older = with_row t s (older_row (row_at t s))
-
-    used : is_empty (row_at t s).stat ≡ false → 2 ≤ s → ⊥
-    used e l = let g : is_empty (row_at t s).stat ≡ true = ap (λ r. is_empty r.stat) (f.rows s l) in cc (e, g)
-
-    by : (x y : Bool) → is_empty (row_at t s).stat ≡ x → AreFree (cond x t (cond y (setpri older s) older))
-    by true y e = f
-    by false true e = free_by older s (used e) (row_free t s (older_row (row_at t s)) t.runrun (used e) f)
-    by false false e = row_free t s (older_row (row_at t s)) t.runrun (used e) f
 
 -- the table with another time
 abbrev pub timed : Table → ℕ → ℕ → Table
@@ -348,21 +208,6 @@ second_kept t = runin_stays (Kept begun) (kept_stays begun) (fold aged told slot
     told : Table
     told = record begun { runrun = t.runrun || ((t.now + 1) % 2 ^ 32 % 4 == 0) }
 
-second_awake : (t : Table) → Awake t (second t)
-unfolding second
-second_awake t = runin_stays (Awake t) (awake_stays t) (fold aged told slots)
-    (fold_keeps (Awake t) aged (λ a s k. awake_trans t a (aged a s) k (aged_awake a s)) slots told (record { stat = λ s e. refl; channel = λ s e. e }))
-  where
-    told : Table
-    told = record (timed t 0 ((t.now + 1) % 2 ^ 32)) { runrun = t.runrun || ((t.now + 1) % 2 ^ 32 % 4 == 0) }
-
-second_free : (t : Table) → AreFree t → AreFree (second t)
-unfolding second
-second_free t f = runin_stays AreFree free_stays (fold aged told slots) (fold_keeps AreFree aged aged_free slots told (record { rows = f.rows }))
-  where
-    told : Table
-    told = record (timed t 0 ((t.now + 1) % 2 ^ 32)) { runrun = t.runrun || ((t.now + 1) % 2 ^ 32 % 4 == 0) }
-
 timed_kept : (t u : Table) (ticks now : ℕ) → Kept t u → Kept (timed t ticks now) (timed u ticks now)
 timed_kept t u ticks now k = record { now = refl; ticks = refl; tout = k.tout; running = k.running; ready = k.ready }
 
@@ -375,22 +220,6 @@ ticked_kept t = by (t.ticks == 59)
         (timed_kept t (charged t) 0 ((t.now + 1) % 2 ^ 32) (charged_kept t)) (second_kept (charged t))
     by false = timed_kept t (charged t) (t.ticks + 1) t.now (charged_kept t)
 
-ticked_awake : (t : Table) → Awake t (ticked t)
-unfolding ticked
-ticked_awake t = by (t.ticks == 59)
-  where
-    by : (b : Bool) → Awake t (cond b (second (charged t)) (record (charged t) { ticks = t.ticks + 1 }))
-    by true = awake_trans t (charged t) (second (charged t)) (charged_awake t) (second_awake (charged t))
-    by false = let k : Awake t (charged t) = charged_awake t in record { stat = k.stat; channel = k.channel }
-
-ticked_free : (t : Table) → charged_slot t < 2 → AreFree t → AreFree (ticked t)
-unfolding ticked
-ticked_free t low f = by (t.ticks == 59)
-  where
-    by : (b : Bool) → AreFree (cond b (second (charged t)) (record (charged t) { ticks = t.ticks + 1 }))
-    by true = second_free (charged t) (charged_free t low f)
-    by false = record { rows = (charged_free t low f).rows }
-
 pub tick_kept : (mode : Mode) (t : Table) → Kept (time_passed t) (tick mode t)
 tick_kept User t = by (t.ticks == 59)
   where
@@ -400,91 +229,12 @@ tick_kept User t = by (t.ticks == 59)
 tick_kept Kernel t = ticked_kept t
 tick_kept Idle t = ticked_kept t
 
-pub tick_awake : (mode : Mode) (t : Table) → Awake t (tick mode t)
-tick_awake User t = by (t.ticks == 59)
-  where
-    by : (b : Bool) → Awake t (cond b (setpri (ticked t) (charged_slot t)) (ticked t))
-    by true = awake_trans t (ticked t) (setpri (ticked t) (charged_slot t)) (ticked_awake t) (setpri_awake (ticked t) (charged_slot t))
-    by false = ticked_awake t
-tick_awake Kernel t = ticked_awake t
-tick_awake Idle t = ticked_awake t
-
-pub tick_free : (mode : Mode) (t : Table) → charged_slot t < 2 → AreFree t → AreFree (tick mode t)
-tick_free User t low f = by (t.ticks == 59)
-  where
-    by : (b : Bool) → AreFree (cond b (setpri (ticked t) (charged_slot t)) (ticked t))
-    by true = setpri_free (ticked t) (charged_slot t) low (ticked_free t low f)
-    by false = ticked_free t low f
-tick_free Kernel t low f = ticked_free t low f
-tick_free Idle t low f = ticked_free t low f
-
--- the time after a tick, by cases
-pub passed_second : (t : Table) → t.ticks ≡ 59 → time_passed t ≡ timed t 0 ((t.now + 1) % 2 ^ 32)
-passed_second t e = let g : (t.ticks == 59) ≡ true = rw e refl in rw g refl
-
-pub passed_tick : (t : Table) → t.ticks ≢ 59 → time_passed t ≡ timed t (t.ticks + 1) t.now
-passed_tick t n = by (t.ticks == 59) refl
-  where
-    by : (b : Bool) → (t.ticks == 59) ≡ b → cond b (timed t 0 ((t.now + 1) % 2 ^ 32)) (timed t (t.ticks + 1) t.now) ≡ timed t (t.ticks + 1) t.now
-    by true e = absurd (n (eqb-true _ _ e))
-    by false e = refl
-
-passed_tout : (t : Table) → (time_passed t).tout ≡ t.tout
-passed_tout t = by (t.ticks == 59)
-  where
-    by : (b : Bool) → (cond b (timed t 0 ((t.now + 1) % 2 ^ 32)) (timed t (t.ticks + 1) t.now)).tout ≡ t.tout
-    by true = refl
-    by false = refl
-
 pub passed_running : (t : Table) → (time_passed t).running ≡ t.running
 passed_running t = by (t.ticks == 59)
   where
     by : (b : Bool) → (cond b (timed t 0 ((t.now + 1) % 2 ^ 32)) (timed t (t.ticks + 1) t.now)).running ≡ t.running
     by true = refl
     by false = refl
-
-pub passed_rows : (t : Table) → (time_passed t).rows ≡ t.rows
-passed_rows t = by (t.ticks == 59)
-  where
-    by : (b : Bool) → (cond b (timed t 0 ((t.now + 1) % 2 ^ 32)) (timed t (t.ticks + 1) t.now)).rows ≡ t.rows
-    by true = refl
-    by false = refl
-
-pub tick_tout : (mode : Mode) (t : Table) → (tick mode t).tout ≡ t.tout
-tick_tout mode t = (tick_kept mode t).tout ∙ passed_tout t
-
-pub tick_running : (mode : Mode) (t : Table) → (tick mode t).running ≡ t.running
-tick_running mode t = (tick_kept mode t).running ∙ passed_running t
-
-pub tick_ready : (mode : Mode) (t : Table) (s : ℕ) → is_ready (row_at t s).stat ≡ true → is_ready (row_at (tick mode t) s).stat ≡ true
-tick_ready mode t s e =
-    let g : row_at (time_passed t) s ≡ row_at t s = ap (λ rows. get_or rows s empty_row) (passed_rows t) in
-    (tick_kept mode t).ready s (ap (λ r. is_ready r.stat) g ∙ e)
-
--- a second: the time at which it ends
-pub tick_second : (mode : Mode) (t : Table) → t.ticks ≡ 59 → ((tick mode t).ticks ≡ 0) × ((tick mode t).now ≡ (t.now + 1) % 2 ^ 32)
-tick_second mode t e = (
-  (tick_kept mode t).ticks ∙ ap (λ u. u.ticks) (passed_second t e),
-  (tick_kept mode t).now ∙ ap (λ u. u.now) (passed_second t e),
-)
-
--- any other tick
-pub tick_within : (mode : Mode) (t : Table) → t.ticks ≢ 59 → ((tick mode t).ticks ≡ t.ticks + 1) × ((tick mode t).now ≡ t.now)
-tick_within mode t n = (
-  (tick_kept mode t).ticks ∙ ap (λ u. u.ticks) (passed_tick t n),
-  (tick_kept mode t).now ∙ ap (λ u. u.now) (passed_tick t n),
-)
-
--- who is charged, where nobody runs or slot 0 or 1
-pub idle_low : (t : Table) → t.running ≡ None → charged_slot t < 2
-idle_low t e = let g : charged_slot t ≡ 0 = rw e refl in omega (arith, g)
-
-pub running_low : (t : Table) (s : ℕ) → t.running ≡ Some s → s < 2 → charged_slot t < 2
-running_low t s e low = let g : charged_slot t ≡ s = rw e refl in omega (arith, g)
-
--- A slot without a process stays so, where it is not the one that is dealt with.
-pub empty_stays : (old new : Table) (s : ℕ) → Awake old new → row_at old s ≡ empty_row → is_empty (row_at new s).stat ≡ true
-empty_stays old new s k e = ap is_empty (k.stat s (ap (λ r. r.channel) e)) ∙ ap (λ r. is_empty r.stat) e
 
 -- The choice.
 pub settled_now : (t : Table) (o : Option ℕ) → (settled_by t o).now ≡ t.now
@@ -506,10 +256,6 @@ settled_rows t (Some s) = refl
 pub settled_running : (t : Table) (o : Option ℕ) → (settled_by t o).running ≡ o
 settled_running t None = refl
 settled_running t (Some s) = refl
-
-pub settled_free : (t : Table) (o : Option ℕ) → AreFree t → AreFree (settled_by t o)
-settled_free t None f = record { rows = f.rows }
-settled_free t (Some s) f = record { rows = f.rows }
 
 -- the least of some numbers that pass a test passes it
 least_passes : (before : ℕ → ℕ → Bool) (test : ℕ → Bool) (xs : List ℕ) (s : ℕ) → least before (filter test xs) ≡ Some s → test s ≡ true
@@ -544,16 +290,6 @@ runs_ready t s e = (both (is_ready (row_at t s).stat) (is_loaded t s) e).0
 
 pub runs_loaded : (t : Table) (s : ℕ) → can_run t s ≡ true → is_loaded t s ≡ true
 runs_loaded t s e = (both (is_ready (row_at t s).stat) (is_loaded t s) e).1
-
-pub runs_low : (t : Table) (s : ℕ) → AreFree t → can_run t s ≡ true → s < 2
-runs_low t s f e = by (nat_lt s 2) refl
-  where
-    by : (b : Bool) → nat_lt s 2 ≡ b → s < 2
-    by true l = ltb-true _ _ l
-    by false l = absurd (let g : is_ready (row_at t s).stat ≡ false = ap (λ r. is_ready r.stat) (f.rows s (ltb-false _ _ l)) in let h : is_ready (row_at t s).stat ≡ true = runs_ready t s e in cc (g, h))
-
-pub chosen_low : (t : Table) (s : ℕ) → AreFree t → chosen t ≡ Some s → s < 2
-chosen_low t s f e = runs_low t s f (chosen_runs t s e)
 
 -- with the chosen slot running the kernel has settled
 pub go_settles : (t : Table) (s : ℕ) → chosen t ≡ Some s → settle (settled_by t (Some s)) ≡ None

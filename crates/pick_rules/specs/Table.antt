@@ -1,7 +1,7 @@
 -- The table of slots, and the numbers by which the kernel chooses who runs: `proc.h` in Lions' Commentary.
 use Rattle.std.specs.Prelude.{◌<◌, ℕ, Bool, true, false, ◌||◌, ◌==◌, ◌∷◌, slice_index_or, slice_set, replicate, pos, Option, Some, None, MatchOption, ⊤}
 use Rattle.v6_base.specs.declared.entry.Chan.{Chan}
-use Rattle.v6_base.specs.declared.entry.Chan.TheVariants.{RunIn, RunOut, Tout, Keys, Wait, Read, Write}
+use Rattle.v6_base.specs.contracts.entry.ChanPartialEq.TheImpl as chan_eq
 use Rattle.v6_base.specs.declared.entry.Place.{Place}
 use Rattle.v6_base.specs.declared.entry.Place.TheVariants.{Core, Swap}
 use Rattle.pick_rules.specs.declared.row.Stat.{Stat}
@@ -41,15 +41,9 @@ is_in_core (Some (Swap b)) = false
 abbrev pub is_loaded : Table → ℕ → Bool
 is_loaded t s = (s == 0) || is_in_core (row_at t s).place
 
+-- whether two channels are the same, as `==` of `Chan` tells
 abbrev pub same_chan : Chan → Chan → Bool
-same_chan RunIn RunIn = true
-same_chan RunOut RunOut = true
-same_chan Tout Tout = true
-same_chan Keys Keys = true
-same_chan (Wait s) (Wait t) = s == t
-same_chan (Read i) (Read j) = i == j
-same_chan (Write i) (Write j) = i == j
-same_chan a b = false
+same_chan = (chan_eq.ghosts).eq
 
 abbrev pub is_on : Option Chan → Chan → Bool
 is_on None w = false

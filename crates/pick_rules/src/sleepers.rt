@@ -1,33 +1,18 @@
 //! Sleeping and waking: `sleep`, `wakeup` and `setrun` in Lions' Commentary, `slp.c`.
 ghost use Rattle.std.specs.Prelude.{◌≡◌, ◌<◌, if◌then◌else◌};
-ghost use Rattle.pick_rules.specs.Table.{IsTable, is_in_core, is_on, same_chan};
+ghost use Rattle.pick_rules.specs.Table.{IsTable, is_in_core, is_on};
 ghost use Rattle.pick_rules.specs.Sleepers.{made_ready, sleeps_on, process_0_woken, runout_told, runin_told, setrun, wakeup, flagged, asleep, fall_asleep};
 
 use crate::row::Stat;
 use crate::table::Table;
 use v6_base::{Chan, Place, Slot};
 
-/// Whether two channels are the same.
-fn is_same(a: Chan, b: Chan) -> bool
-    ensures { result ≡ same_chan a b }
-{
-    match (a, b) {
-        (Chan::RunIn, Chan::RunIn)
-        | (Chan::RunOut, Chan::RunOut)
-        | (Chan::Tout, Chan::Tout)
-        | (Chan::Keys, Chan::Keys) => true,
-        (Chan::Wait(s), Chan::Wait(t)) => s == t,
-        (Chan::Read(i), Chan::Read(j)) | (Chan::Write(i), Chan::Write(j)) => i == j,
-        _ => false,
-    }
-}
-
 /// Whether what somebody sleeps for is a channel.
 fn is_on(own: Option<Chan>, chan: Chan) -> bool
     ensures { result ≡ is_on own chan }
 {
     match own {
-        Some(own) => is_same(own, chan),
+        Some(own) => own == chan,
         None => false,
     }
 }
@@ -158,7 +143,7 @@ fn flag(table: &mut Table, s: Slot, chan: Chan)
     ensures good { IsTable table.new }
 {
     if s == 0 {
-        if is_same(chan, Chan::RunIn) {
+        if chan == Chan::RunIn {
             table.runin = true;
         } else {
             table.runout = true;

@@ -1,6 +1,7 @@
 //! The table of processes, as the choice of the next one sees it.
-ghost use Rattle.std.specs.Prelude.{◌≡◌, ◌<◌, ◌/◌, ◌+ℤ◌, pos};
+ghost use Rattle.std.specs.Prelude.{◌≡◌, ◌<◌, ◌/◌, ◌+ℤ◌, [], ◌∷◌, pos, MatchOption, ⊤};
 ghost use Rattle.std.specs.Int.{int_min};
+ghost use Rattle.v6_base.specs.Trace.{Took, Log};
 ghost use Rattle.pick_rules.specs.Table.{IsTable, first_table};
 ghost use Rattle.pick_rules.specs.Priority.{puser, setpri};
 ghost use Rattle.pick_rules.specs.Sleepers.{setrun, wakeup, fall_asleep};
@@ -11,7 +12,7 @@ use crate::ageing::age;
 use crate::choice::choose;
 use crate::row::{Mode, Second, Stat, TableRow};
 use crate::sleepers::{lie_down, make_ready, wake_all};
-use v6_base::{Chan, Place, Slot};
+use v6_base::{Chan, Entry, Place, Slot, Trace};
 
 /// The fifty slots, and the numbers by which the kernel chooses who runs: `proc.h` and `systm.h` in Lions' Commentary.
 /// Slot 0 is the swapper.
@@ -96,6 +97,15 @@ impl Table {
         best
     }
 
+    /// Whom `pick` would choose. Nothing changes.
+    pub fn choice(&self) -> Option<Slot>
+        requires { IsTable self.now }
+        ensures value { result ≡ chosen self.entry.now }
+        ensures slot { MatchOption result ⊤ (λ s. s < 50) }
+    {
+        choose(&self.rows, self.last)
+    }
+
     /// Gives a slot its priority in user mode anew, and asks for a new choice where that exceeds the priority of the one
     /// chosen last. Lions' Commentary, `setpri` in `slp.c`.
     #[tactic(auto, unfolding(crate::specs::Priority::setpri))]
@@ -141,6 +151,18 @@ impl Table {
         ensures good { IsTable self.new }
     {
         wake_all(self, chan);
+    }
+
+    /// Wakes those who sleep for a channel, as `wakeup` does, and tells the log.
+    pub fn wake<T: Trace>(&mut self, chan: Chan, trace: &mut T)
+        requires { IsTable self.old }
+        ensures table { self.new ≡ wakeup self.old chan }
+        ensures good { IsTable self.new }
+        ensures items { Took (T.taken trace.old) (Log (Entry.Wake chan) ∷ []) (T.taken trace.new) }
+        ensures frame { T.leads_to trace.old trace.new }
+    {
+        trace.entry(Entry::Wake(chan));
+        self.wakeup(chan);
     }
 
     /// Takes a tick of the clock, which is a sixtieth of a second: the running slot is charged with it, or slot 0, and at

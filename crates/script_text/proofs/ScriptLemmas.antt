@@ -1,41 +1,23 @@
 -- Reading a script line by line: the lines that are left give what the whole script gives.
-use Rattle.std.proofs.Common.{◌≡◌, ◌≤◌, ◌<◌, ◌+◌, ℕ, true, false, List, [], ◌∷◌, ◌++◌, length, Some, None, Option, Result, Ok, Err, refl, sym, ◌∙◌, ap, arith, sum_by, append_assoc, ltb}
+use Rattle.std.proofs.Common.{◌≡◌, ◌≤◌, ◌<◌, ◌+◌, ℕ, true, false, List, ◌∷◌, ◌++◌, length, Some, Option, Result, Ok, Err, refl, sym, ◌∙◌, ap, arith, sum_by, append_assoc, ltb}
 use Rattle.std.proofs.lemmas.Bool.Decides.{nat_tests}
-use Rattle.std.proofs.lemmas.List.{append-nil}
 use Rattle.script_text.specs.declared.script.Event.{Event}
 use Rattle.script_text.specs.declared.script.ScriptFault.{ScriptFault}
-use Rattle.script_text.specs.declared.script.ScriptFault.TheVariants.{TooLong, BadLine, TooManySlots}
+use Rattle.script_text.specs.declared.script.ScriptFault.TheVariants.{TooManySlots}
 use Rattle.script_text.specs.Lines.{lines_of}
 use Rattle.script_text.specs.Command.{events_of_line}
 use Rattle.script_text.specs.Script.{slots_of, before, then_lines, script_from, script_of}
-
-before_none : (later : Result (List Event) ScriptFault) → before [] later ≡ later
-before_none (Ok events) = refl
-before_none (Err fault) = refl
 
 before_more : (events more : List Event) (later : Result (List Event) ScriptFault)
     → before events (before more later) ≡ before (events ++ more) later
 before_more events more (Ok later) = ap Ok (sym (append_assoc events more later))
 before_more events more (Err fault) = refl
 
-not_longer : (script : List ℕ) → length script ≤ 1048576 → script_of script ≡ script_from 1 0 (lines_of script)
-not_longer script short = grind (arith, nat_tests)
-
-pub longer : (script : List ℕ) → 1048576 < length script → script_of script ≡ Err TooLong
-longer script long = grind (arith, nat_tests)
-
 -- the lines of the script before this rest have been read
 pub record HasRead (script rest : List ℕ) (line slots : ℕ) (events : List Event) : Type 0 where
   pub whole : script_of script ≡ before events (script_from (line + 1) slots (lines_of rest))
   pub few : slots ≤ 200000000
   pub within : line + length rest ≤ length script
-
-pub read_none : (script : List ℕ) → length script ≤ 1048576 → HasRead script script 0 0 []
-read_none script short = record {
-  whole = not_longer script short ∙ sym (before_none _);
-  few = omega arith;
-  within = omega arith;
-}
 
 -- the next line
 module _ (script rest : List ℕ) (line slots : ℕ) (events : List Event) (read : HasRead script rest line slots events)
@@ -46,9 +28,6 @@ module _ (script rest : List ℕ) (line slots : ℕ) (events : List Event) (read
 
   at_line : script_of script ≡ after_found (events_of_line text)
   at_line = read.whole ∙ ap (λ lines. before events (script_from (line + 1) slots lines)) first
-
-  pub bad_line : events_of_line text ≡ None → script_of script ≡ Err (BadLine (line + 1))
-  bad_line none = at_line ∙ ap after_found none
 
   module _ (asked : List Event) (is : events_of_line text ≡ Some asked) where
     at_events : script_of script ≡ after_found (Some asked)
@@ -68,9 +47,3 @@ module _ (script rest : List ℕ) (line slots : ℕ) (events : List Event) (read
           few = few;
           within = omega (arith, read.within);
         }
-
-pub read_all : (script rest : List ℕ) (line slots : ℕ) (events : List Event) → HasRead script rest line slots events
-    → length rest ≡ 0
-    → script_of script ≡ Ok events
-read_all script [] line slots events read none = read.whole ∙ ap Ok (append-nil events)
-read_all script (byte ∷ rest) line slots events read none = absurd (omega arith)

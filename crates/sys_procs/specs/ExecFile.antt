@@ -24,11 +24,12 @@ use Rattle.aout_head.specs.declared.parts.ExecFault.TheVariants.{NotExecutable, 
 use Rattle.seg_regs.specs.Sizes.{is_refused}
 use Rattle.u_area.specs.declared.area.UArea.{UArea}
 use Rattle.image_keep.specs.Area.{no_area}
+use Rattle.image_keep.specs.Running.{with_state}
 use Rattle.pick_rules.specs.Board.{Board}
 use Rattle.pick_rules.specs.Apply.{applied}
 use Rattle.pick_rules.specs.Effects as effect
 use Rattle.sys_procs.specs.declared.program.Program.{Program}
-use Rattle.sys_procs.specs.Process.{Process, with_state, image_of}
+use Rattle.sys_procs.specs.Process.{Process, image_of}
 use Rattle.sys_procs.specs.TextTable.{Text, text_of, with_text, text_bytes, entry_of}
 use Rattle.sys_procs.specs.Texts.{xfree, xalloc}
 use Rattle.sys_procs.specs.World.{World, process_of, change, with_inodes, let_go}

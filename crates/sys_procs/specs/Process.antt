@@ -1,7 +1,5 @@
 -- A process: `proc.h` and `user.h` in Lions' Commentary.
-use Rattle.std.specs.Prelude.{ℕ, ◌%◌, ◌==◌, Bool, false, List, [], Option, Some, None, slice_index, slice_set}
-use Rattle.std.proofs.Math.Nat.{mod-lt}
-use Rattle.std.proofs.Common.{lit<}
+use Rattle.std.specs.Prelude.{ℕ, ◌==◌, Bool, false, List, [], Option, Some, None, slice_index, slice_set}
 use Rattle.v6_base.specs.Image.{Image}
 use Rattle.u_area.specs.declared.area.UArea.{UArea}
 use Rattle.proc_tab.specs.declared.row.Row.{Row}
@@ -38,10 +36,6 @@ process_in (Some m) x text = Some (process_by m x text)
 abbrev pub member_of : Option Process → Option Member
 member_of None = None
 member_of (Some p) = Some (record { row = p.row; is_dead = p.is_zombie })
-
--- the area with these registers and these condition codes, which are four bits
-abbrev pub with_state : UArea → List ℕ → ℕ → UArea
-with_state u r cc = record u { r = r; cc = cc % 16; codes = mod-lt cc (lit< tt) }
 
 abbrev pub register : Process → ℕ → ℕ
 register p r = slice_index p.u.r r

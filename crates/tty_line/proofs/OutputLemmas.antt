@@ -32,7 +32,3 @@ shown_bytes_then word column xs x =
     shown_bytes-append word column xs (x ∷ [])
     ∙ ap (λ l. shown_bytes word column xs ++ l)
     (append-nil (shown_byte word (column_after_all column (shown_bytes word column xs)) x))
-
--- one byte alone
-pub shown_bytes_one : (word column x : ℕ) → shown_bytes word column (x ∷ []) ≡ shown_byte word column x
-shown_bytes_one word column x = append-nil (shown_byte word column x)

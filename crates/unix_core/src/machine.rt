@@ -30,7 +30,7 @@ use v6_base::{Chan, Entry, PanicKind, Slot, Trace};
 
 /// How far a run has come, and what the next slot finds.
 #[derive(Clone, Copy)]
-pub enum Stage {
+pub(crate) enum Stage {
     /// The run hasn't been started.
     New,
     /// A process executes instructions, of which this is fixed.

@@ -1,6 +1,6 @@
 -- What is in a writer, and after it in a buffer whose front was given to the writer.
-use Rattle.std.proofs.Common.{◌≡◌, ℕ, ◌+◌, ◌≤◌, List, [], ◌++◌, Option, Some, Result, Ok, Err, length, take, drop, ap, subst, sym, ◌∙◌, le_of_eq}
-use Rattle.std.proofs.lemmas.List.{take-append-drop, take_all, drop-drop, drop-append-le, append-nil}
+use Rattle.std.proofs.Common.{◌≡◌, ℕ, ◌+◌, ◌≤◌, List, ◌++◌, Option, Some, Result, Ok, Err, length, take, drop, ap, subst, sym, ◌∙◌}
+use Rattle.std.proofs.lemmas.List.{take-append-drop, drop-drop, drop-append-le}
 use Rattle.std.specs.Io.KnownBytes.{Keeps, Appends, WriteAppends, append_known}
 use Rattle.std.proofs.KnownBytes.{append_known-moved, append_known-grown}
 
@@ -10,11 +10,6 @@ module _ (before after : Option (List ℕ)) (buffer rest : List ℕ) (given coun
   pub gave_some : Keeps (append_known before (drop given buffer)) (append_known after (drop (given + count) buffer))
   gave_some = append_known-moved before after _ _ _ gave
       (sym is ∙ sym (take-append-drop count rest) ∙ ap (λ l. take count rest ++ l) (ap (drop count) is ∙ drop-drop count given buffer))
-
-  -- all of it was given
-  pub gave_all : count ≡ length rest → Keeps (append_known before (drop given buffer)) (append_known after [])
-  gave_all all = append_known-moved before after _ _ _ gave
-      (sym is ∙ sym (take_all count rest (le_of_eq (sym all))) ∙ sym (append-nil (take count rest)))
 
 -- The buffer took more.
 pub took : (before after : Option (List ℕ)) (buffer larger bytes : List ℕ) (given : ℕ)

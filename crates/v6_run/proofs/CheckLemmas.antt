@@ -1,7 +1,6 @@
 -- What `check` answers.
 use Rattle.std.proofs.Common.{◌≡◌, ℕ, true, false, Option, Some, None, List, take, refl, sym, ◌∙◌, ap, subst, IsSomeAnd, is_some, count_by, lit<}
 use Rattle.std.specs.Option.{option_map}
-use Rattle.v6_port.proofs.CauseLemmas.{not_line}
 use Rattle.v6_port.specs.declared.host.InPort.TheVariants as in_port
 use Rattle.v6_port.specs.declared.host.OutPort.{OutPort}
 use Rattle.v6_port.specs.declared.host.OutPort.TheVariants as out_port
@@ -16,6 +15,7 @@ use Rattle.v6_run.specs.Words.{Check}
 use Rattle.v6_run.specs.Report.{ok_line, store_line}
 use Rattle.v6_run.specs.Headline.{Known, IsKnownAnd, ends_with, fault_completion, image_completion, image_line, IsComplete}
 use Rattle.v6_run.specs.Answers.{Answers}
+use Rattle.v6_run.proofs.CauseLemmas.{only_within, left_false, or_false, not_input}
 use Rattle.v6_run.proofs.AnswerLemmas.{not_so, complete_unwritten, no_output}
 
 module _ (name : List ℕ) (old new : Outside) (only : OnlyAt (same (In in_port.Image)) old new) where
@@ -26,24 +26,17 @@ module _ (name : List ℕ) (old new : Outside) (only : OnlyAt (same (In in_port.
 
   pub check_done : Calm old new → (Tells old → IsSomeAnd (old.fixed.given name) (λ bytes. image_fault (take IMAGE_LIMIT bytes) ≡ None)) → Answers (Check name) Done old new
   check_done calm good = record {
-    only = only;
+    only = only_within _ _ _ _ (λ q other. left_false (same (In in_port.Image) q) false other) only;
     ends = refl;
     unreported = λ is. cc;
-    complete = λ _ told. subst (λ m. IsKnownAnd m (IsComplete Done old new)) (sym (good_completion _ (good told))) (complete_unwritten Done old new (no_output old new only));
+    complete = λ _ told. subst (λ m. IsKnownAnd m (IsComplete Done old new)) (sym (good_completion _ (good (told refl)))) (complete_unwritten Done old new (no_output old new only));
     partial = λ p is. absurd (cc);
-    order = λ is. absurd (cc);
+    order = λ told. (good told, tt);
+    opened = λ told p grew. (good told, tt);
     none = λ before. not_so _ (sym before);
-    closed = λ _. closed;
+    closed = λ _ p is. not_so _ (sym (or_false _ ∙ not_input 0 p (lit< tt)) ∙ is);
     cause = calm;
   }
-    where
-      closed : (p : OutPort) → same (In in_port.Image) (Out p) ≡ true → (new.port (Out p)).is_open ≡ false
-      closed out_port.Term is = cc
-      closed out_port.Log is = cc
-      closed out_port.Final is = cc
-      closed out_port.Report is = cc
-      closed out_port.Second is = cc
-      closed (out_port.Line l) is = not_so _ (sym (not_line 0 l (lit< tt)) ∙ is)
 
 pub line_given : (n nodes free : ℕ) (given : Option (List ℕ)) (image : List ℕ) → option_map (take n) given ≡ Some image
     → nodes ≡ count_by is_some (store_of (disk_of image)).nodes → free ≡ (store_of (disk_of image)).room → IsSomeAnd given (λ bytes. store_line (store_of (disk_of (take n bytes))) ≡ ok_line nodes free)

@@ -1,5 +1,5 @@
 -- What any words are answered, with the report.
-use Rattle.std.proofs.Common.{◌≡◌, ◌≢◌, ℕ, Bool, true, false, if◌then◌else◌, Option, Some, None, is_some, IsSome, MatchOption, List, ◌++◌, refl, sym, ◌∙◌, ap, subst, Result, Ok, Err, IfOk, IsOkAnd, ◌⊎◌, inl, inr, ⊎_elim, lit<}
+use Rattle.std.proofs.Common.{◌≡◌, ◌≢◌, ℕ, Bool, true, false, if◌then◌else◌, Option, Some, None, is_some, IsSome, MatchOption, List, ◌++◌, refl, sym, ◌∙◌, ap, subst, Result, Ok, Err, IfOk, IsOkAnd, ◌⊎◌, inl, inr, ⊎_elim}
 use Rattle.std.specs.Option.{option_map}
 use Rattle.v6_port.specs.declared.host.InPort.{InPort}
 use Rattle.v6_port.specs.declared.host.InPort.TheVariants as in_port
@@ -14,14 +14,12 @@ use Rattle.v6_run.specs.declared.files.ReadError.TheVariants as reading
 use Rattle.v6_run.specs.declared.image.ImageError.{ImageError}
 use Rattle.v6_run.specs.declared.image.ImageError.TheVariants as image_error
 use Rattle.script_text.specs.declared.script.ScriptFault.TheVariants as script_fault
-use Rattle.v6_run.specs.declared.script.ScriptError.TheVariants as script_error
-use Rattle.v6_run.specs.declared.outputs.Output.TheVariants as output
 use Rattle.v6_run.specs.declared.run.RunError.TheVariants as run_error
 use Rattle.v6_run.specs.declared.make.MakeError.TheVariants as make_error
 use Rattle.v6_run.specs.declared.error.CommandError.{CommandError}
 use Rattle.v6_run.specs.declared.error.CommandError.TheVariants as error
 use Rattle.v6_run.specs.declared.report.Found.{Found}
-use Rattle.v6_run.specs.Words.{Outputs, ToDisk, ToMemory, Command, Run, Check, Make, Demo}
+use Rattle.v6_run.specs.Words.{Outputs, Command, Run, Check, Make, Demo}
 use Rattle.v6_run.specs.Outputs.{is_output}
 use Rattle.v6_run.specs.Status.{fault_port, is_decided, has_written, is_closed}
 use Rattle.v6_run.specs.Errors.{read_status, image_status, command_status, end_of}
@@ -29,9 +27,11 @@ use Rattle.v6_run.specs.Fronts.{HoldsFront, HoldsSome, HoldsFrontOfSome}
 use Rattle.v6_run.specs.Report.{report, status_line, report_line, told_line, answer_line}
 use Rattle.v6_run.specs.Causes.{IsCaused, IsFaultOf, IsFaultless, HasCause, MissesUnknown}
 use Rattle.v6_run.specs.Headline.{MaybeCompletion, Unknown, Known, IsKnownAnd, has_core_size, refused_by, words_completion, IsComplete, IsPartial, is_named, is_touched, reports_done, may_end, words_may_end, is_known}
+use Rattle.v6_run.specs.Opened.{command_ports, words_ports, TellsInputs, AreGood, ports_passed}
 use Rattle.v6_run.specs.Answers.{Answers, AnswersWords, Reports}
-use Rattle.v6_port.proofs.CauseLemmas.{same_is, still_tells, only_then, not_line}
-use Rattle.v6_run.proofs.CauseLemmas.{by_test, only_within, left_false, right_false}
+use Rattle.v6_port.proofs.CauseLemmas.{same_is, still_tells, only_then}
+use Rattle.v6_run.proofs.OpenedLemmas.{good_before}
+use Rattle.v6_run.proofs.CauseLemmas.{by_test, only_within, left_false, right_false, named_outputs, unwritten_report, named_report}
 use Rattle.v6_run.proofs.FrontLemmas.{front_of_all}
 use Rattle.v6_run.proofs.AnswerLemmas.{not_so, no_file}
 
@@ -44,25 +44,12 @@ refusal_is (Some c) s P is usage size = at_size (has_core_size c) is
     at_size true none = absurd (cc)
     at_size false some = let same_status : CoreSize ≡ s = cc in subst P same_status size
 
--- Report has no name
-unwritten_report : (o : Outputs) → is_output o (Out out_port.Report) ≡ false
-unwritten_report (ToDisk files) = refl
-unwritten_report (ToMemory final) = refl
-
 -- before a run none of its files is open
-named_report : (o : Outputs) (p : OutPort) → is_output o (Out p) ≡ true → is_report (Out p) ≡ false
-named_report o out_port.Term named = refl
-named_report o out_port.Log named = refl
-named_report o out_port.Final named = refl
-named_report o out_port.Report named = not_so _ (sym (unwritten_report o) ∙ named)
-named_report o out_port.Second named = refl
-named_report o (out_port.Line l) named = not_line 7 l (lit< tt)
-
 pub none_open : (o : Outputs) (a : Outside) → IsIdle a → (p : OutPort) → is_output o (Out p) ≡ true → (a.port (Out p)).is_open ≡ false
 none_open o a idle p named = idle.closed p (named_report o p named)
 
 unnamed : (c : Command) → is_named c (Out out_port.Report) ≡ false
-unnamed (Run words) = unwritten_report words.outputs
+unnamed (Run words) = named_outputs words out_port.Report ∙ unwritten_report words.outputs
 unnamed (Check image) = refl
 unnamed (Make number final) = refl
 unnamed (Demo number) = refl
@@ -121,52 +108,61 @@ module _ (done : List ℕ) where
   image_line (image_error.Unread e) = read_line in_port.Image e
   image_line (image_error.Faulty fault) = refl
 
-  error_line : (e : CommandError) → status_line (command_status e) ≡ report_line done (command_status e)
-  error_line error.Usage = refl
-  error_line error.CoreSize = refl
-  error_line (error.Run (run_error.Image e)) = image_line e
-  error_line (error.Run (run_error.Script e)) = read_line in_port.Script e
-  error_line (error.Run (run_error.Refused (script_error.Faulty script_fault.TooLong))) = refl
-  error_line (error.Run (run_error.Refused (script_error.Faulty (script_fault.BadLine n)))) = refl
-  error_line (error.Run (run_error.Refused (script_error.Faulty (script_fault.TooManySlots n)))) = refl
-  error_line (error.Run (run_error.Refused (script_error.Faulty script_fault.NoMemory))) = refl
-  error_line (error.Run run_error.NoMemory) = refl
-  error_line (error.Run (run_error.Write output.Term)) = refl
-  error_line (error.Run (run_error.Write output.Log)) = refl
-  error_line (error.Run (run_error.Write output.Final)) = refl
-  error_line (error.Run (run_error.Panic kind)) = refl
-  error_line (error.Check e) = image_line e
-  error_line (error.Make make_error.NoMemory) = refl
-  error_line (error.Make make_error.Fault) = refl
+  write_line : (port : OutPort) → (WriteFault port ≡ WriteFault out_port.Report → ⊥) → status_line (WriteFault port) ≡ report_line done (WriteFault port)
+  write_line out_port.Term unreported = refl
+  write_line out_port.Log unreported = refl
+  write_line out_port.Final unreported = refl
+  write_line out_port.Report unreported = absurd (unreported refl)
+  write_line out_port.Second unreported = refl
+  write_line (out_port.Line l) unreported = refl
+
+  error_line : (e : CommandError) → (command_status e ≡ WriteFault out_port.Report → ⊥) → status_line (command_status e) ≡ report_line done (command_status e)
+  error_line error.Usage unreported = refl
+  error_line error.CoreSize unreported = refl
+  error_line (error.Run (run_error.Image e)) unreported = image_line e
+  error_line (error.Run (run_error.Script e)) unreported = read_line in_port.Script e
+  error_line (error.Run (run_error.Refused script_fault.TooLong)) unreported = refl
+  error_line (error.Run (run_error.Refused (script_fault.BadLine n))) unreported = refl
+  error_line (error.Run (run_error.Refused (script_fault.TooManySlots n))) unreported = refl
+  error_line (error.Run (run_error.Refused script_fault.NoMemory)) unreported = refl
+  error_line (error.Run run_error.NoMemory) unreported = refl
+  error_line (error.Run (run_error.Write port)) unreported = write_line port unreported
+  error_line (error.Run (run_error.Panic kind)) unreported = refl
+  error_line (error.Check e) unreported = image_line e
+  error_line (error.Make make_error.NoMemory) unreported = refl
+  error_line (error.Make make_error.Fault) unreported = refl
 
   line_is : (answer : Result (Option Found) CommandError) (status : Status) → IfOk answer (λ found. done ≡ told_line found)
+      → (end_of command_status answer ≡ WriteFault out_port.Report → ⊥)
       → (status ≡ end_of command_status answer) ⊎ (IsOkAnd answer (λ t. is_some t ≡ true) × (status ≡ WriteFault out_port.Report)) → answer_line answer ≡ report_line done status
-  line_is (Ok found) status line (inl kept) = sym line ∙ ap (report_line done) (sym kept)
-  line_is (Ok found) status line (inr lost) = sym line ∙ ap (report_line done) (sym lost.1)
-  line_is (Err e) status line (inl kept) = error_line e ∙ ap (report_line done) (sym kept)
-  line_is (Err e) status line (inr lost) = absurd lost.0
+  line_is (Ok found) status line unreported (inl kept) = sym line ∙ ap (report_line done) (sym kept)
+  line_is (Ok found) status line unreported (inr lost) = sym line ∙ ap (report_line done) (sym lost.1)
+  line_is (Err e) status line unreported (inl kept) = error_line e unreported ∙ ap (report_line done) (sym kept)
+  line_is (Err e) status line unreported (inr lost) = absurd lost.0
 
 -- a completion, or a front of one, stays so after the report
 module _ (a b new : Outside) (only : OnlyAt (same (Out out_port.Report)) b new) where
-  partial_then : (m : MaybeCompletion) → IsKnownAnd m (IsPartial a b) → IsKnownAnd m (IsPartial a new)
-  partial_then Unknown partial = partial
-  partial_then (Known c) partial = record {
+  partial_then : (fault : OutPort) (m : MaybeCompletion) → IsKnownAnd m (IsPartial fault a b) → IsKnownAnd m (IsPartial fault a new)
+  partial_then fault Unknown partial = partial
+  partial_then fault (Known c) partial = record {
     begun = partial.begun;
-    written = λ p other. subst (λ (state : PortState). HoldsFrontOfSome (c.writes p) (a.port (Out p)).bytes state.bytes) (sym (only.others (Out p) other)) (partial.written p other);
+    told = partial.told;
+    written = λ told p other. subst (λ (state : PortState). HoldsFrontOfSome (c.writes p) (a.port (Out p)).bytes state.bytes) (sym (only.others (Out p) other)) (partial.written told p other);
   }
 
   complete_then : (m : MaybeCompletion) (s : Status) → IsKnownAnd m (IsComplete s a b) → IsKnownAnd m (IsComplete s a new)
   complete_then Unknown s complete = complete
   complete_then (Known c) s complete = record {
     answered = complete.answered;
-    written = λ p other. subst (λ (state : PortState). HoldsSome (c.writes p) (a.port (Out p)).bytes state.bytes) (sym (only.others (Out p) other)) (complete.written p other);
+    written = λ told p other. subst (λ (state : PortState). HoldsSome (c.writes p) (a.port (Out p)).bytes state.bytes) (sym (only.others (Out p) other)) (complete.written told p other);
   }
 
-partial_of_done : (a b : Outside) (m : MaybeCompletion) → IsKnownAnd m (IsComplete Done a b) → IsKnownAnd m (IsPartial a b)
-partial_of_done a b Unknown complete = complete
-partial_of_done a b (Known c) complete = record {
+partial_of_done : (fault : OutPort) (a b : Outside) (m : MaybeCompletion) → IsKnownAnd m (IsComplete Done a b) → IsKnownAnd m (IsPartial fault a b)
+partial_of_done fault a b Unknown complete = complete
+partial_of_done fault a b (Known c) complete = record {
   begun = sym (ap has_written complete.answered);
-  written = λ p other. let all = complete.written p other in
+  told = λ is. sym complete.answered;
+  written = λ told p other. let all = complete.written told p other in
       record { text = all.text; fits = λ _. all.fits; front = front_of_all (a.port (Out p)).bytes all.text (b.port (Out p)).bytes all.holds };
 }
 
@@ -265,30 +261,59 @@ module _ (command : Option Command) (answer : Result (Option Found) CommandError
   undecided : (s : Status) → refused_by command ≡ Some s → is_decided s ≡ true → ⊥
   undecided s is = refusal_is command s (λ t. is_decided t ≡ true → ⊥) is (not_so ⊥) (not_so ⊥)
 
-  pub completed : is_decided status ≡ true → Tells old → IsKnownAnd (words_completion command old.fixed) (IsComplete status old new)
+  tells_command : (c : Command) → command ≡ Some c → TellsInputs (words_ports command) old → TellsInputs (command_ports c) old
+  tells_command c is told = subst (λ k. TellsInputs (words_ports k) old) is told
+
+  pub completed : is_decided status ≡ true → TellsInputs (words_ports command) old → IsKnownAnd (words_completion command old.fixed) (IsComplete status old new)
   completed decided told = ends _ (λ kept _. at_kept kept came) (λ _ lost _. not_so _ (sym (ap is_decided lost) ∙ decided))
     where
       at_kept : status ≡ end_of command_status answer → Came command answer old middle → IsKnownAnd (words_completion command old.fixed) (IsComplete status old new)
       at_kept kept (Refused s is answered unopened) = absurd (undecided s is (sym (ap is_decided (kept ∙ answered)) ∙ decided))
       at_kept kept (Good c is good all) =
-          let complete = all.complete (sym (ap is_decided kept) ∙ decided) told in
+          let complete = all.complete (sym (ap is_decided kept) ∙ decided) (tells_command c is told) in
           subst (λ k. IsKnownAnd (words_completion k old.fixed) (IsComplete status old new)) (sym is)
           (subst (λ s. IsKnownAnd (words_completion (Some c) old.fixed) (IsComplete s old new)) (sym kept) (complete_then old middle new reports.only _ (end_of command_status answer) complete))
 
-  pub partly_written : (p : OutPort) → status ≡ WriteFault p → Tells old → IsKnownAnd (words_completion command old.fixed) (IsPartial old new)
+  pub partly_written : (p : OutPort) → status ≡ WriteFault p → TellsInputs (words_ports command) old → IsKnownAnd (words_completion command old.fixed) (IsPartial p old new)
   partly_written p failed_there told = ends _ (λ kept _. at_kept kept came) (λ lost _ _. at_lost lost came)
     where
-      at_kept : status ≡ end_of command_status answer → Came command answer old middle → IsKnownAnd (words_completion command old.fixed) (IsPartial old new)
+      at_kept : status ≡ end_of command_status answer → Came command answer old middle → IsKnownAnd (words_completion command old.fixed) (IsPartial p old new)
       at_kept kept (Refused s is answered unopened) = absurd (not_refusal s (WriteFault p) is answered (λ o. cc) (λ o. cc) (sym kept ∙ failed_there))
       at_kept kept (Good c is good all) =
-          subst (λ k. IsKnownAnd (words_completion k old.fixed) (IsPartial old new)) (sym is) (partial_then old middle new reports.only _ (all.partial p (sym kept ∙ failed_there) told))
+          subst (λ k. IsKnownAnd (words_completion k old.fixed) (IsPartial p old new)) (sym is) (partial_then old middle new reports.only p _ (all.partial p (sym kept ∙ failed_there) (tells_command c is told)))
 
-      at_lost : end_of command_status answer ≡ Done → Came command answer old middle → IsKnownAnd (words_completion command old.fixed) (IsPartial old new)
+      at_lost : end_of command_status answer ≡ Done → Came command answer old middle → IsKnownAnd (words_completion command old.fixed) (IsPartial p old new)
       at_lost lost (Refused s is answered unopened) = absurd (not_refusal s Done is answered (λ o. cc) (λ o. cc) lost)
       at_lost lost (Good c is good all) =
-          let complete = all.complete (ap is_decided lost) told in
-          subst (λ k. IsKnownAnd (words_completion k old.fixed) (IsPartial old new)) (sym is)
-          (partial_then old middle new reports.only _ (partial_of_done old middle _ (subst (λ s. IsKnownAnd (words_completion (Some c) old.fixed) (IsComplete s old middle)) lost complete)))
+          let complete = all.complete (ap is_decided lost) (tells_command c is told) in
+          subst (λ k. IsKnownAnd (words_completion k old.fixed) (IsPartial p old new)) (sym is)
+          (partial_then old middle new reports.only p _ (partial_of_done p old middle _ (subst (λ s. IsKnownAnd (words_completion (Some c) old.fixed) (IsComplete s old middle)) lost complete)))
+
+  -- the order
+  pub in_order : Tells old → AreGood old.fixed (ports_passed status (words_ports command))
+  in_order told = ends _ (λ kept _. at_kept kept came) (λ lost failed_there _. at_lost lost failed_there came)
+    where
+      at_kept : status ≡ end_of command_status answer → Came command answer old middle → AreGood old.fixed (ports_passed status (words_ports command))
+      at_kept kept (Refused s is answered unopened) = subst (λ s. AreGood old.fixed (ports_passed s (words_ports command))) (sym (kept ∙ answered))
+          (refusal_is command s (λ t. AreGood old.fixed (ports_passed t (words_ports command))) is tt tt)
+      at_kept kept (Good c is good all) = subst (λ k. AreGood old.fixed (ports_passed status (words_ports k))) (sym is)
+          (subst (λ s. AreGood old.fixed (ports_passed s (command_ports c))) (sym kept) (all.order told))
+
+      at_lost : end_of command_status answer ≡ Done → status ≡ WriteFault out_port.Report → Came command answer old middle → AreGood old.fixed (ports_passed status (words_ports command))
+      at_lost lost failed_there (Refused s is answered unopened) = absurd (not_refusal s Done is answered (λ o. cc) (λ o. cc) lost)
+      at_lost lost failed_there (Good c is good all) = subst (λ k. AreGood old.fixed (ports_passed status (words_ports k))) (sym is)
+          (subst (λ s. AreGood old.fixed (ports_passed s (command_ports c))) (sym failed_there)
+          (good_before old.fixed (command_ports c) (Out out_port.Report) (subst (λ s. AreGood old.fixed (ports_passed s (command_ports c))) lost (all.order told))))
+
+  pub after_opening : Tells old → (p : OutPort) → is_report (Out p) ≡ false → (new.port (Out p)).bytes ≢ (old.port (Out p)).bytes → AreGood old.fixed (words_ports command)
+  after_opening told p other grew = go came
+    where
+      still : (new.port (Out p)).bytes ≡ (middle.port (Out p)).bytes
+      still = ap (λ (state : PortState). state.bytes) (reports.only.others (Out p) other)
+
+      go : Came command answer old middle → AreGood old.fixed (words_ports command)
+      go (Refused s is answered unopened) = absurd (grew (still ∙ ap (λ (o : Outside). (o.port (Out p)).bytes) unopened))
+      go (Good c is good all) = subst (λ k. AreGood old.fixed (words_ports k)) (sym is) (all.opened told p (λ same_bytes. grew (still ∙ same_bytes)))
 
   pub none_written : has_written status ≡ false → (p : OutPort) → is_report (Out p) ≡ false → new.port (Out p) ≡ old.port (Out p)
   none_written before p other = reports.only.others (Out p) other ∙ ends _ (λ kept _. at_kept kept came) (λ _ lost _. absurd (no_file status _ before refl lost))
@@ -337,7 +362,7 @@ module _ (command : Option Command) (answer : Result (Option Found) CommandError
   -- the report
   module _ (done : List ℕ) (told : Tells old) (line : IfOk answer (λ t. done ≡ told_line t)) where
     line_told : answer_line answer ≡ report_line done status
-    line_told = line_is done answer status line (⊎_elim (λ k. inl k.0) (λ l. inr (l.0, l.1)) reports.ends)
+    line_told = line_is done answer status line unreported (⊎_elim (λ k. inl k.0) (λ l. inr (l.0, l.1)) reports.ends)
 
     pub reported : (report new).faults ≡ (report old).faults → (report new).bytes ≡ (report old).bytes ++ report_line done status
     reported calm =

@@ -1,15 +1,16 @@
 -- What `demo` answers, exit by exit.
 use Rattle.std.proofs.Common.{◌≡◌, MatchOption, ℕ, true, Option, Some, None, is_some, if◌then◌else◌, List, [], ◌∷◌, Result, Ok, Err, IfOk, MatchResult, refl, sym, ◌∙◌, ap, subst}
 use Rattle.v6_port.specs.declared.host.OutPort.TheVariants as out_port
-use Rattle.v6_port.specs.Outside.{Out, Outside}
+use Rattle.v6_port.specs.Outside.{Out, Environment, Outside}
 use Rattle.v6_port.specs.Causes.{Calm, FaultAt}
 use Rattle.v6_port.proofs.CauseLemmas.{calm_still}
 use Rattle.fs_codec.specs.Faults.{image_fault}
 use Rattle.fs_codec.specs.declared.fault.ImageFault as codec
 use Rattle.script_text.specs.declared.script.Event as asked
 use Rattle.script_text.specs.declared.script.Event.TheVariants as ask
+use Rattle.script_text.specs.declared.script.ScriptFault.{ScriptFault}
 use Rattle.script_text.specs.declared.script.ScriptFault.TheVariants as fault
-use Rattle.script_text.specs.Script.{script_of}
+use Rattle.script_text.specs.Script.{script_of, Refuses}
 use Rattle.make_image.specs.Image.{build_of}
 use Rattle.make_image.specs.Demo.{demo_text}
 use Rattle.abstract_unix.specs.Unix.{System}
@@ -17,10 +18,8 @@ use Rattle.abstract_unix.specs.declared.ends.Ends.{Ends}
 use Rattle.abstract_unix.specs.declared.ends.Ends.TheVariants as ends
 use Rattle.abstract_unix.specs.Runs.{Course, system_of, boots, started, course, run_of}
 use Rattle.v6_run.specs.declared.status.Status.{Status}
-use Rattle.v6_run.specs.declared.status.Status.TheVariants.{Done, ReadFault, ImageFault, Panic, NoMemory}
+use Rattle.v6_run.specs.declared.status.Status.TheVariants.{Done, ReadFault, WriteFault, ScriptFault, ImageFault, Panic, NoMemory}
 use Rattle.v6_run.specs.declared.image.ImageError.TheVariants as image
-use Rattle.v6_run.specs.declared.script.ScriptError.{ScriptError}
-use Rattle.v6_run.specs.declared.script.ScriptError.TheVariants as script_error
 use Rattle.v6_run.specs.declared.run.RunError.{RunError}
 use Rattle.v6_run.specs.declared.run.RunError.TheVariants as run
 use Rattle.v6_run.specs.declared.demo.TheConstants.{DEMO_CORE}
@@ -29,7 +28,7 @@ use Rattle.v6_run.specs.Words.{Demo}
 use Rattle.v6_run.specs.Events.{events_of}
 use Rattle.v6_run.specs.Status.{fault_port, is_decided}
 use Rattle.v6_run.specs.Errors.{run_status, end_of}
-use Rattle.v6_run.specs.Steps.{RefusesScript}
+use Rattle.v6_run.specs.Opened.{AreGood, ports_passed}
 use Rattle.v6_run.specs.Report.{summary_line}
 use Rattle.v6_run.specs.Headline.{no_writing, Known, IsKnownAnd, status_at, fault_completion, lines_completion, run_completion, demo_completion, run_line, IsComplete, may_end, is_known}
 use Rattle.v6_run.specs.Answers.{Answers}
@@ -47,11 +46,20 @@ unfolding demo_text demo_events
 demo_read = refl
 
 -- So it is refused for want of memory alone.
-pub only_memory : (e : ScriptError) → RefusesScript demo_text e → e ≡ script_error.Faulty fault.NoMemory
-only_memory (script_error.Faulty fault.TooLong) refused = let never : Ok demo_events ≡ Err fault.TooLong = sym demo_read ∙ refused in cc
-only_memory (script_error.Faulty (fault.BadLine n)) refused = let never : Ok demo_events ≡ Err (fault.BadLine n) = sym demo_read ∙ refused in cc
-only_memory (script_error.Faulty (fault.TooManySlots n)) refused = let never : Ok demo_events ≡ Err (fault.TooManySlots n) = sym demo_read ∙ refused in cc
-only_memory (script_error.Faulty fault.NoMemory) refused = refl
+pub only_memory : (f : ScriptFault) → Refuses demo_text f → f ≡ fault.NoMemory
+only_memory fault.TooLong refused = let never : Ok demo_events ≡ Err fault.TooLong = sym demo_read ∙ refused in cc
+only_memory (fault.BadLine n) refused = let never : Ok demo_events ≡ Err (fault.BadLine n) = sym demo_read ∙ refused in cc
+only_memory (fault.TooManySlots n) refused = let never : Ok demo_events ≡ Err (fault.TooManySlots n) = sym demo_read ∙ refused in cc
+only_memory fault.NoMemory refused = refl
+
+-- `demo` opens nothing
+none_passed : {fixed : Environment} (s : Status) → AreGood fixed (ports_passed s [])
+none_passed Done = tt
+none_passed (Panic kind) = tt
+none_passed (ScriptFault fault) = tt
+none_passed (ReadFault p) = tt
+none_passed (WriteFault p) = tt
+none_passed _ = tt
 
 -- Nothing of the outside changes, and no port is at fault.
 module _ (number : ℕ) (o : Outside) where
@@ -63,7 +71,8 @@ module _ (number : ℕ) (o : Outside) where
     unreported = λ is. let some : fault_port s ≡ Some (Out out_port.Report) = ap fault_port is in cc;
     complete = λ decided told. complete decided;
     partial = λ p is. absurd (let some : fault_port s ≡ Some (Out p) = ap fault_port is in cc);
-    order = λ is. absurd (let some : fault_port s ≡ fault_port (ReadFault _) = ap fault_port is in cc);
+    order = λ told. none_passed s;
+    opened = λ told p grew. tt;
     none = λ before p. refl;
     closed = λ is p named. not_so _ named;
     cause = subst (λ at. MatchOption at (Calm o o) (λ p. FaultAt p (is_known (Some (Demo number)) o.fixed p) o o)) (sym none) (calm_still o);

@@ -20,7 +20,7 @@ use Rattle.fs_laws.proofs.ImageLemmas.{block_of_image}
 use Rattle.fs_laws.specs.Rest.{SameOutside}
 use Rattle.core_mem.specs.Bytes.{part, over}
 use Rattle.core_mem.proofs.Parts.{part-right, over-over}
-use Rattle.image_keep.specs.Holds.{SwapHolds}
+use Rattle.image_keep.specs.Holds.{AreRangesApart, SwapHolds}
 use Rattle.abstract_unix.specs.Unix.{System}
 use Rattle.unix_core.specs.Memory.{kept_in}
 use Rattle.v6_run.specs.Fronts.{HoldsFront}
@@ -83,8 +83,8 @@ whole_part xs n long = take_all n xs (omega (arith, long))
 
 -- The text of the blocks that stand for a system's store, with a swap area that holds what the system keeps, is a final disk.
 pub final_is : (old new : List (List ℕ)) (m : System) → (head (block_at old)).f_size ≤ SWAP_START → SameOutside old new → IsDisk new → StandsFor DISK_BLOCKS (block_at new) m.unix.store
-    → (swap : List ℕ) → SwapHolds swap (kept_in m) → IsFinal (block_at old) m (disk_text new ++ swap)
-final_is old new m low rest form stands swap holds =
+    → (swap : List ℕ) → SwapHolds swap (kept_in m) → AreRangesApart (kept_in m) → IsFinal (block_at old) m (disk_text new ++ swap)
+final_is old new m low rest form stands swap holds apart =
     let whole : IsWhole (block_at new) = whole_is (block_at new) stands.sound in
     let end = (good_head (head (block_at new)) whole.sound.super).end in
     let disk : Disk = disk_of (disk_text new ++ swap) in
@@ -106,6 +106,7 @@ final_is old new m low rest form stands swap holds =
       size = size;
       behind = λ n past inside. text n inside ∙ rest.behind n past;
       swap = subst (λ l. SwapHolds l (kept_in m)) (sym there) holds;
+      apart = apart;
     }
 
 -- it is one over another disk with the same blocks
@@ -119,6 +120,7 @@ final_same d e m text same final =
       size = final.size ∙ first;
       behind = λ n past inside. final.behind n (omega (arith, past, first)) inside ∙ same n (omega (arith, inside));
       swap = final.swap;
+      apart = final.apart;
     }
 
 -- The disk of an image without a fault keeps clear of the swap area.

@@ -8,8 +8,9 @@ pub mod ScriptLemmas
 pub mod OutputLemmas
 pub mod ShownLemmas
 pub mod ResultLemmas
+pub mod OpenedLemmas
+pub mod LogLemmas
 pub mod CauseLemmas
-pub mod ImageLemmas
 pub mod AnswerLemmas
 pub mod RunLemmas
 pub mod CheckLemmas

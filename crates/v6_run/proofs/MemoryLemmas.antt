@@ -3,6 +3,7 @@ use Rattle.std.proofs.Common.{◌≡◌, ℕ, Bool, true, false, List, ◌++◌,
 use Rattle.v6_port.specs.declared.host.OutPort.{OutPort}
 use Rattle.v6_port.specs.declared.host.OutPort.TheVariants as out_port
 use Rattle.v6_port.specs.Outside.{Out, same, PortState, Outside, Tells, OnlyAt}
+use Rattle.v6_port.specs.Calls.{is_expected}
 use Rattle.v6_port.specs.Causes.{Calm, FaultAt}
 use Rattle.abstract_unix.specs.declared.ends.Ends.{Ends}
 use Rattle.image_keep.specs.Kept.{Kept}
@@ -10,9 +11,10 @@ use Rattle.image_keep.specs.Holds.{MemoryHolds}
 use Rattle.abstract_unix.specs.Unix.{System}
 use Rattle.abstract_unix.specs.Runs.{Course, finished}
 use Rattle.unix_core.specs.Memory.{kept_in}
-use Rattle.v6_run.specs.declared.outputs.Output.TheVariants.{Final}
 use Rattle.v6_run.specs.Ports.{final_of}
 use Rattle.v6_run.specs.Fronts.{HoldsFront, HoldsSome, HoldsFrontOfSome}
+use Rattle.v6_run.specs.Words.{ToMemory}
+use Rattle.v6_run.specs.Opened.{output_ports, AreGood}
 use Rattle.v6_run.specs.Outputs.{memory_writes, core_writes, EndsRun, StopsRun}
 use Rattle.v6_port.proofs.CauseLemmas.{still_tells, calm_then, fault_then, not_line}
 use Rattle.v6_run.proofs.OutputLemmas.{nothing_of, all_of, empty_of, fault_any}
@@ -28,22 +30,22 @@ memory_held core swap its_core its_swap k is_core is_swap holds =
     subst (λ l. MemoryHolds l swap k) (sym is_core) (subst (λ l. MemoryHolds its_core l k) (sym is_swap) holds)
 
 -- its file is opened
-module _ (run : Course) (a b : Outside) (opens : OnlyAt (same (Out out_port.Final)) a b) (opened : (final_of b).bytes ≡ (final_of a).bytes) where
+module _ (name : List ℕ) (run : Course) (a b : Outside) (opens : OnlyAt (same (Out out_port.Final)) a b) (opened : (final_of b).bytes ≡ (final_of a).bytes) where
   others_same : (p : OutPort) → same (Out out_port.Final) (Out p) ≡ false → (b.port (Out p)).bytes ≡ (a.port (Out p)).bytes
   others_same p other = ap (λ (state : PortState). state.bytes) (opens.others (Out p) other)
 
-  pub memory_unopened : (known : Bool) → FaultAt (Out out_port.Final) known a b → StopsRun (same (Out out_port.Final)) (core_writes run) Final known a b
-  memory_unopened known fault = record { named = refl; written = λ told. at; fault = fault } where
-    at : (p : OutPort) → HoldsFrontOfSome (core_writes run p) (a.port (Out p)).bytes (b.port (Out p)).bytes
-    at out_port.Term = nothing_of _ _ _ (others_same out_port.Term refl)
-    at out_port.Log = nothing_of _ _ _ (others_same out_port.Log refl)
-    at out_port.Final = nothing_of _ _ _ opened
-    at out_port.Report = nothing_of _ _ _ (others_same out_port.Report refl)
-    at out_port.Second = nothing_of _ _ _ (others_same out_port.Second refl)
-    at (out_port.Line l) = nothing_of _ _ _ (others_same (out_port.Line l) (not_line 6 l (lit< tt)))
+  pub memory_unopened : FaultAt (Out out_port.Final) (is_expected (a.fixed.expects out_port.Final) name) a b → StopsRun (ToMemory name) (core_writes run) out_port.Final a b
+  memory_unopened fault = record { named = refl; written = λ told p. nothing_of _ _ _ (all_same p); order = λ told. tt; opened = λ told p grew. absurd (grew (all_same p)); fault = fault } where
+    all_same : (p : OutPort) → (b.port (Out p)).bytes ≡ (a.port (Out p)).bytes
+    all_same out_port.Term = others_same out_port.Term refl
+    all_same out_port.Log = others_same out_port.Log refl
+    all_same out_port.Final = opened
+    all_same out_port.Report = others_same out_port.Report refl
+    all_same out_port.Second = others_same out_port.Second refl
+    all_same (out_port.Line l) = others_same (out_port.Line l) (not_line 6 l (lit< tt))
 
   -- the run has ended, and what it leaves is written
-  module _ (ended : Ends) (last : ended ≡ run.ending) (text : List ℕ) (leaves : memory_writes ended run.system text) (c : Outside) (writes : OnlyAt (same (Out out_port.Final)) b c) where
+  module _ (expected : Tells a → is_expected (a.fixed.expects out_port.Final) name ≡ true) (ended : Ends) (last : ended ≡ run.ending) (text : List ℕ) (leaves : memory_writes ended run.system text) (c : Outside) (writes : OnlyAt (same (Out out_port.Final)) b c) where
     is_memory : memory_writes run.ending run.system text
     is_memory = subst (λ e. memory_writes e run.system text) last leaves
 
@@ -53,9 +55,18 @@ module _ (run : Course) (a b : Outside) (opens : OnlyAt (same (Out out_port.Fina
     others_then : (p : OutPort) → same (Out out_port.Final) (Out p) ≡ false → (c.port (Out p)).bytes ≡ (a.port (Out p)).bytes
     others_then p other = ap (λ (state : PortState). state.bytes) (writes.others (Out p) other) ∙ others_same p other
 
-    pub memory_stopped : (known : Bool) → (Tells b → HoldsFront (final_of b).bytes text (final_of c).bytes) → Calm a b → FaultAt (Out out_port.Final) true b c
-        → StopsRun (same (Out out_port.Final)) (core_writes run) Final known a c
-    memory_stopped known front calm fault = record { named = refl; written = at; fault = fault_any _ known _ _ (fault_then _ _ a b c opens.fixed calm fault) } where
+    good : Tells a → AreGood a.fixed (output_ports (ToMemory name))
+    good told = (expected told, tt)
+
+    pub memory_stopped : (Tells b → HoldsFront (final_of b).bytes text (final_of c).bytes) → Calm a b → FaultAt (Out out_port.Final) true b c
+        → StopsRun (ToMemory name) (core_writes run) out_port.Final a c
+    memory_stopped front calm fault = record {
+      named = refl;
+      written = at;
+      order = λ told. tt;
+      opened = λ told p grew. good told;
+      fault = fault_any _ _ _ _ (fault_then _ _ a b c opens.fixed calm fault);
+    } where
       at : Tells a → (p : OutPort) → HoldsFrontOfSome (core_writes run p) (a.port (Out p)).bytes (c.port (Out p)).bytes
       at told out_port.Term = nothing_of _ _ _ (others_then out_port.Term refl)
       at told out_port.Log = nothing_of _ _ _ (others_then out_port.Log refl)
@@ -76,17 +87,20 @@ module _ (run : Course) (a b : Outside) (opens : OnlyAt (same (Out out_port.Fina
       all_written told out_port.Second = empty_of _ _ _ refl (others_last out_port.Second refl)
       all_written told (out_port.Line l) = empty_of _ _ _ refl (others_last (out_port.Line l) (not_line 6 l (lit< tt)))
 
-      pub memory_unfinished : (known : Bool) → Calm a b → Calm b c → FaultAt (Out out_port.Final) true c d → StopsRun (same (Out out_port.Final)) (core_writes run) Final known a d
-      memory_unfinished known calm calm_too fault = record {
+      pub memory_unfinished : Calm a b → Calm b c → FaultAt (Out out_port.Final) true c d → StopsRun (ToMemory name) (core_writes run) out_port.Final a d
+      memory_unfinished calm calm_too fault = record {
         named = refl;
         written = λ told p. all_of _ _ _ (all_written told p);
-        fault = fault_any _ known _ _ (fault_then _ _ a c d (writes.fixed ∙ opens.fixed) (calm_then _ _ _ calm calm_too) fault);
+        order = λ told. tt;
+        opened = λ told p grew. good told;
+        fault = fault_any _ _ _ _ (fault_then _ _ a c d (writes.fixed ∙ opens.fixed) (calm_then _ _ _ calm calm_too) fault);
       }
 
-      pub memory_left : (final_of d).is_open ≡ false → Calm a b → Calm b c → Calm c d → EndsRun (same (Out out_port.Final)) (core_writes run) run ended a d
+      pub memory_left : (final_of d).is_open ≡ false → Calm a b → Calm b c → Calm c d → EndsRun (ToMemory name) (core_writes run) run ended a d
       memory_left closed calm calm_too calm_last = record {
         ended = last;
         written = all_written;
+        order = good;
         is_open = shut;
         calm = calm_then _ _ _ (calm_then _ _ _ calm calm_too) calm_last;
       } where

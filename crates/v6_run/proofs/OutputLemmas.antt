@@ -1,5 +1,5 @@
 -- What has been written to the files of a run, step by step.
-use Rattle.std.proofs.Common.{◌≡◌, ◌<◌, ◌≤◌, ◌⊎◌, inl, inr, ℕ, Bool, true, false, Result, Ok, Err, is_err, OnOk, MatchResult, List, [], ◌++◌, refl, sym, ◌∙◌, ap, subst, lit<}
+use Rattle.std.proofs.Common.{◌≡◌, ◌≢◌, ◌||◌, ◌<◌, ◌≤◌, ◌⊎◌, inl, inr, ℕ, Bool, true, false, Result, Ok, Err, is_err, OnOk, MatchResult, List, [], ◌++◌, refl, sym, ◌∙◌, ap, subst, lit<}
 use Rattle.std.proofs.lemmas.List.{append-nil}
 use Rattle.v6_base.specs.Trace.{line_bytes, text_of}
 use Rattle.v6_port.specs.declared.host.OutPort.{OutPort}
@@ -11,25 +11,28 @@ use Rattle.fs_codec.specs.Stands.{StandsFor}
 use Rattle.fs_codec.specs.declared.layout.TheConstants.{DISK_BLOCKS, SWAP_START}
 use Rattle.buf_cache.specs.Blocks.{block_at, blocks_of, IsDisk}
 use Rattle.fs_laws.proofs.RestLemmas.{rest_then}
+use Rattle.pick_rules.specs.Lawful.{Lawful}
 use Rattle.abstract_unix.specs.declared.ends.Ends.{Ends}
 use Rattle.abstract_unix.specs.declared.ends.Ends.TheVariants as ends
 use Rattle.abstract_unix.specs.declared.ends.Ends.TheVariants.{AtEnd}
-use Rattle.image_keep.specs.Holds.{SwapHolds}
+use Rattle.image_keep.specs.Holds.{AreRangesApart, SwapHolds}
 use Rattle.abstract_unix.specs.Unix.{System, Phase, Started, Stopped}
 use Rattle.abstract_unix.specs.Endings.{phase_after}
+use Rattle.abstract_unix.specs.Law.{log_of}
 use Rattle.unix_core.specs.State.{KernelState, KeepsRest}
 use Rattle.unix_core.specs.Memory.{kept_in}
 use Rattle.abstract_unix.specs.Runs.{Course, shown_by, finished}
 use Rattle.fs_laws.proofs.ImageLemmas.{block_of_image}
 use Rattle.fs_laws.specs.Rest.{SameOutside}
-use Rattle.v6_run.specs.declared.outputs.Output.{Output}
-use Rattle.v6_run.specs.declared.outputs.Output.TheVariants.{Term, Log, Final}
-use Rattle.v6_run.specs.Ports.{term, log_of, final_of, HasShown, HasShownFronts}
+use Rattle.v6_run.specs.Ports as ports
+use Rattle.v6_run.specs.Ports.{term, final_of, HasShown, HasShownFronts}
 use Rattle.v6_run.specs.Fronts.{HoldsFront, HoldsSome, HoldsFrontOfSome}
 use Rattle.v6_run.specs.Final.{IsFinal, disk_text}
-use Rattle.v6_run.specs.Words.{Outputs, ToDisk, ToMemory}
-use Rattle.v6_run.specs.Outputs.{port_of, is_shown, is_disk_output, is_output, disk_writes, run_writes, EndsRun, StopsRun}
+use Rattle.v6_run.specs.Words.{DiskFiles, Outputs, ToDisk, ToMemory}
+use Rattle.v6_run.specs.Opened.{output_ports, ports_before, knows_port, AreGood}
+use Rattle.v6_run.specs.Outputs.{is_shown, is_disk_output, disk_writes, run_writes, IsLog, EndsRun, StopsRun}
 use Rattle.v6_port.proofs.CauseLemmas.{still_tells, calm_then, fault_then, not_line}
+use Rattle.v6_run.proofs.OpenedLemmas.{good_before}
 use Rattle.v6_run.proofs.FrontLemmas.{front_of_nothing, front_of_all}
 use Rattle.v6_run.proofs.FinalLemmas.{final_is, final_same}
 
@@ -46,21 +49,33 @@ empty_of writes old new fits is = record { text = []; fits = fits; holds = is �
 pub fault_any : (p : Port) (known : Bool) (a b : Outside) → FaultAt p true a b → FaultAt p known a b
 fault_any p known a b fault = record { rose = fault.rose; others = fault.others; missing = λ told _. fault.missing told refl }
 
--- each output is a file of `run`
-disk_output : (output : Output) → is_disk_output (Out (port_of output)) ≡ true
-disk_output Term = refl
-disk_output Log = refl
-disk_output Final = refl
-
 -- a line shows nothing of a run
 unshown_line : (l : ℕ) → is_shown (Out (out_port.Line l)) ≡ false
 unshown_line l = rw (not_line 4 l (lit< tt), not_line 5 l (lit< tt)) refl
 
-pub stopped_opening : (first : Disk) (run : Course) (output : Output) (known : Bool) (a b : Outside) → ((p : OutPort) → (b.port (Out p)).bytes ≡ (a.port (Out p)).bytes)
-    → FaultAt (Out (port_of output)) known a b → StopsRun is_disk_output (disk_writes first run) output known a b
-stopped_opening first run output known a b same_bytes fault = record { named = disk_output output; written = λ told p. nothing_of _ _ _ (same_bytes p); fault = fault }
+-- where no byte went out, none did before all were opened
+none_grown : (a b : Outside) (P : Type 0) → ((p : OutPort) → (b.port (Out p)).bytes ≡ (a.port (Out p)).bytes) → (p : OutPort) → (b.port (Out p)).bytes ≢ (a.port (Out p)).bytes → P
+none_grown a b P same_bytes p grew = absurd (grew (same_bytes p))
 
-module _ (first : Disk) (run : Course) (a b c : Outside) (opens : OnlyAt is_disk_output a b) (opened : (p : OutPort) → (b.port (Out p)).bytes ≡ (a.port (Out p)).bytes) (plays : OnlyAt is_shown b c) where
+pub stopped_opening : (files : DiskFiles) (first : Disk) (run : Course) (port : OutPort) (a b : Outside) → ((p : OutPort) → (b.port (Out p)).bytes ≡ (a.port (Out p)).bytes)
+    → is_disk_output (Out port) ≡ true → (Tells a → AreGood a.fixed (ports_before (output_ports (ToDisk files)) (Out port)))
+    → FaultAt (Out port) (knows_port (output_ports (ToDisk files)) a.fixed (Out port)) a b → StopsRun (ToDisk files) (disk_writes first run) port a b
+stopped_opening files first run port a b same_bytes named order fault = record {
+  named = named;
+  written = λ told p. nothing_of _ _ _ (same_bytes p);
+  order = order;
+  opened = λ told p grew. none_grown a b _ same_bytes p grew;
+  fault = fault;
+}
+
+module _ (files : DiskFiles) (first : Disk) (run : Course) (lawful : Lawful (log_of run)) (a b c : Outside) (opens : OnlyAt is_disk_output a b)
+    (opened : (p : OutPort) → (b.port (Out p)).bytes ≡ (a.port (Out p)).bytes) (good : Tells a → AreGood a.fixed (output_ports (ToDisk files))) (plays : OnlyAt is_shown b c) where
+  good_so_far : (port : OutPort) → Tells a → AreGood a.fixed (ports_before (output_ports (ToDisk files)) (Out port))
+  good_so_far port told = good_before a.fixed (output_ports (ToDisk files)) (Out port) (good told)
+
+  is_log : IsLog run (text_of (shown_by run))
+  is_log = record { lines = refl; lawful = lawful }
+
   tells_b : Tells a → Tells b
   tells_b told = still_tells _ _ _ opens told
 
@@ -73,15 +88,18 @@ module _ (first : Disk) (run : Course) (a b c : Outside) (opens : OnlyAt is_disk
   calm_c : Calm a b → Calm b c → Calm a c
   calm_c first_calm second = calm_then _ _ _ first_calm second
 
-  pub stopped_playing : (output : Output) (known : Bool) → (Tells b → HasShownFronts (shown_by run) b c) → Calm a b → FaultAt (Out (port_of output)) true b c → StopsRun is_disk_output (disk_writes first run) output known a c
-  stopped_playing output known fronts calm fault = record {
-    named = disk_output output;
+  pub stopped_playing : (port : OutPort) → is_shown (Out port) ≡ true → (Tells b → HasShownFronts (shown_by run) b c) → Calm a b → FaultAt (Out port) true b c
+      → StopsRun (ToDisk files) (disk_writes first run) port a c
+  stopped_playing port named fronts calm fault = record {
+    named = ap (λ s. s || same (Out out_port.Final) (Out port)) named;
     written = at;
-    fault = fault_any _ known _ _ (fault_then _ _ a b c opens.fixed calm fault);
+    order = good_so_far port;
+    opened = λ told p grew. good told;
+    fault = fault_any _ _ _ _ (fault_then _ _ a b c opens.fixed calm fault);
   } where
     at : Tells a → (p : OutPort) → HoldsFrontOfSome (disk_writes first run p) (a.port (Out p)).bytes (c.port (Out p)).bytes
     at told out_port.Term = record { text = line_bytes 0 (shown_by run); fits = λ _. refl; front = subst (λ l. HoldsFront l (line_bytes 0 (shown_by run)) (term c).bytes) (opened out_port.Term) (fronts (tells_b told)).terminal }
-    at told out_port.Log = record { text = text_of (shown_by run); fits = λ _. refl; front = subst (λ l. HoldsFront l (text_of (shown_by run)) (log_of c).bytes) (opened out_port.Log) (fronts (tells_b told)).log }
+    at told out_port.Log = record { text = text_of (shown_by run); fits = λ _. is_log; front = subst (λ l. HoldsFront l (text_of (shown_by run)) (ports.log_of c).bytes) (opened out_port.Log) (fronts (tells_b told)).log }
     at told out_port.Final = nothing_of _ _ _ (unplayed out_port.Final refl)
     at told out_port.Report = nothing_of _ _ _ (unplayed out_port.Report refl)
     at told out_port.Second = nothing_of _ _ _ (unplayed out_port.Second refl)
@@ -91,7 +109,7 @@ module _ (first : Disk) (run : Course) (a b c : Outside) (opens : OnlyAt is_disk
     term_shown : Tells a → (term c).bytes ≡ (term a).bytes ++ line_bytes 0 (shown_by run)
     term_shown told = (shown (tells_b told)).terminal ∙ ap (λ l. l ++ line_bytes 0 (shown_by run)) (opened out_port.Term)
 
-    log_shown : Tells a → (log_of c).bytes ≡ (log_of a).bytes ++ text_of (shown_by run)
+    log_shown : Tells a → (ports.log_of c).bytes ≡ (ports.log_of a).bytes ++ text_of (shown_by run)
     log_shown told = (shown (tells_b told)).log ∙ ap (λ l. l ++ text_of (shown_by run)) (opened out_port.Log)
 
     -- the run has ended, and its disk is written
@@ -102,8 +120,8 @@ module _ (first : Disk) (run : Course) (a b c : Outside) (opens : OnlyAt is_disk
       term_written : Tells a → HoldsSome (disk_writes first run out_port.Term) (term a).bytes (term d).bytes
       term_written told = record { text = line_bytes 0 (shown_by run); fits = refl; holds = unwritten_by out_port.Term refl ∙ term_shown told }
 
-      log_written : Tells a → HoldsSome (disk_writes first run out_port.Log) (log_of a).bytes (log_of d).bytes
-      log_written told = record { text = text_of (shown_by run); fits = refl; holds = unwritten_by out_port.Log refl ∙ log_shown told }
+      log_written : Tells a → HoldsSome (disk_writes first run out_port.Log) (ports.log_of a).bytes (ports.log_of d).bytes
+      log_written told = record { text = text_of (shown_by run); fits = is_log; holds = unwritten_by out_port.Log refl ∙ log_shown told }
 
       report_written : HoldsSome (disk_writes first run out_port.Report) (a.port (Out out_port.Report)).bytes (d.port (Out out_port.Report)).bytes
       report_written = empty_of _ _ _ refl (unwritten_by out_port.Report refl ∙ unplayed out_port.Report refl)
@@ -114,12 +132,14 @@ module _ (first : Disk) (run : Course) (a b c : Outside) (opens : OnlyAt is_disk
       line_written : (l : ℕ) → HoldsSome (disk_writes first run (out_port.Line l)) (a.port (Out (out_port.Line l))).bytes (d.port (Out (out_port.Line l))).bytes
       line_written l = empty_of _ _ _ refl (unwritten_by (out_port.Line l) (not_line 6 l (lit< tt)) ∙ unplayed (out_port.Line l) (unshown_line l))
 
-      pub stopped_writing : (known : Bool) → (Tells c → HoldsFront (final_of c).bytes text (final_of d).bytes) → Calm a b → Calm b c → FaultAt (Out out_port.Final) true c d
-          → StopsRun is_disk_output (disk_writes first run) Final known a d
-      stopped_writing known front calm calm_too fault = record {
+      pub stopped_writing : (Tells c → HoldsFront (final_of c).bytes text (final_of d).bytes) → Calm a b → Calm b c → FaultAt (Out out_port.Final) true c d
+          → StopsRun (ToDisk files) (disk_writes first run) out_port.Final a d
+      stopped_writing front calm calm_too fault = record {
         named = refl;
         written = at;
-        fault = fault_any _ known _ _ (fault_then _ _ a c d (plays.fixed ∙ opens.fixed) (calm_c calm calm_too) fault);
+        order = good_so_far out_port.Final;
+        opened = λ told p grew. good told;
+        fault = fault_any _ _ _ _ (fault_then _ _ a c d (plays.fixed ∙ opens.fixed) (calm_c calm calm_too) fault);
       } where
         at : Tells a → (p : OutPort) → HoldsFrontOfSome (disk_writes first run p) (a.port (Out p)).bytes (d.port (Out p)).bytes
         at told out_port.Term = all_of _ _ _ (term_written told)
@@ -141,17 +161,22 @@ module _ (first : Disk) (run : Course) (a b c : Outside) (opens : OnlyAt is_disk
         written_e : Tells a → (p : OutPort) → HoldsSome (disk_writes first run p) (a.port (Out p)).bytes (e.port (Out p)).bytes
         written_e told p = subst (HoldsSome (disk_writes first run p) (a.port (Out p)).bytes) (sym (finishes p)) (written_d told p)
 
-        pub stopped_finishing : (output : Output) (known : Bool) → Calm a b → Calm b c → Calm c d → FaultAt (Out (port_of output)) true d e → StopsRun is_disk_output (disk_writes first run) output known a e
-        stopped_finishing output known calm calm_too calm_still fault = record {
-          named = disk_output output;
+        pub stopped_finishing : (port : OutPort) → is_disk_output (Out port) ≡ true → Calm a b → Calm b c → Calm c d → FaultAt (Out port) true d e
+            → StopsRun (ToDisk files) (disk_writes first run) port a e
+        stopped_finishing port named calm calm_too calm_still fault = record {
+          named = named;
           written = λ told p. all_of _ _ _ (written_e told p);
-          fault = fault_any _ known _ _ (fault_then _ _ a d e (writes.fixed ∙ plays.fixed ∙ opens.fixed) (calm_then _ _ _ (calm_c calm calm_too) calm_still) fault);
+          order = good_so_far port;
+          opened = λ told p grew. good told;
+          fault = fault_any _ _ _ _ (fault_then _ _ a d e (writes.fixed ∙ plays.fixed ∙ opens.fixed) (calm_then _ _ _ (calm_c calm calm_too) calm_still) fault);
         }
 
-        pub came_to_end : ((p : OutPort) → is_disk_output (Out p) ≡ true → (e.port (Out p)).is_open ≡ false) → Calm a b → Calm b c → Calm c d → Calm d e → EndsRun is_disk_output (disk_writes first run) run ended a e
+        pub came_to_end : ((p : OutPort) → is_disk_output (Out p) ≡ true → (e.port (Out p)).is_open ≡ false) → Calm a b → Calm b c → Calm c d → Calm d e
+            → EndsRun (ToDisk files) (disk_writes first run) run ended a e
         came_to_end closed calm calm_too calm_still calm_last = record {
           ended = last;
           written = written_e;
+          order = good;
           is_open = closed;
           calm = calm_then _ _ _ (calm_then _ _ _ (calm_c calm calm_too) calm_still) calm_last;
         }
@@ -159,11 +184,11 @@ module _ (first : Disk) (run : Course) (a b c : Outside) (opens : OnlyAt is_disk
 -- the disk that a run leaves, where it has ended
 pub run_leaves : (old played ended : KernelState) (run : Course) → (head (block_at old.blocks)).f_size ≤ SWAP_START → played.system ≡ run.system → KeepsRest old played
     → ended.system ≡ finished played.system → StandsFor DISK_BLOCKS (block_at ended.stored) ended.system.unix.store → SameOutside played.blocks ended.stored → IsDisk ended.stored
-    → (swap : List ℕ) → SwapHolds swap (kept_in ended.system)
+    → (swap : List ℕ) → SwapHolds swap (kept_in ended.system) → AreRangesApart (kept_in ended.system)
     → IsFinal (block_at old.blocks) (finished run.system) (disk_text ended.stored ++ swap)
-run_leaves old played ended run low plays first finishes stands second form swap holds =
+run_leaves old played ended run low plays first finishes stands second form swap holds apart =
     subst (λ (m : System). IsFinal (block_at old.blocks) m (disk_text ended.stored ++ swap)) (finishes ∙ ap finished plays)
-    (final_is old.blocks ended.stored ended.system low (rest_then _ _ _ first second) form stands swap holds)
+    (final_is old.blocks ended.stored ended.system low (rest_then _ _ _ first second) form stands swap holds apart)
 
 -- such a run can be finished
 pub phase_ended : (ended : Ends) (phase : Phase) → phase ≡ phase_after ended → (phase ≡ Started) ⊎ (phase ≡ Stopped)
@@ -196,19 +221,22 @@ module _ (d e : Disk) (same_disk : (n : ℕ) → n < DISK_BLOCKS → e n ≡ d n
   writes_over (ToDisk files) run (out_port.Line l) text fits = fits
   writes_over (ToMemory final) run p text fits = fits
 
-  pub ends_over : (outputs : Outputs) (run : Course) (ending : Ends) (old new : Outside) → EndsRun (is_output outputs) (run_writes outputs e run) run ending old new
-      → EndsRun (is_output outputs) (run_writes outputs d run) run ending old new
+  pub ends_over : (outputs : Outputs) (run : Course) (ending : Ends) (old new : Outside) → EndsRun outputs (run_writes outputs e run) run ending old new
+      → EndsRun outputs (run_writes outputs d run) run ending old new
   ends_over outputs run ending old new ended = record {
     ended = ended.ended;
     written = λ told p. let all = ended.written told p in record { text = all.text; fits = writes_over outputs run p all.text all.fits; holds = all.holds };
+    order = ended.order;
     is_open = ended.is_open;
     calm = ended.calm;
   }
 
-  pub stops_over : (outputs : Outputs) (run : Course) (output : Output) (known : Bool) (old new : Outside) → StopsRun (is_output outputs) (run_writes outputs e run) output known old new
-      → StopsRun (is_output outputs) (run_writes outputs d run) output known old new
-  stops_over outputs run output known old new stops = record {
+  pub stops_over : (outputs : Outputs) (run : Course) (port : OutPort) (old new : Outside) → StopsRun outputs (run_writes outputs e run) port old new
+      → StopsRun outputs (run_writes outputs d run) port old new
+  stops_over outputs run port old new stops = record {
     named = stops.named;
     written = λ told p. let part = stops.written told p in record { text = part.text; fits = λ grew. writes_over outputs run p part.text (part.fits grew); front = part.front };
+    order = stops.order;
+    opened = stops.opened;
     fault = stops.fault;
   }

@@ -1,7 +1,6 @@
 -- What a command comes to before its report, and then with it: the parts of the contract of `v6` as they are proved.
-use Rattle.std.specs.Prelude.{◌≡◌, ℕ, true, false, Option, Some, None, is_some, Result, IsOkAnd, List, ◌++◌, take, ◌⊎◌}
+use Rattle.std.specs.Prelude.{◌≡◌, ◌≢◌, ℕ, true, false, Option, Some, None, is_some, Result, IsOkAnd, List, ◌++◌, take, ◌⊎◌}
 use Rattle.std.specs.Option.{option_map}
-use Rattle.v6_port.specs.declared.host.InPort.TheVariants as in_port
 use Rattle.v6_port.specs.declared.host.OutPort.{OutPort}
 use Rattle.v6_port.specs.declared.host.OutPort.TheVariants as out_port
 use Rattle.v6_port.specs.Outside.{Out, same, Outside, Tells, Rose, OnlyAt}
@@ -10,7 +9,7 @@ use Rattle.fs_codec.specs.Faults.{image_fault}
 use Rattle.v6_run.specs.declared.image.TheConstants.{IMAGE_LIMIT}
 use Rattle.v6_run.specs.declared.run.TheConstants.{SCRIPT_LIMIT}
 use Rattle.v6_run.specs.declared.status.Status.{Status}
-use Rattle.v6_run.specs.declared.status.Status.TheVariants.{Done, ReadFault, WriteFault}
+use Rattle.v6_run.specs.declared.status.Status.TheVariants.{Done, WriteFault}
 use Rattle.v6_run.specs.declared.error.CommandError.{CommandError}
 use Rattle.v6_run.specs.declared.report.Found.{Found}
 use Rattle.v6_run.specs.Words.{RunWords, Command, Run}
@@ -19,16 +18,20 @@ use Rattle.v6_run.specs.Errors.{command_status, end_of}
 use Rattle.v6_run.specs.Report.{report, answer_line}
 use Rattle.v6_run.specs.Fronts.{HoldsFront}
 use Rattle.v6_run.specs.Causes.{IsCaused}
-use Rattle.v6_run.specs.Headline.{refused_by, command_completion, IsKnownAnd, IsComplete, IsPartial, IsImageGood, is_named, may_end, is_known}
+use Rattle.v6_run.specs.Headline.{refused_by, command_completion, IsKnownAnd, IsComplete, IsPartial, is_named, may_end, is_known}
+use Rattle.v6_run.specs.Opened.{command_ports, TellsInputs, AreGood, ports_passed}
 
 -- what a good command comes to, before its report
 pub record Answers (command : Command) (status : Status) (old new : Outside) : Type 0 where
   pub only : OnlyAt (is_named command) old new
   pub ends : may_end command status ≡ true
   pub unreported : status ≡ WriteFault out_port.Report → ⊥
-  pub complete : is_decided status ≡ true → Tells old → IsKnownAnd (command_completion command old.fixed) (IsComplete status old new)
-  pub partial : (p : OutPort) → status ≡ WriteFault p → Tells old → IsKnownAnd (command_completion command old.fixed) (IsPartial old new)
-  pub order : status ≡ ReadFault in_port.Script → Tells old → IsImageGood (Some command) old.fixed
+  pub complete : is_decided status ≡ true → TellsInputs (command_ports command) old
+      → IsKnownAnd (command_completion command old.fixed) (IsComplete status old new)
+  pub partial : (p : OutPort) → status ≡ WriteFault p → TellsInputs (command_ports command) old
+      → IsKnownAnd (command_completion command old.fixed) (IsPartial p old new)
+  pub order : Tells old → AreGood old.fixed (ports_passed status (command_ports command))
+  pub opened : Tells old → (p : OutPort) → (new.port (Out p)).bytes ≢ (old.port (Out p)).bytes → AreGood old.fixed (command_ports command)
   pub none : has_written status ≡ false → (p : OutPort) → new.port (Out p) ≡ old.port (Out p)
   pub closed : is_closed status ≡ true → (p : OutPort) → is_named command (Out p) ≡ true → (new.port (Out p)).is_open ≡ false
   pub cause : IsCaused (is_known (Some command) old.fixed) status old new

@@ -11,13 +11,10 @@ use Rattle.v6_run.specs.declared.image.ImageError.{ImageError}
 use Rattle.v6_run.specs.declared.image.ImageError.TheVariants as image
 use Rattle.script_text.specs.declared.script.ScriptFault.{ScriptFault}
 use Rattle.script_text.specs.declared.script.ScriptFault.TheVariants as fault
-use Rattle.v6_run.specs.declared.script.ScriptError.{ScriptError}
-use Rattle.v6_run.specs.declared.script.ScriptError.TheVariants as script
 use Rattle.v6_run.specs.declared.run.RunError.{RunError}
 use Rattle.v6_run.specs.declared.run.RunError.TheVariants as run
 use Rattle.v6_run.specs.declared.make.MakeError.{MakeError}
 use Rattle.v6_run.specs.declared.make.MakeError.TheVariants as make
-use Rattle.v6_run.specs.Outputs.{port_of}
 use Rattle.v6_run.specs.declared.error.CommandError.{CommandError}
 use Rattle.v6_run.specs.declared.error.CommandError.TheVariants as command
 
@@ -30,19 +27,16 @@ image_status (image.Unread error) = read_status in_port.Image error
 image_status (image.Faulty fault) = status.ImageFault fault
 
 -- want of memory is a status of its own
-abbrev pub fault_status : ScriptFault → Status
-fault_status fault.NoMemory = status.NoMemory
-fault_status fault = status.ScriptFault fault
-
-abbrev pub script_status : ScriptError → Status
-script_status (script.Faulty fault) = fault_status fault
+abbrev pub script_status : ScriptFault → Status
+script_status fault.NoMemory = status.NoMemory
+script_status fault = status.ScriptFault fault
 
 abbrev pub run_status : RunError → Status
 run_status (run.Image error) = image_status error
 run_status (run.Script error) = read_status in_port.Script error
 run_status (run.Refused error) = script_status error
 run_status run.NoMemory = status.NoMemory
-run_status (run.Write output) = status.WriteFault (port_of output)
+run_status (run.Write port) = status.WriteFault port
 run_status (run.Panic kind) = status.Panic kind
 
 abbrev pub make_status : MakeError → Status

@@ -6,13 +6,14 @@ use Rattle.fs_codec.specs.Stands.{StandsFor}
 use Rattle.fs_codec.specs.declared.layout.TheConstants.{DISK_BYTES, SWAP_START}
 use Rattle.buf_cache.specs.Blocks.{block_at}
 use Rattle.core_mem.specs.Bytes.{part}
-use Rattle.image_keep.specs.Holds.{SwapHolds, MemoryHolds}
+use Rattle.image_keep.specs.Holds.{AreRangesApart, SwapHolds, MemoryHolds}
 use Rattle.abstract_unix.specs.Unix.{System}
 use Rattle.unix_core.specs.Memory.{kept_in}
 
 -- These bytes are a whole disk without a fault, which stands for a system's store. The boot block, the size of the file system
 -- and what comes after the file system and before the swap area are as on the disk that the run began with. The swap area
--- holds the images that are out of core, half of the u area of each process that has ended, and all texts.
+-- holds the images that are out of core, half of the u area of each process that has ended, and all texts, and no two of these
+-- ranges meet.
 pub record IsFinal (first : Disk) (m : System) (text : List ℕ) : Type 0 where
   pub long : length text ≡ DISK_BYTES
   pub stands : StandsFor SWAP_START (disk_of text) m.unix.store
@@ -20,6 +21,7 @@ pub record IsFinal (first : Disk) (m : System) (text : List ℕ) : Type 0 where
   pub size : (head (disk_of text)).f_size ≡ (head first).f_size
   pub behind : (n : ℕ) → (head first).f_size ≤ n → n < SWAP_START → disk_of text n ≡ first n
   pub swap : SwapHolds (part text (512 * SWAP_START) 446464) (kept_in m)
+  pub apart : AreRangesApart (kept_in m)
 
 -- the bytes of all blocks of a disk before the swap area, in order
 unfoldable pub disk_text : List (List ℕ) → List ℕ

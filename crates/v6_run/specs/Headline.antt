@@ -1,11 +1,10 @@
 -- What a command answers and writes, from its words and the bytes of its files, in the order of docs/manual/commands.md: the
 -- words, the size of core, the image's first fault, the script's first fault, and the run.
-use Rattle.std.specs.Prelude.{◌≡◌, ℕ, Bool, true, false, not, Option, Some, None, IsSomeAnd, List, [], take, nat_le, ◌&&◌, ◌||◌, if◌then◌else◌, Result, Ok, Err}
+use Rattle.std.specs.Prelude.{◌≡◌, ℕ, Bool, true, false, Option, Some, None, List, [], take, nat_le, ◌&&◌, ◌||◌, if◌then◌else◌, Result, Ok, Err}
 use Rattle.v6_port.specs.declared.host.InPort.TheVariants as in_port
 use Rattle.v6_port.specs.declared.host.OutPort.{OutPort}
 use Rattle.v6_port.specs.declared.host.OutPort.TheVariants as out_port
-use Rattle.v6_port.specs.Outside.{Port, In, Out, same, is_report, Environment, Outside}
-use Rattle.v6_port.specs.Calls.{is_given, is_expected}
+use Rattle.v6_port.specs.Outside.{Port, In, Out, same, is_report, Environment, Outside, Tells}
 use Rattle.fs_codec.specs.declared.fault.ImageFault.{ImageFault}
 use Rattle.fs_codec.specs.Disk.{disk_of}
 use Rattle.fs_codec.specs.Faults.{image_fault}
@@ -24,11 +23,12 @@ use Rattle.v6_run.specs.declared.status.Status.{Status}
 use Rattle.v6_run.specs.declared.status.Status.TheVariants as status
 use Rattle.abstract_unix.specs.declared.ends.Ends.{Ends}
 use Rattle.abstract_unix.specs.declared.ends.Ends.TheVariants.{AtEnd, Panic}
-use Rattle.v6_run.specs.Words.{Outputs, ToDisk, ToMemory, RunWords, Command, Run, Check, Make, Demo}
+use Rattle.v6_run.specs.Words.{RunWords, Command, Run, Check, Make, Demo}
 use Rattle.v6_run.specs.Events.{events_of}
 use Rattle.v6_run.specs.Status.{has_written}
 use Rattle.v6_run.specs.Fronts.{HoldsSome, HoldsFrontOfSome, exactly}
-use Rattle.v6_run.specs.Outputs.{is_output, run_writes}
+use Rattle.v6_run.specs.Outputs.{run_writes}
+use Rattle.v6_run.specs.Opened.{command_ports, words_ports, has_port, knows_port}
 use Rattle.v6_run.specs.Report.{store_line, course_line}
 
 abbrev pub is_core_size : ℕ → Bool
@@ -143,24 +143,18 @@ done_line (Some (Demo number)) fixed = run_line number (script_of demo_text)
 -- The command is complete: the status is its, and each file has got all of a text that may be written to it.
 pub record IsComplete (s : Status) (old new : Outside) (completion : Completion) : Type 0 where
   pub answered : s ≡ completion.status
-  pub written : (p : OutPort) → is_report (Out p) ≡ false → HoldsSome (completion.writes p) (old.port (Out p)).bytes (new.port (Out p)).bytes
+  pub written : Tells old → (p : OutPort) → is_report (Out p) ≡ false → HoldsSome (completion.writes p) (old.port (Out p)).bytes (new.port (Out p)).bytes
 
--- The command has come to write, and each file has got a front of a text that may be written to it.
-pub record IsPartial (old new : Outside) (completion : Completion) : Type 0 where
+-- This port is at fault. The command has come to write, or, where that is Report, would be done; and each file has got a front of a
+-- text that may be written to it.
+pub record IsPartial (fault : OutPort) (old new : Outside) (completion : Completion) : Type 0 where
   pub begun : has_written completion.status ≡ true
-  pub written : (p : OutPort) → is_report (Out p) ≡ false → HoldsFrontOfSome (completion.writes p) (old.port (Out p)).bytes (new.port (Out p)).bytes
-
--- a script is read where the image of a run is given and has no fault
-abbrev pub IsImageGood : Option Command → Environment → Type 0
-IsImageGood (Some (Run words)) fixed = IsSomeAnd (fixed.given words.image) (λ bytes. image_fault (take IMAGE_LIMIT bytes) ≡ None)
-IsImageGood _ fixed = ⊥
+  pub told : is_report (Out fault) ≡ true → completion.status ≡ status.Done
+  pub written : Tells old → (p : OutPort) → is_report (Out p) ≡ false → HoldsFrontOfSome (completion.writes p) (old.port (Out p)).bytes (new.port (Out p)).bytes
 
 -- the ports for which a command's words have a name
 abbrev pub is_named : Command → Port → Bool
-is_named (Run words) q = same (In in_port.Image) q || same (In in_port.Script) q || is_output words.outputs q
-is_named (Check image) q = same (In in_port.Image) q
-is_named (Make number final) q = same (Out out_port.Final) q
-is_named (Demo number) q = false
+is_named command q = has_port (command_ports command) q
 
 -- a command touches these, and Report
 abbrev pub is_touched : Option Command → Port → Bool
@@ -202,31 +196,6 @@ abbrev pub words_may_end : Option Command → Status → Bool
 words_may_end None s = false
 words_may_end (Some command) s = may_end command s
 
-abbrev pub outputs_know : Outputs → Environment → OutPort → Bool
-outputs_know (ToDisk files) fixed out_port.Term = is_expected (fixed.expects out_port.Term) files.term
-outputs_know (ToDisk files) fixed out_port.Log = is_expected (fixed.expects out_port.Log) files.log
-outputs_know (ToDisk files) fixed out_port.Final = is_expected (fixed.expects out_port.Final) files.final_disk
-outputs_know (ToDisk files) fixed out_port.Report = true
-outputs_know (ToDisk files) fixed out_port.Second = true
-outputs_know (ToDisk files) fixed (out_port.Line l) = true
-outputs_know (ToMemory final) fixed out_port.Term = true
-outputs_know (ToMemory final) fixed out_port.Log = true
-outputs_know (ToMemory final) fixed out_port.Final = is_expected (fixed.expects out_port.Final) final
-outputs_know (ToMemory final) fixed out_port.Report = true
-outputs_know (ToMemory final) fixed out_port.Second = true
-outputs_know (ToMemory final) fixed (out_port.Line l) = true
-
 -- whether the name that the words give for a port is given, or expected there
-abbrev pub run_knows : RunWords → Environment → Port → Bool
-run_knows words fixed (In in_port.Image) = is_given (fixed.given words.image)
-run_knows words fixed (In in_port.Script) = is_given (fixed.given words.script)
-run_knows words fixed (In in_port.Log) = true
-run_knows words fixed (In in_port.Second) = true
-run_knows words fixed (Out p) = outputs_know words.outputs fixed p
-
 abbrev pub is_known : Option Command → Environment → Port → Bool
-is_known None fixed q = true
-is_known (Some (Run words)) fixed q = run_knows words fixed q
-is_known (Some (Check image)) fixed q = not (same (In in_port.Image) q) || is_given (fixed.given image)
-is_known (Some (Make number final)) fixed q = not (same (Out out_port.Final) q) || is_expected (fixed.expects out_port.Final) final
-is_known (Some (Demo number)) fixed q = true
+is_known command fixed q = knows_port (words_ports command) fixed q

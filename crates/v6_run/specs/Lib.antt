@@ -11,6 +11,7 @@ pub mod Events
 pub mod Clocks
 pub mod Courses
 pub mod Final
+pub mod Opened
 pub mod Outputs
 pub mod Headline
 pub mod Demo

@@ -1,26 +1,22 @@
 -- The files that a run writes, by docs/manual/commands.md: of `run` what the terminal shows, the log, and the disk at the end;
 -- of `memory` core and the swap area at the end.
-use Rattle.std.specs.Prelude.{◌≡◌, ℕ, Bool, true, false, List, [], ◌||◌}
+use Rattle.std.specs.Prelude.{◌≡◌, ◌≢◌, ℕ, Bool, true, false, List, [], ◌||◌}
 use Rattle.v6_base.specs.Trace.{line_bytes, text_of}
 use Rattle.v6_port.specs.declared.host.OutPort.{OutPort}
 use Rattle.v6_port.specs.declared.host.OutPort.TheVariants as out_port
 use Rattle.v6_port.specs.Outside.{Port, Out, same, Outside, Tells}
 use Rattle.v6_port.specs.Causes.{Calm, FaultAt}
+use Rattle.pick_rules.specs.Lawful.{Lawful}
 use Rattle.fs_codec.specs.Disk.{Disk}
 use Rattle.abstract_unix.specs.declared.ends.Ends.{Ends}
 use Rattle.abstract_unix.specs.declared.ends.Ends.TheVariants.{AtEnd, Panic}
 use Rattle.abstract_unix.specs.Unix.{System}
-use Rattle.abstract_unix.specs.Runs.{Course, shown_by, finished}
-use Rattle.v6_run.specs.declared.outputs.Output.{Output}
-use Rattle.v6_run.specs.declared.outputs.Output.TheVariants.{Term, Log, Final}
+use Rattle.abstract_unix.specs.Law.{log_of}
+use Rattle.abstract_unix.specs.Runs.{Event, Course, started, course, shown_by, finished}
 use Rattle.v6_run.specs.Fronts.{HoldsSome, HoldsFrontOfSome, exactly}
 use Rattle.v6_run.specs.Final.{IsFinal, IsMemory}
 use Rattle.v6_run.specs.Words.{Outputs, ToDisk, ToMemory}
-
-abbrev pub port_of : Output → OutPort
-port_of Term = out_port.Term
-port_of Log = out_port.Log
-port_of Final = out_port.Final
+use Rattle.v6_run.specs.Opened.{output_ports, ports_before, knows_port, AreGood}
 
 -- what a run shows goes to these while it runs
 abbrev pub is_shown : Port → Bool
@@ -38,10 +34,19 @@ abbrev pub memory_writes : Ends → System → List ℕ → Type 0
 memory_writes AtEnd m = IsMemory m
 memory_writes (Panic kind) m = exactly []
 
+-- Whatever comes from outside, the log of a run of this system is lawful.
+abbrev pub HasLawfulLogs : System → Type 0
+HasLawfulLogs m = (events : List Event) → Lawful (log_of (course (started m) events))
+
+-- These are the lines of the log of a run, which is lawful.
+pub record IsLog (c : Course) (text : List ℕ) : Type 0 where
+  pub lines : text ≡ text_of (shown_by c)
+  pub lawful : Lawful (log_of c)
+
 -- The texts that `run` from a disk may write to each port: at its end, or at a panic, it leaves its disk.
 abbrev pub disk_writes : Disk → Course → OutPort → List ℕ → Type 0
 disk_writes first c out_port.Term = exactly (line_bytes 0 (shown_by c))
-disk_writes first c out_port.Log = exactly (text_of (shown_by c))
+disk_writes first c out_port.Log = IsLog c
 disk_writes first c out_port.Final = IsFinal first (finished c.system)
 disk_writes first c out_port.Report = exactly []
 disk_writes first c out_port.Second = exactly []
@@ -61,14 +66,17 @@ run_writes (ToDisk files) first c p = disk_writes first c p
 run_writes (ToMemory final) first c p = core_writes c p
 
 -- The run has been taken and ends so, and all of it is written.
-pub record EndsRun (outputs : Port → Bool) (writes : OutPort → List ℕ → Type 0) (c : Course) (ends : Ends) (old new : Outside) : Type 0 where
+pub record EndsRun (outputs : Outputs) (writes : OutPort → List ℕ → Type 0) (c : Course) (ends : Ends) (old new : Outside) : Type 0 where
   pub ended : ends ≡ c.ending
   pub written : Tells old → (p : OutPort) → HoldsSome (writes p) (old.port (Out p)).bytes (new.port (Out p)).bytes
-  pub is_open : (p : OutPort) → outputs (Out p) ≡ true → (new.port (Out p)).is_open ≡ false
+  pub order : Tells old → AreGood old.fixed (output_ports outputs)
+  pub is_open : (p : OutPort) → is_output outputs (Out p) ≡ true → (new.port (Out p)).is_open ≡ false
   pub calm : Calm old new
 
--- One of its files, under a name that is known or not, has failed.
-pub record StopsRun (outputs : Port → Bool) (writes : OutPort → List ℕ → Type 0) (output : Output) (known : Bool) (old new : Outside) : Type 0 where
-  pub named : outputs (Out (port_of output)) ≡ true
+-- One of its files has failed. Those before it are expected under their names, and all are where a byte went out.
+pub record StopsRun (outputs : Outputs) (writes : OutPort → List ℕ → Type 0) (port : OutPort) (old new : Outside) : Type 0 where
+  pub named : is_output outputs (Out port) ≡ true
   pub written : Tells old → (p : OutPort) → HoldsFrontOfSome (writes p) (old.port (Out p)).bytes (new.port (Out p)).bytes
-  pub fault : FaultAt (Out (port_of output)) known old new
+  pub order : Tells old → AreGood old.fixed (ports_before (output_ports outputs) (Out port))
+  pub opened : Tells old → (p : OutPort) → (new.port (Out p)).bytes ≢ (old.port (Out p)).bytes → AreGood old.fixed (output_ports outputs)
+  pub fault : FaultAt (Out port) (knows_port (output_ports outputs) old.fixed (Out port)) old new

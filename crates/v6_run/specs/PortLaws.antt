@@ -1,14 +1,14 @@
 -- What goes out on two ports, one thing after another: the laws of the trace over a host.
 use Rattle.std.proofs.Common.{◌≡◌, true, Option, Some, None, MatchOption, [], ◌++◌, refl, sym, ◌∙◌, ap, subst, append_assoc}
 use Rattle.std.proofs.lemmas.List.{append-nil}
+use Rattle.v6_port.specs.declared.host.OutPort.{OutPort}
 use Rattle.v6_port.specs.Outside.{Out, PortState, Outside, Tells}
 use Rattle.v6_port.specs.Causes.{Calm, FaultAt}
 use Rattle.v6_port.proofs.CauseLemmas.{calm_still, calm_then, fault_then, only_then, still_tells}
-use Rattle.v6_run.specs.declared.outputs.Output.{Output}
 use Rattle.v6_run.specs.declared.ports.Kept.{Kept}
 use Rattle.v6_run.specs.declared.ports.Kept.TheVariants as kept
-use Rattle.v6_run.specs.Outputs.{port_of, is_shown}
-use Rattle.v6_run.specs.Ports.{term, log_of, failed_output, is_silent, Grows, Goes}
+use Rattle.v6_run.specs.Outputs.{is_shown}
+use Rattle.v6_run.specs.Ports.{term, log_of, failed_port, is_silent, Grows, Goes}
 
 pub grows_not : (told : Type 0) (p : PortState) → Grows told p p
 grows_not told p = record { is_open = refl; bytes = λ _. record { more = []; is = sym (append-nil p.bytes) } }
@@ -23,42 +23,42 @@ grows_on told then a b c still first second = record {
 }
 
 -- nothing has failed
-calm_at : (o : Outside) (failed : Option Output) → failed ≡ None → MatchOption failed (Calm o o) (λ output. FaultAt (Out (port_of output)) true o o)
+calm_at : (o : Outside) (failed : Option OutPort) → failed ≡ None → MatchOption failed (Calm o o) (λ p. FaultAt (Out p) true o o)
 calm_at o None is = calm_still o
-calm_at o (Some output) is = absurd (cc)
+calm_at o (Some port) is = absurd (cc)
 
 pub Goes-same : (o : Outside) (kept : Kept) → Goes o kept o kept
 Goes-same o kept = record {
   only = record { fixed = refl; others = λ q other. refl };
   terminal = grows_not (Tells o) (term o);
   log = grows_not (Tells o) (log_of o);
-  cause = calm_at o (failed_output kept);
+  cause = calm_at o (failed_port kept);
   stopped = λ is_cut. (refl, is_cut, refl);
   counted = refl;
 }
 
 -- after a failure nothing is written
-silent_failed : (k : Kept) (output : Output) → failed_output k ≡ Some output → is_silent k ≡ true
-silent_failed kept.Nothing output is = absurd (cc is)
-silent_failed (kept.Byte byte) output is = refl
-silent_failed (kept.Line rest) output is = refl
-silent_failed kept.Unwanted output is = refl
-silent_failed (kept.Screen bytes) output is = refl
+silent_failed : (k : Kept) (port : OutPort) → failed_port k ≡ Some port → is_silent k ≡ true
+silent_failed kept.Nothing port is = absurd (cc is)
+silent_failed (kept.Byte byte) port is = refl
+silent_failed (kept.Line rest) port is = refl
+silent_failed kept.Unwanted port is = refl
+silent_failed (kept.Screen bytes) port is = refl
 
 -- a fault comes after calm, or else nothing changes after it
 module _ (a b c : Outside) (b_kept c_kept : Kept) (second : Goes b b_kept c c_kept) (fixed : b.fixed ≡ a.fixed) where
-  after_calm : (failed : Option Output) → Calm a b → MatchOption failed (Calm b c) (λ output. FaultAt (Out (port_of output)) true b c)
-      → MatchOption failed (Calm a c) (λ output. FaultAt (Out (port_of output)) true a c)
+  after_calm : (failed : Option OutPort) → Calm a b → MatchOption failed (Calm b c) (λ p. FaultAt (Out p) true b c)
+      → MatchOption failed (Calm a c) (λ p. FaultAt (Out p) true a c)
   after_calm None calm calm_too = calm_then a b c calm calm_too
-  after_calm (Some output) calm fault = fault_then (Out (port_of output)) true a b c fixed calm fault
+  after_calm (Some port) calm fault = fault_then (Out port) true a b c fixed calm fault
 
-  cause_on : (failed : Option Output) → failed_output b_kept ≡ failed → MatchOption failed (Calm a b) (λ output. FaultAt (Out (port_of output)) true a b)
-      → MatchOption (failed_output c_kept) (Calm a c) (λ output. FaultAt (Out (port_of output)) true a c)
-  cause_on None is calm = after_calm (failed_output c_kept) calm (second.cause is)
-  cause_on (Some output) is fault =
-      let still = second.stopped (silent_failed b_kept output is) in
-      subst (λ o. MatchOption o (Calm a c) (λ output. FaultAt (Out (port_of output)) true a c)) (sym (still.2 ∙ is))
-      (subst (λ o. FaultAt (Out (port_of output)) true a o) (sym still.0) fault)
+  cause_on : (failed : Option OutPort) → failed_port b_kept ≡ failed → MatchOption failed (Calm a b) (λ p. FaultAt (Out p) true a b)
+      → MatchOption (failed_port c_kept) (Calm a c) (λ p. FaultAt (Out p) true a c)
+  cause_on None is calm = after_calm (failed_port c_kept) calm (second.cause is)
+  cause_on (Some port) is fault =
+      let still = second.stopped (silent_failed b_kept port is) in
+      subst (λ o. MatchOption o (Calm a c) (λ p. FaultAt (Out p) true a c)) (sym (still.2 ∙ is))
+      (subst (λ o. FaultAt (Out port) true a o) (sym still.0) fault)
 
 pub Goes-on : (a : Outside) (a_kept : Kept) (b : Outside) (b_kept : Kept) (c : Outside) (c_kept : Kept)
     → Goes a a_kept b b_kept → Goes b b_kept c c_kept → Goes a a_kept c c_kept
@@ -66,7 +66,7 @@ Goes-on a a_kept b b_kept c c_kept first second = record {
   only = only_then is_shown a b c first.only second.only;
   terminal = grows_on (Tells a) (Tells b) (term a) (term b) (term c) (still_tells is_shown a b first.only) first.terminal second.terminal;
   log = grows_on (Tells a) (Tells b) (log_of a) (log_of b) (log_of c) (still_tells is_shown a b first.only) first.log second.log;
-  cause = λ goes. cause_on a b c b_kept c_kept second first.only.fixed (failed_output b_kept) refl (first.cause goes);
+  cause = λ goes. cause_on a b c b_kept c_kept second first.only.fixed (failed_port b_kept) refl (first.cause goes);
   stopped = λ is_cut.
       let one = first.stopped is_cut in
       let two = second.stopped one.1 in

@@ -1,16 +1,15 @@
 -- The ports of a host as a trace of what a run shows: the terminal's bytes go to Term, and the lines of the log to Log.
 use Rattle.std.specs.Prelude.{◌≡◌, ℕ, Bool, true, false, ◌&&◌, Option, Some, None, is_some, MatchOption, List, [], ◌∷◌, ◌++◌, length, ◌==◌, nat_le, if◌then◌else◌}
 use Rattle.v6_base.specs.Trace.{Taken, Item, line_bytes, text_of}
+use Rattle.v6_port.specs.declared.host.OutPort.{OutPort}
 use Rattle.v6_port.specs.declared.host.OutPort.TheVariants as out_port
 use Rattle.v6_port.specs.Outside.{Out, PortState, Outside, Tells, OnlyAt}
 use Rattle.v6_port.specs.Causes.{Calm, FaultAt}
-use Rattle.v6_run.specs.declared.outputs.Output.{Output}
-use Rattle.v6_run.specs.declared.outputs.Output.TheVariants.{Term, Log}
 use Rattle.v6_run.specs.declared.ports.Kept.{Kept}
 use Rattle.v6_run.specs.declared.ports.Kept.TheVariants as kept
 use Rattle.v6_run.specs.declared.ports.TheConstants.{SCREEN_ROOM}
 use Rattle.v6_run.specs.Fronts.{HoldsFront}
-use Rattle.v6_run.specs.Outputs.{port_of, is_shown}
+use Rattle.v6_run.specs.Outputs.{is_shown}
 
 abbrev pub term : Outside → PortState
 term o = o.port (Out out_port.Term)
@@ -21,13 +20,13 @@ log_of o = o.port (Out out_port.Log)
 abbrev pub final_of : Outside → PortState
 final_of o = o.port (Out out_port.Final)
 
--- which write has failed, where one has
-abbrev pub failed_output : Kept → Option Output
-failed_output kept.Nothing = None
-failed_output (kept.Byte byte) = Some Term
-failed_output (kept.Line rest) = Some Log
-failed_output kept.Unwanted = None
-failed_output (kept.Screen bytes) = None
+-- the port at which a write has failed, where one has
+abbrev pub failed_port : Kept → Option OutPort
+failed_port kept.Nothing = None
+failed_port (kept.Byte byte) = Some out_port.Term
+failed_port (kept.Line rest) = Some out_port.Log
+failed_port kept.Unwanted = None
+failed_port (kept.Screen bytes) = None
 
 -- the byte that could not be written
 abbrev pub kept_byte : Kept → List ℕ
@@ -68,7 +67,7 @@ is_counted _ = false
 -- nothing is wanted is never cut, and tells nothing.
 abbrev pub taken_of : Outside → Kept → Taken
 taken_of o k = record {
-  cut = is_some (failed_output k);
+  cut = is_some (failed_port k);
   tells_bytes = is_wanted k && o.fixed.tells;
   bytes = of_line_0 ((term o).bytes ++ kept_byte k);
   tells_entries = false;
@@ -123,9 +122,9 @@ pub record Goes (a : Outside) (a_kept : Kept) (b : Outside) (b_kept : Kept) : Ty
   pub only : OnlyAt is_shown a b
   pub terminal : Grows (Tells a) (term a) (term b)
   pub log : Grows (Tells a) (log_of a) (log_of b)
-  pub cause : failed_output a_kept ≡ None
-      → MatchOption (failed_output b_kept) (Calm a b) (λ output. FaultAt (Out (port_of output)) true a b)
-  pub stopped : is_silent a_kept ≡ true → (b ≡ a) × (is_silent b_kept ≡ true) × (failed_output b_kept ≡ failed_output a_kept)
+  pub cause : failed_port a_kept ≡ None
+      → MatchOption (failed_port b_kept) (Calm a b) (λ p. FaultAt (Out p) true a b)
+  pub stopped : is_silent a_kept ≡ true → (b ≡ a) × (is_silent b_kept ≡ true) × (failed_port b_kept ≡ failed_port a_kept)
   pub counted : is_counted b_kept ≡ is_counted a_kept
 
 -- the terminal and the log have got all of what is shown

@@ -5,14 +5,11 @@ use Rattle.v6_port.specs.Outside.{Port, In, Outside, Tells}
 use Rattle.v6_port.specs.Causes.{Calm, FaultAt}
 use Rattle.v6_port.specs.Calls.{is_given}
 use Rattle.fs_codec.specs.Faults.{image_fault}
-use Rattle.script_text.specs.Script.{Refuses}
 use Rattle.v6_run.specs.declared.image.TheConstants.{IMAGE_LIMIT}
 use Rattle.v6_run.specs.declared.files.ReadError.{ReadError}
 use Rattle.v6_run.specs.declared.files.ReadError.TheVariants as reading
 use Rattle.v6_run.specs.declared.image.ImageError.{ImageError}
 use Rattle.v6_run.specs.declared.image.ImageError.TheVariants as image
-use Rattle.v6_run.specs.declared.script.ScriptError.{ScriptError}
-use Rattle.v6_run.specs.declared.script.ScriptError.TheVariants as script_error
 
 -- the reading of a file: at a fault of its port, under a name that is known or not, or for want of memory
 abbrev pub StopsReading : Port → Bool → ReadError → Outside → Outside → Type 0
@@ -24,7 +21,3 @@ abbrev pub StopsImage : List ℕ → ImageError → Outside → Outside → Type
 StopsImage name (image.Unread error) old new = StopsReading (In in_port.Image) (is_given (old.fixed.given name)) error old new
 StopsImage name (image.Faulty fault) old new =
     Calm old new × (Tells old → IsSomeAnd (old.fixed.given name) (λ bytes. image_fault (take IMAGE_LIMIT bytes) ≡ Some fault))
-
--- a script: at its first fault, or for want of memory
-abbrev pub RefusesScript : List ℕ → ScriptError → Type 0
-RefusesScript script (script_error.Faulty fault) = Refuses script fault

@@ -1,9 +1,8 @@
 //! The command of a program's words, and its report.
-ghost use Rattle.std.specs.Prelude.{◌≡◌, ℕ, ◌++◌, true, false, Some, is_some, IsSome, MatchOption, IfOk};
+ghost use Rattle.std.specs.Prelude.{◌≡◌, ◌≢◌, ℕ, ◌++◌, true, false, Some, is_some, IsSome, MatchOption, IfOk};
 ghost use Rattle.std.specs.Option.{option_map};
 ghost use Rattle.v6_port.specs.Outside.{Out, IsIdle, OnlyAt, Tells, is_report};
 ghost use Rattle.v6_port.specs.declared.host.OutPort.{OutPort};
-ghost use Rattle.v6_port.specs.declared.host.InPort.TheVariants.{Script};
 ghost use Rattle.abstract_unix.specs.Law.{LogsAreLawful};
 ghost use Rattle.v6_run.specs.Words.{command_in, command_value};
 ghost use Rattle.v6_run.specs.Fronts.{HoldsFront};
@@ -11,7 +10,8 @@ ghost use Rattle.v6_run.specs.Report.{report, report_line, told_line};
 ghost use Rattle.v6_run.specs.Status.{is_decided, has_written, is_closed};
 ghost use Rattle.v6_run.specs.Errors.{command_status, end_of};
 ghost use Rattle.v6_run.specs.Causes.{HasCause, MissesUnknown};
-ghost use Rattle.v6_run.specs.Headline.{is_core_size, has_core_size, refused_by, reports_done, words_completion, done_line, IsKnownAnd, IsComplete, IsPartial, IsImageGood, words_may_end, is_touched, is_known};
+ghost use Rattle.v6_run.specs.Headline.{is_core_size, has_core_size, refused_by, reports_done, words_completion, done_line, IsKnownAnd, IsComplete, IsPartial, words_may_end, is_touched, is_known};
+ghost use Rattle.v6_run.specs.Opened.{words_ports, TellsInputs, AreGood, ports_passed};
 ghost use Rattle.v6_run.specs.Answers.{Answers, AnswersWords};
 
 use crate::check::check;
@@ -127,15 +127,25 @@ pub fn v6<H: Host>(alloc: Global, words: &Vec<String>, host: &mut H) -> Status
         → OnlyAt is_report (H.outside host.old) (H.outside host.new) }
 
     // Done, ScriptFault, ImageFault and Panic are exactly what the command's files come to, and each file has got all of a text that may
-    // be written to it. At a write fault each has got a front of one, or nothing.
-    ensures complete { is_decided result ≡ true → Tells (H.outside host.old)
+    // be written to it. At a write fault each has got a front of one, or nothing; and one of Report is answered only where the command
+    // would else be done.
+    ensures complete { is_decided result ≡ true → TellsInputs (words_ports (command_in words.now.items)) (H.outside host.old)
         → IsKnownAnd (words_completion (command_in words.now.items) (H.outside host.old).fixed)
         (IsComplete result (H.outside host.old) (H.outside host.new)) }
-    ensures partial { (p : OutPort) → result ≡ Status.WriteFault p → Tells (H.outside host.old)
+    ensures partial { (p : OutPort) → result ≡ Status.WriteFault p
+        → TellsInputs (words_ports (command_in words.now.items)) (H.outside host.old)
         → IsKnownAnd (words_completion (command_in words.now.items) (H.outside host.old).fixed)
-        (IsPartial (H.outside host.old) (H.outside host.new)) }
-    ensures order { result ≡ Status.ReadFault Script → Tells (H.outside host.old)
-        → IsImageGood (command_in words.now.items) (H.outside host.old).fixed }
+        (IsPartial p (H.outside host.old) (H.outside host.new)) }
+
+    // The files are opened in their order, and each that comes before the one at fault is good: an image or a script without a
+    // fault, an output under the name that is expected. After done and a panic all are, and before they are no byte goes out.
+    ensures order { Tells (H.outside host.old)
+        → AreGood (H.outside host.old).fixed (ports_passed result (words_ports (command_in words.now.items))) }
+    ensures opened { Tells (H.outside host.old) → (p : OutPort) → is_report (Out p) ≡ false
+        → ((H.outside host.new).port (Out p)).bytes ≢ ((H.outside host.old).port (Out p)).bytes
+        → AreGood (H.outside host.old).fixed (words_ports (command_in words.now.items)) }
+
+    // With a status that is fixed before the first byte goes out the ports are as they were. After done and a panic they are closed.
     ensures none { has_written result ≡ false
         → (p : OutPort) → is_report (Out p) ≡ false → (H.outside host.new).port (Out p) ≡ (H.outside host.old).port (Out p) }
     ensures closed { is_closed result ≡ true

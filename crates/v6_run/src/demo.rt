@@ -24,13 +24,12 @@ ghost use Rattle.v6_run.specs.Answers.{Answers};
 use crate::image::ImageError;
 use crate::ports::Ports;
 use crate::run::{RunError, boot};
-use crate::script::read_script;
 use crate::slots::show_run;
 use crate::status::Status;
 use fs_check::{Tally, accept, tally};
 use fs_codec::{BLOCK_SIZE, SWAP_START};
 use make_image::{build, demo_script};
-use script_text::{Event, Script};
+use script_text::{Event, Script, read};
 use std::alloc::Global;
 use unix_core::{Ends, Kernel};
 use v6_port::Host;
@@ -164,9 +163,9 @@ fn demo_events(alloc: Global) -> Result<Script, RunError>
     let Ok(text) = demo_script(alloc) else {
         return Err(RunError::NoMemory);
     };
-    match read_script(alloc, &text) {
+    match read(alloc, &text) {
         Ok(script) => Ok(script),
-        Err(error) => Err(RunError::Refused(error)),
+        Err(fault) => Err(RunError::Refused(fault)),
     }
 }
 

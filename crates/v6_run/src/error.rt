@@ -1,12 +1,11 @@
 //! Why a command was not done, and the status that says so.
 ghost use Rattle.std.specs.Prelude.{◌≡◌};
-ghost use Rattle.v6_run.specs.Errors.{read_status, image_status, fault_status, script_status, run_status, make_status};
+ghost use Rattle.v6_run.specs.Errors.{read_status, image_status, script_status, run_status, make_status};
 
 use crate::files::ReadError;
 use crate::image::ImageError;
 use crate::make::MakeError;
 use crate::run::RunError;
-use crate::script::ScriptError;
 use crate::status::Status;
 use script_text::ScriptFault;
 use v6_port::{InPort, OutPort};
@@ -44,20 +43,12 @@ fn image_status(error: ImageError) -> Status
     }
 }
 
-fn fault_status(fault: ScriptFault) -> Status
-    ensures { result ≡ fault_status fault }
+fn script_status(fault: ScriptFault) -> Status
+    ensures { result ≡ script_status fault }
 {
     match fault {
         ScriptFault::NoMemory => Status::NoMemory,
         fault => Status::ScriptFault(fault),
-    }
-}
-
-fn script_status(error: ScriptError) -> Status
-    ensures { result ≡ script_status error }
-{
-    match error {
-        ScriptError::Faulty(fault) => fault_status(fault),
     }
 }
 
@@ -67,9 +58,9 @@ fn run_status(error: RunError) -> Status
     match error {
         RunError::Image(error) => image_status(error),
         RunError::Script(error) => read_status(InPort::Script, error),
-        RunError::Refused(error) => script_status(error),
+        RunError::Refused(fault) => script_status(fault),
         RunError::NoMemory => Status::NoMemory,
-        RunError::Write(output) => Status::WriteFault(output.port()),
+        RunError::Write(port) => Status::WriteFault(port),
         RunError::Panic(kind) => Status::Panic(kind),
     }
 }

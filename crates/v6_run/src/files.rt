@@ -134,6 +134,11 @@ pub(crate) fn write_file<H: Host>(
     ensures front { Tells (H.outside host.old)
         → HoldsFront ((H.outside host.old).port (Out port)).bytes text.now ((H.outside host.new).port (Out port)).bytes }
     ensures closed { OnOk result (((H.outside host.new).port (Out port)).is_open ≡ false) }
+    ensures expected { OnOk result (Tells (H.outside host.old)
+        → is_expected ((H.outside host.old).fixed.expects port) name.now ≡ true) }
+    ensures opened { Tells (H.outside host.old)
+        → ((H.outside host.new).port (Out port)).bytes ≢ ((H.outside host.old).port (Out port)).bytes
+        → is_expected ((H.outside host.old).fixed.expects port) name.now ≡ true }
     ensures cause { MatchResult result (λ _. Calm (H.outside host.old) (H.outside host.new))
         (λ _. FaultAt (Out port) (is_expected ((H.outside host.old).fixed.expects port) name.now)
         (H.outside host.old) (H.outside host.new)) }

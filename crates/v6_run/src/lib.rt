@@ -17,7 +17,6 @@ mod outputs;
 mod ports;
 mod report;
 mod run;
-mod script;
 mod slots;
 mod status;
 mod words;

@@ -13,11 +13,9 @@ ghost use Rattle.v6_run.specs.Events.{events_of};
 ghost use Rattle.v6_run.specs.Words.{ToMemory};
 ghost use Rattle.v6_run.specs.Ports.{final_of};
 ghost use Rattle.v6_run.specs.Fronts.{HoldsFront};
-ghost use Rattle.v6_run.specs.Outputs.{port_of, memory_writes, core_writes, EndsRun, StopsRun};
-ghost use Rattle.v6_run.specs.Headline.{outputs_know};
+ghost use Rattle.v6_run.specs.Outputs.{memory_writes, core_writes, EndsRun, StopsRun};
 
 use crate::files::write_all;
-use crate::outputs::Output;
 use crate::ports::Ports;
 use crate::slots::show_run;
 use script_text::Event;
@@ -98,6 +96,8 @@ fn open_final<H: Host>(name: &str, host: &mut H) -> Result<(), Failed>
     ensures only { OnlyAt (same (Out out_port.Final)) (H.outside host.old) (H.outside host.new) }
     ensures bytes { (final_of (H.outside host.new)).bytes ≡ (final_of (H.outside host.old)).bytes }
     ensures is_open { OnOk result (IsOpen (H.outside host.new) (Out out_port.Final)) }
+    ensures expected { OnOk result (Tells (H.outside host.old)
+        → is_expected ((H.outside host.old).fixed.expects out_port.Final) name.now ≡ true) }
     ensures cause { MatchResult result (λ _. Calm (H.outside host.old) (H.outside host.new))
         (λ _. FaultAt (Out out_port.Final) (is_expected ((H.outside host.old).fixed.expects out_port.Final) name.now)
         (H.outside host.old) (H.outside host.new)) }
@@ -124,28 +124,27 @@ pub(crate) fn run_to_memory<H: Host>(
     events: &[Event],
     name: &str,
     host: &mut H,
-) -> Result<Ends, Output>
+) -> Result<Ends, OutPort>
     requires closed { ((H.outside host.old).port (Out out_port.Final)).is_open ≡ false }
     requires new { kernel.old.phase ≡ New }
     ensures only { OnlyAt (same (Out out_port.Final)) (H.outside host.old) (H.outside host.new) }
     ensures outcome { MatchResult result
-        (λ ends. EndsRun (same (Out out_port.Final))
+        (λ ends. EndsRun (ToMemory name.now)
         (core_writes (course (started kernel.old.system) (events_of events.now)))
         (course (started kernel.old.system) (events_of events.now)) ends (H.outside host.old) (H.outside host.new))
-        (λ output. StopsRun (same (Out out_port.Final))
-        (core_writes (course (started kernel.old.system) (events_of events.now))) output
-        (outputs_know (ToMemory name.now) (H.outside host.old).fixed (port_of output))
+        (λ port. StopsRun (ToMemory name.now)
+        (core_writes (course (started kernel.old.system) (events_of events.now))) port
         (H.outside host.old) (H.outside host.new)) }
 {
     if open_final(name, host).is_err() {
-        return Err(Output::Final);
+        return Err(OutPort::Final);
     }
     let ends = play_unshown(kernel, events, host);
     if leave_memory(kernel, ends, host).is_err() {
-        return Err(Output::Final);
+        return Err(OutPort::Final);
     }
     if finish_final(host).is_err() {
-        return Err(Output::Final);
+        return Err(OutPort::Final);
     }
     Ok(ends)
 }

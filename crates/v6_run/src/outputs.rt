@@ -1,5 +1,5 @@
 //! The files that `run` writes.
-ghost use Rattle.std.specs.Prelude.{◌≡◌, ◌⊎◌, ℕ, List, true, false, ◌++◌, OnOk, MatchResult};
+ghost use Rattle.std.specs.Prelude.{◌≡◌, ◌⊎◌, ℕ, List, true, false, ◌++◌, OnOk, IfErr, MatchResult};
 ghost use Rattle.v6_port.specs.declared.host.OutPort.{OutPort};
 ghost use Rattle.v6_port.specs.declared.host.OutPort.TheVariants as out_port;
 ghost use Rattle.v6_port.specs.Outside.{Out, IsOpen, OnlyAt, Tells, same};
@@ -9,15 +9,15 @@ ghost use Rattle.fs_codec.specs.declared.layout.TheConstants.{DISK_BLOCKS};
 ghost use Rattle.buf_cache.specs.Blocks.{block_at, IsDisk};
 ghost use Rattle.fs_laws.specs.Rest.{SameOutside};
 ghost use Rattle.abstract_unix.specs.Unix.{Started, Stopped, Finished};
-ghost use Rattle.image_keep.specs.Holds.{SwapHolds};
+ghost use Rattle.image_keep.specs.Holds.{AreRangesApart, SwapHolds};
 ghost use Rattle.unix_core.specs.Memory.{kept_in};
 ghost use Rattle.abstract_unix.specs.Runs.{finished};
 ghost use Rattle.v6_run.specs.Words.{ToDisk, disk_files_value};
 ghost use Rattle.v6_run.specs.Ports.{final_of};
 ghost use Rattle.v6_run.specs.Fronts.{HoldsFront};
 ghost use Rattle.v6_run.specs.Final.{disk_text};
-ghost use Rattle.v6_run.specs.Outputs.{port_of, is_disk_output};
-ghost use Rattle.v6_run.specs.Headline.{outputs_know};
+ghost use Rattle.v6_run.specs.Outputs.{is_disk_output};
+ghost use Rattle.v6_run.specs.Opened.{output_ports, ports_before, knows_port, AreGood};
 
 use crate::files::write_all;
 use crate::words::DiskFiles;
@@ -25,49 +25,31 @@ use fs_codec::SWAP_START;
 use unix_core::Kernel;
 use v6_port::{Failed, Host, OutPort};
 
-/// A file that a run writes.
-#[derive(Clone, Copy)]
-pub(crate) enum Output {
-    /// What the terminal shows.
-    Term,
-    /// The log of what the kernel decides.
-    Log,
-    /// The disk at the end, or core and the swap area.
-    Final,
-}
-
-impl Output {
-    pub(crate) fn port(self) -> OutPort
-        ensures { result ≡ port_of self }
-    {
-        match self {
-            Output::Term => OutPort::Term,
-            Output::Log => OutPort::Log,
-            Output::Final => OutPort::Final,
-        }
-    }
-}
-
-/// Opens the terminal's file, the log and the disk's file, in this order.
-pub(crate) fn open_outputs<H: Host>(files: &DiskFiles<'_>, host: &mut H) -> Result<(), Output>
+/// Opens the terminal's file, the log and the disk's file, in this order, or says which could not be opened.
+pub(crate) fn open_outputs<H: Host>(files: &DiskFiles<'_>, host: &mut H) -> Result<(), OutPort>
     requires { (p : OutPort) → is_disk_output (Out p) ≡ true → ((H.outside host.old).port (Out p)).is_open ≡ false }
     ensures only { OnlyAt is_disk_output (H.outside host.old) (H.outside host.new) }
     ensures bytes { (p : OutPort) → ((H.outside host.new).port (Out p)).bytes ≡ ((H.outside host.old).port (Out p)).bytes }
     ensures is_open { OnOk result ((p : OutPort) → is_disk_output (Out p) ≡ true
         → ((H.outside host.new).port (Out p)).is_open ≡ true) }
     ensures cause { MatchResult result (λ _. Calm (H.outside host.old) (H.outside host.new))
-        (λ output. FaultAt (Out (port_of output))
-        (outputs_know (ToDisk (disk_files_value files.now)) (H.outside host.old).fixed (port_of output))
+        (λ port. FaultAt (Out port)
+        (knows_port (output_ports (ToDisk (disk_files_value files.now))) (H.outside host.old).fixed (Out port))
         (H.outside host.old) (H.outside host.new)) }
+    ensures named { IfErr result (λ port. is_disk_output (Out port) ≡ true) }
+    ensures order { Tells (H.outside host.old) → MatchResult result
+        (λ _. AreGood (H.outside host.old).fixed (output_ports (ToDisk (disk_files_value files.now))))
+        (λ port. AreGood (H.outside host.old).fixed
+        (ports_before (output_ports (ToDisk (disk_files_value files.now))) (Out port))) }
 {
     if host.open_write(OutPort::Term, files.term).is_err() {
-        return Err(Output::Term);
+        return Err(OutPort::Term);
     }
     if host.open_write(OutPort::Log, files.log).is_err() {
-        return Err(Output::Log);
+        return Err(OutPort::Log);
     }
     if host.open_write(OutPort::Final, files.final_disk).is_err() {
-        return Err(Output::Final);
+        return Err(OutPort::Final);
     }
     Ok(())
 }
@@ -118,6 +100,7 @@ pub(crate) fn leave_disk<H: Host>(kernel: &mut Kernel, host: &mut H) -> Result<(
     ensures form { IsDisk kernel.new.stored }
     ensures only { OnlyAt (same (Out out_port.Final)) (H.outside host.old) (H.outside host.new) }
     ensures is_open { IsOpen (H.outside host.new) (Out out_port.Final) }
+    ensures apart { AreRangesApart (kept_in kernel.new.system) }
     ensures written { (swap : List ℕ) × SwapHolds swap (kept_in kernel.new.system)
         × OnOk result (Tells (H.outside host.old) → (final_of (H.outside host.new)).bytes
         ≡ (final_of (H.outside host.old)).bytes ++ (disk_text kernel.new.stored ++ swap))
@@ -132,23 +115,24 @@ pub(crate) fn leave_disk<H: Host>(kernel: &mut Kernel, host: &mut H) -> Result<(
 }
 
 /// Finishes the three, in the order in which they were opened.
-pub(crate) fn finish_outputs<H: Host>(host: &mut H) -> Result<(), Output>
+pub(crate) fn finish_outputs<H: Host>(host: &mut H) -> Result<(), OutPort>
     requires { (p : OutPort) → is_disk_output (Out p) ≡ true → ((H.outside host.old).port (Out p)).is_open ≡ true }
     ensures only { OnlyAt is_disk_output (H.outside host.old) (H.outside host.new) }
     ensures bytes { (p : OutPort) → ((H.outside host.new).port (Out p)).bytes ≡ ((H.outside host.old).port (Out p)).bytes }
     ensures is_open { OnOk result ((p : OutPort) → is_disk_output (Out p) ≡ true
         → ((H.outside host.new).port (Out p)).is_open ≡ false) }
     ensures cause { MatchResult result (λ _. Calm (H.outside host.old) (H.outside host.new))
-        (λ output. FaultAt (Out (port_of output)) true (H.outside host.old) (H.outside host.new)) }
+        (λ port. FaultAt (Out port) true (H.outside host.old) (H.outside host.new)) }
+    ensures named { IfErr result (λ port. is_disk_output (Out port) ≡ true) }
 {
     if host.finish(OutPort::Term).is_err() {
-        return Err(Output::Term);
+        return Err(OutPort::Term);
     }
     if host.finish(OutPort::Log).is_err() {
-        return Err(Output::Log);
+        return Err(OutPort::Log);
     }
     if host.finish(OutPort::Final).is_err() {
-        return Err(Output::Final);
+        return Err(OutPort::Final);
     }
     Ok(())
 }

@@ -3,10 +3,9 @@ ghost use Rattle.std.specs.Prelude.{◌≡◌, false, ◌++◌, ◌∷◌, [], �
 ghost use Rattle.v6_base.specs.LogLine.{entry_line};
 ghost use Rattle.v6_port.specs.Outside.{Out, IsOpen};
 ghost use Rattle.v6_port.specs.declared.host.OutPort.TheVariants.{Term, Log};
-ghost use Rattle.v6_run.specs.Ports.{is_silent, failed_output, screened, HasCounted};
+ghost use Rattle.v6_run.specs.Ports.{is_silent, failed_port, screened, HasCounted};
 
 use crate::files::write_text;
-use crate::outputs::Output;
 use arrayvec::ArrayVec;
 use log_text::{Line, put_line};
 use v6_base::{Entry, Trace};
@@ -93,14 +92,14 @@ impl<'a, H: Host> Ports<'a, H> {
         }
     }
 
-    /// Which of the files could not be written, where one could not.
-    pub(crate) fn failed(&self) -> Option<Output>
-        ensures { result ≡ failed_output self.now.kept }
+    /// The port that could not be written, where one could not.
+    pub(crate) fn failed(&self) -> Option<OutPort>
+        ensures { result ≡ failed_port self.now.kept }
     {
         match &self.kept {
             Kept::Nothing | Kept::Unwanted | Kept::Screen(_) => None,
-            Kept::Byte(_) => Some(Output::Term),
-            Kept::Line(_) => Some(Output::Log),
+            Kept::Byte(_) => Some(OutPort::Term),
+            Kept::Line(_) => Some(OutPort::Log),
         }
     }
 

@@ -4,6 +4,7 @@ ghost use Rattle.v6_port.specs.Outside.{Out, IsOpen, OnlyAt, Tells, same};
 ghost use Rattle.v6_port.specs.declared.host.OutPort.{OutPort};
 ghost use Rattle.v6_port.specs.declared.host.OutPort.TheVariants.{Term, Log};
 ghost use Rattle.v6_port.specs.Causes.{Calm, FaultAt};
+ghost use Rattle.v6_base.specs.Image.{AreBytes};
 ghost use Rattle.fs_codec.specs.Faults.{image_fault};
 ghost use Rattle.fs_codec.specs.Disk.{head};
 ghost use Rattle.buf_cache.specs.Blocks.{block_at, blocks_of};
@@ -15,24 +16,22 @@ ghost use Rattle.v6_run.specs.Words.{Run, ToDisk, disk_files_value, run_words_va
 ghost use Rattle.v6_run.specs.Events.{events_of};
 ghost use Rattle.v6_run.specs.Ports.{HasShown, HasShownFronts};
 ghost use Rattle.v6_run.specs.Errors.{end_of, run_status};
-ghost use Rattle.v6_run.specs.Outputs.{port_of, is_shown, is_disk_output, is_output, disk_writes, run_writes, EndsRun, StopsRun};
-ghost use Rattle.v6_run.specs.Headline.{outputs_know};
+ghost use Rattle.v6_run.specs.Outputs.{is_shown, is_disk_output, is_output, disk_writes, run_writes, HasLawfulLogs, EndsRun, StopsRun};
 ghost use Rattle.v6_run.specs.Answers.{Answers, HasFiles};
 
 use crate::files::{ReadError, read_file};
 use crate::image::{ImageError, read_image};
 use crate::memory::run_to_memory;
-use crate::outputs::{Output, finish_outputs, leave_disk, open_outputs};
+use crate::outputs::{finish_outputs, leave_disk, open_outputs};
 use crate::ports::Ports;
-use crate::script::{ScriptError, read_script};
 use crate::slots::show_run;
 use crate::words::{DiskFiles, Outputs, RunWords};
 use fs_codec::SWAP_START;
-use script_text::{Event, MAX_BYTES};
+use script_text::{Event, MAX_BYTES, ScriptFault, read};
 use std::alloc::Global;
 use unix_core::{BootFault, Ends, Kernel};
 use v6_base::PanicKind;
-use v6_port::{Host, InPort};
+use v6_port::{Host, InPort, OutPort};
 
 /// The most bytes of a script that are read: one more than a script may have.
 pub(crate) const SCRIPT_LIMIT: usize = MAX_BYTES + 1;
@@ -44,12 +43,12 @@ pub(crate) enum RunError {
     Image(ImageError),
     /// The script could not be read.
     Script(ReadError),
-    /// The script has a fault.
-    Refused(ScriptError),
+    /// The script has this first fault, or there was no memory for its events.
+    Refused(ScriptFault),
     /// There was no memory for a kernel.
     NoMemory,
     /// A file could not be opened, written or finished.
-    Write(Output),
+    Write(OutPort),
     /// The run came to a panic.
     Panic(PanicKind),
 }
@@ -76,18 +75,26 @@ impl From<ReadError> for RunError {
     }
 }
 
-impl From<ScriptError> for RunError {
+impl From<ScriptFault> for RunError {
     ghost use Rattle.std.specs.Prelude.{◌≡◌};
     ghost use Rattle.v6_run.specs.declared.run.RunError.TheVariants.{Refused};
 
-    ghost from_gives = { λ error run_error. run_error ≡ Refused error };
+    ghost from_gives = { λ fault run_error. run_error ≡ Refused fault };
 
-    fn from(error: ScriptError) -> RunError {
-        RunError::Refused(error)
+    fn from(fault: ScriptFault) -> RunError {
+        RunError::Refused(fault)
     }
 }
 
-/// The kernel for an image and so many clicks of core.
+/// Each byte is below 256. Nothing is read.
+fn see_bytes(bytes: &[u8])
+    ensures { AreBytes bytes.now }
+{
+    let _ = bytes;
+}
+
+/// The kernel for an image and so many clicks of core. Each of its runs has a lawful log.
+#[tactic(auto, using(crate::proofs::LogLemmas::lawful_logs))]
 pub(crate) fn boot(alloc: Global, image: &[u8], core: u32) -> Result<Kernel, RunError>
     requires least { 64 ≤ core }
     requires most { core ≤ 3968 }
@@ -95,8 +102,10 @@ pub(crate) fn boot(alloc: Global, image: &[u8], core: u32) -> Result<Kernel, Run
     ensures system { IfOk result (λ kernel. boots image.now core ≡ Some kernel.system) }
     ensures blocks { IfOk result (λ kernel. kernel.blocks ≡ blocks_of image.now) }
     ensures phase { IfOk result (λ kernel. kernel.phase ≡ New) }
+    ensures lawful { IfOk result (λ kernel. HasLawfulLogs kernel.system) }
     ensures memory { IfErr result (λ error. error ≡ RunError.NoMemory) }
 {
+    see_bytes(image);
     match Kernel::boot(alloc, image, core as u16) {
         Ok(kernel) => Ok(kernel),
         Err(BootFault::Image(_)) => unreachable!(),
@@ -106,7 +115,7 @@ pub(crate) fn boot(alloc: Global, image: &[u8], core: u32) -> Result<Kernel, Run
 
 /// Runs the kernel over the events of a script, with the terminal and the log open, and tells how the run ends. Where one of
 /// the two can't be written, the run goes on without both, and then that is the answer.
-fn play<H: Host>(kernel: &mut Kernel, events: &[Event], host: &mut H) -> Result<Ends, Output>
+fn play<H: Host>(kernel: &mut Kernel, events: &[Event], host: &mut H) -> Result<Ends, OutPort>
     requires term { IsOpen (H.outside host.old) (Out Term) }
     requires log { IsOpen (H.outside host.old) (Out Log) }
     requires new { kernel.old.phase ≡ New }
@@ -124,12 +133,13 @@ fn play<H: Host>(kernel: &mut Kernel, events: &[Event], host: &mut H) -> Result<
     ensures system { kernel.new.system ≡ (course (started kernel.old.system) (events_of events.now)).system }
     ensures rest { KeepsRest kernel.old kernel.new }
     ensures cause { MatchResult result (λ _. Calm (H.outside host.old) (H.outside host.new))
-        (λ output. FaultAt (Out (port_of output)) true (H.outside host.old) (H.outside host.new)) }
+        (λ port. FaultAt (Out port) true (H.outside host.old) (H.outside host.new)) }
+    ensures named { IfErr result (λ port. is_shown (Out port) ≡ true) }
 {
     let mut ports = Ports::new(host);
     let ends = show_run(kernel, events, &mut ports);
     match ports.failed() {
-        Some(output) => Err(output),
+        Some(port) => Err(port),
         None => Ok(ends),
     }
 }
@@ -141,25 +151,25 @@ fn run_to_disk<H: Host>(
     events: &[Event],
     files: &DiskFiles<'_>,
     host: &mut H,
-) -> Result<Ends, Output>
+) -> Result<Ends, OutPort>
     requires closed { (p : OutPort) → is_disk_output (Out p) ≡ true
         → ((H.outside host.old).port (Out p)).is_open ≡ false }
     requires root { (head (block_at kernel.old.blocks)).f_size ≤ SWAP_START }
     requires new { kernel.old.phase ≡ New }
+    requires lawful { HasLawfulLogs kernel.old.system }
     ensures only { OnlyAt is_disk_output (H.outside host.old) (H.outside host.new) }
     ensures outcome { MatchResult result
-        (λ ends. EndsRun is_disk_output
+        (λ ends. EndsRun (ToDisk (disk_files_value files.now))
         (disk_writes (block_at kernel.old.blocks) (course (started kernel.old.system) (events_of events.now)))
         (course (started kernel.old.system) (events_of events.now)) ends (H.outside host.old) (H.outside host.new))
-        (λ output. StopsRun is_disk_output
-        (disk_writes (block_at kernel.old.blocks) (course (started kernel.old.system) (events_of events.now))) output
-        (outputs_know (ToDisk (disk_files_value files.now)) (H.outside host.old).fixed (port_of output))
+        (λ port. StopsRun (ToDisk (disk_files_value files.now))
+        (disk_writes (block_at kernel.old.blocks) (course (started kernel.old.system) (events_of events.now))) port
         (H.outside host.old) (H.outside host.new)) }
 {
     open_outputs(files, host)?;
     let ends = play(kernel, events, host)?;
     if leave_disk(kernel, host).is_err() {
-        return Err(Output::Final);
+        return Err(OutPort::Final);
     }
     finish_outputs(host)?;
     Ok(ends)
@@ -171,22 +181,21 @@ fn run_with_outputs<H: Host>(
     events: &[Event],
     words: &RunWords<'_>,
     host: &mut H,
-) -> Result<Ends, Output>
+) -> Result<Ends, OutPort>
     requires closed { (p : OutPort) → is_output (run_words_value words.now).outputs (Out p) ≡ true
         → ((H.outside host.old).port (Out p)).is_open ≡ false }
     requires root { (head (block_at kernel.old.blocks)).f_size ≤ SWAP_START }
     requires new { kernel.old.phase ≡ New }
+    requires lawful { HasLawfulLogs kernel.old.system }
     ensures only { OnlyAt (is_output (run_words_value words.now).outputs) (H.outside host.old) (H.outside host.new) }
     ensures outcome { MatchResult result
-        (λ ends. EndsRun (is_output (run_words_value words.now).outputs)
+        (λ ends. EndsRun (run_words_value words.now).outputs
         (run_writes (run_words_value words.now).outputs (block_at kernel.old.blocks)
         (course (started kernel.old.system) (events_of events.now)))
         (course (started kernel.old.system) (events_of events.now)) ends (H.outside host.old) (H.outside host.new))
-        (λ output. StopsRun (is_output (run_words_value words.now).outputs)
+        (λ port. StopsRun (run_words_value words.now).outputs
         (run_writes (run_words_value words.now).outputs (block_at kernel.old.blocks)
-        (course (started kernel.old.system) (events_of events.now))) output
-        (outputs_know (run_words_value words.now).outputs (H.outside host.old).fixed (port_of output))
-        (H.outside host.old) (H.outside host.new)) }
+        (course (started kernel.old.system) (events_of events.now))) port (H.outside host.old) (H.outside host.new)) }
 {
     match &words.outputs {
         Outputs::Disk(files) => run_to_disk(kernel, events, files, host),
@@ -226,11 +235,11 @@ pub(crate) fn run<H: Host>(
     ensures { Answers (Run (run_words_value words.now)) (end_of run_status result) (H.outside host.old) (H.outside host.new) }
 {
     let files = read_files(alloc, words, host)?;
-    let script = read_script(alloc, &files.script)?;
+    let script = read(alloc, &files.script)?;
     let mut kernel = boot(alloc, &files.image, words.core)?;
     match run_with_outputs(&mut kernel, &script.events, words, host) {
         Ok(Ends::AtEnd) => Ok(()),
         Ok(Ends::Panic(kind)) => Err(RunError::Panic(kind)),
-        Err(output) => Err(RunError::Write(output)),
+        Err(port) => Err(RunError::Write(port)),
     }
 }

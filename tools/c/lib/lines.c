@@ -11,7 +11,7 @@ int putchar(int c)
 	return putc(c, stdout);
 }
 
-/* A line with its end, or as much of it as there is room for; NULL at the end of the file. */
+/* A line with its end, or as much of it as there is room for; NULL at the end of the file, and the room stays as it was. */
 char *fgets(char *to, int most, FILE *file)
 {
 	char *at = to;
@@ -22,8 +22,10 @@ char *fgets(char *to, int most, FILE *file)
 		if (c == '\n')
 			break;
 	}
+	if (at == to && most > 0)
+		return NULL;
 	*at = 0;
-	return at == to ? NULL : to;
+	return to;
 }
 
 int fputs(const char *text, FILE *file)

@@ -67,8 +67,11 @@ void free(void *old)
 
 void *calloc(size_t count, size_t size)
 {
-	void *room = malloc(count * size);
+	void *room;
 
+	if (size != 0 && count > 65535u / size)	/* the product is more than a size can be */
+		return NULL;
+	room = malloc(count * size);
 	if (room != NULL)
 		memset(room, 0, count * size);
 	return room;

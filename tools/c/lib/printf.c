@@ -1,5 +1,5 @@
-/* printf(III) and the like: %d, %u, %o, %x, %c, %s and %%; `l` before a number for a long; a width, `-` and `0` before it, and
- * `.N`, the most characters of a text. */
+/* printf(III) and the like: %d, %i, %u, %o, %x, %c, %s and %%; `l` before a number for a long; a width, `-`, `0`, `+` and a blank
+ * before it, and `.N`, the most characters of a text and the fewest digits of a number. */
 #include <stdio.h>
 #include <string.h>
 
@@ -21,27 +21,36 @@ static char *digits(unsigned long number, int base, char *end)
 	return end;
 }
 
-static int padded(FILE *file, const char *text, int size, int width, int left, int zeros)
+static int many(FILE *file, int c, int size)
 {
-	int count = 0;
+	int count;
 
-	if (zeros && *text == '-' && size > 0) {
-		putc(*text++, file);
-		count++, size--, width--;
-	}
-	for (; !left && width > size; width--, count++)
-		putc(zeros ? '0' : ' ', file);
-	for (width -= size; size > 0; size--, count++)
-		putc(*text++, file);
-	for (; left && width > 0; width--, count++)
-		putc(' ', file);
+	for (count = 0; count < size; count++)
+		putc(c, file);
 	return count;
+}
+
+/* A text after its sign and so many zeros, in a field of this width. */
+static int padded(FILE *file, int sign, int zeros, const char *text, int size, int width, int left)
+{
+	int count;
+
+	if (zeros < 0)
+		zeros = 0;
+	width -= size + zeros + (sign != 0);
+	count = left ? 0 : many(file, ' ', width);
+	if (sign)
+		count += many(file, sign, 1);
+	count += many(file, '0', zeros) + size;
+	while (size-- > 0)
+		putc(*text++, file);
+	return left ? count + many(file, ' ', width) : count;
 }
 
 int vfprintf(FILE *file, const char *form, va_list list)
 {
 	char buffer[14], *text;
-	int count = 0, width, most, left, zeros, wide, size;
+	int count = 0, width, most, left, zeros, wide, size, sign, plus;
 	unsigned long number;
 
 	for (; *form; form++) {
@@ -50,13 +59,15 @@ int vfprintf(FILE *file, const char *form, va_list list)
 			count++;
 			continue;
 		}
-		left = zeros = wide = width = 0;
-		most = 32767;
-		for (form++; *form == '-' || *form == '0'; form++)
+		left = zeros = wide = width = sign = plus = 0;
+		most = -1;
+		for (form++; *form == '-' || *form == '0' || *form == '+' || *form == ' '; form++)
 			if (*form == '-')
 				left = 1;
-			else
+			else if (*form == '0')
 				zeros = 1;
+			else if (plus != '+')
+				plus = *form;
 		for (; *form >= '0' && *form <= '9'; form++)
 			width = width * 10 + *form - '0';
 		if (*form == '.')
@@ -76,30 +87,40 @@ int vfprintf(FILE *file, const char *form, va_list list)
 			break;
 		case 's':
 			text = va_arg(list, char *);
-			zeros = 0;
-			for (size = 0; size < most && text[size]; size++)
+			for (size = 0; size != most && text[size]; size++)
 				;
 			break;
 		case 'd':
+		case 'i':
 			number = wide ? va_arg(list, long) : va_arg(list, int);
+			sign = plus;
 			if ((long)number < 0) {
-				text = digits(-(long)number, 10, buffer + 13);
-				*--text = '-';
-			} else
-				text = digits(number, 10, buffer + 13);
-			size = buffer + 13 - text;
+				number = -(long)number;
+				sign = '-';
+			}
+			text = digits(number, 10, buffer + 13);
+			size = -1;
 			break;
 		case 'u':
 		case 'o':
 		case 'x':
 			number = wide ? va_arg(list, unsigned long) : va_arg(list, unsigned);
 			text = digits(number, *form == 'o' ? 8 : *form == 'x' ? 16 : 10, buffer + 13);
-			size = buffer + 13 - text;
+			size = -1;
 			break;
 		default:
 			buffer[0] = *form;
 		}
-		count += padded(file, text, size, width, left, zeros);
+		if (size < 0) {		/* a number */
+			size = buffer + 13 - text;
+			if (most == 0 && number == 0)
+				size = 0;
+			if (most < 0 && zeros && !left)
+				most = width - (sign != 0);
+			most -= size;
+		} else
+			most = 0;
+		count += padded(file, sign, most, text, size, width, left);
 	}
 	return count;
 }

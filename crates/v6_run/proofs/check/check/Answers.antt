@@ -2,9 +2,10 @@ use Rattle.std.proofs.Common.{◌≡◌, ◌∙◌, Some, None, ap, take, is_som
 use Rattle.std.specs.Option.{option_map}
 use Rattle.v6_port.specs.Outside.{Tells}
 use Rattle.fs_codec.specs.Disk.{disk_of}
+use Rattle.fs_codec.specs.Faults.{image_fault}
 use Rattle.fs_codec.specs.Stands.{store_of}
 use Rattle.v6_run.specs.declared.image.TheConstants.{IMAGE_LIMIT}
-use Rattle.v6_run.proofs.ImageLemmas.{fault_given}
+use Rattle.v6_run.proofs.OpenedLemmas.{given_and}
 use Rattle.v6_run.proofs.ResultLemmas.{value_where_ok, match_where_ok}
 use Rattle.v6_run.proofs.CheckLemmas.{check_done, line_given, image_line_is}
 use Rattle.v6_run.proofs.check.check.Goals as goal
@@ -17,7 +18,7 @@ returns-clause-answers g c =
     let read = c.read_image.ensures in
     let whole : Tells old → option_map (take IMAGE_LIMIT) (old.fixed.given name) ≡ Some c.in_ok-image.image.items = value_where_ok _ _ _ c.in_ok-image.was read.bytes in
     check_done name old new read.only (match_where_ok _ _ _ _ c.in_ok-image.was read.cause)
-    (λ told. fault_given IMAGE_LIMIT _ c.in_ok-image.image.items None (whole told) (value_where_ok _ _ _ c.in_ok-image.was read.good))
+    (λ told. given_and IMAGE_LIMIT _ c.in_ok-image.image.items (λ l. image_fault l ≡ None) (whole told) (value_where_ok _ _ _ c.in_ok-image.was read.good))
 
 pub returns-clause-line : goal.returns-clause-line
 returns-clause-line g c =

@@ -1,7 +1,7 @@
 use Rattle.std.proofs.Common.{ℕ, List, sym, subst}
 use Rattle.buf_cache.specs.Blocks.{IsDisk}
 use Rattle.fs_laws.specs.Rest.{SameOutside}
-use Rattle.image_keep.specs.Holds.{SwapHolds}
+use Rattle.image_keep.specs.Holds.{AreRangesApart, SwapHolds}
 use Rattle.v6_run.proofs.outputs.leave_disk.Goals as goal
 
 pub returns-clause-rest : goal.returns-clause-rest
@@ -10,6 +10,9 @@ returns-clause-rest g c =
 
 pub returns-clause-form : goal.returns-clause-form
 returns-clause-form g c = subst IsDisk (sym c.finish.ensures.stored) c.finish.ensures.form
+
+pub returns-clause-apart : goal.returns-clause-apart
+returns-clause-apart g c = subst AreRangesApart c.finish.ensures.kept c.swap-swap.ensures.holds.apart
 
 pub returns-clause-written : goal.returns-clause-written
 returns-clause-written g c =

@@ -8,10 +8,9 @@ use Rattle.abstract_unix.specs.declared.ends.Ends.TheVariants as ends
 use Rattle.abstract_unix.specs.declared.ends.Ends.TheVariants.{AtEnd}
 use Rattle.abstract_unix.specs.Runs.{boots, started, course}
 use Rattle.v6_run.specs.Events.{events_of}
-use Rattle.v6_run.specs.Outputs.{is_output, run_writes, EndsRun}
+use Rattle.v6_run.specs.Outputs.{run_writes, EndsRun}
 use Rattle.v6_run.specs.Words.{Run, run_words_value}
-use Rattle.script_text.specs.Script.{script_of}
-use Rattle.v6_run.specs.Steps.{RefusesScript}
+use Rattle.script_text.specs.Script.{script_of, Refuses}
 use Rattle.v6_run.specs.Errors.{run_status}
 use Rattle.v6_run.specs.Answers.{Answers}
 use Rattle.v6_run.proofs.ResultLemmas.{value_where_ok, error_where_err, end_passed}
@@ -33,7 +32,7 @@ returns-in_err-script g c =
     let old = g.H.Host.outside c.args.host.now in
     let new = g.H.Host.outside c.read_files.new.host in
     let files = value_where_ok _ _ _ c.in_ok-files.was c.read_files.ensures.files in
-    let refused = subst (λ bytes. RefusesScript bytes c.in_err-script.field-0.0) c.deref.ensures.value (error_where_err _ _ _ c.in_err-script.was c.read_script.ensures.refused) in
+    let refused = subst (λ bytes. Refuses bytes c.in_err-script.field-0.0) c.deref.ensures.value (error_where_err _ _ _ c.in_err-script.was c.read.ensures.refused) in
     end_passed run_status _ _ (λ s. Answers (Run words) s old new) c.from_residual-in_err-script.ensures.1 (script_refused words _ _ old new files _ refused)
 
 pub returns-in_err-kernel : goal.returns-in_err-kernel
@@ -43,7 +42,7 @@ returns-in_err-kernel g c =
     let new = g.H.Host.outside c.read_files.new.host in
     let files = value_where_ok _ _ _ c.in_ok-files.was c.read_files.ensures.files in
     let events = c.in_ok-script.script.events.items in
-    let script_is = subst (λ bytes. script_of bytes ≡ Ok events) c.deref.ensures.value (value_where_ok _ _ _ c.in_ok-script.was c.read_script.ensures.events) in
+    let script_is = subst (λ bytes. script_of bytes ≡ Ok events) c.deref.ensures.value (value_where_ok _ _ _ c.in_ok-script.was c.read.ensures.events) in
     let memory = error_where_err _ _ _ c.in_err-kernel.was c.boot.ensures.memory in
     end_passed run_status _ _ (λ s. Answers (Run words) s old new) c.from_residual-in_err-kernel.ensures.1
     (subst (λ e. Answers (Run words) (run_status e) old new) (sym memory) (boot_refused words _ _ old new files _ script_is))
@@ -70,14 +69,14 @@ returns-in-Ok-AtEnd g c =
     let bytes = c.in_ok-files.files.script.items in
     let events = c.in_ok-script.script.events.items in
     let kernel = c.in_ok-kernel.kernel in
-    let read = subst (λ l. script_of l ≡ Ok events) c.deref.ensures.value (value_where_ok _ _ _ c.in_ok-script.was c.read_script.ensures.events) in
+    let read = subst (λ l. script_of l ≡ Ok events) c.deref.ensures.value (value_where_ok _ _ _ c.in_ok-script.was c.read.ensures.events) in
     let script_is = subst (λ l. script_of bytes ≡ Ok l) (sym c.deref-3.ensures.value) read in
     let boots_is = subst (λ l. boots l words.core ≡ Some kernel.system) c.deref-2.ensures.value (value_where_ok _ _ _ c.in_ok-kernel.was c.boot.ensures.system) in
     let blocks_is = subst (λ l. kernel.blocks ≡ blocks_of l) c.deref-2.ensures.value (value_where_ok _ _ _ c.in_ok-kernel.was c.boot.ensures.blocks) in
     let only = c.run_with_outputs.ensures.only in
     let field = c.in-Ok-AtEnd.field-0-is in
     let none : c.in-Ok-AtEnd.field-0 ≡ AtEnd = cc in
-    let ended = subst (λ (e : Ends). EndsRun (is_output words.outputs) (run_writes words.outputs (block_at kernel.blocks) (course (started kernel.system) (events_of c.deref-3.result.now))) (course (started kernel.system) (events_of c.deref-3.result.now)) e middle new) none c.in-Ok-AtEnd.ensures.outcome in
+    let ended = subst (λ (e : Ends). EndsRun words.outputs (run_writes words.outputs (block_at kernel.blocks) (course (started kernel.system) (events_of c.deref-3.result.now))) (course (started kernel.system) (events_of c.deref-3.result.now)) e middle new) none c.in-Ok-AtEnd.ensures.outcome in
     run_ended words image bytes old middle files _ script_is kernel.system boots_is new only AtEnd (ends_over (disk_of image) (block_at kernel.blocks) (same_blocks image kernel.blocks blocks_is) words.outputs _ _ _ _ ended)
 
 pub returns-in-Ok-Panic : goal.returns-in-Ok-Panic
@@ -91,7 +90,7 @@ returns-in-Ok-Panic g c =
     let bytes = c.in_ok-files.files.script.items in
     let events = c.in_ok-script.script.events.items in
     let kernel = c.in_ok-kernel.kernel in
-    let read = subst (λ l. script_of l ≡ Ok events) c.deref.ensures.value (value_where_ok _ _ _ c.in_ok-script.was c.read_script.ensures.events) in
+    let read = subst (λ l. script_of l ≡ Ok events) c.deref.ensures.value (value_where_ok _ _ _ c.in_ok-script.was c.read.ensures.events) in
     let script_is = subst (λ l. script_of bytes ≡ Ok l) (sym c.deref-3.ensures.value) read in
     let boots_is = subst (λ l. boots l words.core ≡ Some kernel.system) c.deref-2.ensures.value (value_where_ok _ _ _ c.in_ok-kernel.was c.boot.ensures.system) in
     let blocks_is = subst (λ l. kernel.blocks ≡ blocks_of l) c.deref-2.ensures.value (value_where_ok _ _ _ c.in_ok-kernel.was c.boot.ensures.blocks) in
@@ -99,7 +98,7 @@ returns-in-Ok-Panic g c =
     let field = c.in-Ok-Panic.field-0-is in
     let same = c.in-Ok-Panic.kind-is in
     let some : c.in-Ok-Panic.field-0 ≡ ends.Panic c.in-Ok-Panic.kind = cc in
-    let ended = subst (λ (e : Ends). EndsRun (is_output words.outputs) (run_writes words.outputs (block_at kernel.blocks) (course (started kernel.system) (events_of c.deref-3.result.now))) (course (started kernel.system) (events_of c.deref-3.result.now)) e middle new) some c.in-Ok-Panic.ensures.outcome in
+    let ended = subst (λ (e : Ends). EndsRun words.outputs (run_writes words.outputs (block_at kernel.blocks) (course (started kernel.system) (events_of c.deref-3.result.now))) (course (started kernel.system) (events_of c.deref-3.result.now)) e middle new) some c.in-Ok-Panic.ensures.outcome in
     run_ended words image bytes old middle files _ script_is kernel.system boots_is new only (ends.Panic c.in-Ok-Panic.kind) (ends_over (disk_of image) (block_at kernel.blocks) (same_blocks image kernel.blocks blocks_is) words.outputs _ _ _ _ ended)
 
 pub returns : goal.returns
@@ -113,9 +112,9 @@ returns g c =
     let bytes = c.in_ok-files.files.script.items in
     let events = c.in_ok-script.script.events.items in
     let kernel = c.in_ok-kernel.kernel in
-    let read = subst (λ l. script_of l ≡ Ok events) c.deref.ensures.value (value_where_ok _ _ _ c.in_ok-script.was c.read_script.ensures.events) in
+    let read = subst (λ l. script_of l ≡ Ok events) c.deref.ensures.value (value_where_ok _ _ _ c.in_ok-script.was c.read.ensures.events) in
     let script_is = subst (λ l. script_of bytes ≡ Ok l) (sym c.deref-3.ensures.value) read in
     let boots_is = subst (λ l. boots l words.core ≡ Some kernel.system) c.deref-2.ensures.value (value_where_ok _ _ _ c.in_ok-kernel.was c.boot.ensures.system) in
     let blocks_is = subst (λ l. kernel.blocks ≡ blocks_of l) c.deref-2.ensures.value (value_where_ok _ _ _ c.in_ok-kernel.was c.boot.ensures.blocks) in
     let only = c.run_with_outputs.ensures.only in
-    run_stopped words image bytes old middle files _ script_is kernel.system boots_is new only _ (stops_over (disk_of image) (block_at kernel.blocks) (same_blocks image kernel.blocks blocks_is) words.outputs _ _ _ _ _ c.in-Err.ensures.outcome)
+    run_stopped words image bytes old middle files _ script_is kernel.system boots_is new only _ (stops_over (disk_of image) (block_at kernel.blocks) (same_blocks image kernel.blocks blocks_is) words.outputs _ _ _ _ c.in-Err.ensures.outcome)

@@ -1,0 +1,28 @@
+-- What is opened one after another.
+use Rattle.std.proofs.Common.{◌≡◌, ℕ, Bool, true, false, if◌then◌else◌, Option, Some, None, IsSomeAnd, List, [], ◌∷◌, take, sym, subst}
+use Rattle.std.specs.Option.{option_map}
+use Rattle.v6_port.specs.Outside.{Port, Environment}
+use Rattle.v6_run.specs.Opened.{NamedPort, ports_before, IsGoodAt, AreGood}
+
+-- where all are good, those before a port are
+pub good_before : (fixed : Environment) (ports : List NamedPort) (q : Port) → AreGood fixed ports → AreGood fixed (ports_before ports q)
+good_before fixed [] q good = tt
+good_before fixed (p ∷ ports) q good = at _
+  where
+    at : (b : Bool) → AreGood fixed (if b then [] else p ∷ ports_before ports q)
+    at true = tt
+    at false = (good.0, good_before fixed ports q good.1)
+
+pub good_first : (fixed : Environment) (p : NamedPort) (ports : List NamedPort) (q : Port) → IsGoodAt fixed p.name p.port → AreGood fixed (ports_before ports q)
+    → AreGood fixed (ports_before (p ∷ ports) q)
+good_first fixed p ports q good rest = at _
+  where
+    at : (b : Bool) → AreGood fixed (if b then [] else p ∷ ports_before ports q)
+    at true = tt
+    at false = (good, rest)
+
+-- what holds of the bytes that were read holds of those that are given
+pub given_and : (n : ℕ) (given : Option (List ℕ)) (bytes : List ℕ) (P : List ℕ → Type 0) → option_map (take n) given ≡ Some bytes → P bytes
+    → IsSomeAnd given (λ b. P (take n b))
+given_and n None bytes P is holds = cc
+given_and n (Some b) bytes P is holds = let same_bytes : take n b ≡ bytes = cc in subst P (sym same_bytes) holds

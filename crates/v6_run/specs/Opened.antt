@@ -1,0 +1,92 @@
+-- The files that a command opens, in the order of docs/manual/commands.md, and what lets it go on after each.
+use Rattle.std.specs.Prelude.{◌≡◌, ⊤, ℕ, Bool, true, false, ◌||◌, if◌then◌else◌, Option, Some, None, IsSomeAnd, IsOk, List, [], ◌∷◌, take}
+use Rattle.v6_port.specs.declared.host.InPort.{InPort}
+use Rattle.v6_port.specs.declared.host.InPort.TheVariants as in_port
+use Rattle.v6_port.specs.declared.host.OutPort.{OutPort}
+use Rattle.v6_port.specs.declared.host.OutPort.TheVariants as out_port
+use Rattle.v6_port.specs.Outside.{Port, In, Out, same, Environment, Outside, Tells}
+use Rattle.v6_port.specs.Calls.{is_given, is_expected}
+use Rattle.fs_codec.specs.Faults.{image_fault}
+use Rattle.script_text.specs.Script.{script_of}
+use Rattle.v6_run.specs.declared.image.TheConstants.{IMAGE_LIMIT}
+use Rattle.v6_run.specs.declared.run.TheConstants.{SCRIPT_LIMIT}
+use Rattle.v6_run.specs.declared.status.Status.{Status}
+use Rattle.v6_run.specs.declared.status.Status.TheVariants as status
+use Rattle.v6_run.specs.Words.{Outputs, ToDisk, ToMemory, Command, Run, Check, Make, Demo}
+
+-- a port, and the name that a command's words give for it
+pub record NamedPort : Type 0 where
+  pub port : Port
+  pub name : List ℕ
+
+abbrev pub input : InPort → List ℕ → NamedPort
+input p name = record { port = In p; name = name }
+
+abbrev pub output : OutPort → List ℕ → NamedPort
+output p name = record { port = Out p; name = name }
+
+-- The ports that a command opens, in this order. All are opened before a byte is written.
+abbrev pub output_ports : Outputs → List NamedPort
+output_ports (ToDisk files) = output out_port.Term files.term ∷ output out_port.Log files.log ∷ output out_port.Final files.final_disk ∷ []
+output_ports (ToMemory final) = output out_port.Final final ∷ []
+
+abbrev pub command_ports : Command → List NamedPort
+command_ports (Run words) = input in_port.Image words.image ∷ input in_port.Script words.script ∷ output_ports words.outputs
+command_ports (Check image) = input in_port.Image image ∷ []
+command_ports (Make number final) = output out_port.Final final ∷ []
+command_ports (Demo number) = []
+
+abbrev pub words_ports : Option Command → List NamedPort
+words_ports None = []
+words_ports (Some command) = command_ports command
+
+-- whether a port is among them
+abbrev pub has_port : List NamedPort → Port → Bool
+has_port [] q = false
+has_port (p ∷ ports) q = same p.port q || has_port ports q
+
+-- those that are opened before a port is
+abbrev pub ports_before : List NamedPort → Port → List NamedPort
+ports_before [] q = []
+ports_before (p ∷ ports) q = if same p.port q then [] else p ∷ ports_before ports q
+
+-- whether one of them is read
+abbrev pub is_input : Port → Bool
+is_input (In p) = true
+is_input (Out p) = false
+
+abbrev pub has_input : List NamedPort → Bool
+has_input [] = false
+has_input (p ∷ ports) = is_input p.port || has_input ports
+
+-- the host tells the bytes that are read, if any are
+abbrev pub TellsInputs : List NamedPort → Outside → Type 0
+TellsInputs ports o = has_input ports ≡ true → Tells o
+
+-- whether a name is given, or expected at the port
+abbrev pub knows_name : Environment → List ℕ → Port → Bool
+knows_name fixed name (In p) = is_given (fixed.given name)
+knows_name fixed name (Out p) = is_expected (fixed.expects p) name
+
+abbrev pub knows_port : List NamedPort → Environment → Port → Bool
+knows_port [] fixed q = true
+knows_port (p ∷ ports) fixed q = if same p.port q then knows_name fixed p.name p.port else knows_port ports fixed q
+
+-- What lets a command go on: an image is given and has no fault, nor has a script, and an output is expected under its name.
+abbrev pub IsGoodAt : Environment → List ℕ → Port → Type 0
+IsGoodAt fixed name (In in_port.Image) = IsSomeAnd (fixed.given name) (λ bytes. image_fault (take IMAGE_LIMIT bytes) ≡ None)
+IsGoodAt fixed name (In in_port.Script) = IsSomeAnd (fixed.given name) (λ bytes. IsOk (script_of (take SCRIPT_LIMIT bytes)))
+IsGoodAt fixed name q = knows_name fixed name q ≡ true
+
+abbrev pub AreGood : Environment → List NamedPort → Type 0
+AreGood fixed [] = ⊤
+AreGood fixed (p ∷ ports) = IsGoodAt fixed p.name p.port × AreGood fixed ports
+
+-- the ports that a command which ends so has come past
+abbrev pub ports_passed : Status → List NamedPort → List NamedPort
+ports_passed status.Done ports = ports
+ports_passed (status.Panic kind) ports = ports
+ports_passed (status.ScriptFault fault) ports = ports_before ports (In in_port.Script)
+ports_passed (status.ReadFault p) ports = ports_before ports (In p)
+ports_passed (status.WriteFault p) ports = ports_before ports (Out p)
+ports_passed _ ports = []
