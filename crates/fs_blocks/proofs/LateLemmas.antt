@@ -1,6 +1,7 @@
 -- What the disk has where blocks are written late: nothing has moved, or it has moved twice over the same blocks.
-use Rattle.std.proofs.Common.{◌≡◌, ℕ, inl, inr, List, refl, ap, ◌∙◌}
-use Rattle.buf_cache.specs.Blocks.{block_at, WritesLate}
+use Rattle.std.proofs.Common.{◌≡◌, ◌⊎◌, ◌<◌, ℕ, inl, inr, List, [], length, refl, sym, ap, ◌∙◌, arith}
+use Rattle.std.proofs.lemmas.List.{same_lists, get_or_default}
+use Rattle.buf_cache.specs.Blocks.{block_at, IsDisk, WritesLate}
 
 pub late_stays : (stored blocks : List (List ℕ)) → WritesLate stored blocks stored
 late_stays stored blocks = record { count = refl; each = λ n low. inl refl }
@@ -14,3 +15,14 @@ late_then stored blocks middle same after is first second = record {
     | inr h ↦ inr (h ∙ ap (λ l. block_at l n) is)
   ];
 }
+
+-- Where the disk has all blocks already, it has them still.
+pub late_same : (blocks after : List (List ℕ)) → IsDisk blocks → WritesLate blocks blocks after → after ≡ blocks
+late_same blocks after is late =
+    let long = late.count in
+    let count = is.count in
+    same_lists after blocks long (λ n d low.
+    get_or_default after n d [] low ∙ one (late.each n (omega (arith, long, count, low))) ∙ get_or_default blocks n [] d (omega (arith, long, low))) where
+  one : {A : Type 0} {x y : A} → (x ≡ y) ⊎ (x ≡ y) → x ≡ y
+  one (inl h) = h
+  one (inr h) = h

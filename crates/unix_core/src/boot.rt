@@ -41,6 +41,7 @@ fn file_system_of(alloc: Global, image: &[u8]) -> Result<(Nodes, u32), AllocErro
     ensures store { IfOk result (λ made. made.0.store ≡ store_of (disk_of image.now)) }
     ensures references { IfOk result (λ made. made.0.references ≡ replicate (made.0.store.count + 1) 0) }
     ensures blocks { IfOk result (λ made. made.0.blocks ≡ blocks_of image.now) }
+    ensures stored { IfOk result (λ made. made.0.stored ≡ blocks_of image.now) }
     ensures time { IfOk result (λ made. made.1 ≡ (store_of (disk_of image.now)).stamp) }
 {
     let disk = Disk::from_bytes(alloc, image)?;
@@ -85,6 +86,7 @@ impl Kernel {
         requires most { core ≤ 3968 }
         ensures system { IfOk result (λ kernel. boots image.now core ≡ Some kernel.system) }
         ensures blocks { IfOk result (λ kernel. kernel.blocks ≡ blocks_of image.now) }
+        ensures stored { IfOk result (λ kernel. kernel.stored ≡ blocks_of image.now) }
         ensures phase { IfOk result (λ kernel. kernel.phase ≡ New) }
         ensures refused { IfErr result (RefusesBoot image.now) }
     {
