@@ -1,20 +1,10 @@
--- What the disk has where blocks are written late: nothing has moved, or it has moved twice over the same blocks.
-use Rattle.std.proofs.Common.{◌≡◌, ◌⊎◌, ◌<◌, ℕ, inl, inr, List, [], length, refl, sym, ap, ◌∙◌, arith}
+-- What the disk has where blocks are written late.
+use Rattle.std.proofs.Common.{◌≡◌, ◌⊎◌, ◌<◌, ℕ, inl, inr, List, [], length, refl, ◌∙◌, arith}
 use Rattle.std.proofs.lemmas.List.{same_lists, get_or_default}
 use Rattle.buf_cache.specs.Blocks.{block_at, IsDisk, WritesLate}
 
 pub late_stays : (stored blocks : List (List ℕ)) → WritesLate stored blocks stored
 late_stays stored blocks = record { count = refl; each = λ n low. inl refl }
-
-pub late_then : (stored blocks middle same after : List (List ℕ)) → same ≡ blocks → WritesLate stored blocks middle → WritesLate middle same after
-    → WritesLate stored blocks after
-late_then stored blocks middle same after is first second = record {
-  count = second.count ∙ first.count;
-  each = λ n low. elim (second.each n low) [
-    | inl h ↦ elim (first.each n low) [ inl g ↦ inl (h ∙ g) | inr g ↦ inr (h ∙ g) ]
-    | inr h ↦ inr (h ∙ ap (λ l. block_at l n) is)
-  ];
-}
 
 -- Where the disk has all blocks already, it has them still.
 pub late_same : (blocks after : List (List ℕ)) → IsDisk blocks → WritesLate blocks blocks after → after ≡ blocks
