@@ -10,6 +10,7 @@ use crate::kernel::Kernel;
 use buf_cache::{Cache, Disk};
 use fs_blocks::Volume;
 use fs_check::{ImageFault, accept};
+use fs_codec::{BLOCK_SIZE, DISK_BYTES, SWAP_START};
 use fs_nodes::Nodes;
 use image_keep::Images;
 use pdp_decode::Dispatch;
@@ -21,10 +22,11 @@ const TAPE_ENTRIES: usize = 64;
 
 const TAPE_BYTES: usize = 524288;
 
-/// Where the swap area begins on the disk, and its size, in bytes.
-const SWAP_AT: usize = 2_048_000;
+/// Where the swap area begins on the disk, in bytes.
+const SWAP_AT: usize = BLOCK_SIZE * SWAP_START as usize;
 
-const SWAP_BYTES: usize = 446_464;
+/// Its size, up to the end of the disk, in bytes.
+const SWAP_BYTES: usize = DISK_BYTES - SWAP_AT;
 
 /// Why there is no kernel for an image.
 #[derive(Clone, Copy, Debug, PartialEq, Eq)]
