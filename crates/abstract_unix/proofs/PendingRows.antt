@@ -14,7 +14,6 @@ use Rattle.sys_files.specs.Handed.{Handed, no_file}
 use Rattle.sys_files.specs.Did.{Did, fails}
 use Rattle.sys_files.specs.Core.{core_file}
 use Rattle.sys_files.specs.Descriptors.{close_all}
-use Rattle.sys_files.specs.Piping.{waits_in_pipe}
 use Rattle.sys_files.specs.Moving.{resumes}
 use Rattle.abstract_unix.specs.declared.calls.FileCall.{FileCall}
 use Rattle.abstract_unix.specs.declared.calls.FileCall.TheVariants as file

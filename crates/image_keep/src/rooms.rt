@@ -15,7 +15,7 @@ fn is_room_in(map: &Holes, n: u16) -> bool
     if n == 0 {
         return true;
     }
-    map.fits(n)
+    map.find(n).is_some()
 }
 
 impl Images {

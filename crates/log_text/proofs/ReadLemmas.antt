@@ -1,4 +1,4 @@
--- Numbers and channels in their ranges are read back from their words.
+-- Numbers and channels that a field holds are read back from their words.
 use Rattle.std.proofs.Common.{◌≡◌, ◌<◌, ◌^◌, ℕ, ℤ, pos, negsuc, suc, true, false, Some, leb, refl, ◌∙◌, ap, arith}
 use Rattle.std.specs.Fmt.{decimal, signed_decimal}
 use Rattle.std.specs.Option.{option_map, option_and_then}
@@ -10,7 +10,8 @@ use Rattle.std.proofs.lemmas.Str.Parse.{not_in_digits}
 use Rattle.v6_base.specs.declared.entry.Chan.{Chan}
 use Rattle.v6_base.specs.declared.entry.Chan.TheVariants.{RunIn, RunOut, Tout, Keys, Wait, Read, Write}
 use Rattle.v6_base.specs.LogLine.{channel}
-use Rattle.pick_rules.specs.Ranges.{IsSlot, IsText, IsSignal, IsClicks, IsBlock, IsInode, IsTime, IsPriority, IsChannel}
+use Rattle.pick_rules.specs.Ranges.{IsPriority}
+use Rattle.log_text.specs.Held.{IsByte, IsWord, IsLong, HoldsChannel}
 use Rattle.log_text.specs.inside.Reading.{number_of, signed_of, negated, not_negated, channel_of}
 use Rattle.log_text.proofs.NumberLemmas.{own, number_is}
 
@@ -26,26 +27,14 @@ no_minus n below =
     let other = not_in_digits own (decimal n) 45 digits (λ range. omega arith) 0 numeral.0.0 in
     grind (arith, nat_tests)
 
-pub slot_back : (n : ℕ) → IsSlot n → number_of 8 (decimal n) ≡ Some n
-slot_back n range = number_back 8 n (omega arith) (omega arith)
+pub byte_back : (n : ℕ) → IsByte n → number_of 8 (decimal n) ≡ Some n
+byte_back n range = number_back 8 n (omega arith) (omega arith)
 
-pub text_back : (n : ℕ) → IsText n → number_of 8 (decimal n) ≡ Some n
-text_back n range = number_back 8 n (omega arith) (omega arith)
+pub word_back : (n : ℕ) → IsWord n → number_of 16 (decimal n) ≡ Some n
+word_back n range = number_back 16 n (omega arith) (omega arith)
 
-pub signal_back : (n : ℕ) → IsSignal n → number_of 8 (decimal n) ≡ Some n
-signal_back n range = number_back 8 n (omega arith) (omega arith)
-
-pub clicks_back : (n : ℕ) → IsClicks n → number_of 16 (decimal n) ≡ Some n
-clicks_back n range = number_back 16 n (omega arith) (omega arith)
-
-pub block_back : (n : ℕ) → IsBlock n → number_of 16 (decimal n) ≡ Some n
-block_back n range = number_back 16 n (omega arith) (omega arith)
-
-inode_back : (n : ℕ) → IsInode n → number_of 16 (decimal n) ≡ Some n
-inode_back n range = number_back 16 n (omega arith) (omega arith)
-
-pub time_back : (n : ℕ) → IsTime n → number_of 32 (decimal n) ≡ Some n
-time_back n range = number_back 32 n (omega arith) (omega arith)
+pub long_back : (n : ℕ) → IsLong n → number_of 32 (decimal n) ≡ Some n
+long_back n range = number_back 32 n (omega arith) (omega arith)
 
 not_negated_is : (n : ℕ) → n < 128 → not_negated n ≡ Some (pos n)
 not_negated_is n below = grind (arith, nat_tests)
@@ -62,11 +51,11 @@ signed_back (negsuc n) range =
     let below : n < 128 = omega (arith, ints) in
     ap (option_and_then negated) (number_back 8 (suc n) (omega arith) (omega arith)) ∙ negated_is n below
 
-pub channel_back : (chan : Chan) → IsChannel chan → channel_of (channel chan) ≡ Some chan
+pub channel_back : (chan : Chan) → HoldsChannel chan → channel_of (channel chan) ≡ Some chan
 channel_back RunIn range = refl
 channel_back RunOut range = refl
 channel_back Tout range = refl
 channel_back Keys range = refl
-channel_back (Wait slot) range = ap (option_map Wait) (slot_back slot range)
-channel_back (Read inode) range = ap (option_map Read) (inode_back inode range)
-channel_back (Write inode) range = ap (option_map Write) (inode_back inode range)
+channel_back (Wait slot) range = ap (option_map Wait) (byte_back slot range)
+channel_back (Read inode) range = ap (option_map Read) (word_back inode range)
+channel_back (Write inode) range = ap (option_map Write) (word_back inode range)

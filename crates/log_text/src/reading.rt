@@ -1,8 +1,9 @@
 //! What the line of an entry is read back as.
-ghost use Rattle.std.specs.Prelude.{◌≡◌, ◌≢◌, ◌↔◌, Some, IsTrue, MatchOption};
+ghost use Rattle.std.specs.Prelude.{◌≡◌, ◌≢◌, ◌↔◌, ◌≤◌, length, Some, IsTrue, MatchOption};
 ghost use Rattle.v6_base.specs.declared.entry.Entry.{Entry};
 ghost use Rattle.v6_base.specs.LogLine.{entry_line};
 ghost use Rattle.pick_rules.specs.Ranges.{IsInRange};
+ghost use Rattle.log_text.specs.Held.{IsHeld};
 
 use crate::entries::entry;
 use crate::ranges::is_in_range;
@@ -25,7 +26,8 @@ pub fn parse(bytes: &[u8]) -> Option<Entry>
     ensures entry { MatchOption result ((e : Entry) → IsInRange e → bytes.now ≢ entry_line e)
         (λ e. IsInRange e × (bytes.now ≡ entry_line e)) }
     ensures back { (e : Entry) → IsInRange e → bytes.now ≡ entry_line e → result ≡ Some e }
-    ensures unique { (e f : Entry) → IsInRange e → IsInRange f → entry_line e ≡ entry_line f → e ≡ f }
+    ensures unique { (e f : Entry) → IsHeld e → IsHeld f → entry_line e ≡ entry_line f → e ≡ f }
+    ensures short { (e : Entry) → IsHeld e → length (entry_line e) ≤ 80 }
 {
     let found = entry(bytes)?;
     if is_line(found, bytes) {

@@ -10,4 +10,4 @@ mod table;
 
 pub use crate::ranges::{LAST_BLOCK, LAST_SIGNAL, LAST_SLOT, LAST_TEXT, SWAP_START};
 pub use crate::row::{Mode, Second, Stat, TableRow};
-pub use crate::table::Table;
+pub use crate::table::{EMPTY_ROW, Table};

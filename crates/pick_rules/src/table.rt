@@ -40,7 +40,7 @@ pub struct Table {
 }
 
 /// A slot with no process.
-const EMPTY: TableRow = TableRow {
+pub const EMPTY_ROW: TableRow = TableRow {
     stat: Stat::Empty,
     pri: 0,
     cpu: 0,
@@ -59,7 +59,7 @@ impl Table {
         ensures table { result ≡ first_table now }
         ensures good { IsTable result }
     {
-        let mut rows = [EMPTY; 50];
+        let mut rows = [EMPTY_ROW; 50];
         rows[0].stat = Stat::Ready;
         rows[1].stat = Stat::Ready;
         rows[1].size = 17;

@@ -1,5 +1,5 @@
 -- Searches, and what makes, truncates and frees a node, leave the number of nodes; a number that is drawn is one of a node.
-use Rattle.std.proofs.Common.{◌≡◌, ◌≤◌, ◌∙◌, ◌-◌, ◌&&◌, ℕ, Bool, true, false, not, nat_lt, nat_le, cond, List, [], ◌∷◌, reverse, slice_index, slice_set, is_some, is_none, Option, Some, None, Result, Ok, Err, refl, ap, subst}
+use Rattle.std.proofs.Common.{◌≡◌, ◌≤◌, ◌∙◌, ◌&&◌, ℕ, Bool, true, false, not, nat_lt, nat_le, cond, List, [], ◌∷◌, reverse, slice_index, slice_set, is_some, is_none, Option, Some, None, Result, Ok, Err, refl, ap, subst}
 use Rattle.std.proofs.lemmas.Bool.{leb-true, and_parts}
 use Rattle.v6_base.specs.declared.errno.Errno.{Errno}
 use Rattle.v6_base.specs.declared.errno.Errno.TheVariants.{ENFILE}

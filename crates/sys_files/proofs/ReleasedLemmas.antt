@@ -1,5 +1,5 @@
 -- What a number that lets its file go changes: the pipes, a terminal line, and a reference to the inode.
-use Rattle.std.proofs.Common.{◌≡◌, ◌⊎◌, ℕ, Bool, true, false, not, ◌<◌, ◌==◌, ◌&&◌, List, length, cond, Option, Some, None, slice_set, refl, ap, ◌∙◌, subst, sym, inl, inr}
+use Rattle.std.proofs.Common.{◌≡◌, ◌⊎◌, ℕ, Bool, true, false, not, ◌<◌, ◌==◌, ◌&&◌, List, [], ◌∷◌, length, cond, Option, Some, None, slice_set, refl, ap, ◌∙◌, subst, sym, inl, inr}
 use Rattle.open_files.specs.declared.file.OpenFile.{OpenFile}
 use Rattle.open_files.specs.declared.file.Closed.TheVariants.{Still, Last}
 use Rattle.open_files.specs.Files.{file_at, with_fewer, closed}
@@ -7,7 +7,10 @@ use Rattle.pipe_ends.specs.declared.ends.Pipe.{Pipe}
 use Rattle.tty_line.specs.Terminal as terminal
 use Rattle.sys_files.specs.Handed.{Handed, line_of, node_at, let_go}
 use Rattle.sys_files.specs.Pipes.{place_of, pipe_of, with_pipe, without_pipe, has_end, ArePipes}
-use Rattle.sys_files.specs.Descriptors.{is_line_open, closes_line, line_closed, without_marks, with_roused, is_gone_with, with_gone, released}
+use Rattle.v6_base.specs.Trace.{Log}
+use Rattle.v6_base.specs.declared.entry.Chan.TheVariants.{Keys}
+use Rattle.v6_base.specs.declared.entry.Entry.TheVariants.{Wake}
+use Rattle.sys_files.specs.Descriptors.{Closing, is_line_open, closes_line, line_closed, without_marks, with_roused, is_gone_with, with_gone, released}
 use Rattle.sys_files.proofs.PipeLemmas.{pipes_marked, pipes_freed}
 
 -- the pipes when an end has been closed, and when it was the last
@@ -46,8 +49,11 @@ pub line_closed_is : (h : Handed) (line : Option ℕ) → (closes_line h line).s
 line_closed_is h None = refl
 line_closed_is h (Some l) = by (is_line_open h l)
   where
-    by : (t : Bool) → (cond t h (record h { line = terminal.closed h.line }))
-        ≡ record h { line = (cond t h (record h { line = terminal.closed h.line })).line }
+    shut : Closing
+    shut = record { state = record h { line = terminal.closed h.line }; items = Log (Wake Keys) ∷ [] }
+
+    by : (used : Bool) → (cond used (record { state = h; items = [] }) shut).state
+        ≡ record h { line = (cond used (record { state = h; items = [] }) shut).state.line }
     by true = refl
     by false = refl
 

@@ -1,8 +1,7 @@
 -- What a call on files leaves as it is: who its process is, its registers, times and handlers, and the sizes of its image.
 -- `user.h` and `proc.h` in Lions' Commentary.
-use Rattle.std.proofs.Common.{◌≡◌, ◌+◌, ◌*◌, ◌≤◌, ◌==◌, ◌++◌, ◌&&◌, ℕ, suc, Bool, true, false, not, cond, subst, List, [], ◌∷◌, length, replicate, fold, slice_index, refl, arith, slice_set, Option}
+use Rattle.std.proofs.Common.{◌≡◌, ◌+◌, ◌*◌, ◌≤◌, ◌==◌, ◌++◌, ◌&&◌, ℕ, suc, Bool, true, false, not, cond, List, [], ◌∷◌, length, replicate, fold, slice_index, refl, arith, slice_set, Option, Some, None}
 use Rattle.std.specs.List.{range_with_len}
-use Rattle.std.proofs.lemmas.List.{append-nil}
 use Rattle.std.proofs.lemmas.List.FromFn.{length-range_with_len}
 use Rattle.v6_base.specs.Trace.{Log}
 use Rattle.sig_core.specs.declared.numbers.TheConstants.{SIGPIPE, SIGKIL}
@@ -16,7 +15,7 @@ use Rattle.u_area.specs.declared.area.UArea.{UArea}
 use Rattle.u_area.proofs.AreaLemmas.{one_area}
 use Rattle.open_files.specs.declared.file.Closed.{Closed}
 use Rattle.open_files.specs.declared.file.Closed.TheVariants.{Still, Last}
-use Rattle.sys_files.specs.Handed.{Handed}
+use Rattle.sys_files.specs.Handed.{Handed, line_of, line_at, with_line, keys_of, node_at}
 use Rattle.sys_files.specs.Did.{Did}
 use Rattle.sys_files.specs.Descriptors.{with_roused, pipe_roused, with_gone, is_line_open, Closing, closes_line, released, told_by, dropped, closes, then_closes, close_all}
 use Rattle.sys_files.specs.Moving.{resumes}
@@ -25,6 +24,7 @@ use Rattle.sys_files.proofs.Bounds.{Fits, fits_none, fits_lines, fits_shown, Are
 use Rattle.sys_files.proofs.Walks.{Walks, IsAwaiting, walk_closes, walk_resume, closes_all}
 use Rattle.open_files.specs.declared.file.OpenFile.{OpenFile}
 use Rattle.open_files.specs.Files.{entry_of}
+use Rattle.tty_line.specs.Terminal as terminal
 
 -- What stays of a row of the table of processes. A process gets a terminal with the first one that it opens, and a signal where
 -- it writes to a pipe that nobody reads.
@@ -216,7 +216,7 @@ line_wakes : (h : Handed) (line : Option ℕ) → AreWakes 1 (closes_line h line
 line_wakes h None = wakes_up_to 0 1 [] (omega arith) none_wakes
 line_wakes h (Some l) = by (is_line_open h l)
   where
-    by : (open : Bool) → AreWakes 1 (cond {A = Closing} open (record { state = h; items = [] })
+    by : (used : Bool) → AreWakes 1 (cond {A = Closing} used (record { state = h; items = [] })
         (record { state = with_line h l (terminal.closed (line_at h l)); items = Log (Wake (keys_of l)) ∷ [] })).items
     by true = wakes_up_to 0 1 [] (omega arith) none_wakes
     by false = one_wakes Keys tt

@@ -495,8 +495,8 @@ module _ {P : Handed → Type 0} {Q : Did → Type 0} {Few Known : ℕ → Type 
       shut l = with_line h l (terminal.closed (line_at h l))
 
       closing : ℕ → Bool → Closing
-      closing l open =
-          if open then record { state = h; items = [] }
+      closing l used =
+          if used then record { state = h; items = [] }
           else record { state = shut l; items = Log (Wake (keys_of l)) ∷ [] }
 
       stays : Q (record { answer = Ret a b; state = let_go h file.ino; items = pipe_roused file ++ [] })
@@ -504,10 +504,10 @@ module _ {P : Handed → Type 0} {Q : Did → Type 0} {Few Known : ℕ → Type 
           closes_by (let_go h file.ino) a b file.ino file.kind.pipe false known
           (k.inodes h (let_go h file.ino).inodes (put_back_count h.inodes file.ino) p)
 
-      either : (l : ℕ) (open : Bool) → Q (record {
+      either : (l : ℕ) (used : Bool) → Q (record {
         answer = Ret a b;
-        state = let_go (closing l open).state file.ino;
-        items = pipe_roused file ++ (closing l open).items;
+        state = let_go (closing l used).state file.ino;
+        items = pipe_roused file ++ (closing l used).items;
       })
       either l true = stays
       either l false =

@@ -95,18 +95,6 @@ fn end_slot(table: &mut Table, s: Slot, block: u16)
     table.running = None;
 }
 
-/// Wakes those who sleep for a channel.
-fn wake<T: Trace>(table: &mut Table, chan: Chan, trace: &mut T)
-    requires { IsTable table.old }
-    ensures table { table.new ≡ wakeup table.old chan }
-    ensures good { IsTable table.new }
-    ensures items { Took (T.taken trace.old) (Log (Entry.Wake chan) ∷ []) (T.taken trace.new) }
-    ensures frame { T.leads_to trace.old trace.new }
-{
-    table.wakeup(chan);
-    trace.entry(Entry::Wake(chan));
-}
-
 /// Makes the process in a slot one that has ended, of which a block of the swap area is kept; wakes process 1 and the
 /// parent, where they wait for a child; and gives its children to process 1, which is the parent where no slot is.
 #[tactic(auto, using(v6_base::proofs::Took::takes))]
@@ -133,8 +121,8 @@ fn end_row<T: Trace>(p: &mut Procs, s: Slot, block: u16, parent: Option<Slot>, t
     end_slot(&mut p.table, s, block);
     p.rows.end_row(s);
     trace.entry(Entry::Exit { slot: s, block });
-    wake(&mut p.table, Chan::Wait(INIT), trace);
-    wake(&mut p.table, Chan::Wait(parent.unwrap_or(INIT)), trace);
+    p.table.wake(Chan::Wait(INIT), trace);
+    p.table.wake(Chan::Wait(parent.unwrap_or(INIT)), trace);
     adopt_strays(&mut p.rows, row.ppid, parent);
     p.rows.adopt(row.pid);
 }

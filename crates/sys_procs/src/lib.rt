@@ -26,6 +26,7 @@ pub use fork::fork_one;
 pub use growth::{break_at, grow};
 pub use ids::{get_gid, get_uid, nice_to, no_op, pid_of, set_gid, set_uid, switches};
 pub use procs::Procs;
+pub use program::Program;
 pub use resume::resume_proc;
 pub use signals::{kill_to, send_signal, signal_line, signal_set, signal_slot};
 pub use times::{set_time, sleep_for, time_now, times_to};

@@ -5,7 +5,7 @@ use aout_head::Plan;
 /// A file that can be executed: its inode, to which the call refers, the sizes of its parts in bytes, the clicks of its text, and
 /// its arguments.
 #[derive(Drop)]
-pub(crate) struct Program {
+pub struct Program {
     pub(crate) ino: u16,
     pub(crate) plan: Plan,
     pub(crate) text_clicks: u16,

@@ -57,8 +57,7 @@ fn put_time<T: Trace>(p: &mut Procs, s: Slot, time: u32, trace: &mut T)
 {
     p.table.now = time;
     trace.entry(Entry::Time(time));
-    p.table.wakeup(Chan::Tout);
-    trace.entry(Entry::Wake(Chan::Tout));
+    p.table.wake(Chan::Tout, trace);
 }
 
 /// The time in its high and its low word.

@@ -18,27 +18,13 @@ use crate::procs::Procs;
 use crate::seen::see;
 use fs_codec::{long_at, word_at};
 use fs_tree::Tree;
-use pick_rules::{Stat, Table, TableRow};
+use pick_rules::{EMPTY_ROW, Table};
 use proc_tab::Child;
 use u_area::{STATUS, TIMES, UArea, WAIT_CALL};
 use v6_base::{Answer, Chan, Entry, Errno, PanicKind, Slot, Trace};
 
 /// What a process sleeps at that waits for a child: Lions' Commentary, `param.h`.
 const PWAIT: i8 = 40;
-
-/// A slot with no process.
-const EMPTY: TableRow = TableRow {
-    stat: Stat::Empty,
-    pri: 0,
-    cpu: 0,
-    time: 0,
-    nice: 0,
-    size: 0,
-    text: None,
-    place: None,
-    channel: None,
-    calling: false,
-};
 
 /// The u area of a process whose pending call is a wait.
 fn waiting(u: UArea) -> UArea
@@ -85,7 +71,7 @@ fn clear_slot(table: &mut Table, s: Slot)
     ensures table { table.new ≡ with_row table.old s empty_row }
     ensures good { IsTable table.new }
 {
-    table.rows[s as usize] = EMPTY;
+    table.rows[s as usize] = EMPTY_ROW;
 }
 
 /// Makes the slot of a process that has ended free. Half of its u area was kept for its parent.

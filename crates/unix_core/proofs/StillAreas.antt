@@ -1,6 +1,6 @@
 -- A call on files that doesn't sleep leaves the u area of its process as it was, where it opens and closes no file and enters
 -- no directory.
-use Rattle.std.proofs.Common.{◌≡◌, ◌≢◌, ℕ, true, false, List, refl, sym, ap, ◌∙◌, subst}
+use Rattle.std.proofs.Common.{◌≡◌, ◌≢◌, ℕ, false, List, refl, sym, ap, ◌∙◌, subst}
 use Rattle.std.specs.Prelude.{⊤, ℤ}
 use Rattle.std.proofs.lemmas.Bool.{false≢true}
 use Rattle.v6_base.specs.declared.answer.Answer.{Answer}

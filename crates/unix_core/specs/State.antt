@@ -3,7 +3,6 @@ use Rattle.std.specs.Prelude.{ℕ, List}
 use Rattle.fs_laws.specs.Rest.{SameOutside}
 use Rattle.image_keep.specs.Kept.{Kept}
 use Rattle.abstract_unix.specs.Unix.{System, Phase}
-use Rattle.unix_core.specs.State.{KeepsRest}
 
 -- A system, what core and the swap area keep and the bytes of both, the blocks that the kernel reads and writes, and how far its
 -- run has come. `stored` is what its disk has of the blocks.

@@ -18,11 +18,13 @@ fn wake_by<T: Trace>(entry: Entry, table: &mut Table, trace: &mut T)
     ensures items { Took (T.taken trace.old) (Log entry ∷ []) (T.taken trace.new) }
     ensures frame { T.leads_to trace.old trace.new }
 {
-    trace.entry(entry);
     match entry {
-        Entry::Wake(chan) => table.wakeup(chan),
-        Entry::Signal { slot, .. } => signal_slot(table, slot),
-        _ => {}
+        Entry::Wake(chan) => table.wake(chan, trace),
+        Entry::Signal { slot, .. } => {
+            trace.entry(entry);
+            signal_slot(table, slot);
+        }
+        _ => trace.entry(entry),
     }
 }
 

@@ -63,8 +63,7 @@ pub(crate) fn wake<T: Trace>(table: &mut Table, called: bool, chan: Chan, trace:
     ensures frame { T.leads_to trace.old trace.new }
 {
     if called {
-        trace.entry(Entry::Wake(chan));
-        table.wakeup(chan);
+        table.wake(chan, trace);
     }
 }
 

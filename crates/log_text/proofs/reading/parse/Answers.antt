@@ -1,5 +1,5 @@
 use Rattle.std.proofs.Common.{◌∙◌, sym, ap, Some}
-use Rattle.log_text.proofs.EntryLemmas.{read_once, one_line_each, not_read, read_wrong}
+use Rattle.log_text.proofs.EntryLemmas.{read_once, one_line_each, line_short, not_read, read_wrong}
 use Rattle.log_text.proofs.reading.parse.Goals as goal
 
 pub returns-in_err-found-clause-entry : goal.returns-in_err-found-clause-entry
@@ -32,3 +32,12 @@ returns-else-is_line-clause-back c = λ e range same.
 
 pub returns-else-is_line-clause-unique : goal.returns-else-is_line-clause-unique
 returns-else-is_line-clause-unique c = one_line_each
+
+pub returns-in_err-found-clause-short : goal.returns-in_err-found-clause-short
+returns-in_err-found-clause-short c = line_short
+
+pub returns-then-is_line-clause-short : goal.returns-then-is_line-clause-short
+returns-then-is_line-clause-short c = line_short
+
+pub returns-else-is_line-clause-short : goal.returns-else-is_line-clause-short
+returns-else-is_line-clause-short c = line_short

@@ -18,17 +18,17 @@ pub returns-clause-state : goal.returns-clause-state
 returns-clause-state g c = λ fs.
     let p : Procs = c.args.p.now in
     let t : Table = record p.table { now = c.args.time } in
-    ap (λ (k : Clock). record (handed p fs) { clock = k }) (ap clock_of c.wakeup.ensures.table ∙ clock_woken t Tout)
+    ap (λ (k : Clock). record (handed p fs) { clock = k }) (ap clock_of c.wake.ensures.table ∙ clock_woken t Tout)
 
 pub returns-clause-board : goal.returns-clause-board
 unfolding applied
 returns-clause-board g c =
     let p : Procs = c.args.p.now in
     let t : Table = record p.table { now = c.args.time } in
-    ap (λ (u : Table). board_of u p.images.kept) c.wakeup.ensures.table ∙ board_woken t p.images.kept Tout
+    ap (λ (u : Table). board_of u p.images.kept) c.wake.ensures.table ∙ board_woken t p.images.kept Tout
 
 pub returns-clause-items : goal.returns-clause-items
-returns-clause-items g c = took_more _ _ _ _ _ c.entry.ensures.took c.entry-2.ensures.took
+returns-clause-items g c = took_more _ _ _ _ _ c.entry.ensures.took c.wake.ensures.items
 
 pub returns-clause-alive : goal.returns-clause-alive
 returns-clause-alive g c =
@@ -36,4 +36,4 @@ returns-clause-alive g c =
     let t : Table = record p.table { now = c.args.time } in
     let woken : AreLike t (wakeup t Tout) = wakeup_like t Tout in
     let like : AreLike p.table (wakeup t Tout) = record { long = woken.long; each = woken.each } in
-    table_alive p c.wakeup.new.self c.args.s c.requires c.wakeup.ensures.good (subst (λ (u : Table). AreLike p.table u) (sym c.wakeup.ensures.table) like)
+    table_alive p c.wake.new.self c.args.s c.requires c.wake.ensures.good (subst (λ (u : Table). AreLike p.table u) (sym c.wake.ensures.table) like)

@@ -9,9 +9,9 @@ use Rattle.unix_core.proofs.settling.wake.Goals as goal
 
 pub returns-then-called-clause-board : goal.returns-then-called-clause-board
 returns-then-called-clause-board g c k =
-    ap (λ t. board_of t k) c.wakeup.ensures.table ∙ board_woken c.args.table.now k c.args.chan
+    ap (λ t. board_of t k) c.wake.ensures.table ∙ board_woken c.args.table.now k c.args.chan
     ∙ sym (ap (λ b. (logged {W = Unix} (board_of c.args.table.now k) (wakes b c.args.chan)).board) c.if-called.true
     ∙ ap (λ (l : Logged Unix). l.board) (logged_line (board_of c.args.table.now k) (line.Wake c.args.chan)))
 
 pub returns-then-called-clause-items : goal.returns-then-called-clause-items
-returns-then-called-clause-items g c b = rw (c.if-called.true, logged_line b (line.Wake c.args.chan)) c.entry.ensures.took
+returns-then-called-clause-items g c b = rw (c.if-called.true, logged_line b (line.Wake c.args.chan)) c.wake.ensures.items
