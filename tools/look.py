@@ -69,9 +69,11 @@ def talk(looker):
     import readline  # noqa: F401, since input() edits its line by it
 
     command, last = "slot", "slot"
-    while not looker.is_over:
+    while True:
         try:
             last = command if do(looker, command) else last
+            if looker.is_over:
+                break
             command = input(f"{looker.moment.slots}> ").strip() or last
         except KeyboardInterrupt:
             command = ""

@@ -6,6 +6,7 @@ import sys
 import unittest
 
 import expressions
+import symbols
 from common import TOOLS, TOP, V6, Case, read, tool, v6
 
 cc, disk_main = tool("cc"), tool("disk").main
@@ -395,6 +396,20 @@ class Compiled(Programs):
         self.assertEqual(self.call(cc.main, "-n", *words), (0, "", ""))
         self.assertEqual(read(self.path("it"))[:2], b"\x08\x01")
         self.assertEqual(self.run_it(self.path("it")), (11, "", ""))
+
+    def test_lines(self):
+        """With -g the table of symbols has the lines of the source, those of the words of each; the program is the same."""
+        source = self.put("it.c", b"int two(int n)\n{\n\treturn n + 2;\n}\nint main(void)\n{\n\tint n = 5;\n\treturn two(n);\n}\n")
+        self.assertEqual(self.call(cc.main, "-o", self.path("it"), source), (0, "", ""))
+        plain = read(self.path("it"))
+        self.assertEqual(self.call(cc.main, "-g", "-o", self.path("it"), source), (0, "", ""))
+        found = symbols.Program("it", read(self.path("it")))
+        self.assertEqual(read(self.path("it"))[16 : len(plain)], plain[16:])
+        told = [found.line_at(at) for at in range(found.address_of("two"), found.end_of("main") + 1)]
+        self.assertEqual(list(dict.fromkeys(one and (os.path.basename(one[0]), one[1]) for one in told)),
+                         [None, ("it.c", 3), ("it.c", 4), ("it.c", 7), ("it.c", 8), ("it.c", 9)])
+        self.assertIsNone(found.line_at(found.address_of("exit")))  # of the library
+        self.assertLess(found.line_address("it.c:7"), found.line_address("it.c:8"))
 
     def test_wrong(self):
         """What the compiler refuses is told, and no program is written."""
