@@ -1,5 +1,5 @@
 -- What the disk has where blocks are written late.
-use Rattle.std.proofs.Common.{◌≡◌, ◌⊎◌, ◌<◌, ℕ, inl, inr, List, [], length, refl, ◌∙◌, arith}
+use Rattle.std.proofs.Common.{◌≡◌, ◌⊎◌, ◌<◌, ℕ, inl, inr, List, [], length, refl, ◌∙◌, subst, arith}
 use Rattle.std.proofs.lemmas.List.{same_lists, get_or_default}
 use Rattle.buf_cache.specs.Blocks.{block_at, IsDisk, WritesLate}
 
@@ -16,3 +16,9 @@ late_same blocks after is late =
   one : {A : Type 0} {x y : A} → (x ≡ y) ⊎ (x ≡ y) → x ≡ y
   one (inl h) = h
   one (inr h) = h
+
+pub late_twice : (blocks stored middle between after : List (List ℕ)) → IsDisk blocks → stored ≡ blocks → between ≡ blocks
+    → WritesLate stored blocks middle → WritesLate middle between after → after ≡ blocks
+late_twice blocks stored middle between after is same still first second =
+    let one : middle ≡ blocks = late_same blocks middle is (subst (λ s. WritesLate s blocks middle) same first) in
+    late_same blocks after is (subst (λ s. WritesLate s blocks after) one (subst (λ b. WritesLate middle b after) still second))
