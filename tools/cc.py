@@ -1,5 +1,10 @@
 #!/usr/bin/env python3
 """Compiles programs in C for the PDP-11/40 and the Sixth Edition: see docs/tools/c.md."""
+import signal
+
+if __name__ == "__main__":
+    signal.signal(signal.SIGINT, signal.SIG_DFL)  # an interrupt before main ends it without a word
+
 import argparse
 import os
 import sys

@@ -1,5 +1,10 @@
 #!/usr/bin/env python3
 """Shows any moment of a run, forwards and backwards: see docs/tools/look.md."""
+import signal
+
+if __name__ == "__main__":
+    signal.signal(signal.SIGINT, signal.SIG_DFL)  # an interrupt before main ends it without a word
+
 import argparse
 import os
 import sys

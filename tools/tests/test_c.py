@@ -6,8 +6,9 @@ import sys
 import unittest
 
 import expressions
-import symbols
 from common import TOOLS, TOP, V6, Case, read, tool, v6
+
+import symbols
 
 cc, disk_main = tool("cc"), tool("disk").main
 EXAMPLE = os.path.join(TOP, "examples", "c")
@@ -76,6 +77,21 @@ class WithoutCompiler(Program):
             self.assertNotEqual(done.returncode, 0)
             self.assertIn("it.tar.gz: FAILED", done.stdout)
             self.assertEqual(os.listdir(self.folder), ["it.tar.gz"])
+
+    def test_no_archive(self):
+        """Where apt has no such package, the lines to copy are told, and no sum of a file that isn't there."""
+        self.put("apt-get", b"#!/bin/sh\necho 'E: You must put some deb-src URIs in your sources.list' >&2\nexit 100\n")
+        os.chmod(self.path("apt-get"), 0o755)
+        path = {**os.environ, "PATH": self.folder + ":" + os.environ["PATH"]}
+        for script, told in (("build.sh", "\n    echo 'deb-src http://deb.debian.org/debian bookworm main' >/etc/apt/sources.list.d/v6-cc"
+                                          ".list\n    apt-get update\n"), ("build-gcc.sh", "build-gcc.sh: the package hasn't come: ")):
+            script = os.path.join(TOOLS, "c", script)
+            done = subprocess.run([script, self.path("made")], capture_output=True, text=True, env=path)
+            self.assertEqual((done.returncode, done.stdout), (1, ""))
+            self.assertIn(told, done.stderr)
+            done = subprocess.run([script, "-a", self.path("none"), self.path("made")], capture_output=True, text=True)
+            self.assertEqual((done.returncode, done.stdout), (1, ""))
+            self.assertEqual(done.stderr, f"{os.path.basename(script)}: {self.path('none')}: No such file\n")
 
     def test_arguments_and_status(self):
         """main has their number and their addresses, and what it gives is the status."""
