@@ -9,6 +9,7 @@ import argparse
 import errno
 import itertools
 import os
+import re
 import sys
 import tempfile
 from dataclasses import dataclass
@@ -21,6 +22,7 @@ from processes import Processes, programs_of
 from program import CORE, V6, ProgramError, add_version
 from screen import without_echo
 from scriptfile import HEADER
+from silent import why_silent
 
 HELP = """~.      ends, and so does the end of a file that is read in the place of the keyboard
 ~^X     types a control character: ~^D is 004, ~^? is 0177
@@ -33,6 +35,7 @@ HELP = """~.      ends, and so does the end of a file that is read in the place 
 ~?      prints these lines
 """
 ENDS = signal.SIGTERM, signal.SIGHUP
+LINE = re.compile(r"^(script: (?:too many slots at )?line )([0-9]+)")  # of a script that has a head, which a file needn't have
 LONGEST = 254  # of a line that is tried with others in one run: more than 255 keys don't wait
 
 
@@ -188,23 +191,24 @@ class Console:
 
     def list(self, _):
         first = self.dialogue.first()
-        lines = [f"{n:5}  {shown(step)}" for n, step in enumerate(self.dialogue.steps[first:], 1)]
+        told = [f"{n:5}  {shown(step)}" for n, step in enumerate(self.dialogue.steps[first:], 1)]
         at = self.dialogue.at - first
-        listed = lines[:at] + (["taken back:"] if lines[at:] else []) + lines[at:]
-        tell("\n".join([f"{at} lines, as they were typed", *listed]))
+        listed = told[:at] + (["taken back:"] if told[at:] else []) + told[at:]
+        tell("\n".join([f"{lines(at)}, as they were typed" if at != 1 else "1 line, as it was typed", *listed]))
 
     def back(self, count):
         at = self.dialogue.at - (1 if count is None else count)
         if at < self.dialogue.first():
-            raise ConsoleError(f"{self.dialogue.at - self.dialogue.first()} lines can be taken back")
+            most = self.dialogue.at - self.dialogue.first()
+            raise ConsoleError(f"{lines(most)} can be taken back" + (f": ~u {most}, or ~g 0" if most else ""))
         return self.dialogue.go_to(at)
 
     def go(self, line):
         if line is None:
             raise ConsoleError("~g wants the number of a line; ~l lists them")
-        lines = len(self.dialogue.steps) - self.dialogue.first()
-        if line > lines:
-            raise ConsoleError(f"there are {lines} lines")
+        count = len(self.dialogue.steps) - self.dialogue.first()
+        if line > count:
+            raise ConsoleError(f"there {'is' if count == 1 else 'are'} {lines(count)}")
         before, old = self.dialogue.at, self.shown
         found = self.dialogue.go_to(line + self.dialogue.first())
         if self.dialogue.at > before:
@@ -228,6 +232,10 @@ class Console:
 
 
 ORDERS = {"?": Console.help, "l": Console.list, "u": Console.back, "g": Console.go, "w": Console.who}
+
+
+def lines(count):
+    return f"{count} line{'' if count == 1 else 's'}"
 
 
 def tell(text):
@@ -302,6 +310,8 @@ class Script:
 
     def __init__(self, name):
         self.name, self.known, self.moved = name, None, False
+        if name:
+            place_of(name)  # what can't be written is told before anything is typed
         if name and os.path.exists(name):
             self.known = read_bytes(name)
 
@@ -337,8 +347,8 @@ def check_header(options, machine, found):
 
 def run(options, folder):
     script = Script(options.script)
-    old, found = script.lines()
-    core = options.core if options.core is not None else int(found[2]) if found else CORE
+    old, head = script.lines()
+    core = options.core if options.core is not None else int(head[2]) if head else CORE
     machine = Machine(options.v6, options.image, core, folder)
     start = [b"clock %d" % options.clock] if options.clock else []
     console = Console(Dialogue(machine, options.slots, start), Keyboard(sys.stdin.buffer))
@@ -349,11 +359,14 @@ def run(options, folder):
     if options.disk:
         place_of(options.disk)  # what can't be written is told before anything is typed
     try:
-        check_header(options, machine, found)
+        check_header(options, machine, head)
         found = console.dialogue.begin(old)
         console.show(console.dialogue.played.term)
+        why = None if console.dialogue.played.term else why_silent(read_bytes(machine.image), console.dialogue.played.log)
+        if why:
+            tell(why)
     except DialogueError as error:
-        tell(error)
+        tell(error if head else LINE.sub(lambda line: f"{line[1]}{int(line[2]) - 1}", str(error), count=1))
         return 1
     save()
     status = 0

@@ -6,7 +6,8 @@ from dataclasses import dataclass
 
 from files import read_bytes
 from processes import BUSY, OVER, RUNS, SLEEPS, WAITS, Processes
-from program import call
+from program import call, named
+from scriptfile import with_line
 
 FIRST_SLOTS = 10000  # what a line is given at first; ten times as much each time that it isn't enough
 MOST_SLOTS = 200000000  # of a script: docs/manual/scripts.md
@@ -175,7 +176,7 @@ class Dialogue:
         """Plays lines, or tells why they can't be played."""
         played = self.machine.play(lines)
         if played.status:
-            raise Refused(reason(played, [self.machine.header, *lines]), played.term)
+            raise Refused(reason(self.machine, played, [self.machine.header, *lines]), played.term)
         return played
 
     def add(self, more):
@@ -263,8 +264,6 @@ class Refused(DialogueError):
         self.term = term
 
 
-def reason(played, lines):
+def reason(machine, played, lines):
     """Why a run isn't done, with the line of the script that the program names."""
-    found = re.fullmatch(r"(script: line|script: too many slots at line) ([0-9]+)", played.said)
-    line = lines[int(found[2]) - 1].decode("ascii", "replace") if found and int(found[2]) <= len(lines) else ""
-    return f"{played.said}: '{line}'" if found else played.said
+    return named(with_line(played.said, b"".join(line + b"\n" for line in lines)), {}, machine.core)

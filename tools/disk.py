@@ -256,8 +256,11 @@ def members_of(volume, start, path):
 def get_folder(options, volume, start, target):
     if os.path.lexists(target):
         raise DiskError(f"{options.out}: there already, and a folder is to be made")
-    with uninterrupted():
-        made = tempfile.TemporaryDirectory(dir=os.path.dirname(os.path.abspath(target)), prefix=b".new-")
+    try:
+        with uninterrupted():
+            made = tempfile.TemporaryDirectory(dir=os.path.dirname(os.path.abspath(target)), prefix=b".new-")
+    except OSError as error:
+        raise OSError(error.errno, error.strerror, options.out) from None
     with made as beside:
         folder = Folder(volume, beside + b"/it", options.table)
         folder.fill(start)

@@ -17,7 +17,7 @@ from logwords import Teller
 from processes import programs_of
 from proctable import SLOTS, LogFault, Table
 from program import add_version
-from scriptfile import ScriptError, ticks_of
+from scriptfile import ScriptError, ticks_of, read_script
 from volume import DiskError
 
 COMMON, MORE = 3, 5  # lines that are shown before the place where two logs part, and behind it
@@ -71,7 +71,7 @@ class Story:
 
 def story_of(options, name):
     programs = programs_of(read_bytes(options.disk)) if options.disk else None
-    moments = ticks_of(read_bytes(options.script)) if options.script else ()
+    moments = ticks_of(read_script(options.script)) if options.script else ()
     return Story(read_bytes(name), programs, moments)
 
 

@@ -19,7 +19,7 @@ from moments import MomentError, Run
 from processes import programs_of
 from program import CORE, V6, ProgramError, add_version
 from proctable import LogFault
-from scriptfile import ScriptError, add_replay, check_head
+from scriptfile import ScriptError, add_replay, check_head, read_script
 from symbols import Programs
 from volume import DiskError
 
@@ -44,7 +44,7 @@ def compare(run, name):
 def looker_of(options, folder):
     if not options.replay:
         check_head(options.script, options.image, options.core)
-    run = Run(options.v6, options.image, options.core, read_bytes(options.script), folder)
+    run = Run(options.v6, options.image, options.core, read_script(options.script), folder)
     if options.log:
         compare(run, options.log)
     disk = read_bytes(options.image)

@@ -6,6 +6,7 @@ import re
 import sys
 
 TOP = os.path.dirname(os.path.dirname(os.path.abspath(__file__)))
+TOOLS = ("as", "cc", "console", "disk", "log", "look", "run", "trace", "try")  # those of the Makefile
 BULLET = "\\(bu"
 PAGES = {  # by its name and section: the source, and what it is in a line
     ("v6", 1): ("commands.md", "run, check and make disks of Sixth Edition UNIX"),
@@ -14,9 +15,14 @@ PAGES = {  # by its name and section: the source, and what it is in a line
 }
 
 
+def installed(text):
+    """A text with the names of the commands as `make install` puts them: v6-log is tools/log.py."""
+    return re.sub(r"\bbin/v6\b", "v6", re.sub(rf"\b(?:tools/)?({'|'.join(TOOLS)})\.py\b", r"v6-\1", text))
+
+
 def plain(text):
     """A piece of a line for roff: marks of Markdown go, and what roff would take is escaped."""
-    text = re.sub(r"\[([^\]]*)\]\([^)]*\)", r"\1", text)
+    text = installed(re.sub(r"\[([^\]]*)\]\([^)]*\)", r"\1", text))
     text = text.replace("\\|", "|").replace("\\", "\\e").replace("-", "\\-")
     text = re.sub(r"\*\*([^*]+)\*\*", r"\\fB\1\\fR", text)
     text = re.sub(r"`([^`]+)`", r"\\fB\1\\fR", text)
@@ -73,7 +79,7 @@ def body(lines):
 
 
 def verbatim(line):
-    return "\\&" + line.strip().replace("\\", "\\e").replace("-", "\\-")
+    return "\\&" + installed(line.strip()).replace("\\", "\\e").replace("-", "\\-")
 
 
 def page(name, section):

@@ -5,9 +5,9 @@ import threading
 from concurrent.futures import ThreadPoolExecutor
 
 from files import read_bytes
-from program import ProgramError, call
+from program import ProgramError, call, named
 from proctable import SWAP_FIRST, SWAP_LAST
-from scriptfile import COUNT, OTHER, ScriptError, lines_of
+from scriptfile import COUNT, OTHER, fault, lines_of, with_line
 
 CLICK, BLOCK, SEGMENT, U_AREA, ADDRESSES = 64, 512, 8192, 1024, 65536
 SWAP_BYTES = (SWAP_LAST - SWAP_FIRST + 1) * BLOCK
@@ -35,7 +35,7 @@ class Script:
         for number, line in enumerate(lines_of(data), 1):
             found = COUNT.fullmatch(line)
             if not found and not OTHER.fullmatch(line):
-                raise ScriptError(f"script: line {number}")
+                raise fault(number, line)
             self.lines.append((line, int(found[2]) if found and found[1] == b"run" else None))
         self.slots = 0
         for _, count in self.lines:
@@ -82,7 +82,7 @@ class Run:
             os.unlink(log)
         status, said = call(self.v6, "run", self.image, str(self.core), file, term, log, os.devnull)
         if not os.path.exists(log):
-            raise MomentError(said)
+            raise MomentError(named(with_line(said, script), {"image": self.image}, self.core))
         lines = read_bytes(log).decode("ascii", "replace").split("\n")[:-1]
         return lines[:-1] if lines and lines[-1] == "end" else lines, status, said
 

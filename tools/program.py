@@ -36,3 +36,16 @@ def call(command, *words, data=None):
         raise ProgramError(f"{command}: {why}: the program v6 is wanted; --v6 names it") from None
     said = (done.stdout + done.stderr).decode("utf-8", "replace").strip()
     return done.returncode, said or f"status {done.returncode}"
+
+
+def named(said, files, core):
+    """What the program says, with the name of the file at fault and why it can't be read, or with the size of core."""
+    for port, name in files.items():
+        if said == f"read fault: {port}":
+            try:
+                with open(name, "rb") as file:
+                    file.read(1)
+            except OSError as error:
+                return f"{name}: {error.strerror}"
+            return f"{name}: {said}"
+    return f"{said}: {core} clicks, and 64 to 3968 are wanted" if said == "core size" else said

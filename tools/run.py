@@ -13,8 +13,9 @@ import tempfile
 
 sys.path.insert(0, os.path.dirname(os.path.abspath(__file__)))
 from files import STREAMS, guarded, place_of, put_out, read_bytes, same_file
-from program import CORE, V6, ProgramError, add_version, call
-from scriptfile import ScriptError, add_replay, check_head, head_of
+from program import CORE, V6, ProgramError, add_version, call, named
+from scriptfile import ScriptError, add_replay, check_head, head_of, with_line
+from silent import why_silent
 
 OUTPUTS = ("term", "log", "disk")
 
@@ -60,7 +61,13 @@ def run(options):
             if os.path.exists(made[name]) and (name != "disk" or not status):
                 put_out(target, read_bytes(made[name]))
         if status:
+            script = read_bytes(options.script) if os.path.isfile(options.script) else b""
+            said = named(with_line(said, script), {"image": options.image, "script": options.script}, core)
             print(f"run.py: {said}", file=sys.stderr)
+        elif os.path.isfile(options.image) and not os.path.getsize(made["term"]):
+            why = why_silent(read_bytes(options.image), read_bytes(made["log"]))
+            if why:
+                print(f"run.py: {why}", file=sys.stderr)
         return status
 
 

@@ -3,13 +3,40 @@ import hashlib
 import os
 import re
 
+from files import read_bytes
+
+MOST = 1048576  # bytes of a script
 COUNT = re.compile(rb"(clock|run) ([0-9]{1,9})")
 HEADER = re.compile(rb"; console: image sha256 ([0-9a-f]{64}) core ([0-9]{1,9})")  # the first line of one of the console
 OTHER = re.compile(rb"tick|type(?: [\x20-\x7e]*)?|byte [0-3][0-7]{2}|switch [01][0-7]{5}|(?:;.*)?", re.DOTALL)
 
 
+FAULT = re.compile(r"(script: line|script: too many slots at line) ([0-9]+)")  # as the program tells one
+
+
 class ScriptError(Exception):
-    """What is wrong with a script: the number of the line."""
+    """What is wrong with a script: the number of the line, and its text."""
+
+
+def fault(number, line):
+    return ScriptError(f"script: line {number}: {shown(line)}")
+
+
+def shown(line):
+    """A line of a script between quotes, as much of it as fits a message."""
+    text = "".join(chr(byte) if 0o40 <= byte < 0o177 else f"\\{byte:03o}" for byte in line)
+    return f"'{text[:60]}..'" if len(text) > 60 else f"'{text}'"
+
+
+def with_line(said, data):
+    """What the program says, with the text of the line of the script that it names."""
+    found, lines = FAULT.fullmatch(said), lines_of(data)
+    return f"{said}: {shown(lines[int(found[2]) - 1])}" if found and int(found[2]) <= len(lines) else said
+
+
+def read_script(name):
+    """The bytes of a script; of one that is too long, or has no end, one more than a script may have."""
+    return read_bytes(name, MOST + 1)
 
 
 def head_of(name):
@@ -61,4 +88,4 @@ def ticks_of(data):
         elif line == b"tick":
             yield slots
         elif not OTHER.fullmatch(line):
-            raise ScriptError(f"script: line {number}")
+            raise fault(number, line)

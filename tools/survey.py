@@ -11,6 +11,10 @@ FREE = 0  # stands for the free list where the owners of a block are told
 INODES = 16  # in a block
 
 
+def plural(count, one, more=None):
+    return f"{count} {one if count == 1 else more or one + 's'}"
+
+
 def walk(volume, number, path):
     """A file and each one below it: its number, its path, and its name in its directory, which may be an odd one. A
     directory is entered once, also where it has two names."""
@@ -205,7 +209,7 @@ class Survey:
         for number in self.inodes:
             links, found = self.volume.inode(number).links, counts.get(number, 0)
             if links != found and (found or number in self.names):
-                lines.append(f"{self.called(number)}: {links} links, and {found} entries")
+                lines.append(f"{self.called(number)}: {plural(links, 'link')}, and {plural(found, 'entry', 'entries')}")
         return lines + [f"inode {number} has no name: {self.kind(number)}" for number in self.nameless()]
 
     def kind(self, number):
@@ -221,4 +225,6 @@ class Survey:
 
     def lost(self):
         missing = [n for n in range(self.volume.isize + 2, self.volume.fsize) if n not in self.owners]
+        if len(missing) == 1:
+            return [f"block {missing[0]} is neither free nor of a file"]
         return [f"{len(missing)} blocks are neither free nor of a file, from {missing[0]} on"] if missing else []

@@ -16,12 +16,12 @@ from dataclasses import dataclass
 
 sys.path.insert(0, os.path.dirname(os.path.abspath(__file__)))
 from callwords import Call, answer, call_at, kept, name_of
-from files import guarded, read_bytes
+from files import guarded
 from logwords import CHANNELS, clicks
 from moments import WORKERS, MomentError, Run, is_turn
 from program import CORE, V6, ProgramError, add_version
 from proctable import LogFault, Table
-from scriptfile import ScriptError, add_replay, check_head
+from scriptfile import ScriptError, add_replay, check_head, read_script
 
 AT_ONCE = 32  # moments whose memory is kept at a time
 
@@ -194,7 +194,7 @@ def trace(options):
     with tempfile.TemporaryDirectory() as folder:
         if not options.replay:
             check_head(options.script, image, options.core)
-        run = Run(options.v6, image, options.core, read_bytes(options.script), folder)
+        run = Run(options.v6, image, options.core, read_script(options.script), folder)
         shown = 0
         for _, said in Tracer(run, options).follow():
             shown += 1

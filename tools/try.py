@@ -27,6 +27,9 @@ EXACT = 1000000  # up to so many slots are counted exactly
 SEGMENTS = 16  # of input for which they are counted
 WHY = {2: "no such file", 7: "its arguments have more than 510 bytes", 8: "it is no program",
        12: "it is too large for memory, or has separate text and data", 13: "it can't be executed"}
+# how a program ends by a signal, in the words of sh(I)
+SIGNALS = {1: "Hangup", 2: "Interrupt", 3: "Quit", 4: "Illegal instruction", 5: "Trace/BPT trap", 6: "IOT trap", 7: "EMT trap",
+           8: "Floating exception", 9: "Killed", 10: "Bus error", 11: "Memory fault", 12: "Bad system call", 13: "Broken pipe"}
 # The first program of the machine: it opens the console for what it runs, waits for that, and keeps how it ended.
 FIRST = """
 	sys	open; tty; 2
@@ -243,7 +246,10 @@ def finish(run, found, options):
     if ended is None:
         tell("it waits for a key" if found != RUNS else f"it runs on after {total(run.dialogue.lines())} slots")
         return OUT_OF_SLOTS
-    status = ended >> 8 if not ended & 0o177 else 128 + (ended & 0o177)
+    by = ended & 0o177
+    status = 128 + by if by else ended >> 8
+    if by:
+        tell(SIGNALS.get(by, f"Signal {by}") + " -- Core dumped" * bool(ended & 0o200))
     if options.tell:
         tell(f"status {status}, {run.slots()}")
     return status

@@ -371,9 +371,9 @@ class Sessions(Case):
         self.assertIn("reads the terminal (", said)
         said = said.replace(" (/bin/sh or /etc/init)", "")
         self.assertEqual(said, "\nconsole: 0 lines, as they were typed\ntaken back:\n    1  chdir /usr\n    2  ls\n"
-                               "\nconsole: 1 lines, as they were typed\n    1  ls\ntaken back:\n    2  ls\n"
+                               "\nconsole: 1 line, as it was typed\n    1  ls\ntaken back:\n    2  ls\n"
                                "\nconsole: process 1 reads the terminal\n"
-                               "\nconsole: 2 lines can be taken back\n\nconsole: there are 2 lines\n")
+                               "\nconsole: 2 lines can be taken back: ~u 2, or ~g 0\n\nconsole: there are 2 lines\n")
         self.assertEqual(read(self.path("new")), self.script("run 10000\n" + "type ls\nrun 10000\n" * 2))
 
     def test_a_run_that_does_not_end(self):
@@ -463,9 +463,12 @@ class Sessions(Case):
         bad = self.put("bad", bytes(2000))
         self.assertEqual(self.session("", image=bad), (1, b"", "\nconsole: image: bad super-block\n"))
         script = self.put("script", b"walk\n")
-        self.assertEqual(self.session("", "--script", script), (1, b"", "\nconsole: script: line 2: 'walk'\n"))
+        self.assertEqual(self.session("", "--script", script), (1, b"", "\nconsole: script: line 1: 'walk'\n"))
         self.assertEqual(read(script), b"walk\n")
-        self.assertEqual(self.session("", "--core", "63"), (1, b"", "\nconsole: core size\n"))
+        self.assertEqual(self.session("", "--core", "63"), (1, b"", "\nconsole: core size: 63 clicks, and 64 to 3968 are wanted\n"))
+        for option in ("--script", "--disk"):
+            said = "\nconsole: /dev/full: not a file, and only a file is replaced\n"
+            self.assertEqual(self.session("ls\n", option, "/dev/full"), (1, b"", said))
         absent = os.path.join(self.folder, "no", "file")
         for option in ("--script", "--disk"):
             status, term, said = self.session("ls\n", option, absent)

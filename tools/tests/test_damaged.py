@@ -54,7 +54,7 @@ class Damaged(Hurt):
     def test_all_faults(self):
         bad = self.hurt((self.address(2, 1), 21), (self.address(3, 0), 8), (512 + 6 + 2, 4), (1024 + 32 * 3 + 2, 7))
         self.told(bad, "/a: block 21 outside", "block 4 twice: /a and the free list", "block 8 twice: /b and /c",
-                  "/c: 7 links, and 1 entries", "3 blocks are neither free nor of a file, from 5 on",
+                  "/c: 7 links, and 1 entry", "3 blocks are neither free nor of a file, from 5 on",
                   "v6 refuses it: image: inode 2 has block 21 outside",
                   "21 is address 1 of inode 2, at byte 1066 in block 2: /a", "data blocks are 3 to 19")
 

@@ -69,17 +69,41 @@ class Install(Case):
             requests = {line.split()[0] for line in lines if line.startswith(".")}
             self.assertLessEqual(requests, {".TH", ".SH", ".SS", ".PP", ".TP", ".IP", ".nf", ".fi", ".br"})
             self.assertIsNone(re.search(r"\]\(|^\||`|\*\*", page, re.M))
+            self.assertIsNone(re.search(r"\w\.py\b|bin/v6", page.replace("\\-", "-")), name)
+        self.assertIn("v6-disk check IMAGE", read(self.path("share/man/man1/v6.1")).decode().replace("\\-", "-"))
         self.assertIn("\n.TP\n\\fBtick\\fR\none tick of the clock\n", read(self.path("share/man/man5/v6script.5")).decode())
+
+    def completed(self, words, at=None):
+        """What the words are completed to, the last of them or one by its place."""
+        at = len(words.split()) - 1 if at is None else at
+        script = f"source {TOP}/tools/completion.bash; COMP_WORDS=({words}); COMP_CWORD={at}; _v6; echo ${{COMPREPLY[@]}}"
+        return subprocess.run(["bash", "-c", script], capture_output=True, text=True).stdout.split()
+
+    def options(self, name, *words):
+        """The options that a tool's help names."""
+        said = self.call(tool(name).main, *words, "--help")[1]
+        return {word for word in re.findall(r"(?<![\w/-])--?[a-zA-Z0-9][\w-]*", said.replace("[", " ")) if word != "-h"}
+
+    @unittest.skipUnless(shutil.which("bash"), "bash isn't there")
+    def test_completion_knows_all_options(self):
+        """Those that the help of each tool, and of each command of disk.py and log.py, names."""
+        for name in ("as", "cc", "console", "look", "row", "run", "trace", "try"):
+            self.assertEqual(set(self.completed(f"{TOP}/tools/{name}.py x -", 2)), self.options(name), name)
+        for name in ("disk", "log"):
+            self.assertEqual(set(self.completed(f"{name}.py -", 1)), self.options(name))
+            commands = self.completed(f"{name}.py ''", 1)
+            known = re.search(r"\n  COMMAND\n((?:    .*\n)+)|\{([\w,]+)\}", self.call(tool(name).main, "--help")[1])
+            listed = known[2].split(",") if known[2] else re.findall(r"^    (\w+)", known[1], re.M)
+            self.assertEqual(commands, listed)
+            self.assertEqual(set(self.completed(f"{name}.py x -", 2)), set().union(*(self.options(name, one) for one in commands)))
+        self.assertEqual(self.completed(f"{TOP}/tools/row.py swapping/a_pass"), ["swapping/a_pass_of_64_moves"])
 
     @unittest.skipUnless(shutil.which("bash"), "bash isn't there")
     def test_completion(self):
-        for words, wanted in (("v6 ch", "check"), ("v6-disk re", "repair"), ("v6-console x --sc", "--script"),
+        for words, wanted in (("v6-disk --v", "--v6 --version"), ("v6 ch", "check"), ("v6-disk re", "repair"), ("v6-console x --sc", "--script"),
                               ("v6-cc --co", "--compiler"), ("v6-cc --g", "--gcc"),
                               ("v6-trace --pr", "--process"), ("v6-look x --sy", "--symbols")):
-            *_, last = words.split()
-            script = (f"source {TOP}/tools/completion.bash; COMP_WORDS=({words}); COMP_CWORD={len(words.split()) - 1}; _v6; "
-                      "echo ${COMPREPLY[@]}")
-            self.assertEqual(subprocess.run(["bash", "-c", script], capture_output=True, text=True).stdout, wanted + "\n")
+            self.assertEqual(self.completed(words), wanted.split())
 
 
 if __name__ == "__main__":

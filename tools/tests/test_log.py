@@ -301,7 +301,7 @@ class Log(Case):
         self.assertEqual(self.log("show", self.path("none")), (1, "", f"log.py: {self.path('none')}: No such file or directory\n"))
         self.assertEqual(self.log("walk")[0], 2)
         name, bad = self.text("log", TEXTS), self.text("bad", "walk\n")
-        self.assertEqual(self.log("show", "--script", bad, name)[2], "log.py: script: line 1\n")
+        self.assertEqual(self.log("show", "--script", bad, name)[2], "log.py: script: line 1: 'walk'\n")
 
 
 if __name__ == "__main__":

@@ -646,10 +646,12 @@ class Commands(Case):
     def test_what_is_refused(self):
         image_, script = os.path.join(HI, "image"), os.path.join(HI, "script")
         bad, none = self.put("bad", b"run 5\nwalk\n"), self.path("none")
-        self.assertEqual(self.look(image_, "1200", bad), (1, "", "look.py: script: line 2\n"))
+        self.assertEqual(self.look(image_, "1200", bad), (1, "", "look.py: script: line 2: 'walk'\n"))
         self.assertEqual(self.look(bad, "1200", script), (1, "", "look.py: image: bad super-block\n"))
-        self.assertEqual(self.look(image_, "63", script), (1, "", "look.py: core size\n"))
+        self.assertEqual(self.look(image_, "63", script), (1, "", "look.py: core size: 63 clicks, and 64 to 3968 are wanted\n"))
         self.assertEqual(self.look(image_, "1200", none), (1, "", f"look.py: {none}: No such file or directory\n"))
+        zeros = 15 * (chr(92) + "000")
+        self.assertEqual(self.look(image_, "1200", "/dev/full"), (1, "", f"look.py: script: line 1: '{zeros}..'\n"))
         self.assertEqual(self.hi("--symbols", bad, "-c", "help")[::2], (0, f"look.py: {bad}: no program, so it has no names\n"))
         old = f"{sys.executable} {self.put('old.py', OLD)} {V6}"
         said = f"look.py: {old} has no command `memory`, which tells what core and the swap area hold\n"

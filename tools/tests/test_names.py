@@ -47,6 +47,11 @@ runpy.run_path(sys.argv[0], run_name="__main__")
 class Names(Disks):
     """What changes names: by link(II), unlink(II) and mkdir of section I."""
 
+    def test_a_folder_that_cannot_be_made(self):
+        """The folder that is asked for is named, and not the one that is made first beside its place."""
+        image, out = self.new({"a": b"1"}, "--blocks", "100"), self.path("none/out")
+        self.refused(f"{out}: No such file or directory", "get", image, "/", out)
+
     def names(self, image):
         return [" ".join(line.split()[1:3] + line.split()[-1:]) for line in self.done("list", image).splitlines()]
 

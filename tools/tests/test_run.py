@@ -67,10 +67,26 @@ class Run(Case):
                 status, out, error = self.call(main, "--replay", *words)
                 self.assertEqual((status, bool(out), error), (0, True, ""))
 
+    def test_messages(self):
+        """They name the file, the line of the script with its text, and the size of core; and what a disk that shows nothing hasn't."""
+        image, script, none = self.image(), os.path.join(HI, "script"), self.path("none")
+        for words, status, said in (((none, script), 2, f"{none}: No such file or directory"),
+                                    ((image, none), 2, f"{none}: No such file or directory"),
+                                    ((image, script, "--core", "63"), 4, "core size: 63 clicks, and 64 to 3968 are wanted"),
+                                    ((image, self.put("long", b"run 1\n" + 70 * b"\t")), 5, f"script: line 2: '{60 * chr(92)}".replace(
+                                        60 * chr(92), (15 * (chr(92) + "011"))) + "..'")):
+            self.assertEqual(self.run_it(*words), (status, "", f"run.py: {said}\n"))
+        script, disk = self.put("script", b"run 3000\n"), self.put("disk", read(os.path.join(TOP, "examples", "shell", "image")))
+        for path, said in (("/dev/tty8", "the disk has no /dev/tty8"), ("/etc/init", "the disk has no /etc/init")):
+            self.assertEqual(self.call(tool("disk").main, "--v6", V6, "rm", disk, path), (0, "", ""))
+            self.assertEqual(self.run_it(disk, script), (0, "", f"run.py: {said}\n"))
+        self.assertEqual(self.call(tool("disk").main, "--v6", V6, "put", disk, script, "/etc/init"), (0, "", ""))
+        self.assertEqual(self.run_it(disk, script), (0, "", "run.py: the disk's /etc/init can't be executed\n"))
+
     def test_a_run_that_does_not_begin(self):
         term = self.put("term", b"before")
         bad = self.put("bad", b"walk\n")
-        self.assertEqual(self.run_it(self.image(), bad, "--term", term), (5, "", "run.py: script: line 1\n"))
+        self.assertEqual(self.run_it(self.image(), bad, "--term", term), (5, "", "run.py: script: line 1: 'walk'\n"))
         self.assertEqual(read(term), b"before")
         absent = self.path("no") + "/term"
         self.assertEqual(self.run_it(self.image(), bad, "--term", absent),

@@ -201,6 +201,18 @@ class Shell(Case):
         self.assertEqual(self.call(disk_main, "--v6", V6, "get", self.put("after", final), "/usr/who", who), (0, "", ""))
         self.assertEqual(read(who), b"hello, ken\nhello, dennis\n")
 
+    def test_an_evening_in_another_folder(self):
+        """The commands of docs/tools/README.md, as they stand there."""
+        blocks = read(os.path.join(TOP, "docs", "tools", "README.md")).decode().split("```\n")[1::2]
+        commands = next(block for block in blocks if "$V6DIR" in block)
+        self.put("hello.s", blocks[0].encode())
+        path = f"{os.path.dirname(sys.executable)}:{os.environ['PATH']}"
+        done = subprocess.run(["sh", "-ec", commands], cwd=self.folder, capture_output=True,
+                              env={**os.environ, "V6DIR": TOP, "PATH": path, "V6": V6})
+        self.assertEqual((done.returncode, done.stderr), (0, b"\nconsole: nobody waits for a key any more: the run is over\n"))
+        self.assertEqual(read(self.path("who")), b"hello, ken\nhello, dennis\n")
+        self.assertIn(b"# HELLO KEN DENNIS >/USR/WHO\r\n", read(self.path("term")))
+
     def test_a_source_before_the_library(self):
         """It may end in another part, or with a byte too few."""
         for end in (".bss\nx:\t.=.+2\n", "<abc>\n"):

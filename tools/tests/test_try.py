@@ -71,9 +71,16 @@ class Try(Case):
     def test_what_does_not_end(self):
         forks = self.source("\tsys\tbreak; 140000\n1:\tsys\tfork\n2:\tbr\t2b\n\tbr\t1b\n")
         self.assertEqual(self.run_it("--core", "900", forks), (126, b"", "try.py: panic: out of swap space\n"))
-        self.assertEqual(self.run_it(self.source("\t0\n")), (132, b"", ""))
+        self.assertEqual(self.run_it(self.source("\t0\n")), (132, b"", "try.py: Illegal instruction -- Core dumped\n"))
         self.assertEqual(self.run_it("--slots", "1000", self.source("\tbr\t.\n")),
                          (124, b"", "try.py: it runs on after 1000 slots\n"))
+
+    def test_a_signal(self):
+        """How it ended is told in a line; an exit with such a number has none."""
+        for source, status, said in (("mov\t1,r0\n", 138, "Bus error -- Core dumped"), ("bpt\n", 133, "Trace/BPT trap -- Core dumped"),
+                                     ("clr\t*$140000\n", 139, "Memory fault -- Core dumped")):
+            self.assertEqual(self.run_it(self.source("\t" + source)), (status, b"", f"try.py: {said}\n"))
+        self.assertEqual(self.run_it(self.source("\tmov\t$138.,r0\n\tsys\texit\n")), (138, b"", ""))
 
     def test_what_is_refused(self):
         text = self.put("text", b"no program")

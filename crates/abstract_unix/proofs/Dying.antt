@@ -10,10 +10,10 @@ use Rattle.pipe_ends.specs.declared.ends.Pipe.{Pipe}
 use Rattle.u_area.specs.declared.area.UArea.{UArea}
 use Rattle.fs_tree.specs.Finding.{put_back}
 use Rattle.sys_files.specs.Handed.{Handed}
-use Rattle.sys_files.specs.Descriptors.{Closing, without_marks, with_roused, is_gone_with, released, dropped, closes, then_closes, close_all}
-use Rattle.sys_files.specs.Pipes.{pipe_of, with_pipe, without_pipe}
+use Rattle.sys_files.specs.Descriptors.{Closing, released, dropped, closes, then_closes, close_all}
 use Rattle.sys_files.specs.Descriptors as closing
 use Rattle.std.specs.List.{range_with_len}
+use Rattle.sys_files.proofs.ReleasedLemmas.{released_still, released_last}
 use Rattle.sys_files.proofs.ClosingLemmas.{closed_below, below_more, below_all}
 use Rattle.sys_procs.specs.Process.{Process}
 use Rattle.sys_procs.specs.World.{World, process_of}
@@ -22,18 +22,9 @@ use Rattle.abstract_unix.specs.Whole.{Told, told_of, told_by, told_in, names, st
 use Rattle.abstract_unix.proofs.Owing.{told_at, some_within, names_set, stand_set, dir_referred, fifteen_set}
 
 -- What a number lets go changes nothing of the area.
-either_area : (b : Bool) (x y : Handed) (u : UArea) → x.u ≡ u → y.u ≡ u → (cond b x y).u ≡ u
-either_area true x y u p q = p
-either_area false x y u p q = q
-
-roused_area : (h : Handed) (file : OpenFile) → (with_roused h file).u ≡ h.u
-roused_area h file = either_area file.kind.pipe (record h { pipes = with_pipe h.pipes (without_marks (pipe_of h.pipes file.ino)) }) h h.u refl refl
-
-pub released_area : (h : Handed) (told : Closed) → (released h told).state.u ≡ h.u
-released_area h (Still file) = roused_area h file
-released_area h (Last file) =
-    let roused : Handed = with_roused h file in
-    either_area (is_gone_with roused file) (record roused { pipes = without_pipe roused.pipes file.ino }) roused roused.u refl refl ∙ roused_area h file
+released_area : (h : Handed) (told : Closed) → (released h told).state.u ≡ h.u
+released_area h (Still file) = ap (λ (k : Handed). k.u) (released_still h file)
+released_area h (Last file) = ap (λ (k : Handed). k.u) (released_last h file)
 
 -- A process that has closed all its files names none.
 released_files : (h : Handed) (told : Closed) → (released h told).state.u.files ≡ h.u.files

@@ -1,5 +1,5 @@
 -- Who waits in a pipe can go on: what changes of processes and of open files keep that.
-use Rattle.std.proofs.Common.{◌≡◌, ◌≢◌, ◌<◌, ◌≤◌, ◌+◌, ◌∙◌, ℕ, true, false, List, length, get_or, set, Option, Some, None, slice_index, refl, sym, ap, subst, inl, inr, arith}
+use Rattle.std.proofs.Common.{◌≡◌, ◌≢◌, ◌<◌, ◌≤◌, ◌+◌, ◌∙◌, ℕ, true, false, List, length, get_or, set, Option, Some, None, slice_index, refl, sym, ap, subst, inl, inr, arith, ◌⊎◌}
 use Rattle.std.proofs.lemmas.Bool.{cases_eq}
 use Rattle.std.proofs.lemmas.List.{get_or-set_same, get_or-set_other, length-set}
 use Rattle.std.proofs.lemmas.List.Sums.{get_or-le-sum_by}
@@ -28,20 +28,14 @@ abbrev pub HoldsEnd : List (Option OpenFile) → Option Process → Type 0
 HoldsEnd files o = (p : Process) → o ≡ Some p → p.is_zombie ≡ false → IsPipeCall p.u.pending → IsAtEnd files p.u
 
 pub end_held : (u : Unix) (s : ℕ) → CanGoOn u → HoldsEnd u.files (process_at u s)
-end_held u s can p is lives (inl three) =
-    let own = can.reads s p is lives three in
-    record { end = record { file = own.file; there = own.there; pipe = own.pipe; named = own.named }; left = own.left }
-end_held u s can p is lives (inr four) =
-    let own = can.writes s p is lives four in
+end_held u s can p is lives waits =
+    let own = can.waits s p is lives waits in
     record { end = record { file = own.file; there = own.there; pipe = own.pipe; named = own.named }; left = own.left }
 
 pub goes_on_by : (u : Unix) → ((s : ℕ) → HoldsEnd u.files (process_at u s)) → CanGoOn u
 goes_on_by u each = record {
-  reads = λ s p is lives three.
-      let own = each s p is lives (inl three) in
-      record { file = own.end.file; there = own.end.there; pipe = own.end.pipe; named = own.end.named; left = own.left };
-  writes = λ s p is lives four.
-      let own = each s p is lives (inr four) in
+  waits = λ s p is lives waits.
+      let own = each s p is lives waits in
       record { file = own.end.file; there = own.end.there; pipe = own.end.pipe; named = own.end.named; left = own.left };
 }
 

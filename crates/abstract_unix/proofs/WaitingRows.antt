@@ -101,8 +101,8 @@ module _ (ps : List (Option Process)) (s : ℕ) where
 
   -- a call that wants no place for an image: where it sleeps, its process waits in no pipe
   apart : (n : ℕ) → is_on_files n ≡ false → IsPipeCall n → ⊥
-  apart n none (inl three) = let on = ap is_on_files three in cc (none, on)
-  apart n none (inr four) = let on = ap is_on_files four in cc (none, on)
+  apart n none (inl three) = let on : is_on_files n ≡ true = ap is_on_files three in cc (none, on)
+  apart n none (inr four) = let on : is_on_files n ≡ true = ap is_on_files four in cc (none, on)
 
   plain_eased : (w : World) (c : Comes) → Plain s w c → IsFree w → IsEased c
   plain_eased w c (gives v r0 r1) is = eased _ is

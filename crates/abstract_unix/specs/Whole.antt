@@ -3,7 +3,7 @@ use Rattle.std.specs.Prelude.{◌≡◌, ◌≤◌, ℕ, true, false, ◌+◌, �
 use Rattle.std.specs.List.{sum_by}
 use Rattle.open_files.specs.declared.file.OpenFile.{OpenFile}
 use Rattle.open_files.specs.Files.{file_at, times}
-use Rattle.u_area.specs.declared.layout.TheConstants.{PIPE_READ, PIPE_WRITE}
+use Rattle.u_area.specs.Pending.{IsPipeCall}
 use Rattle.pipe_ends.specs.declared.ends.Pipe.{Pipe}
 use Rattle.sys_files.specs.Pipes.{ArePipes}
 use Rattle.sys_files.specs.Sound.{is_of, numbers_of}
@@ -57,8 +57,7 @@ pub record Owes (refs : List ℕ) (files : List (Option OpenFile)) (pipes : List
 abbrev pub Owed : List ℕ → Unix → Type 0
 Owed refs u = Owes refs u.files u.pipes u.texts (told_in u.processes)
 
--- Who waits in a pipe, 3 in a read and 4 in a write, has a number for the end that the call is about. So that end stays open, and
--- the call can go on.
+-- Who waits in a pipe has a number for the end that the call is about. So that end stays open, and the call can go on.
 pub record IsInPipe (files : List (Option OpenFile)) (p : Process) : Type 0 where
   pub file : OpenFile
   pub there : file_at files (slice_index p.u.call 0) ≡ Some file
@@ -67,5 +66,4 @@ pub record IsInPipe (files : List (Option OpenFile)) (p : Process) : Type 0 wher
   pub left : slice_index p.u.call 3 ≤ slice_index p.u.call 2
 
 pub record CanGoOn (u : Unix) : Type 0 where
-  pub reads : (s : ℕ) (p : Process) → process_at u s ≡ Some p → p.is_zombie ≡ false → p.u.pending ≡ PIPE_READ → IsInPipe u.files p
-  pub writes : (s : ℕ) (p : Process) → process_at u s ≡ Some p → p.is_zombie ≡ false → p.u.pending ≡ PIPE_WRITE → IsInPipe u.files p
+  pub waits : (s : ℕ) (p : Process) → process_at u s ≡ Some p → p.is_zombie ≡ false → IsPipeCall p.u.pending → IsInPipe u.files p

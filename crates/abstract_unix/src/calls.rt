@@ -274,7 +274,7 @@ fn do_other_call<T: Trace>(
 }
 
 /// Does a call on processes. Where it stops in exec(II), its process may have neither its old image nor its new one.
-#[tactic(auto, using(crate::proofs::CallLemmas::stops_whole, crate::proofs::CallLemmas::stops_so, crate::proofs::CallLemmas::marks_stay))]
+#[tactic(auto, using(crate::proofs::CallLemmas::stops_whole, crate::proofs::CallLemmas::stops_so))]
 pub fn do_process_call<T: Trace>(
     call: ProcessCall,
     p: &mut Procs,

@@ -16,18 +16,6 @@ use Rattle.v6_run.specs.Courses.{HasRun}
 use Rattle.v6_run.proofs.FinalLemmas.{flat_split}
 use Rattle.v6_run.proofs.SlotLemmas.{run_none, run_more, run_last, run_as}
 
--- some rows: a tick after every second slot, which goes on over a line `tick`; a clock that is set anew; and one that is none
-every_second : events_of (ask.Clock 2 ∷ ask.Run 5 ∷ ask.Tick ∷ ask.Run 1 ∷ [])
-    ≡ Slot ∷ Slot ∷ Tick ∷ Slot ∷ Slot ∷ Tick ∷ Slot ∷ Tick ∷ Slot ∷ Tick ∷ []
-every_second = refl
-
-set_anew : events_of (ask.Clock 3 ∷ ask.Run 2 ∷ ask.Clock 3 ∷ ask.Run 1 ∷ ask.Run 2 ∷ []) ≡ Slot ∷ Slot ∷ Slot ∷ Slot ∷ Slot ∷ Tick ∷ []
-set_anew = refl
-
-then_none : events_of (ask.Run 2 ∷ ask.Clock 1 ∷ ask.Byte 65 ∷ ask.Run 1 ∷ ask.Clock 0 ∷ ask.Switch 7 ∷ ask.Run 2 ∷ [])
-    ≡ Slot ∷ Slot ∷ Byte 65 ∷ Slot ∷ Tick ∷ Switch 7 ∷ Slot ∷ Slot ∷ []
-then_none = refl
-
 next_alike : (every m n j : ℕ) → m % every ≡ n % every → (m + j) % every ≡ (n + j) % every
 next_alike every m n j is = sym (mod-add-mod m every j) ∙ ap (λ r. (r + j) % every) is ∙ mod-add-mod n every j
 
@@ -118,9 +106,6 @@ pub record HasTaken (all : List asked.Event) (i : ℕ) (clock : Clock) (from : C
   pub run : HasRun from happened AtEnd system old new
   pub all_is : events_of all ≡ happened ++ events_from clock (drop i all)
 
-pub taken_none : (all : List asked.Event) (m : System) (clock : Clock) (t : Taken) → clock ≡ record { every = 0; slots = 0 } → HasTaken all 0 clock (begun m) m t t
-taken_none all m clock t is = record { happened = []; run = run_none m t; all_is = ap (λ c. events_from c all) (sym is) }
-
 module _ (all : List asked.Event) (i : ℕ) (clock after : Clock) (from : Course) (m next : System) (a b c : Taken) (taken : HasTaken all i clock from m a b)
     (event d : asked.Event) (inside : i < length all) (event_is : event ≡ get_or all i d) (ticks : TicksAlike (clock_after clock event) after) where
   split_is : events_of all ≡ (taken.happened ++ happens clock event) ++ events_from after (drop (i + 1) all)
@@ -141,10 +126,3 @@ module _ (all : List asked.Event) (i : ℕ) (clock after : Clock) (from : Course
   pub taken_last : (ending : Ends) → ending ≢ AtEnd → HasRun (begun m) (happens clock event) ending next b c → HasRun from (events_of all) ending next a c
   taken_last ending early run =
       run_last from m next ending a b c taken.happened (happens clock event) (events_from after (drop (i + 1) all)) _ taken.run early run split_is
-
-pub taken_all : (all : List asked.Event) (i : ℕ) (clock : Clock) (from : Course) (m : System) (a b : Taken) → HasTaken all i clock from m a b → length all ≤ i
-    → HasRun from (events_of all) AtEnd m a b
-taken_all all i clock from m a b taken past =
-    let same : events_of all ≡ taken.happened =
-    taken.all_is ∙ ap (λ l. taken.happened ++ events_from clock l) (drop_all i all past) ∙ append-nil taken.happened in
-    run_as from m AtEnd a b _ _ (sym same) taken.run

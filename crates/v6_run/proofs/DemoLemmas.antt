@@ -8,7 +8,7 @@ use Rattle.fs_codec.specs.Faults.{image_fault}
 use Rattle.fs_codec.specs.declared.fault.ImageFault as codec
 use Rattle.script_text.specs.declared.script.Event as asked
 use Rattle.script_text.specs.declared.script.Event.TheVariants as ask
-use Rattle.script_text.specs.declared.script.ScriptFault.{ScriptFault}
+use Rattle.script_text.specs.declared.script.ScriptFault as text
 use Rattle.script_text.specs.declared.script.ScriptFault.TheVariants as fault
 use Rattle.script_text.specs.Script.{script_of, Refuses}
 use Rattle.make_image.specs.Image.{build_of}
@@ -46,20 +46,20 @@ unfolding demo_text demo_events
 demo_read = refl
 
 -- So it is refused for want of memory alone.
-pub only_memory : (f : ScriptFault) → Refuses demo_text f → f ≡ fault.NoMemory
+pub only_memory : (f : text.ScriptFault) → Refuses demo_text f → f ≡ fault.NoMemory
 only_memory fault.TooLong refused = let never : Ok demo_events ≡ Err fault.TooLong = sym demo_read ∙ refused in cc
 only_memory (fault.BadLine n) refused = let never : Ok demo_events ≡ Err (fault.BadLine n) = sym demo_read ∙ refused in cc
 only_memory (fault.TooManySlots n) refused = let never : Ok demo_events ≡ Err (fault.TooManySlots n) = sym demo_read ∙ refused in cc
 only_memory fault.NoMemory refused = refl
 
 -- `demo` opens nothing
-none_passed : {fixed : Environment} (s : Status) → AreGood fixed (ports_passed s [])
-none_passed Done = tt
-none_passed (Panic kind) = tt
-none_passed (ScriptFault fault) = tt
-none_passed (ReadFault p) = tt
-none_passed (WriteFault p) = tt
-none_passed _ = tt
+none_passed : (fixed : Environment) (s : Status) → AreGood fixed (ports_passed s [])
+none_passed fixed Done = tt
+none_passed fixed (Panic kind) = tt
+none_passed fixed (ScriptFault fault) = tt
+none_passed fixed (ReadFault p) = tt
+none_passed fixed (WriteFault p) = tt
+none_passed fixed _ = tt
 
 -- Nothing of the outside changes, and no port is at fault.
 module _ (number : ℕ) (o : Outside) where
@@ -71,7 +71,7 @@ module _ (number : ℕ) (o : Outside) where
     unreported = λ is. let some : fault_port s ≡ Some (Out out_port.Report) = ap fault_port is in cc;
     complete = λ decided told. complete decided;
     partial = λ p is. absurd (let some : fault_port s ≡ Some (Out p) = ap fault_port is in cc);
-    order = λ told. none_passed s;
+    order = λ told. none_passed o.fixed s;
     opened = λ told p grew. tt;
     none = λ before p. refl;
     closed = λ is p named. not_so _ named;
@@ -80,17 +80,6 @@ module _ (number : ℕ) (o : Outside) where
 
   no_memory : Answers (Demo number) NoMemory o o
   no_memory = answers_by NoMemory refl refl (λ decided. not_so _ decided)
-
-  pub disk_refused : (e : RunError) → RefusesDisk number e → Answers (Demo number) (run_status e) o o
-  disk_refused (run.Image (image.Faulty f)) refused = answers_by (ImageFault f) refl refl
-      (λ _. subst (λ x. IsKnownAnd (fault_completion x (Known (run_completion DEMO_CORE no_writing (build_of number) demo_text))) (IsComplete (ImageFault f) o o))
-      (sym refused) (complete_unwritten (ImageFault f) o o (λ p. refl)))
-  disk_refused run.NoMemory refused = no_memory
-  disk_refused (run.Image (image.Unread e)) refused = absurd refused
-  disk_refused (run.Script e) refused = absurd refused
-  disk_refused (run.Refused e) refused = absurd refused
-  disk_refused (run.Write output) refused = absurd refused
-  disk_refused (run.Panic kind) refused = absurd refused
 
   -- the disk has no fault, and the script is read
   module _ (good : image_fault (build_of number) ≡ None) (events : List asked.Event) (read : script_of demo_text ≡ Ok events) where

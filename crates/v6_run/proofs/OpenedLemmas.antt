@@ -4,15 +4,6 @@ use Rattle.std.specs.Option.{option_map}
 use Rattle.v6_port.specs.Outside.{Port, Environment}
 use Rattle.v6_run.specs.Opened.{NamedPort, ports_before, IsGoodAt, AreGood}
 
--- where all are good, those before a port are
-pub good_before : (fixed : Environment) (ports : List NamedPort) (q : Port) → AreGood fixed ports → AreGood fixed (ports_before ports q)
-good_before fixed [] q good = tt
-good_before fixed (p ∷ ports) q good = at _
-  where
-    at : (b : Bool) → AreGood fixed (if b then [] else p ∷ ports_before ports q)
-    at true = tt
-    at false = (good.0, good_before fixed ports q good.1)
-
 pub good_first : (fixed : Environment) (p : NamedPort) (ports : List NamedPort) (q : Port) → IsGoodAt fixed p.name p.port → AreGood fixed (ports_before ports q)
     → AreGood fixed (ports_before (p ∷ ports) q)
 good_first fixed p ports q good rest = at _
@@ -20,6 +11,11 @@ good_first fixed p ports q good rest = at _
     at : (b : Bool) → AreGood fixed (if b then [] else p ∷ ports_before ports q)
     at true = tt
     at false = (good, rest)
+
+-- where all are good, those before a port are
+pub good_before : (fixed : Environment) (ports : List NamedPort) (q : Port) → AreGood fixed ports → AreGood fixed (ports_before ports q)
+good_before fixed [] q good = tt
+good_before fixed (p ∷ ports) q good = good_first fixed p ports q good.0 (good_before fixed ports q good.1)
 
 -- what holds of the bytes that were read holds of those that are given
 pub given_and : (n : ℕ) (given : Option (List ℕ)) (bytes : List ℕ) (P : List ℕ → Type 0) → option_map (take n) given ≡ Some bytes → P bytes

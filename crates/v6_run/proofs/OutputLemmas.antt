@@ -53,21 +53,6 @@ fault_any p known a b fault = record { rose = fault.rose; others = fault.others;
 unshown_line : (l : ℕ) → is_shown (Out (out_port.Line l)) ≡ false
 unshown_line l = rw (not_line 4 l (lit< tt), not_line 5 l (lit< tt)) refl
 
--- where no byte went out, none did before all were opened
-none_grown : (a b : Outside) (P : Type 0) → ((p : OutPort) → (b.port (Out p)).bytes ≡ (a.port (Out p)).bytes) → (p : OutPort) → (b.port (Out p)).bytes ≢ (a.port (Out p)).bytes → P
-none_grown a b P same_bytes p grew = absurd (grew (same_bytes p))
-
-pub stopped_opening : (files : DiskFiles) (first : Disk) (run : Course) (port : OutPort) (a b : Outside) → ((p : OutPort) → (b.port (Out p)).bytes ≡ (a.port (Out p)).bytes)
-    → is_disk_output (Out port) ≡ true → (Tells a → AreGood a.fixed (ports_before (output_ports (ToDisk files)) (Out port)))
-    → FaultAt (Out port) (knows_port (output_ports (ToDisk files)) a.fixed (Out port)) a b → StopsRun (ToDisk files) (disk_writes first run) port a b
-stopped_opening files first run port a b same_bytes named order fault = record {
-  named = named;
-  written = λ told p. nothing_of _ _ _ (same_bytes p);
-  order = order;
-  opened = λ told p grew. none_grown a b _ same_bytes p grew;
-  fault = fault;
-}
-
 module _ (files : DiskFiles) (first : Disk) (run : Course) (lawful : Lawful (log_of run)) (a b c : Outside) (opens : OnlyAt is_disk_output a b)
     (opened : (p : OutPort) → (b.port (Out p)).bytes ≡ (a.port (Out p)).bytes) (good : Tells a → AreGood a.fixed (output_ports (ToDisk files))) (plays : OnlyAt is_shown b c) where
   good_so_far : (port : OutPort) → Tells a → AreGood a.fixed (ports_before (output_ports (ToDisk files)) (Out port))

@@ -13,16 +13,16 @@ use Rattle.v6_port.specs.Calls.{Writes}
 use Rattle.v6_run.specs.declared.ports.Kept.{Kept}
 use Rattle.v6_run.specs.declared.ports.Kept.TheVariants as kept
 use Rattle.v6_run.specs.declared.ports.TheConstants.{SCREEN_ROOM}
-use Rattle.v6_run.specs.Ports.{term, log_of, failed_output, is_silent, is_wanted, is_counted, kept_byte, kept_text, of_line_0, taken_of, shown_on, taken_by, screened}
+use Rattle.v6_run.specs.Ports.{term, log_of, failed_port, is_silent, is_wanted, is_counted, kept_byte, kept_text, of_line_0, taken_of, shown_on, taken_by, screened}
 
-pub no_byte : (k : Kept) → is_some (failed_output k) ≡ false → kept_byte k ≡ []
+pub no_byte : (k : Kept) → is_some (failed_port k) ≡ false → kept_byte k ≡ []
 no_byte kept.Nothing goes = refl
 no_byte (kept.Byte byte) goes = cc
 no_byte (kept.Line rest) goes = refl
 no_byte kept.Unwanted goes = refl
 no_byte (kept.Screen bytes) goes = refl
 
-pub no_text : (k : Kept) → is_some (failed_output k) ≡ false → kept_text k ≡ []
+pub no_text : (k : Kept) → is_some (failed_port k) ≡ false → kept_text k ≡ []
 no_text kept.Nothing goes = refl
 no_text (kept.Byte byte) goes = refl
 no_text (kept.Line rest) goes = cc
@@ -30,7 +30,7 @@ no_text kept.Unwanted goes = refl
 no_text (kept.Screen bytes) goes = refl
 
 -- what isn't silent has kept nothing yet, and is wanted
-pub none_failed : (k : Kept) → is_silent k ≡ false → is_some (failed_output k) ≡ false
+pub none_failed : (k : Kept) → is_silent k ≡ false → is_some (failed_port k) ≡ false
 none_failed kept.Nothing goes = refl
 none_failed (kept.Byte byte) goes = cc
 none_failed (kept.Line rest) goes = cc
@@ -83,7 +83,7 @@ module _ (old new : Outside) (before after : Kept) (item : Item) (was : is_wante
     text = λ told. text (both_told (is_wanted before) old.fixed.tells told);
   }
 
-  took_item : is_some (failed_output before) ≡ false → Took (taken_of old before) (item ∷ []) (taken_of new after)
+  took_item : is_some (failed_port before) ≡ false → Took (taken_of old before) (item ∷ []) (taken_of new after)
   took_item goes = record {
     part = item ∷ [];
     rest = [];
@@ -94,7 +94,7 @@ module _ (old new : Outside) (before after : Kept) (item : Item) (was : is_wante
   }
 
 -- a trace that is cut takes nothing
-took_while_cut : (o : Outside) (k : Kept) (item : Item) → is_some (failed_output k) ≡ true → Took (taken_of o k) (item ∷ []) (taken_of o k)
+took_while_cut : (o : Outside) (k : Kept) (item : Item) → is_some (failed_port k) ≡ true → Took (taken_of o k) (item ∷ []) (taken_of o k)
 took_while_cut o k item is_cut = record {
   part = [];
   rest = item ∷ [];
@@ -221,7 +221,7 @@ module _ (o : Outside) (byte : ℕ) where
   byte_appended (kept.Screen bytes) silent = appended_on (kept.Screen bytes) bytes.items _ refl
 
 -- the byte is written, or kept
-module _ (old new : Outside) (before after : Kept) (byte : ℕ) (was : is_wanted before ≡ true) (stays : is_wanted after ≡ true) (goes : is_some (failed_output before) ≡ false) (only : OnlyAt (same (Out out_port.Term)) old new)
+module _ (old new : Outside) (before after : Kept) (byte : ℕ) (was : is_wanted before ≡ true) (stays : is_wanted after ≡ true) (goes : is_some (failed_port before) ≡ false) (only : OnlyAt (same (Out out_port.Term)) old new)
     (quiet : kept_text after ≡ []) (takes : Tells old → (term new).bytes ++ kept_byte after ≡ (term old).bytes ++ byte ∷ []) where
   byte_bytes : Tells old → (line : ℕ) → of_line_0 ((term new).bytes ++ kept_byte after) line ≡ of_line_0 ((term old).bytes ++ kept_byte before) line ++ line_bytes line (trace.Byte 0 byte ∷ [])
   byte_bytes told line = on_line line byte _ _ (takes told ∙ ap (λ l. l ++ byte ∷ []) (sym (append-nil (term old).bytes) ∙ ap (λ l. (term old).bytes ++ l) (sym (no_byte before goes))))
@@ -238,7 +238,7 @@ module _ (old new : Outside) (before after : Kept) (byte : ℕ) (was : is_wanted
   took_byte = took_item old new before after (trace.Byte 0 byte) was stays only.fixed byte_bytes byte_text goes
 
 -- the line is written, or the rest of it kept
-module _ (old new : Outside) (before after : Kept) (entry : Entry) (was : is_wanted before ≡ true) (stays : is_wanted after ≡ true) (goes : is_some (failed_output before) ≡ false) (only : OnlyAt (same (Out out_port.Log)) old new)
+module _ (old new : Outside) (before after : Kept) (entry : Entry) (was : is_wanted before ≡ true) (stays : is_wanted after ≡ true) (goes : is_some (failed_port before) ≡ false) (only : OnlyAt (same (Out out_port.Log)) old new)
     (quiet : kept_byte after ≡ []) (takes : Tells old → (log_of new).bytes ++ kept_text after ≡ (log_of old).bytes ++ (entry_line entry ++ 0o012 ∷ [])) where
   line_bytes_same : Tells old → (line : ℕ) → of_line_0 ((term new).bytes ++ kept_byte after) line ≡ of_line_0 ((term old).bytes ++ kept_byte before) line ++ line_bytes line (trace.Log entry ∷ [])
   line_bytes_same told line =
@@ -251,15 +251,12 @@ module _ (old new : Outside) (before after : Kept) (entry : Entry) (was : is_wan
       takes told ∙ ap (λ l. l ++ (entry_line entry ++ 0o012 ∷ [])) (sym (append-nil (log_of old).bytes) ∙ ap (λ l. (log_of old).bytes ++ l) (sym (no_text before goes)))
       ∙ ap (λ l. ((log_of old).bytes ++ kept_text before) ++ l) (sym (append-nil (entry_line entry ++ 0o012 ∷ [])))
 
-  holds_line : HoldsMore (taken_of old before) (trace.Log entry ∷ []) (taken_of new after)
-  holds_line = holds_item old new before after (trace.Log entry) was stays only.fixed line_bytes_same line_text
-
   took_line : Took (taken_of old before) (trace.Log entry ∷ []) (taken_of new after)
   took_line = took_item old new before after (trace.Log entry) was stays only.fixed line_bytes_same line_text goes
 
 -- A byte goes out.
 module _ (old new : Outside) (before : Kept) (byte : ℕ) (r : Result ℕ Failed) (loud : is_silent before ≡ false) (write : Writes out_port.Term old (byte ∷ []) r new) where
-  goes : is_some (failed_output before) ≡ false
+  goes : is_some (failed_port before) ≡ false
   goes = none_failed before loud
 
   written : (s : Result ℕ Failed) → Writes out_port.Term old (byte ∷ []) s new → is_err s ≡ false → Tells old → (term new).bytes ++ kept_byte before ≡ (term old).bytes ++ byte ∷ []
@@ -284,7 +281,7 @@ module _ (old new : Outside) (before : Kept) (byte : ℕ) (r : Result ℕ Failed
 -- A line goes out, which is the bytes of `line`, in as many writes as it takes.
 module _ (old new : Outside) (before : Kept) (entry : Entry) (line : List ℕ) (loud : is_silent before ≡ false) (only : OnlyAt (same (Out out_port.Log)) old new)
     (line_is : line ≡ entry_line entry ++ 0o012 ∷ []) where
-  line_goes : is_some (failed_output before) ≡ false
+  line_goes : is_some (failed_port before) ≡ false
   line_goes = none_failed before loud
 
   -- all of it

@@ -1,5 +1,5 @@
 -- What `run` answers, exit by exit.
-use Rattle.std.proofs.Common.{◌≡◌, ◌≢◌, ℕ, true, false, ◌&&◌, Option, Some, None, List, take, refl, sym, Ok, Err, IsOk, ◌∙◌, ap, subst, is_some, if◌then◌else◌, ◌||◌, lit<}
+use Rattle.std.proofs.Common.{◌≡◌, ◌≢◌, ℕ, true, false, ◌&&◌, Option, Some, None, List, ◌∷◌, take, refl, sym, Ok, Err, IsOk, ◌∙◌, ap, subst, is_some, if◌then◌else◌, ◌||◌, lit<}
 use Rattle.std.specs.Option.{option_map}
 use Rattle.v6_port.specs.declared.host.InPort.TheVariants as in_port
 use Rattle.v6_port.specs.declared.host.OutPort.{OutPort}
@@ -22,7 +22,7 @@ use Rattle.abstract_unix.specs.declared.ends.Ends.TheVariants.{AtEnd}
 use Rattle.v6_run.specs.declared.files.ReadError.{ReadError}
 use Rattle.v6_run.specs.declared.files.ReadError.TheVariants as reading
 use Rattle.v6_run.specs.declared.image.ImageError.{ImageError}
-use Rattle.v6_run.specs.Words.{RunWords, Run}
+use Rattle.v6_run.specs.Words.{Outputs, RunWords, Run}
 use Rattle.script_text.specs.declared.script.Event as asked
 use Rattle.script_text.specs.declared.script.ScriptFault as text
 use Rattle.script_text.specs.declared.script.ScriptFault.TheVariants as fault
@@ -31,7 +31,7 @@ use Rattle.v6_run.specs.Events.{events_of}
 use Rattle.v6_run.specs.Status.{is_decided, has_written}
 use Rattle.v6_run.specs.Errors.{read_status, image_status, script_status}
 use Rattle.v6_run.specs.Fronts.{HoldsSome, HoldsFrontOfSome}
-use Rattle.v6_run.specs.Opened.{NamedPort, output_ports, command_ports, knows_port, TellsInputs, IsGoodAt, AreGood, ports_passed}
+use Rattle.v6_run.specs.Opened.{NamedPort, input, output_ports, ports_before, command_ports, knows_port, TellsInputs, IsGoodAt, AreGood, ports_passed}
 use Rattle.v6_run.specs.Outputs.{is_output, run_writes, EndsRun, StopsRun}
 use Rattle.v6_run.specs.Causes.{IsCaused}
 use Rattle.v6_run.specs.Steps.{StopsReading, StopsImage}
@@ -146,7 +146,7 @@ module _ (words : RunWords) (image bytes : List ℕ) (old middle : Outside) (fil
     boot_refused = before_run NoMemory refl refl (λ told. tt) (λ decided. not_so _ decided) files.calm
 
     script_good : Tells old → IsGoodAt old.fixed words.script (In in_port.Script)
-    script_good told = given_and SCRIPT_LIMIT _ bytes (λ l. IsOk (script_of l)) (files.script_is told) (subst IsOk (sym script_is) tt)
+    script_good told = given_and SCRIPT_LIMIT _ bytes (λ l. IsOk (script_of l)) (files.script_is told) (subst IsOk (sym script_is) refl)
 
     -- and so are the outputs, as far as those are
     with_inputs : (outputs : List NamedPort) → (Tells middle → AreGood middle.fixed outputs) → Tells old → AreGood old.fixed outputs
@@ -172,7 +172,7 @@ module _ (words : RunWords) (image bytes : List ℕ) (old middle : Outside) (fil
       })
 
       all_good : (ended : Ends) → EndsRun words.outputs (run_writes words.outputs (disk_of image) run) run ended middle new → Tells old → AreGood old.fixed (command_ports (Run words))
-      all_good ended all told = (image_good told, script_good told, with_inputs (output_ports words.outputs) all.order told)
+      all_good ended all told = (image_good told, (script_good told, with_inputs (output_ports words.outputs) all.order told))
 
       pub run_ended : (ended : Ends) → EndsRun words.outputs (run_writes words.outputs (disk_of image) run) run ended middle new → Answers (Run words) (status_at ended) old new
       run_ended AtEnd ended = record {
@@ -222,8 +222,10 @@ module _ (words : RunWords) (image bytes : List ℕ) (old middle : Outside) (fil
               unreported = not_report words.outputs port stops.named;
               complete = λ decided. not_so _ decided;
               partial = λ p is told. let same_port : port ≡ p = cc in subst (λ q. IsKnownAnd (command_completion (Run words) old.fixed) (IsPartial q old new)) same_port (run_partial (told refl));
-              order = λ told. good_first old.fixed _ _ (Out port) (image_good told) (good_first old.fixed _ _ (Out port) (script_good told) (with_inputs _ stops.order told));
-              opened = λ told p grew. (image_good told, script_good told, with_inputs (output_ports words.outputs) (λ so. stops.opened so p (grown p grew)) told);
+              order = λ told. good_first old.fixed (input in_port.Image words.image) (input in_port.Script words.script ∷ output_ports words.outputs) (Out port) (image_good told)
+                  (good_first old.fixed (input in_port.Script words.script) (output_ports words.outputs) (Out port) (script_good told)
+                  (with_inputs (ports_before (output_ports words.outputs) (Out port)) stops.order told));
+              opened = λ told p grew. (image_good told, (script_good told, with_inputs (output_ports words.outputs) (λ so. stops.opened so p (grown p grew)) told));
               none = λ before. not_so _ (sym before);
               closed = λ is. absurd (cc);
               cause = fault_known (Out port) _ _ old new known (fault_then _ _ old middle new files.only.fixed files.calm stops.fault);

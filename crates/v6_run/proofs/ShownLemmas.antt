@@ -9,7 +9,7 @@ use Rattle.v6_run.specs.declared.ports.Kept.{Kept}
 use Rattle.v6_run.specs.declared.ports.Kept.TheVariants as kept
 use Rattle.v6_run.specs.declared.ports.Kept.TheVariants.{Nothing}
 use Rattle.v6_run.specs.declared.ports.TheConstants.{SCREEN_ROOM}
-use Rattle.v6_run.specs.Ports.{term, log_of, failed_output, kept_byte, kept_text, taken_of, taken_by, shown_on, is_counted, HasCounted, Extends, Goes, HasShown, HasShownFronts}
+use Rattle.v6_run.specs.Ports.{term, log_of, failed_port, kept_byte, kept_text, taken_of, taken_by, shown_on, is_counted, HasCounted, Extends, Goes, HasShown, HasShownFronts}
 use Rattle.v6_run.proofs.PortLemmas.{no_byte, no_text, uncounted}
 
 -- What was written with what was kept is what was taken: so what was written is a front of it all.
@@ -47,7 +47,7 @@ module _ (old new : Outside) (kept : Kept) (items : List Item) (took : Took (tak
     log = front_written _ _ _ _ _ _ (goes.log.bytes told) taken_text text_split;
   }
 
-  pub all_shown : is_some (failed_output kept) ≡ false → HasShown items old new
+  pub all_shown : is_some (failed_port kept) ≡ false → HasShown items old new
   all_shown uncut = record {
     terminal = all_written _ _ _ _ _ _ (no_byte kept uncut) (ap (line_bytes 0) (took.whole uncut)) taken_bytes bytes_split;
     log = all_written _ _ _ _ _ _ (no_text kept uncut) (ap text_of (took.whole uncut)) taken_text text_split;
@@ -69,23 +69,5 @@ module _ (old start new : Outside) (start_kept kept : Kept) (items : List Item) 
   pub fronts_from : Tells old → HasShownFronts items old new
   fronts_from = fronts_shown old new kept items took_all goes_all
 
-  pub all_from : is_some (failed_output kept) ≡ false → Tells old → HasShown items old new
+  pub all_from : is_some (failed_port kept) ≡ false → Tells old → HasShown items old new
   all_from uncut told = all_shown old new kept items took_all goes_all told uncut
-
--- What was counted, where it all had room, are the bytes that the run shows.
-counted_on : (bytes : List ℕ) (items : List Item) → Took (shown_on []) items (shown_on bytes) → nat_le SCREEN_ROOM (length bytes) ≡ false → bytes ≡ line_bytes 0 items
-counted_on bytes items took room =
-    let all : items ≡ took.part = took.split ∙ ap (λ l. took.part ++ l) (took.whole room) ∙ append-nil took.part in
-    took.holds.bytes refl 0 ∙ ap (line_bytes 0) (sym all)
-
-counted_by : (new : Outside) (k : Kept) (items : List Item) (count : ℕ) → Took (shown_on []) items (taken_by new k) → HasCounted k count → count ≡ length (line_bytes 0 items)
-counted_by new (kept.Screen bytes) items count took has =
-    has.0 ∙ ap length (counted_on bytes.items items took (ap (nat_le SCREEN_ROOM) (sym has.0) ∙ has.1))
-counted_by new kept.Nothing items count took has = absurd has
-counted_by new (kept.Byte byte) items count took has = absurd has
-counted_by new (kept.Line rest) items count took has = absurd has
-counted_by new kept.Unwanted items count took has = absurd has
-
-pub counted_from : (start new : Outside) (start_kept k : Kept) (items : List Item) (count : ℕ) → start_kept ≡ kept.Screen (record { items = [] })
-    → Took (taken_by start start_kept) items (taken_by new k) → HasCounted k count → count ≡ length (line_bytes 0 items)
-counted_from start new start_kept k items count fresh took has = counted_by new k items count (subst (λ s. Took (taken_by start s) items (taken_by new k)) fresh took) has

@@ -94,7 +94,6 @@ fn see_bytes(bytes: &[u8])
 }
 
 /// The kernel for an image and so many clicks of core. Each of its runs has a lawful log.
-#[tactic(auto, using(crate::proofs::LogLemmas::lawful_logs))]
 pub(crate) fn boot(alloc: Global, image: &[u8], core: u32) -> Result<Kernel, RunError>
     requires least { 64 ≤ core }
     requires most { core ≤ 3968 }
