@@ -1,5 +1,5 @@
 -- A cache stands for one list of blocks, whichever of them are in buffers.
-use Rattle.std.proofs.Common.{◌≡◌, ◌≢◌, ℕ, ◌+◌, ◌<◌, ◌≤◌, ◌==◌, inl, inr, true, false, not, List, [], length, map, take, drop, get_or, set, length-set, length-append, length-drop, ◌++◌, length-take, get_or-set_same, get_or-set_other, refl, sym, ap, ◌∙◌, arith}
+use Rattle.std.proofs.Common.{◌≡◌, ◌≢◌, ◌⊎◌, ℕ, zero, suc, ◌+◌, ◌<◌, ◌≤◌, ◌==◌, inl, inr, true, false, not, List, [], length, map, take, drop, get_or, set, length-set, length-append, length-drop, ◌++◌, length-take, get_or-set_same, get_or-set_other, refl, sym, ap, ◌∙◌, arith}
 use Rattle.std.proofs.lemmas.Bool.Decides.{eqb_tells}
 use Rattle.std.proofs.lemmas.List.Sums.{get_or-le-sum_by}
 use Rattle.std.proofs.lemmas.List.{length-map, same_lists, get_or_default}
@@ -7,9 +7,9 @@ use Rattle.std.proofs.lemmas.List.Elements.{recursion_from_All, All-weaker, All-
 use Rattle.std.proofs.lemmas.List.FromFn.{length-map-range_with_len, get_or-map-range_with_len}
 use Rattle.std.specs.List.{range_with_len, All, AllByRecursion}
 use Rattle.fs_codec.specs.declared.layout.TheConstants.{BLOCK_SIZE, DISK_BLOCKS}
-use Rattle.buf_cache.specs.Blocks.{block_at, patched, IsDisk}
+use Rattle.buf_cache.specs.Blocks.{block_at, patched, IsDisk, WritesLate}
 use Rattle.buf_cache.specs.Cached.{Buffer, Cached, find_buffer, fresh, buffer_of, cached_blocks, others_of, written, with_first, used, patched_buffer, changed, unchanged, flushed, buffers_with, IsBuffer, IsCached}
-use Rattle.buf_cache.proofs.BufferLemmas.{one, with_here, with_other, found_here, found_behind, found_at, found_is, found_block, found_others, others_with_same, others_with, with_parts, written_length, written_other, Has, written_at, evicted_at, unchanged_with, unchanged_at}
+use Rattle.buf_cache.proofs.BufferLemmas.{one, with_here, with_other, found_none, found_here, found_behind, found_at, found_is, found_block, found_others, others_with_same, others_with, with_parts, written_length, written_other, Has, written_at, evicted_at, unchanged_with, unchanged_at}
 
 -- the bytes of a block
 abbrev bytes_of : Cached → ℕ → List ℕ
@@ -195,6 +195,40 @@ flushed_is c is = record {
         ∙ ap (λ (x : Buffer). x.bytes) (found_at c.buffers j (get_or c.buffers j d).block d (fresh (get_or c.buffers j d).block (block_at c.disk (get_or c.buffers j d).block)) low refl (is.once (get_or c.buffers j d).block)));
   });
 }
+
+-- What the disk has of a block where another buffer comes to the front: the buffer that goes had it, or it is what it was.
+late : (c : Cached) (n k m : ℕ) → IsCached c → k < DISK_BLOCKS → buffers_with (take 14 (others_of c.buffers n)) k ≡ m
+    → (block_at (written (drop 14 (others_of c.buffers n)) c.disk) k ≡ block_at c.disk k)
+    ⊎ (block_at (written (drop 14 (others_of c.buffers n)) c.disk) k ≡ block_at (cached_blocks c) k)
+late c n k (suc m) is low some =
+    let p = with_parts (others_of c.buffers n) 14 k in
+    let o = others_once c n k is in
+    inl (written_other (drop 14 (others_of c.buffers n)) c.disk k (omega (arith, p, o, some)))
+late c n k zero is low none =
+    let os : List Buffer = others_of c.buffers n in
+    let after : List ℕ = block_at (written (drop 14 os) c.disk) k in
+    elim (eqb_tells k n) [
+      | inl h ↦
+          let p = with_parts os 14 k in
+          let z : buffers_with os k ≡ 0 = ap (buffers_with os) h.1 ∙ others_with_same c.buffers n in
+          inl (written_other (drop 14 os) c.disk k (omega (arith, p, z)))
+      | inr h ↦
+          inr (ap (λ (x : Buffer). x.bytes) (sym (found_none (take 14 os) k (fresh k after) none))
+          ∙ evicted_at 14 os c.disk k (others_have c n k is) (others_once c n k is)
+          ∙ ap (λ (x : Buffer). x.bytes) (found_others c.buffers n k (fresh k (block_at c.disk k)) h.1)
+          ∙ sym (block_is c k low))
+    ]
+
+first_late : (c : Cached) (n : ℕ) (b : Buffer) → IsCached c → WritesLate c.disk (cached_blocks c) (with_first c n b).disk
+first_late c n b is = record { count = written_length (drop 14 (others_of c.buffers n)) c.disk; each = λ k low. late c n k _ is low refl }
+
+pub used_late : (c : Cached) (n : ℕ) → IsCached c → WritesLate c.disk (cached_blocks c) (used c n).disk
+unfolding used
+used_late c n is = first_late c n (buffer_of c n) is
+
+pub changed_late : (c : Cached) (n at : ℕ) (bytes : List ℕ) → IsCached c → WritesLate c.disk (cached_blocks c) (changed c n at bytes).disk
+unfolding changed
+changed_late c n at bytes is = first_late c n (patched_buffer at bytes (buffer_of c n)) is
 
 -- no block is in a buffer
 pub new_blocks : (disk : List (List ℕ)) → IsDisk disk → cached_blocks (record { disk = disk; buffers = [] }) ≡ disk

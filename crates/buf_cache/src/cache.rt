@@ -3,7 +3,7 @@ ghost use Rattle.std.specs.Prelude.{◌≡◌, ◌≢◌, ℕ, ◌+◌, ◌<◌,
 ghost use Rattle.std.specs.List.{All, remove};
 ghost use Rattle.std.specs.Borrow.{sem};
 ghost use Rattle.std.specs.Io.BufRead.{Rests};
-ghost use Rattle.buf_cache.specs.Blocks.{block_at, patched, IsDisk};
+ghost use Rattle.buf_cache.specs.Blocks.{block_at, patched, IsDisk, WritesLate};
 ghost use Rattle.buf_cache.specs.Cached.{cached_blocks, used, changed, flushed, written, IsCached};
 ghost use Rattle.buf_cache.specs.Slots.{buffer_in, blocks_with, written_head, clean, dirty, IsKept};
 ghost use Rattle.buf_cache.specs.declared.cache.Head.{Head};
@@ -178,6 +178,7 @@ impl Cache {
         ensures* same { sem 𝓛 (Rests the_row self.entry (λ v. v ≡ used self.old n)) }
         ensures value { result.now ≡ block_at (cached_blocks self.old) n }
         ensures blocks { cached_blocks (used self.old n) ≡ cached_blocks self.old }
+        ensures stored { WritesLate self.old.disk (cached_blocks self.old) (used self.old n).disk }
         ensures form { IsDisk (cached_blocks self.old) }
     {
         self.bring(n);
@@ -193,6 +194,7 @@ impl Cache {
         ensures changed { self.new ≡ changed self.old n at bytes.now }
         ensures blocks { cached_blocks self.new
             ≡ slice_set (cached_blocks self.old) n (patched at bytes.now (block_at (cached_blocks self.old) n)) }
+        ensures stored { WritesLate self.old.disk (cached_blocks self.old) self.new.disk }
         ensures form { IsDisk (cached_blocks self.old) }
     {
         self.bring(n);

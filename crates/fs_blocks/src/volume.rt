@@ -3,8 +3,8 @@
 ghost use Rattle.std.specs.Prelude.{◌≡◌, ◌≢◌, ℕ, ◌+◌, ◌-◌, ◌*◌, ◌<◌, ◌≤◌, List, [], ◌∷◌, length, slice_set, slice_index, IfOk, OnErr, OnOk, MatchResult, MatchOption, IfSome, IfNone, true, false, nat_eq, count_by, take, drop, if◌then◌else◌};
 ghost use Rattle.std.specs.Borrow.{sem};
 ghost use Rattle.std.specs.Io.BufRead.{Rests};
-ghost use Rattle.buf_cache.specs.Blocks.{block_at, patched, IsDisk};
-ghost use Rattle.buf_cache.specs.Cached.{cached_blocks};
+ghost use Rattle.buf_cache.specs.Blocks.{block_at, patched, IsDisk, WritesLate};
+ghost use Rattle.buf_cache.specs.Cached.{cached_blocks, used};
 ghost use Rattle.v6_base.specs.declared.errno.Errno.{Errno};
 ghost use Rattle.fs_codec.specs.Words.{word, words};
 ghost use Rattle.fs_codec.specs.Disk.{is_data};
@@ -85,6 +85,7 @@ fn load_group(cache: &mut Cache, b: u16, free: &mut [u16; 100]) -> u16
     ensures same { cached_blocks cache.new ≡ cached_blocks cache.old }
     ensures count { result ≡ word (block_at (cached_blocks cache.old) b) 0 }
     ensures numbers { free.new ≡ words (block_at (cached_blocks cache.old) b) 2 LIST_SIZE }
+    ensures stored { WritesLate cache.old.disk (cached_blocks cache.old) cache.new.disk }
 {
     let block = cache.block(b);
     read_words(block, 2, free);
@@ -98,6 +99,7 @@ fn take_top(cache: &mut Cache, head: &mut SuperBlock) -> u16
     requires block { slice_index head.old.free (head.old.nfree - 1) < DISK_BLOCKS }
     ensures same { cached_blocks cache.new ≡ cached_blocks cache.old }
     ensures taken { result ≡ slice_index head.old.free (head.old.nfree - 1) }
+    ensures stored { WritesLate cache.old.disk (cached_blocks cache.old) cache.new.disk }
     ensures next { head.old.nfree ≡ 1 → IsGroup (block_at (cached_blocks cache.old) result) head.new }
     ensures more { 1 < head.old.nfree → (head.new.nfree ≡ head.old.nfree - 1) × (head.new.free ≡ head.old.free) }
     ensures others { SameButFree head.old head.new }
@@ -117,6 +119,7 @@ fn take_top(cache: &mut Cache, head: &mut SuperBlock) -> u16
 fn clear(cache: &mut Cache, b: u16)
     requires { b < DISK_BLOCKS }
     ensures zeros { block_at (cached_blocks cache.new) b ≡ blank }
+    ensures stored { WritesLate cache.old.disk (cached_blocks cache.old) cache.new.disk }
     ensures others { (k : ℕ) → k ≢ b → block_at (cached_blocks cache.new) k ≡ block_at (cached_blocks cache.old) k }
 {
     cache.change(b, 0, &[0; BLOCK_SIZE]);
@@ -125,6 +128,7 @@ fn clear(cache: &mut Cache, b: u16)
 /// Writes the group of the super-block into the first 202 bytes of a block.
 fn save_group(cache: &mut Cache, head: &SuperBlock, b: u16)
     requires { b < DISK_BLOCKS }
+    ensures stored { WritesLate cache.old.disk (cached_blocks cache.old) cache.new.disk }
     ensures saved { IsGroup (block_at (cached_blocks cache.new) b) head.now }
     ensures behind { drop 202 (block_at (cached_blocks cache.new) b) ≡ drop 202 (block_at (cached_blocks cache.old) b) }
     ensures others { (k : ℕ) → k ≢ b → block_at (cached_blocks cache.new) k ≡ block_at (cached_blocks cache.old) k }
@@ -147,6 +151,7 @@ fn take_first(cache: &mut Cache, head: &mut SuperBlock) -> Option<u16>
     ensures none { IfNone result ((free (disk_with (cached_blocks cache.old) head.old) ≡ [])
         × (free (disk_with (cached_blocks cache.new) head.new) ≡ [])
         × (cached_blocks cache.new ≡ cached_blocks cache.old)) }
+    ensures stored { WritesLate cache.old.disk (cached_blocks cache.old) cache.new.disk }
     ensures others { SameButFree head.old head.new }
     ensures flags { SameFlags head.old head.new }
 {
@@ -176,6 +181,7 @@ fn push_free(cache: &mut Cache, head: &mut SuperBlock, b: u16)
     ensures blocks { (k : ℕ) → k ≢ b → block_at (cached_blocks cache.new) k ≡ block_at (cached_blocks cache.old) k }
     ensures behind { drop 202 (block_at (cached_blocks cache.new) b) ≡ drop 202 (block_at (cached_blocks cache.old) b) }
     ensures room { head.old.nfree ≢ LIST_SIZE → cached_blocks cache.new ≡ cached_blocks cache.old }
+    ensures stored { WritesLate cache.old.disk (cached_blocks cache.old) cache.new.disk }
     ensures others { SameButFree head.old head.new }
     ensures flags { SameFlags head.old head.new }
 {
@@ -222,6 +228,7 @@ impl Volume {
     pub fn open_on(mut cache: Cache) -> Volume
         requires { IsSound (block_at (cached_blocks cache)) }
         ensures blocks { result.state.blocks ≡ cached_blocks cache }
+        ensures stored { result.stored ≡ (used cache 1).disk }
         ensures head { result.state.head ≡ opened (super_of (block_at (cached_blocks cache) 1)) }
         ensures free { free (disk result.state) ≡ free (block_at (cached_blocks cache)) }
         ensures clean { result.state.changed ≡ false }
@@ -247,7 +254,8 @@ impl Volume {
     /// The bytes of block `n`, of which block 1 may have an older super-block than `head` gives. `bread`.
     pub fn block(&mut self, n: u16) -> &[u8; 512]
         requires { n < DISK_BLOCKS }
-        ensures* same { sem 𝓛 (Rests the_row self.entry (λ v. v.state ≡ self.old.state)) }
+        ensures* same { sem 𝓛 (Rests the_row self.entry (λ v. (v.state ≡ self.old.state)
+            × WritesLate self.old.stored self.old.state.blocks v.stored)) }
         ensures value { result.now ≡ block_at self.old.state.blocks n }
     {
         self.cache.block(n)
@@ -261,6 +269,7 @@ impl Volume {
         requires used { count_by (nat_eq n) (free (disk self.old.state)) ≡ 0 }
         ensures blocks { self.new.state.blocks
             ≡ slice_set self.old.state.blocks n (patched at bytes.now (block_at self.old.state.blocks n)) }
+        ensures stored { WritesLate self.old.stored self.old.state.blocks self.new.stored }
         ensures free { free (disk self.new.state) ≡ free (disk self.old.state) }
         ensures head { self.new.state.head ≡ self.old.state.head }
         ensures changed { self.new.state.changed ≡ self.old.state.changed }
@@ -305,6 +314,7 @@ impl Volume {
     pub fn alloc_block(&mut self) -> Result<u16, Errno>
         ensures taken { MatchResult result (λ b. Allocates self.old.state b self.new.state)
             (λ e. (e ≡ Errno.ENOSPC) × IsFull self.old.state self.new.state) }
+        ensures stored { WritesLate self.old.stored self.old.state.blocks self.new.stored }
         ensures others { SameButFree self.old.state.head self.new.state.head }
     {
         match take_first(&mut self.cache, &mut self.head) {
@@ -326,6 +336,7 @@ impl Volume {
         ensures blocks { (k : ℕ) → k ≢ b → block_at self.new.state.blocks k ≡ block_at self.old.state.blocks k }
         ensures behind { drop 202 (block_at self.new.state.blocks b) ≡ drop 202 (block_at self.old.state.blocks b) }
         ensures room { self.old.state.head.nfree ≢ LIST_SIZE → self.new.state.blocks ≡ self.old.state.blocks }
+        ensures stored { WritesLate self.old.stored self.old.state.blocks self.new.stored }
         ensures others { SameButFree self.old.state.head self.new.state.head }
         ensures changed { self.new.state.changed ≡ true }
     {
@@ -343,6 +354,7 @@ impl Volume {
         ensures others { SameButSpare self.old.state.head self.new.state.head }
         ensures free { free (disk self.new.state) ≡ free (disk self.old.state) }
         ensures blocks { self.new.state.blocks ≡ self.old.state.blocks }
+        ensures stored { self.new.stored ≡ self.old.stored }
         ensures changed { self.new.state.changed ≡ true }
     {
         self.head.ninode = list.len() as u16;

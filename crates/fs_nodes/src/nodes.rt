@@ -1,7 +1,7 @@
 //! The inodes that somebody refers to.
 ghost use Rattle.std.specs.Prelude.{◌≡◌, ◌≢◌, ℕ, ◌+◌, ◌-◌, ◌<◌, ◌≤◌, length, slice_set, slice_index, replicate, None, Some, IsSome, MatchResult, MatchOption, ◌⊎◌};
 ghost use Rattle.v6_base.specs.declared.errno.Errno.{Errno};
-ghost use Rattle.buf_cache.specs.Blocks.{block_at};
+ghost use Rattle.buf_cache.specs.Blocks.{block_at, WritesLate};
 ghost use Rattle.fs_codec.specs.Faults.{disk_fault};
 ghost use Rattle.fs_codec.specs.declared.layout.TheConstants.{DISK_BLOCKS};
 ghost use Rattle.fs_laws.specs.Chain.{SameZone};
@@ -95,6 +95,7 @@ impl Nodes {
             }) self.new)
             (λ e. (e ≡ Errno.ENFILE) × (slice_index self.old.references ino ≡ 0)
             × (referenced self.old.references ≡ 100) × (self.new ≡ self.old)) }
+        ensures stored { WritesLate self.old.stored self.old.blocks self.new.stored }
     {
         if let Some(k) = find(&self.table, ino) {
             refer_again(&mut self.table, k);

@@ -6,7 +6,7 @@ ghost use Rattle.fs_codec.specs.Store.{Node};
 ghost use Rattle.fs_codec.specs.Stands.{node_of};
 ghost use Rattle.fs_laws.specs.Numbers.{is_free_number, drawn, refill, draw, with_draw, without_node};
 ghost use Rattle.fs_blocks.specs.State.{disk};
-ghost use Rattle.fs_laws.specs.Rest.{SameOutside};
+ghost use Rattle.fs_laws.specs.Rest.{SameAround};
 ghost use Rattle.fs_nodes.specs.FileSystem.{store_now, SameRest};
 ghost use Rattle.fs_nodes.specs.Table.{entries_of, files_of, seen, IsHeld};
 ghost use Rattle.fs_nodes.specs.Numbers.{refers_to, drawn_list, drawn_from, emptied, pushed, ChangesList, ChangesInode, Clears, MakesNode, MakesNone};
@@ -255,7 +255,7 @@ fn make_node(
     ensures outcome { MatchResult result
         (λ i. MakesNode (files_of volume.old table.old.items) mode uid gid time i (files_of volume.new table.new.items))
         (λ e. MakesNone (files_of volume.old table.old.items) e (files_of volume.new table.new.items)) }
-    ensures rest { SameOutside volume.old.state.blocks volume.new.state.blocks }
+    ensures rest { SameAround volume.old.state.blocks volume.new.state.blocks }
 {
     let number = draw_number(volume, table);
     see(volume);

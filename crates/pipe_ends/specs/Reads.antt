@@ -39,7 +39,8 @@ ends_with done (Some e) = Error e
 
 -- what is read of the file, from the offset on
 abbrev pub read_of : Store → Pipe → Image → ℕ → ℕ → ℕ → Moving Image
-read_of store p image at count time = read_file (put_into at) (pipe_file store p) (room_at store p.ino) image p.offset count time
+read_of store p image at count time =
+    read_file (put_into at) (pipe_file store p) (room_at store p.ino) image p.offset count time
 
 -- The offset moves by what was done, also where an error has ended the read.
 abbrev pub reads_some : Store → Pipe → Moving Image → PipeRead

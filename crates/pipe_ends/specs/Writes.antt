@@ -41,7 +41,8 @@ fitting w = min w.left (PIPSIZ - size_in w)
 
 abbrev pub append_of : WriteCall → Writing → Moving (Unit {0})
 append_of c w =
-    write_file (get_from c.image w.at) (pipe_file w.store w.pipe) (room_at w.store w.pipe.ino) (tt {0}) (size_in w) (fitting w) c.time
+    write_file (get_from c.image w.at) (pipe_file w.store w.pipe)
+    (room_at w.store w.pipe.ino) (tt {0}) (size_in w) (fitting w) c.time
 
 -- A reader that waits is woken, also where an error has ended the append.
 abbrev pub appended : Writing → Moving (Unit {0}) → Writing

@@ -12,7 +12,7 @@ use Rattle.fs_laws.specs.Numbers.{is_free_number, new_node}
 use Rattle.fs_laws.specs.Pieces.{Moving}
 use Rattle.fs_laws.proofs.RestLemmas.{rest_stays}
 use Rattle.fs_laws.specs.Keys.{node_numbered}
-use Rattle.fs_laws.specs.Rest.{SameOutside}
+use Rattle.fs_laws.specs.Rest.{SameAround}
 use Rattle.fs_nodes.specs.FileSystem.{FileSystem, SameRest, IsFileSystem}
 use Rattle.fs_nodes.specs.Numbers.{MakesNode, MakesNone}
 use Rattle.fs_nodes.proofs.NumbersMake.{draw_free}
@@ -59,8 +59,8 @@ started : (store : Store) (t : Bool) (dir : ℕ) → IsSome (node_numbered store
 started store true dir root some = root
 started store false dir root some = some
 
-pub rest_same : (old new : List (List ℕ)) → new ≡ old → SameOutside old new
-rest_same old new is = subst (λ (l : List (List ℕ)). SameOutside old l) (sym is) (rest_stays old)
+pub rest_same : (old new : List (List ℕ)) → new ≡ old → SameAround old new
+rest_same old new is = subst (λ (l : List (List ℕ)). SameAround old l) (sym is) (rest_stays old)
 
 module _ (fs : FileSystem) (form : IsFileSystem fs) where
   pub used_low : (ino : ℕ) → IsSome (node_numbered fs.store ino) → ino < length fs.references

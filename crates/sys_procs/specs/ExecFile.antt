@@ -143,7 +143,8 @@ text_room program = min program.plan.text (64 * program.text_clicks)
 
 abbrev pub text_in : Store → Program → ℕ → Moving (List ℕ)
 text_in store program time =
-    read_file put_kernel (node_in store program.ino) (room_at store program.ino) (replicate (text_room program) 0) 16 (text_room program) time
+    read_file put_kernel (node_in store program.ino) (room_at store program.ino)
+    (replicate (text_room program) 0) 16 (text_room program) time
 
 abbrev pub text_read : World → Program → Moving (List ℕ)
 text_read w program = text_in w.inodes.store program w.clock.time

@@ -1,6 +1,6 @@
 -- What a kernel is to its caller.
 use Rattle.std.specs.Prelude.{ℕ, List}
-use Rattle.fs_laws.specs.Rest.{SameOutside}
+use Rattle.fs_laws.specs.Rest.{SameAround}
 use Rattle.image_keep.specs.Kept.{Kept}
 use Rattle.abstract_unix.specs.Unix.{System, Phase}
 
@@ -17,4 +17,4 @@ pub record KernelState : Type 0 where
 
 -- What no change of files changes on the disk of a kernel is the same.
 abbrev pub KeepsRest : KernelState → KernelState → Type 0
-KeepsRest old new = SameOutside old.blocks new.blocks
+KeepsRest old new = SameAround old.blocks new.blocks

@@ -10,6 +10,7 @@ use crate::kernel::Kernel;
 use buf_cache::{Cache, Disk};
 use fs_blocks::Volume;
 use fs_check::{ImageFault, accept};
+use fs_codec::{BLOCK_SIZE, DISK_BYTES, SWAP_START};
 use fs_nodes::Nodes;
 use image_keep::Images;
 use pdp_decode::Dispatch;
@@ -21,10 +22,11 @@ const TAPE_ENTRIES: usize = 64;
 
 const TAPE_BYTES: usize = 524288;
 
-/// Where the swap area begins on the disk, and its size, in bytes.
-const SWAP_AT: usize = 2_048_000;
+/// Where the swap area begins on the disk, in bytes.
+const SWAP_AT: usize = BLOCK_SIZE * SWAP_START as usize;
 
-const SWAP_BYTES: usize = 446_464;
+/// Its size, up to the end of the disk, in bytes.
+const SWAP_BYTES: usize = DISK_BYTES - SWAP_AT;
 
 /// Why there is no kernel for an image.
 #[derive(Clone, Copy, Debug, PartialEq, Eq)]
@@ -41,6 +43,7 @@ fn file_system_of(alloc: Global, image: &[u8]) -> Result<(Nodes, u32), AllocErro
     ensures store { IfOk result (λ made. made.0.store ≡ store_of (disk_of image.now)) }
     ensures references { IfOk result (λ made. made.0.references ≡ replicate (made.0.store.count + 1) 0) }
     ensures blocks { IfOk result (λ made. made.0.blocks ≡ blocks_of image.now) }
+    ensures stored { IfOk result (λ made. made.0.stored ≡ blocks_of image.now) }
     ensures time { IfOk result (λ made. made.1 ≡ (store_of (disk_of image.now)).stamp) }
 {
     let disk = Disk::from_bytes(alloc, image)?;
@@ -85,6 +88,7 @@ impl Kernel {
         requires most { core ≤ 3968 }
         ensures system { IfOk result (λ kernel. boots image.now core ≡ Some kernel.system) }
         ensures blocks { IfOk result (λ kernel. kernel.blocks ≡ blocks_of image.now) }
+        ensures stored { IfOk result (λ kernel. kernel.stored ≡ blocks_of image.now) }
         ensures phase { IfOk result (λ kernel. kernel.phase ≡ New) }
         ensures refused { IfErr result (RefusesBoot image.now) }
     {

@@ -65,6 +65,7 @@ pub(crate) fn take_root(nodes: &mut Nodes)
     requires none { nodes.old.references ≡ replicate (nodes.old.store.count + 1) 0 }
     ensures store { nodes.new.store ≡ nodes.old.store }
     ensures blocks { nodes.new.blocks ≡ nodes.old.blocks }
+    ensures stored { nodes.old.stored ≡ nodes.old.blocks → nodes.new.stored ≡ nodes.old.blocks }
     ensures referred { (ino : ℕ) → slice_index nodes.new.references ino ≡ (if ino == 1 then 2 else 0) }
 {
     nodes.see();

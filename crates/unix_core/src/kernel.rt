@@ -111,6 +111,7 @@ impl Kernel {
         requires time { time ≡ nodes.store.stamp }
         ensures system { result.system ≡ system_with nodes.store core }
         ensures blocks { result.blocks ≡ nodes.blocks }
+        ensures stored { result.stored ≡ nodes.stored }
         ensures phase { result.phase ≡ New }
     {
         nodes.see();

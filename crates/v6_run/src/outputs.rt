@@ -7,7 +7,7 @@ ghost use Rattle.v6_port.specs.Causes.{Calm, FaultAt};
 ghost use Rattle.fs_codec.specs.Stands.{StandsFor};
 ghost use Rattle.fs_codec.specs.declared.layout.TheConstants.{DISK_BLOCKS};
 ghost use Rattle.buf_cache.specs.Blocks.{block_at, IsDisk};
-ghost use Rattle.fs_laws.specs.Rest.{SameOutside};
+ghost use Rattle.fs_laws.specs.Rest.{SameAround};
 ghost use Rattle.abstract_unix.specs.Unix.{Started, Stopped, Finished};
 ghost use Rattle.image_keep.specs.Holds.{AreRangesApart, SwapHolds};
 ghost use Rattle.unix_core.specs.Memory.{kept_in};
@@ -96,7 +96,7 @@ pub(crate) fn leave_disk<H: Host>(kernel: &mut Kernel, host: &mut H) -> Result<(
     requires is_open { IsOpen (H.outside host.old) (Out out_port.Final) }
     ensures system { kernel.new.system ≡ finished kernel.old.system }
     ensures stands { StandsFor DISK_BLOCKS (block_at kernel.new.stored) kernel.new.system.unix.store }
-    ensures rest { SameOutside kernel.old.blocks kernel.new.stored }
+    ensures rest { SameAround kernel.old.blocks kernel.new.stored }
     ensures form { IsDisk kernel.new.stored }
     ensures only { OnlyAt (same (Out out_port.Final)) (H.outside host.old) (H.outside host.new) }
     ensures is_open { IsOpen (H.outside host.new) (Out out_port.Final) }

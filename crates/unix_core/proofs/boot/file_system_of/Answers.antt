@@ -1,6 +1,6 @@
 use Rattle.std.proofs.Common.{◌≡◌, ◌∙◌, sym, ap, subst}
 use Rattle.buf_cache.specs.Blocks.{block_at, blocks_of}
-use Rattle.buf_cache.specs.Cached.{cached_blocks}
+use Rattle.buf_cache.specs.Cached.{Cached, cached_blocks, used}
 use Rattle.fs_codec.specs.Fields.{super_of}
 use Rattle.fs_blocks.specs.State.{opened}
 use Rattle.fs_laws.specs.Chain.{IsSound}
@@ -34,3 +34,8 @@ returns-clause-time c =
     ap (λ (h : _). h.time) c.head.ensures.head
     ∙ volume_stamp c.args.image.now c.requires c.open_on-volume.result.state (is.blocks ∙ c.in_ok-cache.ensures.blocks ∙ c.in_ok-disk.ensures) is.clean c.head.ensures.stored
     (is.head ∙ ap (λ l. opened (super_of (block_at l 1))) (c.in_ok-cache.ensures.blocks ∙ c.in_ok-disk.ensures))
+
+pub returns-clause-stored : goal.returns-clause-stored
+unfolding used
+returns-clause-stored c =
+    c.new-2.ensures.stored ∙ c.open_on-volume.ensures.stored ∙ ap (λ (x : Cached). (used x 1).disk) c.in_ok-cache.ensures.cached ∙ c.in_ok-disk.ensures

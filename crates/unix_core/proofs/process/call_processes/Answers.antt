@@ -3,7 +3,7 @@ use Rattle.std.proofs.lemmas.Result.{IfOk-at_ok, IfErr-at_err}
 use Rattle.v6_base.specs.Trace.{Took}
 use Rattle.v6_base.specs.declared.answer.Answer.{Answer}
 use Rattle.v6_base.specs.declared.entry.PanicKind.{PanicKind}
-use Rattle.fs_laws.specs.Rest.{SameOutside}
+use Rattle.fs_laws.specs.Rest.{SameAround}
 use Rattle.pick_rules.specs.Logged.{logged}
 use Rattle.fs_nodes.specs.FileSystem.{IsFileSystem}
 use Rattle.image_keep.specs.Kept.{IsKept}
@@ -85,7 +85,7 @@ returns-in-Ok-clause-frame g c = g.met.T.Trace.goes_on _ _ _ c.do_process_call.e
 
 pub returns-in-Ok-clause-rest : goal.returns-in-Ok-clause-rest
 returns-in-Ok-clause-rest g c =
-    subst (λ b. SameOutside c.args.world.now.files.tree.nodes.blocks b) (sym c.conclude.ensures.blocks) c.do_process_call.ensures.blocks
+    subst (λ b. SameAround c.args.world.now.files.tree.nodes.blocks b) (sym c.conclude.ensures.blocks) c.do_process_call.ensures.blocks
 
 pub returns-in-Err-clause-come : goal.returns-in-Err-clause-come
 returns-in-Err-clause-come g c =

@@ -1,10 +1,10 @@
 use Rattle.std.proofs.Common.{◌≡◌, ◌<◌, false, List, ℕ, get_or, slice_set, length, length-set, sym, ap, ◌∙◌, subst}
 use Rattle.std.specs.List.{refill}
-use Rattle.buf_cache.specs.Blocks.{block_at, patched}
-use Rattle.buf_cache.specs.Cached.{cached_blocks, used, changed}
+use Rattle.buf_cache.specs.Blocks.{block_at, patched, WritesLate}
+use Rattle.buf_cache.specs.Cached.{Cached, cached_blocks, used, changed}
 use Rattle.buf_cache.specs.Slots.{cached_in, dirty, IsKept}
 use Rattle.buf_cache.specs.declared.cache.Head.{Head}
-use Rattle.buf_cache.proofs.CacheLemmas.{changed_blocks, changed_is, blocks_are_disk}
+use Rattle.buf_cache.proofs.CacheLemmas.{changed_blocks, changed_late, changed_is, blocks_are_disk}
 use Rattle.buf_cache.proofs.SlotLemmas.{refilled, some_first, first_slot, patched_is, patched_kept}
 use Rattle.buf_cache.proofs.cache.Cache.change.Goals as goal
 use Rattle.buf_cache.proofs.cache.Cache.change.Goals.{After-deref_mut, After-patch}
@@ -62,6 +62,11 @@ returns-clause-changed c = to (goal.at.returns-clause-changed c).After-patch
 
 pub returns-clause-blocks : goal.returns-clause-blocks
 returns-clause-blocks c = ap cached_blocks (to (goal.at.returns-clause-blocks c).After-patch) ∙ changed_blocks c.args.self.now c.args.n c.args.at c.args.bytes.now c.bring.ensures.form c.requires.block
+
+pub returns-clause-stored : goal.returns-clause-stored
+returns-clause-stored c =
+    subst (λ (x : Cached). WritesLate c.args.self.now.disk (cached_blocks c.args.self.now) x.disk)
+    (sym (to (goal.at.returns-clause-stored c).After-patch)) (changed_late c.args.self.now c.args.n c.args.at c.args.bytes.now c.bring.ensures.form)
 
 pub returns-clause-form : goal.returns-clause-form
 returns-clause-form c = blocks_are_disk c.args.self.now c.bring.ensures.form

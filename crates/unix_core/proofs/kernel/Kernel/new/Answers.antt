@@ -27,6 +27,9 @@ returns-clause-system c =
 pub returns-clause-blocks : goal.returns-clause-blocks
 returns-clause-blocks c = ap (λ (f : FileSystem). f.blocks) c.new-tree.ensures.nodes
 
+pub returns-clause-stored : goal.returns-clause-stored
+returns-clause-stored c = ap (λ (f : FileSystem). f.stored) c.new-tree.ensures.nodes
+
 pub invariant_of-result : goal.invariant_of-result
 invariant_of-result c =
     let w : World = record {
