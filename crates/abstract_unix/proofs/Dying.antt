@@ -93,25 +93,6 @@ put_refs l d ino some =
           omega (arith, same, none)
     ]
 
--- Closing files changes no register.
-released_registers : (h : Handed) (told : Closed) → (released h told).state.u.r ≡ h.u.r
-released_registers h told = ap (λ (u : UArea). u.r) (released_area h told)
-
-then_registers : (c : Closing) (fd : ℕ) → (then_closes c fd).state.u.r ≡ c.state.u.r
-then_registers c fd = by (slice_index c.state.u.files fd == 0)
-  where
-    by : (b : Bool) → (cond b c (let next : Closing = closes c.state fd in record { state = next.state; items = c.items ++ next.items })).state.u.r ≡ c.state.u.r
-    by true = refl
-    by false = released_registers (dropped c.state fd) (closing.told_by c.state fd)
-
-all_registers : (c : Closing) (fds : List ℕ) → (fold then_closes c fds).state.u.r ≡ c.state.u.r
-all_registers c [] = refl
-all_registers c (fd ∷ fds) = all_registers (then_closes c fd) fds ∙ then_registers c fd
-
-pub closed_registers : (h : Handed) → (close_all h).state.u.r ≡ h.u.r
-unfolding close_all
-closed_registers h = all_registers (record { state = h; items = [] }) (range_with_len 0 15)
-
 -- Who is adopted is told as before.
 adopted_told : (pid : ℕ) (o : Option Process) → told_by (adopted pid o) ≡ told_by o
 adopted_told pid None = refl
