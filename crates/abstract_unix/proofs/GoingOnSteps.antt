@@ -50,16 +50,6 @@ pub record SameWait (p q : Process) : Type 0 where
   pub call : q.u.call ≡ p.u.call
   pub files : q.u.files ≡ p.u.files
 
--- A process changes by a rule that leaves its call and its numbers: nobody needs to know that it is there.
-pub changed_waited : (o : Option Process) (rule : Process → Process) → ((p : Process) → SameWait p (rule p))
-    → WaitedIn o (Some (rule (unwrap_or o no_process)))
-changed_waited None rule same = user_waited None (rule no_process) (same no_process).pending
-changed_waited (Some p) rule same = let keeps = same p in like_waited p (rule p) keeps.dead keeps.pending keeps.call keeps.files
-
-pub changed_goes_on : (u : Unix) (s : ℕ) (rule : Process → Process) → ((p : Process) → SameWait p (rule p)) → CanGoOn u
-    → CanGoOn (with_process u s (rule (process_of u s)))
-changed_goes_on u s rule same can = put_goes_on u s (rule (process_of u s)) can (changed_waited (process_at u s) rule same)
-
 -- what is in a slot waits for nothing, also where nobody is in it
 abbrev pub IsUserIn : Unix → ℕ → Type 0
 IsUserIn u s = (process_of u s).u.pending ≡ NOTHING_PENDING
@@ -196,20 +186,6 @@ trapped_user m s can is lives ends = user_is (begins_turn m s).unix s (by (is_us
     by : (b : Bool) → is_user (process_of u s) ≡ b → TrapsUser s (cond b (instruction u s) (resumed u s))
     by true user = instruction_trap s u (some_within u.processes s (process_of u s) is) (user_free u s user)
     by false user = resumed_trap s u can is lives
-
--- A tick and a key.
-timed_same : (mode : Mode) (p : Process) → SameWait p (timed mode p)
-timed_same User p = record { dead = refl; pending = refl; call = refl; files = refl }
-timed_same Kernel p = record { dead = refl; pending = refl; call = refl; files = refl }
-timed_same Idle p = record { dead = refl; pending = refl; call = refl; files = refl }
-
-pub charged_goes_on : (u : Unix) (mode : Mode) (running : Option ℕ) → CanGoOn u → CanGoOn (charged u mode running)
-charged_goes_on u mode None can = can
-charged_goes_on u mode (Some slot) can = by (slot == 0)
-  where
-    by : (b : Bool) → CanGoOn (cond b u (with_process u slot (timed mode (process_of u slot))))
-    by true = can
-    by false = changed_goes_on u slot (timed mode) (timed_same mode) can
 
 pub key_goes_on : (keyed : Keyed) (u : Unix) → CanGoOn u → CanGoOn (with_key 0 keyed u)
 key_goes_on key.Nothing u can = can

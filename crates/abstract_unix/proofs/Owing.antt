@@ -199,16 +199,6 @@ fifteen_set ts s o all own r t is = elim (cases_eq r s) [
   | inr other ↦ all r t (sym (get_or-set_other ts s r o None other) ∙ is)
 ]
 
--- references that are the same by each inode
-pub owes_refs : (refs more : List ℕ) (files : List (Option OpenFile)) (pipes : List Pipe) (texts : List (Option Text)) (ts : List (Option Told)) → ((ino : ℕ) → slice_index more ino ≡ slice_index refs ino)
-    → Owes refs files pipes texts ts → Owes more files pipes texts ts
-owes_refs refs more files pipes texts ts same owed = record {
-  numbers = owed.numbers;
-  referred = λ ino. same ino ∙ owed.referred ino;
-  piped = owed.piped;
-  fifteen = owed.fifteen;
-}
-
 -- What a process is handed for a call on files is sound.
 pub sound_by : (h : Handed) (texts : List (Option Text)) (ts : List (Option Told)) (s : ℕ) → Owes h.inodes.references h.files h.pipes texts ts
     → get_or ts s None ≡ Some (record { files = h.u.files; dir = h.u.dir }) → length h.files ≡ 100 → length ts ≡ 50 → length texts ≡ 40 → IsSound h

@@ -89,14 +89,3 @@ tick_told m o goes stops = by (event_of Tick m).ending refl
     by : (e : Ends) → (event_of Tick m).ending ≡ e → e ≡ o
     by AtEnd is = sym (goes (ap ticked_by is))
     by (ends.Panic kind) is = sym (stops kind (ap ticked_by is))
-
--- a byte and the switches end no run
-pub typed_goes : (m : System) (byte : ℕ) → (event_of (Byte byte) m).ending ≡ AtEnd
-typed_goes m byte = refl
-
-pub switched_goes : (m : System) (word : ℕ) → (event_of (Switch word) m).ending ≡ AtEnd
-switched_goes m word = refl
-
--- A run of one event, which begins at a system.
-pub course_one : (m : System) (event : Event) → course (begun m) (event ∷ []) ≡ goes_on_by (begun m) (event_of event m)
-course_one m event = refl

@@ -166,11 +166,6 @@ module _ (base : World) (s : ℕ) where
   unfolding break_at
   still_break v at k = still_if _ _ _ k (still_expands v _ _ k)
 
-  pub still_grown : (v : World) (o : Option ℕ) → IsStill v
-      → IsStill (grown_or_not v s (option_map (expands v s (process_of v s).u.data_size) o)).state
-  still_grown v None k = k
-  still_grown v (Some st) k = still_expands v (process_of v s).u.data_size st k
-
   -- exec: until the new program begins the area of its process is another, but for which all is as it was
   record IsBut (v : World) : Type 0 where
     count : v.inodes.store.count ≡ base.inodes.store.count

@@ -232,16 +232,6 @@ module _ (ps : List (Option Process)) (s : ℕ) where
       let d = clicks_up_to p.u.text_size at in
       eased_if (is_refused p.u.text_size d p.u.stack_size w.limit) _ _ (eased _ is) (expands_eased w d p.u.stack_size is)
 
-  grown_eased : (w : World) (sp : ℕ) → IsFree w → IsEased (grown_or_not w s (grow w s sp))
-  unfolding grow
-  grown_eased w sp is =
-      let p : Process = process_of w s in
-      by (grown_stack p.u.text_size p.u.data_size p.u.stack_size w.limit sp)
-    where
-      by : (o : Option ℕ) → IsEased (grown_or_not w s (option_map (expands w s (process_of w s).u.data_size) o))
-      by None = eased _ is
-      by (Some n) = expands_eased w (process_of w s).u.data_size n is
-
 -- A signal is sent to some: who waits in a pipe waited in it before.
 signalled_at : (who : ℕ → Process → Bool) (n : ℕ) (ps : List (Option Process)) (r : ℕ) → r < 50
     → get_or (all_signalled who n ps) r None ≡ signalled_if who n r (get_or ps r None)
@@ -398,13 +388,6 @@ module _ (w : World) (s : ℕ) (free : (process_of w s).u.pending ≡ NOTHING_PE
 
   pub end_waited : (status : ℕ) → AllWaited w.processes (end_proc w s status).state.processes
   end_waited status = ended_waited w.processes s w status begun
-
-  pub grown_waited : (sp : ℕ) → AllWaited w.processes (grown_or_not w s (grow w s sp)).state.processes
-  grown_waited sp = (grown_eased w.processes s w sp begun).waited
-
-  pub grown_user : (sp : ℕ) → is_sleep (grown_or_not w s (grow w s sp)).answer ≡ false
-      → (process_of (grown_or_not w s (grow w s sp)).state s).u.pending ≡ NOTHING_PENDING
-  grown_user sp awake = (grown_eased w.processes s w sp begun).user awake
 
 -- A sleep or a wait goes on, whatever was waited for.
 pub resume_waited : (w : World) (s : ℕ) → AllWaited w.processes (resume_proc w s).state.processes

@@ -198,13 +198,6 @@ pipes_alike files new pipes change ino kind all are = pipes_over files new pipes
     back : (e : ℕ) (f : OpenFile) → file_at new e ≡ Some f → f.kind.pipe ≡ true → IsOpenEnd files f.ino
     back e f at pipe = from e (file_at files e) f refl (sym (all e) ∙ at) pipe
 
--- Each number of a process is counted once more: share.
-pub pipes_shared : (files : List (Option OpenFile)) (pipes : List Pipe) (mine : List ℕ) → ArePipes files pipes
-    → ArePipes (shared files mine) pipes
-pipes_shared files pipes mine are =
-    pipes_alike files (shared files mine) pipes (λ e. with_more (times mine e)) (λ e file. refl) (λ e file. refl)
-    (shared_at files mine) are
-
 -- A change of the file of an entry, whether there is one or not, that leaves inode and kind: dup, seek, read, write.
 pub pipes_with_change : (files : List (Option OpenFile)) (pipes : List Pipe) (entry : ℕ) (change : OpenFile → OpenFile)
     → ((file : OpenFile) → (change file).ino ≡ file.ino) → ((file : OpenFile) → (change file).kind ≡ file.kind)
@@ -254,12 +247,6 @@ with_pipe_place pipes p ino = elim (cases_lt (place_of pipes p.ino) (length pipe
 
 pub with_pipe_long : (pipes : List Pipe) (p : Pipe) → length (with_pipe pipes p) ≡ length pipes
 with_pipe_long pipes p = length-set pipes (place_of pipes p.ino) p
-
--- It is the pipe of its inode then, and the pipes of other inodes are as they were.
-pub with_pipe_same : (pipes : List Pipe) (p : Pipe) → place_of pipes p.ino < length pipes → pipe_of (with_pipe pipes p) p.ino ≡ p
-with_pipe_same pipes p low =
-    ap (λ k. slice_index_or (with_pipe pipes p) k (new_pipe 0)) (with_pipe_place pipes p p.ino)
-    ∙ get_or-set_same pipes (place_of pipes p.ino) p (new_pipe 0) low
 
 with_pipe_ino : (pipes : List Pipe) (p : Pipe) (i : ℕ) → ino_at (with_pipe pipes p) i ≡ ino_at pipes i
 with_pipe_ino pipes p i = elim (cases_lt (place_of pipes p.ino) (length pipes)) [
@@ -548,8 +535,3 @@ pipes_low files pipes entry low free are =
     let most = count_by-le-length is_some (slice_set files entry (Some used)) in
     let long = length-set files entry (Some used) in
     omega (arith, few, more, was, most, long)
-
--- There are no more pipes than entries.
-pub pipes_most : (files : List (Option OpenFile)) (pipes : List Pipe) → ArePipes files pipes → length pipes ≤ length files
-pipes_most files pipes are = let few = pipes_few files pipes are in let most = count_by-le-length is_some files in
-    omega (arith, few, most)

@@ -69,20 +69,6 @@ stays_with_change files entry change ino kind = by (file_at files entry) refl
     by (Some file) is = stays_changed files entry file (change file) is (ino file) (kind file)
     by None is = stays_opened files entry None is
 
--- A table in which each entry has what a change makes of it that leaves inode and kind.
-pub stays_alike : (files new : List (Option OpenFile)) (mine : List ℕ) (change : ℕ → OpenFile → OpenFile)
-    → ((e : ℕ) (file : OpenFile) → (change e file).ino ≡ file.ino)
-    → ((e : ℕ) (file : OpenFile) → (change e file).kind ≡ file.kind)
-    → ((e : ℕ) → file_at new e ≡ changed (change e) (file_at files e)) → Stay files mine new
-stays_alike files new mine change ino kind all e f at fewer =
-    record { now = change e f; there = all e ∙ ap (changed (change e)) at; ino = ino e f; kind = kind e f }
-
--- Each number of a process is counted once more.
-pub stays_shared : (files : List (Option OpenFile)) (mine given : List ℕ) → Stay files mine (shared files given)
-stays_shared files mine given =
-    stays_alike files (shared files given) mine (λ e. with_more (times given e)) (λ e file. refl) (λ e file. refl)
-    (shared_at files given)
-
 -- An entry is freed of which the process has all the numbers.
 pub stays_freed : (files : List (Option OpenFile)) (mine : List ℕ) (entry : ℕ) (file : OpenFile)
     → file_at files entry ≡ Some file → file.count ≤ times mine entry

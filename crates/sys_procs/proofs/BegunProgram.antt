@@ -51,11 +51,6 @@ pub out_still : (k l : Kept) (size : ℕ) (o : Option ℕ)
 out_still k l size None stays out = tt
 out_still k l size (Some t) stays out = (out.0, stays t out.0 out.1 out.2, out.2, out.3)
 
-pub text_still : (k l : Kept) (s : ℕ) (o : Option ℕ) → text_of l s ≡ text_of k s → IfSome o (λ t. text_of k s ≡ Some t)
-    → IfSome o (λ t. text_of l s ≡ Some t)
-text_still k l s None same text = tt
-text_still k l s (Some t) same text = same ∙ text
-
 -- an image that finds no place
 ended_stopped : (o : Option (Stop World)) (kind : PanicKind) → Err kind ≡ ended_by o → Stopped o kind
 ended_stopped None kind e = absurd (cc e)

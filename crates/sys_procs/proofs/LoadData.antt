@@ -149,19 +149,6 @@ few_segments t d stack most e =
     ltb-false 8 (nseg t + nseg d + nseg stack)
     (neither (nat_lt 8 (nseg t + nseg d + nseg stack)) (nat_lt most (t + d + stack + 16)) e)
 
-second : (a b : Bool) → (a || b) ≡ false → b ≡ false
-second false b e = e
-second true b e = absurd (cc e)
-
--- Sizes that are let through where fewer clicks are the most are let through.
-pub fits_most : (t d stack core : ℕ) → is_refused t d stack (min core 2048) ≡ false → is_refused t d stack 2048 ≡ false
-fits_most t d stack core e =
-    let clicks : ℕ = t + d + stack + 16 in
-    let most : ℕ = min core 2048 in
-    let low : clicks ≤ most = ltb-false most clicks (second (nat_lt 8 (nseg t + nseg d + nseg stack)) (nat_lt most clicks) e) in
-    λ i. neither (nat_lt 8 (nseg t + nseg d + nseg stack)) (nat_lt most clicks) e i
-    || le-ltb 2048 clicks (omega (arith, low, min-le_right core 2048)) i
-
 pub begins_at : (text : List ℕ) (t d : ℕ) → length text ≡ 64 * t → nseg t + nseg d + nseg 20 ≤ 8 → Begins text (8192 * nseg t) (64 * d)
 begins_at text t d long few = record {
   base_is = ap data_base long ∙ (let whole : 64 * t / 64 ≡ t = omega arith in ap (λ n. 8192 * nseg n) whole);

@@ -117,11 +117,6 @@ module _ (w : World) (s t : ℕ) (program : Program) (low : s < length w.process
   big_here : process_of imaged s ≡ big
   big_here = put_here w.processes s big low
 
-  texts_with : ℕ → List (Option Text)
-  texts_with k =
-      with_text w.texts k
-      (record (text_of w.texts k) { bytes = patched 0 (text_read w program).memory (text_of w.texts k).bytes })
-
   pub sized_first : (b : Bool) → reads_text b imaged s program ≡ with_process (reads_text b w s program) s big
   sized_first false = refl
   sized_first true =

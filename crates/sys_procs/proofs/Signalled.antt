@@ -57,15 +57,6 @@ module _ (row : Row) (n : ℕ) where
       by true = refl
       by false = refl
 
--- a signal is a number below 20
-pub signal_low : (n : ℕ) → is_signal n ≡ true → n < 20
-signal_low n is = by (nat_le 1 n) (nat_lt n 20) refl is
-  where
-    by : (a b : Bool) → nat_lt n 20 ≡ b → (a && b) ≡ true → n < 20
-    by true true e f = omega (arith, leb-true (suc n) 20 e)
-    by true false e f = absurd (cc f)
-    by false b e f = absurd (cc f)
-
 -- who is in a slot in use
 pub member_there : (o : Option Member) → IsSome o → (m : Member) × (o ≡ Some m)
 member_there (Some m) some = (m, refl)
@@ -277,9 +268,6 @@ none_sent p s sig fs used low no_signal =
 -- the lines
 pub one_line : (s n : ℕ) → is_signal n ≡ true → signal_lines n (s ∷ []) ≡ Log (line.Signal s n) ∷ []
 one_line s n is = ap (λ b. cond b (Log (line.Signal s n) ∷ []) []) is
-
-pub no_lines : (slots : List ℕ) (n : ℕ) → is_signal n ≡ false → signal_lines n slots ≡ []
-no_lines slots n is = ap (λ b. cond b (map (λ s. Log (line.Signal s n)) slots) []) is
 
 -- whether the process in a slot is meant, where there is one and where there is none
 none_there : (o : Option Member) → is_some o ≡ false → o ≡ None

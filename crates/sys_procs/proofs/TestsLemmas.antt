@@ -110,14 +110,6 @@ none_refuses error is_program is_busy rest whole program free =
     sym (λ i. then_do (answer_to (whole i)) (λ _. then_do (must ENOEXEC (program i)) (λ _.
     then_do (must ETXTBSY (not (free i))) (λ _. rest))))
 
-pub busy_refuses : {A : Type 0} (error : Option Errno) (is_program is_busy : Bool) (rest : Result A Errno)
-    → error ≡ None → is_program ≡ true → is_busy ≡ true
-    → Err ETXTBSY ≡ then_do (answer_to error) (λ _. then_do (must ENOEXEC is_program) (λ _.
-    then_do (must ETXTBSY (not is_busy)) (λ _. rest)))
-busy_refuses error is_program is_busy rest whole program busy =
-    sym (λ i. then_do (answer_to (whole i)) (λ _. then_do (must ENOEXEC (program i)) (λ _.
-    then_do (must ETXTBSY (not (busy i))) (λ _. rest))))
-
 -- where no image can have the sizes of the plan, or there is none
 pub unfit : {A : Type 0} (r : Result Plan Errno) (refused : Plan → Bool) (made : Plan → A) (e : Errno)
     → Err e ≡ then_do r (λ plan. then_do (must ENOMEM (not (refused plan))) (λ fits. Ok plan))

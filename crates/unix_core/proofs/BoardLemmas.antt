@@ -64,10 +64,6 @@ settled_as_chosen t u k o gives is choice = settled_choice t k gives
     ∙ ap (λ c. record { items = Log (line_of_choice c) ∷ []; board = board_of (settled_by t (chosen t)) k }) (sym is)
     ∙ ap (λ v. record { items = Log (line_of_choice o) ∷ []; board = board_of v k }) (sym choice)
 
--- What lines that name no place leave in the log.
-pub logged_none : (b : Board) → logged {W = Unix} b [] ≡ record { items = []; board = b; stop = None }
-logged_none b = refl
-
 pub logged_line : (b : Board) (e : Entry) → logged {W = Unix} b (Show (Log e) ∷ []) ≡ record { items = Log e ∷ []; board = applied b e; stop = None }
 unfolding log_one came
 logged_line b e = refl

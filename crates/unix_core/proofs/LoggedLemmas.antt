@@ -71,10 +71,6 @@ module _ {V W : Type 0} (f : V → W) where
   pub logged_over : (b : Board) (es : List (Effect V)) → logged b (map (lifted f) es) ≡ over (logged b es)
   logged_over b es = all_over es (record { items = []; board = b; stop = None })
 
-  pub left_over : (o : Option (Stop V)) (after : V) → left_by (stop_of o) (f after) ≡ f (left_by o after)
-  left_over None after = refl
-  left_over (Some stop) after = refl
-
 -- Effects after one another; what only shows never stops.
 module _ {W : Type 0} where
   abbrev pub after_items : List Item → Logged W → Logged W
