@@ -63,9 +63,6 @@ module _ (s : ℕ) (seen : Seen) (w : World) (i : Calling s w seen) where
   abbrev v : Seats
   v = seats_here w
 
-  its : Same (s == s) v.most i.turn.seat (shape_at seen.board.table s)
-  its = own s s v seen.board i.agrees i.turn
-
   is_size : (clicks : ℕ) → 16 ≤ clicks → clicks ≤ w.limit → IsSize seen.board clicks
   is_size clicks least few = record { least = least; most = let most = i.agrees.most in omega (arith, few, most) }
 
@@ -362,9 +359,6 @@ module _ (s : ℕ) (seen : Seen) (w : World) (program : Program) (i : Calling s 
 
   alive : (process_of w s).is_zombie ≡ false
   alive = runner_alive w.processes w.clock w.texts w.limit s seen.board i.turn
-
-  most_is : here.most ≡ w.limit
-  most_is = refl
 
   plain_apt : Apt (InCall s false (seats_under w.limit (next bared false).state)) seen (logs (line.Bare s) (next bared false)).effects
   unfolding Apt came

@@ -187,12 +187,6 @@ trapped_user m s can is lives ends = user_is (begins_turn m s).unix s (by (is_us
     by true user = instruction_trap s u (some_within u.processes s (process_of u s) is) (user_free u s user)
     by false user = resumed_trap s u can is lives
 
--- A tick and a key.
-timed_same : (mode : Mode) (p : Process) → SameWait p (timed mode p)
-timed_same User p = record { dead = refl; pending = refl; call = refl; files = refl }
-timed_same Kernel p = record { dead = refl; pending = refl; call = refl; files = refl }
-timed_same Idle p = record { dead = refl; pending = refl; call = refl; files = refl }
-
 pub key_goes_on : (keyed : Keyed) (u : Unix) → CanGoOn u → CanGoOn (with_key 0 keyed u)
 key_goes_on key.Nothing u can = can
 key_goes_on key.Ready u can = can

@@ -31,9 +31,6 @@ pub record SameHeld (p q : Process) : Type 0 where
   pub pending : q.u.pending ≡ p.u.pending
   pub call : q.u.call ≡ p.u.call
 
-pub held : (p : Process) → SameHeld p p
-held p = record { files = refl; dir = refl; dead = refl; pending = refl; call = refl }
-
 module _ (s : ℕ) where
   put_there : (u : Unix) (q : Process) → s < length u.processes → get_or (set u.processes s (Some q)) s None ≡ Some q
   put_there u q low = get_or-set_same u.processes s (Some q) None low

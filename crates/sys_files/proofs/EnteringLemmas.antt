@@ -27,11 +27,6 @@ use Rattle.fs_tree.proofs.EntryLemmas.{IsMadePlace, made_at, made_used_at}
 use Rattle.sys_files.proofs.OwingLemmas.{once_more}
 use Rattle.sys_files.specs.Entering.{HasEntry, HasMade, SameReferences, one_to, OneReferenceMore}
 
--- What was referred to still is.
-pub still : (old new : FileSystem) (ino i : ℕ) → OneReferenceMore old ino new → 0 < slice_index old.references i
-    → 0 < slice_index new.references i
-still old new ino i takes some = let more = takes.references i in omega (arith, more, some)
-
 own : (ino : ℕ) → one_to ino ino ≡ 1
 own ino = ap (λ t. cond t 1 0) (eq-eqb ino ino refl)
 

@@ -89,14 +89,6 @@ same_area u = record {
 pub steady_same : (h : Handed) → Steady h h
 steady_same h = record { row = same_row h.row; area = same_area h.u; image = same_lengths h.image; marks = refl }
 
--- what may be another in the area
-pub area_is : (old new : UArea) → SameArea old new
-    → ◌≡◌ {A = UArea} new (record old { files = new.files; dir = new.dir; pending = new.pending; call = new.call })
-area_is old new s =
-    one_area new (record old { files = new.files; dir = new.dir; pending = new.pending; call = new.call })
-    s.r s.cc s.uid s.gid s.ruid s.rgid refl s.text_size s.data_size s.stack_size refl refl s.user_time s.system_time
-    s.child_user s.child_system s.status s.handlers refl
-
 -- The open files, the directory and the call that goes on are others.
 area_changed : (old u : UArea) (files : List ℕ) (dir pending : ℕ) (call : List ℕ) → SameArea old u
     → SameArea old (record u { files = files; dir = dir; pending = pending; call = call })

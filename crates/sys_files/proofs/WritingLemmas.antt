@@ -21,14 +21,6 @@ use Rattle.sys_files.proofs.PartedWrites.{Alike, unless_ended, file_keeps, two_f
 use Rattle.pipe_ends.proofs.QueueWrites.{bytes_long}
 use Rattle.sys_files.proofs.LoadedLemmas.{loaded_part}
 
--- Two parts of a call, one after the other, keep references and numbers.
-pub same_then : (a b c : FileSystem) → SameReferences a b → SameReferences b c → SameReferences a c
-same_then a b c first second = record {
-  references = λ i. second.references i ∙ first.references i;
-  count = second.count ∙ first.count;
-  blocks = rest_then a.blocks b.blocks c.blocks first.blocks second.blocks;
-}
-
 -- a node that is there
 pub node_there : (store : Store) (ino : ℕ) → IsSome (node_numbered store ino) → node_numbered store ino ≡ Some (node_in store ino)
 node_there store ino some = by (node_numbered store ino) some

@@ -149,10 +149,6 @@ few_segments t d stack most e =
     ltb-false 8 (nseg t + nseg d + nseg stack)
     (neither (nat_lt 8 (nseg t + nseg d + nseg stack)) (nat_lt most (t + d + stack + 16)) e)
 
-second : (a b : Bool) → (a || b) ≡ false → b ≡ false
-second false b e = e
-second true b e = absurd (cc e)
-
 pub begins_at : (text : List ℕ) (t d : ℕ) → length text ≡ 64 * t → nseg t + nseg d + nseg 20 ≤ 8 → Begins text (8192 * nseg t) (64 * d)
 begins_at text t d long few = record {
   base_is = ap data_base long ∙ (let whole : 64 * t / 64 ≡ t = omega arith in ap (λ n. 8192 * nseg n) whole);
