@@ -1,7 +1,7 @@
 -- What the disk has where blocks are written late.
-use Rattle.std.proofs.Common.{◌≡◌, ◌⊎◌, ◌<◌, ℕ, inl, inr, List, [], length, refl, ◌∙◌, subst, arith}
+use Rattle.std.proofs.Common.{◌≡◌, ◌⊎◌, ℕ, inl, inr, List, [], refl, ◌∙◌, subst, arith}
 use Rattle.std.proofs.lemmas.List.{same_lists, get_or_default}
-use Rattle.buf_cache.specs.Blocks.{block_at, IsDisk, WritesLate}
+use Rattle.buf_cache.specs.Blocks.{IsDisk, WritesLate}
 
 pub late_stays : (stored blocks : List (List ℕ)) → WritesLate stored blocks stored
 late_stays stored blocks = record { count = refl; each = λ n low. inl refl }

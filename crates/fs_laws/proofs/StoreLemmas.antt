@@ -1,12 +1,11 @@
 -- The store after one file has changed, and the bytes of one inode among those of a block.
-use Rattle.std.proofs.Common.{◌≡◌, ◌≢◌, ◌+◌, ◌-◌, ◌*◌, ◌/◌, ◌%◌, ◌<◌, ◌≤◌, inl, inr, ℕ, zero, suc, false, List, ◌∷◌, ◌++◌, map, length, set, slice_set, slice_index, slice_range, take, drop, length-drop, length-append, ◌⊎◌, Option, None, refl, sym, ap, ◌∙◌, arith}
+use Rattle.std.proofs.Common.{◌≡◌, ◌≢◌, ◌+◌, ◌-◌, ◌*◌, ◌/◌, ◌%◌, ◌<◌, ◌≤◌, inl, inr, ℕ, zero, suc, false, List, ◌∷◌, ◌++◌, map, length, set, slice_set, slice_index, slice_range, take, drop, length-drop, length-append, ◌⊎◌, None, refl, sym, ap, ◌∙◌, arith}
 use Rattle.std.proofs.lemmas.Bool.{cases_lt}
 use Rattle.std.proofs.lemmas.Bool.Decides.{eqb_tells}
 use Rattle.std.proofs.lemmas.List.{get_or-drop, get_or-take, length-take-le, same_lists, get_or_default, get_or_append_left, get_or-append_right}
 use Rattle.std.specs.List.{range_with_len}
 use Rattle.fs_codec.specs.Fields.{inode_of}
 use Rattle.fs_codec.specs.Disk.{Disk, head, inode, inode_count, inode_numbers}
-use Rattle.fs_codec.specs.Store.{Node, Store}
 use Rattle.fs_codec.specs.Stands.{node_of, store_of}
 use Rattle.buf_cache.specs.Blocks.{patched}
 use Rattle.fs_laws.specs.Chain.{free}
