@@ -54,14 +54,7 @@ fn give_count(u: &UArea, count: u16, error: Option<Errno>) -> Answer
 }
 
 /// Lets the process wait for keys of a line, with what it needs to go on, unless a signal is due.
-fn wait_for_keys(
-    line: u8,
-    u: &mut UArea,
-    row: &Row,
-    entry: u16,
-    at: u16,
-    count: u16,
-) -> Answer
+fn wait_for_keys(line: u8, u: &mut UArea, row: &Row, entry: u16, at: u16, count: u16) -> Answer
     ensures { (h : Handed) → h.u ≡ u.old → h.row ≡ row.now
         → waits_for_keys h line entry at count ≡ did_with (record h { u = u.new }) result }
 {
