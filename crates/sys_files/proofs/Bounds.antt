@@ -15,7 +15,7 @@ use Rattle.v6_base.specs.declared.entry.Chan.TheVariants as channel
 use Rattle.v6_base.specs.declared.entry.Entry.TheVariants.{Wake, Signal}
 use Rattle.sig_core.specs.declared.numbers.TheConstants.{SIGPIPE}
 use Rattle.v6_base.specs.Tape.{Recording, is_full, taken_on}
-use Rattle.v6_base.specs.Trace.{Item, Byte, Log, Took, sent, line_bytes, entries_of}
+use Rattle.v6_base.specs.Trace.{Item, Log, Took, sent, line_bytes, entries_of}
 use Rattle.v6_base.proofs.Took.{line_bytes-sent, line_bytes-append, entries_of-sent, entries_of-append}
 use Rattle.fs_tree.specs.Name.{read_then, readable}
 use Rattle.tty_line.specs.Terminal.{Terminal, flags}

@@ -1,5 +1,5 @@
 -- What stty and gtty come to, by their tests.
-use Rattle.std.proofs.Common.{◌≡◌, ◌<◌, ℕ, List, length, slice_index, arith, Result, Ok, Err, refl, sym, ap, ◌∙◌}
+use Rattle.std.proofs.Common.{◌≡◌, ◌<◌, ℕ, List, length, slice_index, arith, Result, Ok, Err, sym, ap, ◌∙◌}
 use Rattle.v6_base.specs.declared.errno.Errno.{Errno}
 use Rattle.fs_codec.specs.Bytes.{bytes_of}
 use Rattle.fs_codec.specs.Words.{words}

@@ -11,7 +11,7 @@ use Rattle.v6_base.specs.declared.entry.Chan.TheVariants.{Keys}
 use Rattle.v6_base.specs.declared.entry.Chan.TheVariants as chan
 use Rattle.v6_base.specs.declared.entry.Entry.TheVariants.{Wake, Signal}
 use Rattle.v6_base.specs.declared.errno.Errno.{Errno}
-use Rattle.v6_base.specs.declared.errno.Errno.TheVariants.{EINTR, EPERM, EBADF, EFAULT, EEXIST, ENOTDIR, EISDIR, ENFILE, EMFILE, ENOTTY, ENODEV, ENXIO, ESPIPE, EMLINK, EPIPE}
+use Rattle.v6_base.specs.declared.errno.Errno.TheVariants.{EINTR, EPERM, EBADF, EFAULT, EEXIST, ENOTDIR, EISDIR, ENFILE, EMFILE, ENXIO, ESPIPE, EMLINK, EPIPE}
 use Rattle.v6_base.proofs.Copies.{SameLengths, same_lengths, bytes_lengths}
 use Rattle.fs_codec.specs.Bytes.{bytes_of}
 use Rattle.fs_codec.specs.Modes.{is_device, is_directory}

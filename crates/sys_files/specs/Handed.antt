@@ -1,5 +1,5 @@
 -- What a call on files works on: the parts of the Unix that it is handed. `user.h`, `proc.h` and `file.h` in Lions' Commentary.
-use Rattle.std.specs.Prelude.{ℕ, Bool, false, ◌+◌, ◌&&◌, ◌==◌, nat_lt, List, Option, Some, None, slice_index, slice_set, unwrap_or, if◌then◌else◌}
+use Rattle.std.specs.Prelude.{ℕ, Bool, false, ◌&&◌, ◌==◌, nat_lt, List, Option, Some, None, slice_index, slice_set, unwrap_or, if◌then◌else◌}
 use Rattle.v6_base.specs.Image.{Image}
 use Rattle.v6_base.specs.declared.entry.Chan.{Chan}
 use Rattle.v6_base.specs.declared.entry.Chan.TheVariants.{Keys}

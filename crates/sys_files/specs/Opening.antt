@@ -1,5 +1,5 @@
 -- Files are opened: open(II); Lions' Commentary, `open1` in `sys2.c` and `falloc` in `fio.c`.
-use Rattle.std.specs.Prelude.{ℕ, Bool, false, not, ◌+◌, ◌/◌, ◌%◌, ◌==◌, ◌&&◌, ◌||◌, if◌then◌else◌, List, [], ◌∷◌, Option, Some, None, is_some, Result, Ok, Err, slice_set}
+use Rattle.std.specs.Prelude.{ℕ, Bool, false, not, ◌+◌, ◌/◌, ◌%◌, ◌==◌, ◌||◌, if◌then◌else◌, List, [], ◌∷◌, Option, Some, None, is_some, Result, Ok, Err, slice_set}
 use Rattle.v6_base.specs.declared.errno.Errno.{Errno}
 use Rattle.v6_base.specs.declared.errno.Errno.TheVariants.{ENXIO, EISDIR, ENFILE, EMFILE}
 use Rattle.proc_tab.specs.declared.row.Row.{Row}

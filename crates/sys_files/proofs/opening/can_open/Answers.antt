@@ -1,7 +1,7 @@
-use Rattle.std.proofs.Common.{◌≡◌, Option, unwrap_or, is_some, sym, ap, ◌∙◌}
+use Rattle.std.proofs.Common.{Option, unwrap_or, sym, ap, ◌∙◌}
 use Rattle.fs_codec.specs.Modes.{is_device}
 use Rattle.fs_codec.specs.Store.{Node}
-use Rattle.sys_files.specs.Handed.{no_node, line_of, is_null}
+use Rattle.sys_files.specs.Handed.{no_node}
 use Rattle.sys_files.specs.Opening.{can_open}
 use Rattle.sys_files.proofs.LineLemmas.{can_plain, can_line, can_null}
 use Rattle.sys_files.proofs.opening.can_open.Goals as goal

@@ -1,4 +1,4 @@
-use Rattle.std.proofs.Common.{refl, sym, ap, ◌∙◌}
+use Rattle.std.proofs.Common.{sym, ap, ◌∙◌}
 use Rattle.fs_tree.specs.Finding.{inodes_of, with_reference}
 use Rattle.sys_files.specs.Handed.{Handed, handed, node_in, line_of}
 use Rattle.sys_files.specs.Did.{Did}

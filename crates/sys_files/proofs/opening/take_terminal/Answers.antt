@@ -1,5 +1,4 @@
-use Rattle.std.proofs.Common.{◌==◌, Bool, cond, sym, ap, ◌∙◌}
-use Rattle.proc_tab.specs.declared.row.Row.{Row}
+use Rattle.std.proofs.Common.{sym, ap, ◌∙◌}
 use Rattle.sys_files.specs.Opening.{with_tty}
 use Rattle.sys_files.proofs.LineLemmas.{tty_taken, tty_kept}
 use Rattle.sys_files.proofs.opening.take_terminal.Goals as goal
