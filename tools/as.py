@@ -1,5 +1,10 @@
 #!/usr/bin/env python3
 """Assembles programs for the PDP-11/40 and the Sixth Edition: see docs/tools/as.md."""
+import signal
+
+if __name__ == "__main__":
+    signal.signal(signal.SIGINT, signal.SIG_DFL)  # an interrupt before main ends it without a word
+
 import argparse
 import os
 import sys
@@ -42,7 +47,8 @@ def assemble(options):
             return 1
     sources = [(name, read_bytes(name).decode("utf-8", "replace")) for name in options.sources]
     assembler = Assembler()
-    data = assembler.assemble(sources, options.shared, options.symbols)
+    traced = tuple(options.sources) if options.lines else ()
+    data = assembler.assemble(sources, options.shared, options.symbols or options.lines, traced)
     if data is None:
         for error in assembler.errors:
             print(f"as.py: {error}", file=sys.stderr)
@@ -70,6 +76,7 @@ def main(words):
     parser.add_argument("-n", dest="shared", action="store_true", help="with a text that is shared: magic 0410")
     parser.add_argument("-l", dest="listing", action="store_true", help="print each line with its address and words")
     parser.add_argument("-s", dest="symbols", action="store_true", help="with a table of symbols, also in the listing")
+    parser.add_argument("-g", dest="lines", action="store_true", help="with a table of symbols that has the lines of the source")
     parser.add_argument("--disassemble", action="store_true", help="print source for programs")
     add_version(parser)
 

@@ -17,6 +17,9 @@ HEADER = struct.Struct("<8H")
 SYMBOL = struct.Struct("<8s2H")  # a name, a type and a value: a.out(V)
 TYPES = {None: 1, "text": 2, "data": 3, "bss": 4}
 GLOBAL = 0o40  # of the type of a symbol that other programs may name
+FILE, LINE = 0o37, 0o36  # types: eight bytes of a file's name, by its number; a file's number and a line, with its address
+MARK = re.compile(r"/~([0-9]+)$")  # what the compiler of C puts before the words of a line
+FUNCTION = re.compile(r"_[\w.~]*:")
 
 
 class SourceError(Exception):
@@ -109,10 +112,13 @@ class Assembler:
         self.errors, self.lines, self.first, self.last = [], [], True, False
         self.origin = 0  # what `..` is: where address 0 of the text stands
         self.long, self.grew = set(), False  # the jumps that need more than a branch, by their count
+        self.traced, self.traces = (), []  # the sources whose lines are wanted; and of each of these where it begins in the text
 
-    def assemble(self, sources, shared=False, symbols=False):
+    def assemble(self, sources, shared=False, symbols=False, traced=()):
         """The file of a program, of its sources: (name, text). None where one has an error: see `errors`. The first pass
-        finds what the names are, others which jumps need more than a branch, and the last makes the words."""
+        finds what the names are, others which jumps need more than a branch, and the last makes the words. The table of symbols
+        has the lines of the sources `traced` too."""
+        self.traced = traced
         while True:
             self.parts = {name: Part() for name in ("text", "data", "bss")}
             if not self.first:
@@ -132,6 +138,10 @@ class Assembler:
             return None
         text, data = (bytes(self.parts[name].bytes).ljust(self.sizes[name], b"\0") for name in ("text", "data"))
         table = b"".join(SYMBOL.pack(name.encode()[:8], kind, value) for name, kind, value in self.symbols() if symbols)
+        table += self.line_symbols()
+        if len(table) > WORD:
+            self.errors.append(f"the table of symbols has more than {WORD} bytes")
+            return None
         header = HEADER.pack(SHARED if shared else MAGIC, len(text), len(data), self.sizes["bss"], len(table), 0, 0, 0)
         return header + text + data + table
 
@@ -143,6 +153,23 @@ class Assembler:
                  for name, value in named.items()]
         return sorted(found, key=lambda symbol: (symbol[1] & 7, symbol[2], symbol[0]))
 
+    def line_symbols(self):
+        """The lines of the sources that are traced, with the addresses where their words begin; line 0 is none."""
+        files, out = {}, b""
+        for at, file, line in self.traces:
+            if file not in files:
+                files[file] = len(files)
+                name = file.encode()
+                out += b"".join(SYMBOL.pack(name[start : start + 8], FILE, files[file]) for start in range(0, len(name), 8))
+            out += SYMBOL.pack(struct.pack("<2H", files[file], line), LINE, at)
+        return out
+
+    def trace(self, file, line, start):
+        """Takes down that words of a line begin here, in the text."""
+        base = self.parts["text"].base + self.origin
+        if not self.traces or self.traces[-1][1:] != (file, line):
+            self.traces.append((start + base & WORD, file, line))
+
     def put_bases(self, shared):
         text, data = self.sizes["text"], self.sizes["data"]
         self.parts["data"].base = -(-text // SEGMENT) * SEGMENT if shared else text
@@ -150,8 +177,9 @@ class Assembler:
 
     def passes(self, sources):
         """One pass over all lines."""
-        self.part, self.seen, self.count, self.ifs = "text", {}, 0, []
+        self.part, self.seen, self.count, self.ifs, self.traces = "text", {}, 0, [], []
         for file, source in sources:
+            is_traced, is_c, mark = file in self.traced, file.endswith(".c"), 0
             for count, line in enumerate(source.split("\n"), 1):
                 start, self.at = (self.part, self.here().size), f"{file}:{count}: "
                 try:
@@ -160,6 +188,12 @@ class Assembler:
                     self.complain(error)
                 if self.last:
                     self.lines.append((*start, line))
+                    if is_c:
+                        found = MARK.match(line)
+                        mark = int(found[1]) if found else 0 if FUNCTION.match(line) else mark
+                    if self.traced and start[0] == "text" and self.parts["text"].size > start[1]:
+                        wanted = (file, mark if is_c else count) if is_traced else (self.traced[0], 0)
+                        self.trace(*wanted, start[1])
         if self.ifs:
             self.complain(".if without .endif")
         bss = self.parts["bss"]

@@ -1,5 +1,10 @@
 #!/usr/bin/env python3
 """Compiles programs in C for the PDP-11/40 and the Sixth Edition: see docs/tools/c.md."""
+import signal
+
+if __name__ == "__main__":
+    signal.signal(signal.SIGINT, signal.SIG_DFL)  # an interrupt before main ends it without a word
+
 import argparse
 import os
 import sys
@@ -15,7 +20,7 @@ def compile_all(options):
         if same_file(name, options.out):
             raise CompileError(f"{name}: the source itself, and the program would take its place")
     words = [f"-I{name}" for name in options.folders] + [f"-D{name}" for name in options.defined]
-    compiler = Compiler(options.compiler, words, gcc if options.gcc else pcc)
+    compiler = Compiler(options.compiler, words, gcc if options.gcc else pcc, options.lines)
     if options.assembly:
         program = Program(compiler)
         for name in options.sources:
@@ -33,6 +38,7 @@ def main(words):
     parser.add_argument("-n", dest="shared", action="store_true", help="with a text that is shared: magic 0410")
     parser.add_argument("-S", dest="assembly", action="store_true", help="make assembly of the files, and no program")
     parser.add_argument("-s", dest="symbols", action="store_true", help="with a table of symbols")
+    parser.add_argument("-g", dest="lines", action="store_true", help="with a table of symbols that has the lines of the sources")
     parser.add_argument("-I", dest="folders", metavar="FOLDER", action="append", default=[], help="where headers are, too")
     parser.add_argument("-D", dest="defined", metavar="NAME[=TEXT]", action="append", default=[], help="a name of the preprocessor")
     parser.add_argument("--gcc", action="store_true", help="with GCC, which tools/c/build-gcc.sh makes, in the place of pcc")

@@ -11,6 +11,7 @@ from files import read_bytes
 
 HOME = os.environ.get("V6_CC") or os.path.join(os.path.expanduser("~"), ".cache", "v6-cc")
 COMMON = re.compile(r"^\s*\.comm\s+([\w.~]+),\s*([0-7]+)$", re.M)
+LINES = re.compile(r"^/~[0-9]+$", re.M)
 FLOATS = re.compile(r"^\.globl\s+fltused$|\bjsr\tpc,___\w*[sd]f\w*$", re.M)
 UNKNOWN = re.compile(r"'(?:_(\w+)|([\w.~]+))' isn't defined$")
 TEXTS = re.compile(r"""//[^\n]*|/\*.*?\*/|"(?:\\.|[^"\\\n])*"|'(?:\\.|[^'\\\n])*'""", re.S)  # and comments
@@ -46,7 +47,7 @@ def pcc(compiler, source, out):
     """What pcc makes of a file in C, without the marks of its debugger, and with even addresses in the bss."""
     middle = out + ".i"
     run([compiler.program("cpp"), *compiler.words, "-I", os.path.join(FOLDER, "include"), source, middle])
-    run([compiler.program("ccom"), middle, out])
+    run([compiler.program("ccom"), *["-g"] * compiler.lines, middle, out])
     text = re.sub(r"^~~\w+:\n", "", read_text(out), flags=re.M)
     return re.sub(r"^\.bss\n", "\t.bss\n\t.even\n", text, flags=re.M)
 
@@ -84,8 +85,8 @@ class Compiler:
 
     parts = {}  # of the library, as a compiler has made them for these words
 
-    def __init__(self, folder, words, make=pcc):
-        self.folder, self.words, self.make = folder, words, make
+    def __init__(self, folder, words, make=pcc, lines=False):
+        self.folder, self.words, self.make, self.lines = folder, words, make, lines
 
     def program(self, name):
         path = os.path.join(self.folder, name)
@@ -128,7 +129,11 @@ class Program:
         if not name.endswith((".c", ".s")):
             raise CompileError(f"{name}: neither a source in C, NAME.c, nor one in assembly, NAME.s")
         source = read_bytes(name).decode("utf-8", "replace")
-        self.sources.append((name, self.compiled(self.compiler.assembly(name)) if name.endswith(".c") else source))
+        if name.endswith(".c"):
+            source = self.compiled(self.compiler.assembly(name))
+            if self.compiler.lines and not LINES.search(source):
+                raise CompileError(f"{name}: its compiler tells no lines: tools/c/build.sh makes one that does, and --gcc has none")
+        self.sources.append((name, source))
 
     def whole(self):
         """All that the program needs: its start, its files, their part of the library, and what has room in the bss alone."""
@@ -156,7 +161,8 @@ def program_of(names, compiler=None, symbols=False, shared=False):
     for name in names:
         program.add(name)
     assembler = Assembler()
-    data = assembler.assemble(program.whole(), shared, symbols)
+    traced = tuple(names) if program.compiler.lines else ()
+    data = assembler.assemble(program.whole(), shared, symbols or bool(traced), traced)
     if data is None:
         raise CompileError("\n".join(told(assembler.errors)))
     return data, assembler

@@ -1,9 +1,14 @@
 #!/usr/bin/env python3
 """A person types at the terminal of a machine that runs a disk: see docs/tools/console.md."""
+import signal
+
+if __name__ == "__main__":
+    signal.signal(signal.SIGINT, signal.SIG_DFL)  # an interrupt before main ends it without a word
+
 import argparse
+import errno
 import itertools
 import os
-import signal
 import sys
 import tempfile
 from dataclasses import dataclass
@@ -27,6 +32,7 @@ HELP = """~.      ends, and so does the end of a file that is read in the place 
 ~w      tells what each process does
 ~?      prints these lines
 """
+ENDS = signal.SIGTERM, signal.SIGHUP
 LONGEST = 254  # of a line that is tried with others in one run: more than 255 keys don't wait
 
 
@@ -56,6 +62,16 @@ class Quit(KeyboardInterrupt):
 
 def quit_key(*_):
     raise Quit
+
+
+class Ended(BaseException):
+    """Another program has ended this one by a signal, or the terminal has gone."""
+
+
+def ended(number, _):
+    for other in ENDS:
+        signal.signal(other, signal.SIG_IGN)
+    raise Ended(number)
 
 
 class Keyboard:
@@ -215,7 +231,11 @@ ORDERS = {"?": Console.help, "l": Console.list, "u": Console.back, "g": Console.
 
 
 def tell(text):
-    print(f"\nconsole: {text}", file=sys.stderr, flush=True)
+    try:
+        print(f"\nconsole: {text}", file=sys.stderr, flush=True)
+    except OSError as error:
+        if error.errno != errno.EIO:  # of a terminal that has gone
+            raise
 
 
 def talk(console, found, save):
@@ -336,9 +356,14 @@ def run(options, folder):
         tell(error)
         return 1
     save()
-    talk(console, found, save)
+    status = 0
+    try:
+        talk(console, found, save)
+    except Ended as error:  # what has been typed is kept, as at the end
+        status = 128 + error.args[0]
+        save()
     is_kept = not options.disk or put_disk(options, machine, console.dialogue.lines())
-    return int(console.refused and not console.keyboard.person or script.moved or not is_kept)
+    return status or int(console.refused and not console.keyboard.person or script.moved or not is_kept)
 
 
 def put_disk(options, machine, lines):
@@ -362,7 +387,10 @@ def beside(name):
 
 def main(words):
     options = options_of(words)
+    signal.signal(signal.SIGINT, signal.default_int_handler)
     signal.signal(signal.SIGQUIT, quit_key)
+    for number in ENDS:
+        signal.signal(number, ended)
     try:
         with tempfile.TemporaryDirectory() as folder:
             return run(options, folder)
@@ -374,6 +402,8 @@ def main(words):
         tell(told(error))
     except KeyboardInterrupt:
         tell("stopped")
+    except Ended as error:
+        return 128 + error.args[0]
     return 1
 
 

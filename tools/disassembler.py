@@ -11,11 +11,20 @@ CALL = {number: name for name, number in CALLS.items()}
 CODE = {word: name for name, word in CODES.items()}
 
 
-class Words:
-    """The words of a program from one on, with the address of the next."""
+def unnamed(_):
+    """No address has a name."""
+    return None
 
-    def __init__(self, words, at):
-        self.words, self.at = list(words), at
+
+class Words:
+    """The words of a program from one on, with the address of the next. `name` gives the name of an address, or None."""
+
+    def __init__(self, words, at, name=unnamed):
+        self.words, self.at, self.name = list(words), at, name
+
+    def place(self, address):
+        """An address as text: its name, where it has one."""
+        return self.name(address & 0xFFFF) or f"{address & 0xFFFF:o}"
 
     def next(self):
         """The next word; IndexError where there is none."""
@@ -29,11 +38,13 @@ def operand(spec, more):
     if mode < 2:
         return (register, f"({register})")[mode]
     if mode < 4:
-        return f"{star}${more.next():o}" if register == "pc" else f"{star}({register})+"
+        if register == "pc":
+            return f"*${more.place(more.next())}" if star else f"${more.next():o}"
+        return f"{star}({register})+"
     if mode < 6:
         return f"{star}-({register})"
     x = more.next()
-    return f"{star}{x + more.at & 0xFFFF:o}" if register == "pc" else f"{star}{x:o}({register})"
+    return f"{star}{more.place(x + more.at)}" if register == "pc" else f"{star}{x:o}({register})"
 
 
 def operands(form, word, more):
@@ -50,8 +61,8 @@ def operands(form, word, more):
         return f"{register},{operand(low, more)}"
     if form in ("d", "j"):
         return operand(low, more)
-    return {"": "", "r": REGISTER[word & 7], "b": f"{more.at + 2 * signed(word, 8) & 0xFFFF:o}",
-            "r,b": f"{register},{more.at - 2 * low & 0xFFFF:o}", "n6": f"{low:o}", "n8": f"{word & 0o377:o}",
+    return {"": "", "r": REGISTER[word & 7], "b": more.place(more.at + 2 * signed(word, 8)),
+            "r,b": f"{register},{more.place(more.at - 2 * low)}", "n6": f"{low:o}", "n8": f"{word & 0o377:o}",
             "call": CALL.get(word & 0o377, f"{word & 0o377:o}")}[form]
 
 
@@ -61,9 +72,9 @@ def codes(word):
     return "|".join(CODE[word & ~0o17 | bit] for bit in bits) if bits else None
 
 
-def instruction(words, at):
+def instruction(words, at, name=unnamed):
     """The instruction with which the words at an address begin, and how many it has; None where they have no name."""
-    more = Words(words, at)
+    more = Words(words, at, name)
     word = more.next()
     if word in CODE:
         return CODE[word], 1
@@ -82,10 +93,10 @@ def instruction(words, at):
     return None
 
 
-def lines(words, at):
+def lines(words, at, name=unnamed):
     """Source for words from an address on."""
     while words:
-        text, count = instruction(words, at) or (f"{words[0]:o}", 1)
+        text, count = instruction(words, at, name) or (f"{words[0]:o}", 1)
         arguments = ARGUMENTS.get(text[4:], 0) if text.startswith("sys\t") else 0
         yield at, text, words[:count]
         for n, word in enumerate(words[count : count + arguments], count):

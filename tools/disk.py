@@ -1,5 +1,10 @@
 #!/usr/bin/env python3
 """Takes files out of disks of the Sixth Edition, puts files in; makes, checks and repairs disks: see docs/tools/disk.md."""
+import signal
+
+if __name__ == "__main__":
+    signal.signal(signal.SIGINT, signal.SIG_DFL)  # an interrupt before main ends it without a word
+
 import argparse
 import datetime
 import os

@@ -23,7 +23,7 @@ def guarded(tool, body, *known, failed=1):
     """The status of a tool: what `body` gives, or `failed` where it fails with an error of the host or a known one, which is
     told in a line. An interrupt, also by another program's signal, ends it as an error does, so that nothing is left beside a
     file; so does a pipe that is closed, without a word."""
-    for number in INTERRUPTS[1:]:
+    for number in INTERRUPTS:
         if signal.getsignal(number) == signal.SIG_DFL:
             signal.signal(number, _interrupt)
     try:

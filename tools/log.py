@@ -1,5 +1,10 @@
 #!/usr/bin/env python3
 """Tells, draws and compares the logs of runs: see docs/tools/log.md."""
+import signal
+
+if __name__ == "__main__":
+    signal.signal(signal.SIGINT, signal.SIG_DFL)  # an interrupt before main ends it without a word
+
 import argparse
 import collections
 import os

@@ -1,5 +1,10 @@
 #!/usr/bin/env python3
 """Shows any moment of a run, forwards and backwards: see docs/tools/look.md."""
+import signal
+
+if __name__ == "__main__":
+    signal.signal(signal.SIGINT, signal.SIG_DFL)  # an interrupt before main ends it without a word
+
 import argparse
 import os
 import sys
@@ -69,9 +74,11 @@ def talk(looker):
     import readline  # noqa: F401, since input() edits its line by it
 
     command, last = "slot", "slot"
-    while not looker.is_over:
+    while True:
         try:
             last = command if do(looker, command) else last
+            if looker.is_over:
+                break
             command = input(f"{looker.moment.slots}> ").strip() or last
         except KeyboardInterrupt:
             command = ""

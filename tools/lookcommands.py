@@ -27,9 +27,9 @@ until WHAT, since WHAT   forwards and backwards to where WHAT becomes so:
     word PLACE [VALUE]       a word of it changes, or becomes a value
 near [COUNT]             for pc and word: how many of the nearest moments are looked at one by one
 watch PLACE              shows a word at each moment from now on; unwatch: none any more
-help, quit
+help, quit (or q)
 of N, at the end of a command, is process N. A number with a 0 before it is octal. A PLACE is an address,
-a register, a name of the program, or one of them + a number."""
+a register, a name of the program, a line of its source (it.c:12), or one of them + a number."""
 
 
 class LookError(Exception):
@@ -114,6 +114,8 @@ class Looker:
         else:
             program = self.views.program(self.moment, number)
             at = program.address_of(first) if program else None
+            if at is None and program and ":" in first:
+                at = program.line_address(first)
             if at is None:
                 whose = f"{program.path} has no such name" if program else f"process {number} has no program with names"
                 raise LookError(f"{first}: {whose}")
@@ -133,6 +135,8 @@ class Looker:
     def do_quit(self):
         self.is_over = True
         return []
+
+    do_q = do_quit
 
     def do_ps(self):
         return self.views.ps(self.moment)
@@ -246,15 +250,49 @@ class Looker:
         does = getattr(self, "where_" + kind, None)
         if does is None:
             raise LookError(f"{kind}: it's state, place, call, pc or word that becomes so")
+        text, here = " ".join([kind, *words]), self.moment
+        if forwards and kind in ("pc", "word") and words:
+            self.look_on(words[0])
         search = Search(self.history, self.moment, forwards, self.near)
-        slots, text = does(search, *words), " ".join([kind, *words])
+        try:
+            is_there = self.moment is not here and kind == "pc" and self.is_at(*words)
+            slots = self.moment.slots if is_there else does(search, *words)
+        finally:
+            self.moment = here
         if not search.left_out(slots):
-            return self.found(slots, text, forwards)
+            return self.found(slots, text, forwards) + self.stands(kind)
         if slots is None:
             raise LookError(f"{text}: not found {'behind' if forwards else 'before'} slot {self.moment.slots}; "
                             f"each moment was looked at {'up' if forwards else 'down'} to slot {search.sure}, and some further on")
-        return self.go(slots) + [f"each moment was looked at {'up' if forwards else 'down'} to slot {search.sure}; from there to "
+        return self.go(slots) + self.stands(kind) + [f"each moment was looked at {'up' if forwards else 'down'} to slot {search.sure}; from there to "
                                  f"slot {slots} it may have come and gone"]
+
+    def look_on(self, place):
+        """Where the program of a process hasn't the name of a place, goes on to the first one that it executes which has it."""
+        here, number = self.moment, self.chosen()
+        while True:
+            try:
+                self.address(place)
+                return
+            except LookError as error:
+                fault = error
+            slots = Search(self.history, self.moment, True).event(Event("image", number))
+            if slots is None:
+                self.moment = here
+                raise fault
+            self.moment = self.history.moment(slots)
+
+    def is_at(self, first, last=None):
+        """Whether the PC is where a search asks for it."""
+        low, high = self.range_of(first, last)
+        return low <= self.memory_of()[1].pc <= high
+
+    def stands(self, kind):
+        """Where a process stands that was looked for by its PC."""
+        if kind != "pc":
+            return []
+        number, process = self.memory_of()
+        return self.views.place(process.pc, self.views.program(self.moment, number))
 
     def do_near(self, count=None):
         if count is not None:
@@ -287,14 +325,19 @@ class Looker:
 
     def where_pc(self, search, first, last=None):
         number = self.chosen()
+        low, high = self.range_of(first, last)
+        return search.value(lambda moment: is_alive(moment, number) and low <= moment.process(number).pc <= high)
+
+    def range_of(self, first, last=None):
+        """The addresses from one place to another; without that all of a name, up to the next."""
         low, high = self.address(first), None if last is None else self.address(last)
         if high is None:
-            program = self.views.program(self.moment, number)
+            program = self.views.program(self.moment, self.chosen())
             high = program.end_of(first) if program and not NUMBER.fullmatch(first) else None
             high = low if high is None else high
         if high < low:
             raise LookError(f"{last}: it is before {first}")
-        return search.value(lambda moment: is_alive(moment, number) and low <= moment.process(number).pc <= high)
+        return low, high
 
     def where_word(self, search, place, value=None):
         number, at = self.chosen(), self.word_address(place)

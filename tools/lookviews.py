@@ -1,12 +1,14 @@
 """What look.py shows of a moment: the processes, one of them whole, and what core and the swap area hold."""
 import disassembler
 from callwords import PENDING, call_at, kept, octal, text_of
+from files import read_bytes
 from logwords import Teller
 from moments import ADDRESSES, word
 from pdp11 import ARGUMENTS
 from proctable import SWAP_FIRST, SWAP_LAST, blocks
 
 BEFORE, AFTER = 16, 10  # bytes of code before PC, and words from it on
+LONGEST = 4  # bytes that an instruction has behind its first word
 DEPTH, MOST_ARGUMENTS = 16, 256  # words of a stack that are shown, and words of a program's arguments
 TOP = 512  # bytes at the top of a stack in which ps(I) looks for arguments
 STATES = {"R": "runs", "r": "can run", "o": "could run, and is out of core", "z": "has ended, and its parent hasn't waited for it"}
@@ -47,7 +49,7 @@ class Views:
     """Shows moments, with the names of programs."""
 
     def __init__(self, programs, sizes):
-        self.programs, self.sizes = programs, sizes
+        self.programs, self.sizes, self.sources = programs, sizes, {}
 
     # the log
 
@@ -133,7 +135,7 @@ class Views:
         out.append(f"program    {program.path if program else 'no file of the disk has its words'}")
         out += [f"names      {name} doesn't fit: its words are others" for name in self.programs.others(process)]
         out.append("arguments  " + (" ".join(text_of(one) for one in arguments_of(process)) or "none at the top of the stack"))
-        out += self.registers(process) + self.call(process)
+        out += self.registers(process) + self.source(process.pc, program) + self.call(process)
         out += ["code"] + self.code(process, program) + ["stack"] + self.stack(process, program)
         return out + self.area(moment, number)
 
@@ -162,15 +164,43 @@ class Views:
         """The words from an address on, disassembled; those round PC without an address."""
         start = start_of(process, process.pc) if at is None else at
         words, end = [], (process.pc if at is None else at) + 2 * count
-        while start + 2 * len(words) < end and (one := process.word(start + 2 * len(words))) is not None:
+        while start + 2 * len(words) < end + LONGEST and (one := process.word(start + 2 * len(words))) is not None:
             words.append(one)
         out = []
-        for where, line, found in disassembler.lines(words, start):
-            mark = ">" if where == process.pc else " "
+        source = None
+        for where, line, found in disassembler.lines(words, start, program.exact if program else disassembler.unnamed):
+            if where >= end:  # what is behind belongs to the last instruction
+                break
+            mark, before = ">" if where == process.pc else " ", source
+            source = program.line_at(where) if program else None
+            if source and source != before:
+                out.append(f"  {self.told(source)}")
             shown = " ".join(f"{one:06o}" for one in found)
             name = f"{self.name(program, where):14} " if program and program.names else ""
             out.append(f"{mark} {where:06o} {name}{shown:20}  {line.expandtabs(8)}".rstrip())
         return out or [f"  {start:06o} nothing is there"]
+
+    def told(self, source):
+        """A line of a source: its file, its number, and its text, where the file is at hand."""
+        file, line = source
+        if file not in self.sources:
+            try:
+                self.sources[file] = read_bytes(file).decode("utf-8", "replace").split("\n")
+            except OSError:
+                self.sources[file] = []
+        texts = self.sources[file]
+        return f"{file}:{line}" + (f"  {texts[line - 1].strip()}" if line <= len(texts) else "")
+
+    def source(self, address, program):
+        """Which line of its source a program is in."""
+        found = program.line_at(address) if program else None
+        return [f"source     {self.told(found)}"] if found else []
+
+    def place(self, address, program):
+        """An address by its name and its line of the source, as far as they are known."""
+        name, found = self.name(program, address), program.line_at(address) if program else None
+        told = [name] * bool(name) + ([self.told(found)] if found else [])
+        return [f"  pc {address:06o}: {', '.join(told)}"] if told else []
 
     def name(self, program, address):
         return (program.name_at(address) if program else None) or ""
@@ -182,9 +212,10 @@ class Views:
             value = process.word(address)
             if value is None:
                 break
-            back = returns(process, value)
-            name = self.name(program, value)
-            told = f"return to {name or octal(value)}, from {back}" if back else ""
+            back = returns(process, value, program.exact if program else disassembler.unnamed)
+            name, source = self.name(program, value), program.line_at(value) if program else None
+            line = f" ({source[0]}:{source[1]})" if source else ""
+            told = f"return to {name or octal(value)}{line}, from {back}" if back else ""
             out.append(f"  {address:06o} {value:06o}  {told}".rstrip())
         more = (ADDRESSES - at) // 2 - len(out)
         if out and more > 0:
@@ -300,7 +331,7 @@ def leads(words, at):
     return True
 
 
-def returns(process, value):
+def returns(process, value, name=disassembler.unnamed):
     """The call of a subroutine behind which an address stands, as text, or None."""
     for back in (4, 2):
         if value & 1 or value < back:
@@ -312,5 +343,5 @@ def returns(process, value):
         is_long = mode in LONG[:2] or mode & 0o60 == 0o60
         if is_long == (back == 4):
             words = [process.word(value - back + 2 * n) or 0 for n in range(back // 2)]
-            return disassembler.instruction(words, value - back)[0].replace("\t", " ")
+            return disassembler.instruction(words, value - back, name)[0].replace("\t", " ")
     return None

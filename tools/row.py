@@ -1,5 +1,10 @@
 #!/usr/bin/env python3
 """Shows rows, which are whole runs with what they must come to, and runs them: see docs/rows.md."""
+import signal
+
+if __name__ == "__main__":
+    signal.signal(signal.SIGINT, signal.SIG_DFL)  # an interrupt before main ends it without a word
+
 import argparse
 import fnmatch
 import os

@@ -1,5 +1,10 @@
 #!/usr/bin/env python3
 """Plays a script on a disk and shows the terminal; no file is lost where the run isn't done: see docs/tools/run.md."""
+import signal
+
+if __name__ == "__main__":
+    signal.signal(signal.SIGINT, signal.SIG_DFL)  # an interrupt before main ends it without a word
+
 import argparse
 import itertools
 import os

@@ -1,8 +1,10 @@
 """Which program of a disk a process executes, by its words in memory, and the names that its file has for addresses: a.out(V)."""
 import bisect
 import os
+import re
+import struct
 
-from assembler import GLOBAL, HEADER, SYMBOL, TYPES
+from assembler import FILE, GLOBAL, HEADER, LINE, SYMBOL, TYPES
 from files import read_bytes
 from moments import SEGMENT
 from pdp11 import MAGIC, SHARED
@@ -10,6 +12,8 @@ from volume import Volume
 
 FITS = 4  # one part of so many of a program's bytes may differ from its file's, as words of its text that it changes
 NAMED = {number: part for part, number in TYPES.items() if part}
+COMPILERS = re.compile(r"L_?\d+~")  # a label of the compiler of C, as cc.py makes it
+OWN = re.compile(r"~\d*$")  # behind the name of a function that other files don't know
 
 
 class Program:
@@ -21,7 +25,9 @@ class Program:
         self.is_shared = magic == SHARED and self.text > 0
         self.bytes = data[HEADER.size : HEADER.size + self.text + self.data]
         self.start = -(-self.text // SEGMENT) * SEGMENT if self.is_shared else self.text  # of the data
+        self.files, self.lines = {}, []
         self.names = self.read_names(data)
+        self.starts = [address for address, _, _ in self.lines]
         self.addresses = [address for address, _, _ in self.names]
 
     def read_names(self, data):
@@ -32,8 +38,37 @@ class Program:
         for place in range(at, min(at + self.table, len(data)) - SYMBOL.size + 1, SYMBOL.size):
             name, kind, value = SYMBOL.unpack_from(data, place)
             if kind & ~GLOBAL in NAMED:
-                found.append((value, kind & ~GLOBAL, name.rstrip(b"\0").decode("ascii", "replace")))
+                text = name.rstrip(b"\0").decode("ascii", "replace")
+                if not COMPILERS.match(text):
+                    found.append((value, kind & ~GLOBAL, OWN.sub("", text)))
+            elif kind == FILE:
+                self.files[value] = self.files.get(value, "") + name.rstrip(b"\0").decode("utf-8", "replace")
+            elif kind == LINE:
+                self.lines.append((value, *struct.unpack("<2H", name[:4])))
+        self.lines.sort(key=lambda one: one[0])
         return sorted(found)
+
+    def exact(self, address):
+        """The name that stands for just this address, or None."""
+        name = self.name_at(address)
+        return name if name and "+" not in name else None
+
+    def line_at(self, address):
+        """The file and the line of the source whose words are at an address of the text, or None."""
+        place = bisect.bisect_right(self.starts, address)
+        if not place or address >= (self.text or self.end()):
+            return None
+        _, file, line = self.lines[place - 1]
+        return (self.files.get(file, "?"), line) if line else None
+
+    def line_address(self, text):
+        """The address of a line of the source, as `it.c:12`, or of the first one after it that has words; or None."""
+        name, _, number = text.rpartition(":")
+        if not number.isdecimal():
+            return None
+        files = [file for file, path in self.files.items() if name in (path, os.path.basename(path))]
+        found = [(line, at) for at, file, line in self.lines if file in files and line >= int(number)]
+        return min(found)[1] if found else None
 
     def fits(self, process):
         """How many of a process's bytes are those of this program's text, or None where it can't be its own."""

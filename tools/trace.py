@@ -1,5 +1,10 @@
 #!/usr/bin/env python3
 """Tells the calls of each process of a run as they come: see docs/tools/trace.md."""
+import signal
+
+if __name__ == "__main__":
+    signal.signal(signal.SIGINT, signal.SIG_DFL)  # an interrupt before main ends it without a word
+
 import argparse
 import copy
 import itertools

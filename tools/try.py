@@ -1,5 +1,10 @@
 #!/usr/bin/env python3
 """Runs one program on a small disk, as a command of the host: see docs/tools/try.md."""
+import signal
+
+if __name__ == "__main__":
+    signal.signal(signal.SIGINT, signal.SIG_DFL)  # an interrupt before main ends it without a word
+
 import argparse
 import os
 import struct

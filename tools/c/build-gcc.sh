@@ -30,9 +30,13 @@ trap 'rm -rf "$work"' EXIT
 cd "$work"
 if [ -z "$archive" ]; then
     archive=$work/usr/src/gcc-12/gcc-12.2.0-dfsg.tar.xz
-    apt-get download gcc-12-source
+    apt-get download gcc-12-source || {
+        echo "build-gcc.sh: the package hasn't come: apt needs Debian 12's packages, or -a names gcc-12.2.0-dfsg.tar.xz" >&2
+        exit 1
+    }
     dpkg-deb --fsys-tarfile gcc-12-source_*.deb | tar xf - "./${archive#"$work"/}"
 fi
+[ -f "$archive" ] || { echo "build-gcc.sh: $archive: No such file" >&2; exit 1; }
 echo "$sum  $archive" | sha256sum -c -
 for tool in make patch cc c++ flex xz; do
     command -v $tool >/dev/null || { echo "build-gcc.sh: $tool is wanted" >&2; exit 1; }

@@ -22,7 +22,19 @@ cd "$work"
 if [ -z "$archive" ]; then
     archive=$work/pcc_$version.orig.tar.gz
     apt-get source --download-only "pcc=$version-1" || true   # of the package's files only this one is wanted
+    [ -f "$archive" ] || {
+        cat >&2 <<END
+build.sh: the package hasn't come. apt needs a source of source packages; these two lines, as root, give it one of Debian 12:
+
+    echo 'deb-src http://deb.debian.org/debian bookworm main' >/etc/apt/sources.list.d/v6-cc.list
+    apt-get update
+
+Or -a names its file, pcc_$version.orig.tar.gz.
+END
+        exit 1
+    }
 fi
+[ -f "$archive" ] || { echo "build.sh: $archive: No such file" >&2; exit 1; }
 echo "$sum  $archive" | sha256sum -c -
 for tool in make patch cc bison flex; do
     command -v $tool >/dev/null || { echo "build.sh: $tool is wanted" >&2; exit 1; }

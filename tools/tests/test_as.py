@@ -167,6 +167,15 @@ class Words(Case):
         shared = "410 6 4 4 0 0 0 0 016767 017774 017776 5 6"
         self.assertEqual(self.assemble(source, True)[0], words(shared))
 
+    def test_lines_of_the_source(self):
+        """The table of symbols has a file's name in pieces of eight bytes, and of each line with words its address."""
+        assembler = Assembler()
+        sources = [("longer_name.s", "\tclr\tr0\na:\n\tclr\tr1; clr r2\n.data\n1\n.text\n\trts\tpc\n"), ("other.s", "\tnop\n")]
+        made = assembler.assemble(sources, False, True, ("longer_name.s",))
+        table = [struct.unpack("<8s2H", made[at : at + 12]) for at in range(16 + 12, len(made), 12)]
+        self.assertEqual(table, [(b"a".ljust(8, b"\0"), 2, 2), (b"longer_n", 0o37, 0), (b"ame.s\0\0\0", 0o37, 0),
+                                 *((struct.pack("<4H", 0, line, 0, 0), 0o36, at) for line, at in ((1, 0), (3, 2), (7, 6), (0, 8)))])
+
     def test_every_word_that_has_a_name(self):
         named, more, lines, wanted, at = 0, [0o1234, 0o177770], [], [], 0
         for word in range(65536):

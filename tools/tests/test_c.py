@@ -8,6 +8,8 @@ import unittest
 import expressions
 from common import TOOLS, TOP, V6, Case, read, tool, v6
 
+import symbols
+
 cc, disk_main = tool("cc"), tool("disk").main
 EXAMPLE = os.path.join(TOP, "examples", "c")
 HERE = os.path.isfile(os.path.join(cc.HOME, "ccom"))
@@ -75,6 +77,21 @@ class WithoutCompiler(Program):
             self.assertNotEqual(done.returncode, 0)
             self.assertIn("it.tar.gz: FAILED", done.stdout)
             self.assertEqual(os.listdir(self.folder), ["it.tar.gz"])
+
+    def test_no_archive(self):
+        """Where apt has no such package, the lines to copy are told, and no sum of a file that isn't there."""
+        self.put("apt-get", b"#!/bin/sh\necho 'E: You must put some deb-src URIs in your sources.list' >&2\nexit 100\n")
+        os.chmod(self.path("apt-get"), 0o755)
+        path = {**os.environ, "PATH": self.folder + ":" + os.environ["PATH"]}
+        for script, told in (("build.sh", "\n    echo 'deb-src http://deb.debian.org/debian bookworm main' >/etc/apt/sources.list.d/v6-cc"
+                                          ".list\n    apt-get update\n"), ("build-gcc.sh", "build-gcc.sh: the package hasn't come: ")):
+            script = os.path.join(TOOLS, "c", script)
+            done = subprocess.run([script, self.path("made")], capture_output=True, text=True, env=path)
+            self.assertEqual((done.returncode, done.stdout), (1, ""))
+            self.assertIn(told, done.stderr)
+            done = subprocess.run([script, "-a", self.path("none"), self.path("made")], capture_output=True, text=True)
+            self.assertEqual((done.returncode, done.stdout), (1, ""))
+            self.assertEqual(done.stderr, f"{os.path.basename(script)}: {self.path('none')}: No such file\n")
 
     def test_arguments_and_status(self):
         """main has their number and their addresses, and what it gives is the status."""
@@ -395,6 +412,20 @@ class Compiled(Programs):
         self.assertEqual(self.call(cc.main, "-n", *words), (0, "", ""))
         self.assertEqual(read(self.path("it"))[:2], b"\x08\x01")
         self.assertEqual(self.run_it(self.path("it")), (11, "", ""))
+
+    def test_lines(self):
+        """With -g the table of symbols has the lines of the source, those of the words of each; the program is the same."""
+        source = self.put("it.c", b"int two(int n)\n{\n\treturn n + 2;\n}\nint main(void)\n{\n\tint n = 5;\n\treturn two(n);\n}\n")
+        self.assertEqual(self.call(cc.main, "-o", self.path("it"), source), (0, "", ""))
+        plain = read(self.path("it"))
+        self.assertEqual(self.call(cc.main, "-g", "-o", self.path("it"), source), (0, "", ""))
+        found = symbols.Program("it", read(self.path("it")))
+        self.assertEqual(read(self.path("it"))[16 : len(plain)], plain[16:])
+        told = [found.line_at(at) for at in range(found.address_of("two"), found.end_of("main") + 1)]
+        self.assertEqual(list(dict.fromkeys(one and (os.path.basename(one[0]), one[1]) for one in told)),
+                         [None, ("it.c", 3), ("it.c", 4), ("it.c", 7), ("it.c", 8), ("it.c", 9)])
+        self.assertIsNone(found.line_at(found.address_of("exit")))  # of the library
+        self.assertLess(found.line_address("it.c:7"), found.line_address("it.c:8"))
 
     def test_wrong(self):
         """What the compiler refuses is told, and no program is written."""

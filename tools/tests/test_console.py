@@ -6,6 +6,7 @@ import pty
 import re
 import select
 import shutil
+import signal
 import struct
 import subprocess
 import sys
@@ -254,6 +255,28 @@ class Sessions(Case):
             self.assertIn(f"{image} isn't any more what it was", said.decode())
             self.assertEqual(ran.returncode, int(disk != words[1]))
             self.assertEqual((len(read(disk)), read(image)), (DISK_BYTES, read(other)))
+
+    def test_ended_by_a_signal(self):
+        """What was typed until then is kept, the disk is written, and no folder is left."""
+        os.mkdir(self.path("tmp"))
+        for number in (signal.SIGTERM, signal.SIGHUP):
+            script, disk = self.path(f"script{number}"), self.path(f"disk{number}")
+            command = [sys.executable, os.path.join(TOOLS, "console.py"), os.path.join(SHELL, "image"), "--v6", V6, "--script", script,
+                       "--disk", disk]
+            with subprocess.Popen(command, stdin=subprocess.PIPE, stdout=subprocess.PIPE, stderr=subprocess.PIPE,
+                                  env={**os.environ, "TMPDIR": self.path("tmp")}) as ran:
+                self.assertEqual(ran.stdout.read(2), b"# ")
+                ran.stdin.write(b"echo a >b\n")
+                ran.stdin.flush()
+                self.assertEqual(ran.stdout.read(13), b"ECHO A >B\r\n# ")
+                while b"echo a" not in read(script):
+                    time.sleep(0.01)
+                ran.send_signal(number)
+                out, error = ran.communicate()
+            self.assertEqual((ran.returncode, out, error), (128 + number, b"", b""))
+            self.assertEqual(read(script), self.script("run 10000\ntype echo a >b\nrun 10000\n"))
+            self.assertEqual(self.call(tool("disk").main, "cat", disk, "/b"), (0, "a\n", ""))
+            self.assertEqual(os.listdir(self.path("tmp")), [])
 
     def test_two_consoles_with_one_script(self):
         """The lines of neither are lost: the later one is told, and keeps its own beside them."""

@@ -102,18 +102,49 @@ class Shown(unittest.TestCase):
             "process 1 in slot 1, a child of process 0", "state      R: runs", "image      37 clicks, in core from click 1 on; no text",
             "program    /etc/init", 'arguments  "/bin/x"',
             "registers  r0 000000  r1 000000  r2 000000  r3 000000  r4 000000  r5 000000",
-            "           sp 177756  pc 000014  codes -z--", "code", "  000000 start          004767 000004         jsr     pc,10"])
+            "           sp 177756  pc 000014  codes -z--", "code", "  000000 start          004767 000004         jsr     pc,sub"])
         self.assertEqual(shown[9:15], [
             "  000004 start+4        104401                sys     exit", "  000006 start+6        000240                nop",
             "  000010 sub            010046                mov     r0,-(sp)", "  000012 sub+2          005000                clr     r0",
             "> 000014 sub+4          000207                rts     pc", "  000016                000000                0"])
         stack = shown.index("stack")
         self.assertEqual(shown[stack:], [
-            "stack", "  177756 000005", "  177760 000004  return to start+4, from jsr pc,10", "  177762 000001", "  177764 177770",
+            "stack", "  177756 000005", "  177760 000004  return to start+4, from jsr pc,sub", "  177762 000001", "  177764 177770",
             "  177766 177777", "  177770 061057", "  177772 067151", "  177774 074057", "  177776 000000", "u area",
             "  user 0, group 0; real user 0, real group 0", "  directory: inode 1", "  clicks: text 0, data 1, stack 20",
             "  pending call: none", "  ticks: 7 in the program, 2 in the kernel; of its children 0 and 0", "  exit status: 0",
             "  signals: 2 ignored, 3 to 0100", "  file 0: open file 0", "  file 2: open file 2"])
+
+    def test_names_of_c(self):
+        """Labels of the compiler hide no function, and a function that other files don't know has its name; targets are named. An
+        instruction at the end of the window is whole."""
+        table = b"".join(struct.pack("<8s2H", *one) for one in ((b"_main", 0o42, 0), (b"_sub~1", 2, 8), (b"L12~1", 2, 4), (b"L_3~1", 2, 12)))
+        it = struct.pack("<8H", 0o407, len(TEXT), 0, 0, len(table), 0, 0, 1) + TEXT + table
+        looker = self.looker(files=(("/etc/init", it),))
+        shown = looker.lines_of("process 1")
+        self.assertIn("  000000 _main          004767 000004         jsr     pc,_sub", shown)
+        self.assertIn("> 000014 _sub+4         000207                rts     pc", shown)
+        self.assertIn("  177760 000004  return to _main+4, from jsr pc,_sub", shown)
+        self.assertEqual(looker.lines_of("code sub 1"), ["  000010 _sub           010046                mov     r0,-(sp)"])
+        self.assertEqual(looker.lines_of("code main 1"), ["  000000 _main          004767 000004         jsr     pc,_sub"])
+
+    def test_lines_of_the_source(self):
+        """They are told with the code, with PC and with return addresses, and are places."""
+        with tempfile.TemporaryDirectory() as folder:
+            source, named = os.path.join(folder, "it.s"), os.path.join(folder, "it")
+            write(source, b"start:\tjsr\tpc,subr\n\tsys\texit; nop\nsubr:\n\tmov\tr0,-(sp); clr\tr0\n\trts\tpc\n")
+            self.assertEqual(tool("as").main(["-g", "-o", named, source]), 0)
+            looker = self.looker(files=(("/etc/init", read(named)),))
+            shown = looker.lines_of("process 1")
+            self.assertIn(f"source     {source}:5  rts\tpc", shown)
+            self.assertIn("  177760 000004  return to start+4 (" + source + ":2), from jsr pc,subr", shown)
+            at = shown.index("code")
+            self.assertEqual(shown[at + 1 : at + 4], [f"  {source}:1  start:\tjsr\tpc,subr",
+                "  000000 start          004767 000004         jsr     pc,subr", f"  {source}:2  sys\texit; nop"])
+            for place, address in (("it.s:1", 0), ("it.s:2", 4), ("it.s:3", 8), (source + ":5", 12)):
+                self.assertEqual(looker.lines_of(f"words {place} 1")[0][:6], f"{address:06o}")
+            with self.assertRaisesRegex(LookError, "it.s:6: /etc/init has no such name"):
+                looker.lines_of("words it.s:6")
 
     def test_code_behind_other_words(self):
         """Words before PC that are no instructions aren't shown: here 0, which is none of a program."""
@@ -570,6 +601,23 @@ class Commands(Case):
         self.assertEqual(self.call(as_main, "-s", "-o", pair, source), (0, "", ""))
         self.assertEqual(self.call(disk_main, "--v6", V6, "put", disk, pair, "/etc/init"), (0, "", ""))
         return disk, self.put("typed", b"run 60\ntype one\nrun 60\ntype two\nrun 60\n")
+
+    def test_a_label_before_the_program_is_executed(self):
+        """Process 1 has no program with names before its exec: a search for one looks on."""
+        disk, script = self.readers()
+        status, out, error = self.look(disk, "1200", script, "-c", "until word which", "-c", "slot 0", "-c", "until pc nosuch")
+        self.assertEqual((status, error), (1, "look.py: nosuch: /etc/init has no such name\n"))
+        self.assertTrue(out.startswith("slot 4 of 180, "))  # exec, open, fork, movb
+
+    def test_at_a_terminal(self):
+        """No prompt after the end; q is the end too; and an empty line does the last command again."""
+        disk, script = self.readers()
+        for end in ("quit", "q"):
+            with unittest.mock.patch("builtins.input", side_effect=["step 2", "", "hop", "", end]) as prompts:
+                with unittest.mock.patch("sys.stdin", unittest.mock.Mock(isatty=lambda: True)):
+                    status, out, error = self.look(disk, "1200", script)
+            self.assertEqual([call.args[0] for call in prompts.call_args_list], ["0> ", "2> ", "4> ", "4> ", "6> "])
+            self.assertEqual(error, "look.py: hop: no such command; help names them\n")
 
     def test_from_a_pipe(self):
         """What is typed after slot 60 belongs to the moment 60. A command that can't be done is told, and the next one is done."""

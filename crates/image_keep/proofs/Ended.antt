@@ -1,9 +1,8 @@
 -- A process ends, is waited for, or gives its image up.
-use Rattle.std.proofs.Common.{◌≡◌, ℕ, ◌+◌, ◌*◌, ◌<◌, ◌≤◌, ◌&&◌, ◌||◌, not, ◌⊎◌, inl, inr, List, length, set, Bool, true, false, Option, Some, None, refl, sym, ap, subst, ◌∙◌, arith}
+use Rattle.std.proofs.Common.{◌≡◌, ℕ, ◌+◌, ◌*◌, ◌<◌, ◌≤◌, ◌&&◌, ◌||◌, not, ◌⊎◌, List, length, set, Bool, true, false, Option, Some, None, refl, sym, ap, subst, ◌∙◌, arith}
 use Rattle.std.proofs.lemmas.Bool.{false_from_ne_true}
 use Rattle.std.proofs.lemmas.Option.{none-some}
 use Rattle.v6_base.specs.declared.entry.Place.{Place}
-use Rattle.v6_base.specs.declared.entry.Place.TheVariants.{Core, Swap}
 use Rattle.core_mem.specs.Bytes.{part, over}
 use Rattle.map_fit.specs.declared.holes.Hole.{Hole}
 use Rattle.map_fit.specs.Fit.{Range, first_fit}
@@ -12,7 +11,7 @@ use Rattle.image_keep.specs.declared.row.State.{State}
 use Rattle.image_keep.specs.declared.row.State.TheVariants as state
 use Rattle.image_keep.specs.declared.row.Row.{Row}
 use Rattle.image_keep.specs.Kept.{Kept, with_keeping, Nothing, Grave, HasImage, text_of, area_of}
-use Rattle.image_keep.specs.Memory.{Stock, row_at, grave_row, nothing_row, swap_at, place_at, clicks_in, spot, RowOf, row_spot, IsIn, kept_of, IsSound}
+use Rattle.image_keep.specs.Memory.{Stock, row_at, grave_row, nothing_row, swap_at, place_at, clicks_in, spot, RowOf, row_spot, kept_of, IsSound}
 use Rattle.image_keep.specs.Places.{core_taken, swap_taken, swap_fit}
 use Rattle.image_keep.specs.Maps.{AreMaps, InsideBy, core_units, swap_units}
 use Rattle.image_keep.specs.Counts.{IsCounted, is_text, is_in_core, has_loaded}
@@ -156,12 +155,6 @@ or_false true = refl
 or_false false = refl
 
 pub ruleset ending = (ended, freed, units_taken, both_room, swap_fits)
-
--- where half of a u area is, and where it goes
-pub half_inside : (core n from to b a w : ℕ) (place : Place) → IsIn core place n → 16 ≤ n → 64 * from ≡ place_at core place → 64 * to ≡ swap_at core b → 4000 ≤ b → b + 1 ≤ 4872 → a ≡ 64 * core → w ≡ 64 * core + 446464
-    → ((64 * (from + 8) ≤ a) ⊎ (a ≤ 64 * from)) × ((64 * (to + 8) ≤ a) ⊎ (a ≤ 64 * to)) × (64 * (from + 8) ≤ w) × (64 * (to + 8) ≤ w)
-half_inside core n from to b a w (Core c) i l e f g h j k = let x = i.0 in let y = i.1 in (inl (omega (arith, x, y, l, e, j)), inr (omega (arith, f, g, j)), omega (arith, x, y, l, e, k), omega (arith, f, g, h, k))
-half_inside core n from to b a w (Swap c) i l e f g h j k = let x = i.0 in let y = i.1 in (inr (omega (arith, x, e, j)), inr (omega (arith, f, g, j)), omega (arith, x, y, l, e, k), omega (arith, f, g, h, k))
 
 pub still_taken : (a b c : Bool) → b ≡ (a && not c) → a ≡ false → b ≡ false
 still_taken a b c e f = e ∙ ap (λ x. x && not c) f

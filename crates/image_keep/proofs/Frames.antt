@@ -1,7 +1,7 @@
 -- What a change of one slot comes to, and what it leaves.
 use Rattle.std.proofs.Common.{◌≡◌, ◌≢◌, ◌<◌, ℕ, true, List, length, get_or, refl, sym, ap, ◌∙◌, inl, inr}
 use Rattle.std.proofs.lemmas.Bool.{cases_lt, cases_eq, false≢true}
-use Rattle.std.proofs.lemmas.List.{get_or-set_same, get_or-set_other, get_or_past, set-get_or, length-set, set-set, set_past}
+use Rattle.std.proofs.lemmas.List.{get_or-set_same, get_or-set_other, get_or_past, set-get_or, set-set, set_past}
 use Rattle.v6_base.specs.Image.{Image}
 use Rattle.u_area.specs.declared.area.UArea.{UArea}
 use Rattle.image_keep.specs.Kept.{Held, Keeping, Nothing, Alive, Grave, Kept, keeping, with_keeping, place_in, place_of, is_alive, image_in, area_in, image_of, area_of, imaged, described, with_image, with_area, no_image, HasImage}
@@ -19,9 +19,6 @@ keeping_twice k s x y = ap (λ (l : List Keeping). record k { slots = l }) (set-
 
 pub keeping_back : (k : Kept) (s : ℕ) → with_keeping k s (keeping k s) ≡ k
 keeping_back k s = ap (λ (l : List Keeping). record k { slots = l }) (set-get_or k.slots s Nothing)
-
-pub keeping_long : (k : Kept) (s : ℕ) (x : Keeping) → length (with_keeping k s x).slots ≡ length k.slots
-keeping_long k s x = length-set k.slots s x
 
 -- a slot that keeps something is one of the slots
 pub alive_low : (slots : List Keeping) (s : ℕ) → is_alive (get_or slots s Nothing) ≡ true → s < length slots
@@ -135,10 +132,6 @@ keeps_nothing k s t m none = elim (cases_eq t s) [
   | inr other ↦ with_image_other k s t m other ∙ none
 ]
 
-pub with_image_long : (k : Kept) (s : ℕ) (m : Image) → length (with_image k s m).slots ≡ length k.slots
-unfolding with_image
-with_image_long k s m = keeping_long k s (imaged m (keeping k s))
-
 -- the texts, and who has which, are the same
 pub record SameTexts (old new : Kept) : Type 0 where
   pub texts : new.texts ≡ old.texts
@@ -152,10 +145,6 @@ pub with_area_texts : (k : Kept) (s : ℕ) (u : UArea) → SameTexts k (with_are
 unfolding with_area
 with_area_texts k s u = record { texts = refl; users = refl }
 
-pub with_image_core : (k : Kept) (s : ℕ) (m : Image) → (with_image k s m).core ≡ k.core
-unfolding with_image
-with_image_core k s m = refl
-
 pub ruleset stores = (with_image_same, left_image, with_image_alive)
 
 -- a slot's u area is another one
@@ -168,11 +157,6 @@ slot_described k s u = elim (cases_lt s (length k.slots)) [
       ∙ (get_or_past k.slots s Nothing past ∙ sym (ap (described u) (get_or_past k.slots s Nothing past)))
 ]
 
-area_described : (u : UArea) (x : Keeping) → is_alive x ≡ true → area_in (described u x) ≡ u
-area_described u Nothing is = absurd (false≢true is)
-area_described u (Alive held) is = refl
-area_described u (Grave v block) is = absurd (false≢true is)
-
 alive_described : (u : UArea) (x : Keeping) → is_alive (described u x) ≡ is_alive x
 alive_described u Nothing = refl
 alive_described u (Alive held) = refl
@@ -182,14 +166,6 @@ image_described : (u : UArea) (x : Keeping) → image_in (described u x) ≡ ima
 image_described u Nothing = refl
 image_described u (Alive held) = refl
 image_described u (Grave v block) = refl
-
-place_described : (u : UArea) (x : Keeping) → place_in (described u x) ≡ place_in x
-place_described u Nothing = refl
-place_described u (Alive held) = refl
-place_described u (Grave v block) = refl
-
-pub with_area_same : (k : Kept) (s : ℕ) (u : UArea) → is_alive (keeping k s) ≡ true → area_of (with_area k s u) s ≡ u
-with_area_same k s u is = ap area_in (slot_described k s u) ∙ area_described u (keeping k s) is
 
 pub with_area_other : (k : Kept) (s t : ℕ) (u : UArea) → t ≢ s → keeping (with_area k s u) t ≡ keeping k t
 unfolding with_area
@@ -206,12 +182,6 @@ with_area_alive k s t u = kept_by_area is_alive k s t u (alive_described u (keep
 
 pub with_area_image : (k : Kept) (s t : ℕ) (u : UArea) → image_of (with_area k s u) t ≡ image_of k t
 with_area_image k s t u = kept_by_area image_in k s t u (image_described u (keeping k s))
-
-pub with_area_place : (k : Kept) (s t : ℕ) (u : UArea) → place_of (with_area k s u) t ≡ place_of k t
-with_area_place k s t u = kept_by_area place_in k s t u (place_described u (keeping k s))
-
-pub with_area_has : (k : Kept) (s t : ℕ) (u : UArea) → HasImage k t → HasImage (with_area k s u) t
-with_area_has k s t u has = alive_image (with_area k s u) t (with_area_alive k s t u ∙ image_alive k t has)
 
 described_back : (x : Keeping) → described (area_in x) x ≡ x
 described_back Nothing = refl

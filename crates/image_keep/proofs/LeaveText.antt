@@ -1,7 +1,7 @@
 -- A slot leaves its text, as the call knows it.
 use Rattle.std.proofs.Common.{◌≡◌, ◌≢◌, ℕ, ◌+◌, ◌-◌, ◌*◌, ◌<◌, ◌≤◌, ◌==◌, ◌&&◌, ◌||◌, inl, inr, List, length, get_or, set, cond, Bool, true, false, count_by, Option, Some, None, IsSome, refl, sym, ap, subst, ◌∙◌, arith}
 use Rattle.std.proofs.lemmas.Bool.{cases_lt, cases_eq, both_ways, false_from_ne_true, eqb-true, eq-eqb}
-use Rattle.std.proofs.lemmas.List.{get_or-set_same, get_or-set_other, get_or_past, set-set, length-set, length-map, map-set}
+use Rattle.std.proofs.lemmas.List.{get_or-set_same, get_or-set_other, get_or_past, set-set, length-map, map-set}
 use Rattle.std.proofs.lemmas.Option.{none-some, same_Some}
 use Rattle.v6_base.specs.declared.entry.Place.TheVariants.{Core, Swap}
 use Rattle.core_mem.specs.Bytes.{part}
@@ -151,12 +151,6 @@ other_then texts (state.Alive (Core c)) t u ne = get_or-set_other texts t u (Som
 other_then texts (state.Alive (Swap b)) t u ne = refl
 other_then texts (state.Grave b) t u ne = refl
 
-long_then : (texts : List (Option TextRow)) (st : State) (t : ℕ) → length (leave_texts texts (loaded_text st (Some t))) ≡ length texts
-long_then texts state.Nothing t = refl
-long_then texts (state.Alive (Core c)) t = length-set texts t (Some (unloaded (text_row texts t)))
-long_then texts (state.Alive (Swap b)) t = refl
-long_then texts (state.Grave b) t = refl
-
 shared_then : (k : Kept) (st : State) (t : ℕ) (y : Option Shared) → with_shared (leave_shared k (loaded_text st (Some t))) t y ≡ with_shared k t y
 shared_then k state.Nothing t y = refl
 shared_then k (state.Alive (Core c)) t y = ap (λ x. record k { texts = x }) (set-set k.texts t (changed unloaded (shared k t)) y)
@@ -175,10 +169,6 @@ same_text line core false row = refl
 same_users : (b : Bool) (row : TextRow) → (left_core b row).users ≡ row.users
 same_users true row = refl
 same_users false row = refl
-
-same_blocks : (b : Bool) (row : TextRow) → ((left_core b row).block ≡ row.block) × ((left_core b row).clicks ≡ row.clicks)
-same_blocks true row = (refl, refl)
-same_blocks false row = (refl, refl)
 
 loaded_means : (line : List ℕ) (core : ℕ) (text : List ℕ) (st : State) (d k : ℕ) → is_loaded (keeping_by line core text st d k) ≡ is_in_core st
 unfolding keeping_by

@@ -1,10 +1,10 @@
 -- What is known when the loan of a slot's image has ended: the set `loans` is for those who keep images.
-use Rattle.std.proofs.Common.{◌≡◌, ◌≢◌, ℕ, length, sym, ap, subst, ◌∙◌}
+use Rattle.std.proofs.Common.{◌≡◌, ◌≢◌, ℕ, sym, ap, subst, ◌∙◌}
 use Rattle.std.specs.Borrow.{GName}
 use Rattle.image_keep.specs.Kept.{Kept, Nothing, keeping, image_of, area_of, place_of, with_image, HasImage}
 use Rattle.image_keep.specs.Lent.{Lent, left_of}
 use Rattle.image_keep.specs.Places.{core_fit, swap_fit, placed}
-use Rattle.image_keep.proofs.Frames.{after, keeps_nothing, with_image_other, with_image_has, with_image_area, with_image_place, with_image_long, with_image_core, SameTexts, with_image_texts}
+use Rattle.image_keep.proofs.Frames.{after, keeps_nothing, with_image_other, with_image_has, with_image_area, with_image_place}
 use Rattle.image_keep.proofs.PlaceFrames.{with_image_core_fit, with_image_swap_fit, with_image_placed}
 
 module _ (k w : Kept) (s : ℕ) (same : left_of w s ≡ left_of k s) where
@@ -29,15 +29,6 @@ module _ (k w : Kept) (s : ℕ) (same : left_of w s ≡ left_of k s) where
 
   pub loan_placed : (t n : ℕ) → placed w t n ≡ placed k t n
   loan_placed t n = ap (λ l. placed l t n) (after k w s same) ∙ with_image_placed k s t n (image_of w s)
-
-  pub loan_long : length w.slots ≡ length k.slots
-  loan_long = ap (λ (l : Kept). length l.slots) (after k w s same) ∙ with_image_long k s (image_of w s)
-
-  pub loan_texts : SameTexts k w
-  loan_texts = subst (SameTexts k) (sym (after k w s same)) (with_image_texts k s (image_of w s))
-
-  pub loan_core : w.core ≡ k.core
-  loan_core = ap (λ (l : Kept). l.core) (after k w s same) ∙ with_image_core k s (image_of w s)
 
 -- a slot with nothing has nothing, and is another one
 pub loan_nothing : (k w : Kept) (s t : ℕ) → left_of w s ≡ left_of k s → keeping k t ≡ Nothing → keeping w t ≡ Nothing

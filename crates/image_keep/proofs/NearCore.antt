@@ -175,12 +175,6 @@ module _ (a : Inside) (k : Kept) (f : Fixed) (view : kept_in a ≡ k) (h : AreIm
   x : Starts
   x = f.starts
 
-  t : Standing
-  t = f.standing
-
-  v : Stock
-  v = stock_in a
-
   u : UArea
   u = area_at a.areas.items f.slot
 

@@ -7,8 +7,8 @@ use Rattle.v6_base.specs.declared.entry.Place.TheVariants.{Core, Swap}
 use Rattle.v6_base.specs.Image.{Image}
 use Rattle.u_area.specs.declared.area.UArea.{UArea}
 use Rattle.map_fit.specs.Fit.{Range, first_fit}
-use Rattle.image_keep.specs.Kept.{Keeping, Nothing, Alive, Grave, Kept, keeping, with_keeping, imaged, described, with_image, with_area, text_of, with_text_of, clicks_of, place_of, area_in, area_of, image_of}
-use Rattle.image_keep.specs.Places.{core_of, swap_of, core_of_place, swap_of_place, core_of_text, swap_of_text, core_fit, swap_fit, may_load, placed, blocks, with_image_at}
+use Rattle.image_keep.specs.Kept.{Keeping, Nothing, Alive, Grave, Kept, keeping, with_keeping, imaged, with_image, text_of, with_text_of, place_of, area_of, image_of}
+use Rattle.image_keep.specs.Places.{core_of, swap_of, core_of_text, swap_of_text, core_fit, swap_fit, may_load, placed, blocks, with_image_at}
 use Rattle.image_keep.specs.Moves.{moved_texts, with_image_moved, forked_texts, forked_at}
 
 flat_map_set_same : (f : Keeping → List Range) (xs : List Keeping) (s : ℕ) (y : Keeping) → f y ≡ f (get_or xs s Nothing) → flat_map f (set xs s y) ≡ flat_map f xs
@@ -53,28 +53,6 @@ with_image_swap_fit k s n m = swap_fit_same k s n (imaged m (keeping k s)) (swap
 pub with_image_placed : (k : Kept) (s t n : ℕ) (m : Image) → placed (with_image k s m) t n ≡ placed k t n
 unfolding with_image
 with_image_placed k s t n m = placed_by (with_image k s m) k t n refl (with_image_core_fit k s n m) (with_image_swap_fit k s (blocks n) m)
-
-core_described : (u : UArea) (x : Keeping) → clicks_of u ≡ clicks_of (area_in x) → core_of (described u x) ≡ core_of x
-core_described u Nothing same = refl
-core_described u (Alive held) same = ap (core_of_place held.place) same
-core_described u (Grave v block) same = refl
-
-swap_described : (u : UArea) (x : Keeping) → clicks_of u ≡ clicks_of (area_in x) → swap_of (described u x) ≡ swap_of x
-swap_described u Nothing same = refl
-swap_described u (Alive held) same = ap (swap_of_place held.place) same
-swap_described u (Grave v block) same = refl
-
-pub with_area_core_fit : (k : Kept) (s n : ℕ) (u : UArea) → clicks_of u ≡ clicks_of (area_of k s) → core_fit (with_area k s u) n ≡ core_fit k n
-unfolding with_area
-with_area_core_fit k s n u same = core_fit_same k s n (described u (keeping k s)) (core_described u (keeping k s) same)
-
-pub with_area_swap_fit : (k : Kept) (s n : ℕ) (u : UArea) → clicks_of u ≡ clicks_of (area_of k s) → swap_fit (with_area k s u) n ≡ swap_fit k n
-unfolding with_area
-with_area_swap_fit k s n u same = swap_fit_same k s n (described u (keeping k s)) (swap_described u (keeping k s) same)
-
-pub with_area_placed : (k : Kept) (s t n : ℕ) (u : UArea) → clicks_of u ≡ clicks_of (area_of k s) → placed (with_area k s u) t n ≡ placed k t n
-unfolding with_area
-with_area_placed k s t n u same = placed_by (with_area k s u) k t n refl (with_area_core_fit k s n u same) (with_area_swap_fit k s (blocks n) u same)
 
 -- the place of an image that has no text
 pub bare_placed : (k : Kept) (s n : ℕ) → text_of k s ≡ None → placed k s n ≡ option_or (option_map Core (core_fit k n)) (option_map Swap (swap_fit k (blocks n)))

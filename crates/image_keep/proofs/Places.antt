@@ -133,11 +133,6 @@ swap_meets core (state.Alive (Swap b)) n x i l (inr a) = alone (meets x 1) (reco
 swap_meets core (state.Grave b) n x i l (inl a) = alone (meets x 1) (record { at = b; size = 1 }) (no_meets x 1 (record { at = b; size = 1 }) (inl (let j = i.0 in omega (arith, j))))
 swap_meets core (state.Grave b) n x i l (inr a) = alone (meets x 1) (record { at = b; size = 1 }) (no_meets x 1 (record { at = b; size = 1 }) (inr (let j = i.0 in omega (arith, j))))
 
--- the same of texts
-abbrev text_core : Bool → TextRow → List Range
-text_core true t = []
-text_core false t = range t.at t.clicks
-
 in_apart : (core : ℕ) (t : TextRow) (c m : ℕ) → (t.loaded ≢ 0 → (1 ≤ t.at) × (t.at + t.clicks ≤ core + 1)) → 1 ≤ c → list_any (meets c m) (cond (t.loaded == 0) [] (range t.at t.clicks)) ≡ false
     → AreApart (record { at = 64 * (c - 1); size = 64 * m }) (in_spot (Some t))
 in_apart core t c m i l e = by (t.loaded == 0) refl e

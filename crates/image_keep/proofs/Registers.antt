@@ -132,12 +132,6 @@ state_over line at a r cc was eight codes fits there =
 front_start : (core at : ℕ) (x : Keeping) (has : Keeping) → at ≡ data_start core x → x ≡ has → at ≡ data_start core has
 front_start core at x has is same = is ∙ ap (data_start core) same
 
-pub area_before : (k : Kept) (s : ℕ) (x : Starts) → AreStarts k s x → 1024 ≤ x.image
-area_before k s x a =
-    let has = alive_image k s a.alive in
-    let at : x.image ≡ place_at k.core has.0.place + 1024 = front_start k.core x.image (keeping k s) (Alive has.0) a.image has.1 in
-    omega (arith, at)
-
 -- What stands where a slot's image begins.
 pub record Stands (v : Stock) (k : Kept) (s : ℕ) (x : Starts) (place : Place) : Type 0 where
   pub at : x.image - 1024 ≡ place_at v.core place

@@ -45,9 +45,6 @@ stated_codes core at cc old r eight low was room is =
     ∙ set-append_right (bytes_of r) (bytes_of ((61440 + old) ∷ [])) 16 16 cc long (omega arith)
     ∙ ap (λ (l : List ℕ). bytes_of r ++ l) (sym (λ i. first i ∷ second i ∷ []))
 
-pub area_in : (size : ℕ) (f : Standing) → StandsIn size f → f.area + 18 ≤ size
-area_in size f s = let a = s.area in let e = s.end in let i = s.stack_in in let b = s.stack_below in omega (arith, a, e, i, b)
-
 -- what stands elsewhere
 pub register_rest : (core new : List ℕ) (at n w k m : ℕ) → n < 8 → new ≡ word_set core (at + 2 * n) w → (k + m ≤ at) ⊎ (at + 18 ≤ k) → part new k m ≡ part core k m
 register_rest core new at n w k m low is off = ap (λ c. part c k m) is ∙ word_apart core k m (at + 2 * n) w (by off)

@@ -1,5 +1,5 @@
 -- The maps when a text leaves core, when its entry goes, and when one is made.
-use Rattle.std.proofs.Common.{◌≡◌, ◌≢◌, ◌↔◌, ℕ, ◌+◌, ◌-◌, ◌*◌, ◌<◌, ◌≤◌, ◌&&◌, ◌||◌, not, inl, inr, List, length, Bool, true, false, Option, Some, None, refl, sym, ap, subst, ◌∙◌, arith}
+use Rattle.std.proofs.Common.{◌≡◌, ◌≢◌, ◌↔◌, ℕ, ◌+◌, ◌-◌, ◌*◌, ◌<◌, ◌≤◌, ◌&&◌, ◌||◌, not, inl, inr, List, length, Bool, true, false, Some, None, refl, sym, ap, subst, ◌∙◌, arith}
 use Rattle.std.proofs.lemmas.Bool.{cases_eq, or_cases}
 use Rattle.std.proofs.lemmas.List.{get_or-set_same, get_or-set_other}
 use Rattle.text_tab.specs.declared.row.TextRow.{TextRow}
@@ -30,16 +30,6 @@ maps_same v w core_map swap_map core same maps = record {
 gives : (a b : Bool) → (a || b) ≡ ((a && not false) || b)
 gives true b = refl
 gives false b = refl
-
-takes : (a b : Bool) → (a && not b) ≡ ((a && not b) || false)
-takes true true = refl
-takes true false = refl
-takes false b = refl
-
-text_same : (v : Stock) (t : ℕ) (o : Option TextRow) (line : List ℕ) (p : Owner) → p ≢ OutOf t → p ≢ InOf t → spot (put_text v t o line) p ≡ spot v p
-text_same v t o line (RowOf u) n m = refl
-text_same v t o line (OutOf u) n m = ap (out_spot v.core) (get_or-set_other v.texts t u o None (λ e. n (ap OutOf e)))
-text_same v t o line (InOf u) n m = ap in_spot (get_or-set_other v.texts t u o None (λ e. m (ap InOf e)))
 
 -- the click of a text that is in core
 inner_click : (a n x : ℕ) (p : Spot) → AreApart (record { at = 64 * (a - 1); size = 64 * n }) p → 1 ≤ a → is_within a n x ≡ true → AreApart (click x) p

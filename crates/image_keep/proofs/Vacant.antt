@@ -1,30 +1,25 @@
--- Whether core has room in one piece, and whether an image finds a place without a slot's own.
-use Rattle.std.proofs.Common.{◌≡◌, ℕ, zero, suc, ◌+◌, ◌<◌, ◌≤◌, ◌==◌, ◌&&◌, ◌||◌, not, inl, inr, List, [], ◌∷◌, ◌++◌, length, get_or, flat_map, cond, Bool, true, false, Option, Some, None, nat_lt, refl, sym, ap, subst, ◌∙◌, arith}
-use Rattle.std.specs.Option.{is_some, option_map, option_or}
+-- Whether core has room in one piece.
+use Rattle.std.proofs.Common.{◌≡◌, ℕ, zero, suc, ◌+◌, ◌<◌, ◌≤◌, ◌==◌, ◌&&◌, ◌||◌, inl, inr, List, [], ◌∷◌, ◌++◌, get_or, flat_map, cond, Bool, true, false, Option, Some, None, nat_lt, refl, sym, ap, subst, ◌∙◌, arith}
+use Rattle.std.specs.Option.{is_some}
 use Rattle.std.specs.List.{list_any}
 use Rattle.std.proofs.lemmas.Bool.{cases_lt, le-ltb, both_ways, eqb-false}
-use Rattle.v6_base.specs.declared.entry.Place.{Place}
 use Rattle.v6_base.specs.declared.entry.Place.TheVariants.{Core, Swap}
 use Rattle.text_tab.specs.declared.row.TextRow.{TextRow}
 use Rattle.text_tab.specs.Table.{text_at}
 use Rattle.map_fit.specs.declared.holes.Hole.{Hole}
 use Rattle.map_fit.specs.Fit.{Range, meets, is_clear, first_fit, IsFit}
-use Rattle.map_fit.specs.Free.{is_free, IsMap}
+use Rattle.map_fit.specs.Free.{IsMap}
 use Rattle.map_fit.proofs.Units.{none_clear}
 use Rattle.map_fit.proofs.Fits.{is_fit}
 use Rattle.image_keep.specs.declared.row.State.{State}
 use Rattle.image_keep.specs.declared.row.State.TheVariants as state
 use Rattle.image_keep.specs.declared.row.Row.{Row}
-use Rattle.image_keep.specs.Kept.{Nothing, Kept, text_of, with_keeping}
-use Rattle.image_keep.specs.Memory.{Stock, row_at, nothing_row, clicks_in, row_spot, RowOf, spot, shared_in, text_for, kept_of, IsText, IsSound}
-use Rattle.image_keep.specs.Places.{range, blocks, core_of, core_of_text, core_taken, core_fit, placed, swap_taken, swap_fit}
-use Rattle.image_keep.specs.Maps.{AreMaps, InsideBy, core_units, swap_units}
-use Rattle.image_keep.proofs.Writes.{put_row, turned, apart_none}
-use Rattle.image_keep.proofs.Places.{slot_at, shared_at, core_by, core_is, inside_of, core_map_is, swap_map_is}
+use Rattle.image_keep.specs.Kept.{Nothing, Kept}
+use Rattle.image_keep.specs.Memory.{Stock, row_at, shared_in, text_for, kept_of, IsText, IsSound}
+use Rattle.image_keep.specs.Places.{range, core_of, core_of_text, core_taken, core_fit}
+use Rattle.image_keep.specs.Maps.{AreMaps, InsideBy}
+use Rattle.image_keep.proofs.Places.{slot_at, shared_at, core_by, core_is, inside_of, core_map_is}
 use Rattle.image_keep.proofs.InPlan.{core_kept}
-use Rattle.image_keep.proofs.Maps.{maps_put}
-use Rattle.image_keep.proofs.Leaving.{emptied}
-use Rattle.image_keep.proofs.PlaceFrames.{bare_placed}
 
 -- each range begins at the first click or behind it
 BeginLate : List Range → Type 0
@@ -91,41 +86,3 @@ room_is v k n core_map swap_map b view h maps some none = elim (cases_lt 0 n) [
       (let z : n ≡ 0 = omega (arith, few) in
       none z ∙ sym (no_clicks v h) ∙ ap (λ (j : Kept). is_some (core_fit j 0)) view ∙ ap (λ i. is_some (core_fit k i)) (sym z))
 ]
-
-gives : (a b : Bool) → (a || b) ≡ ((a && not false) || b)
-gives true b = refl
-gives false b = refl
-
--- one of the two places
-either_place : (core swap : Option ℕ) → (is_some core || is_some swap) ≡ is_some (option_or (option_map Core core) (option_map Swap swap))
-either_place (Some c) swap = refl
-either_place None (Some b) = refl
-either_place None None = refl
-
--- An image without a text finds a place by the maps exactly where it finds one by what is kept.
-place_is : (v : Stock) (k : Kept) (s n : ℕ) (core_map swap_map : List Hole) (b : Bool) → kept_of v ≡ k → IsSound v → AreMaps v core_map swap_map → text_of k s ≡ None
-    → ((core swap : List Range) (last : ℕ) → IsMap core_map core 1 last → IsMap swap_map swap 4000 4871 → b ≡ (is_some (first_fit core 1 last n) || is_some (first_fit swap 4000 4871 (blocks n))))
-    → b ≡ is_some (placed k s n)
-unfolding core_fit swap_fit
-place_is v k s n core_map swap_map b view h maps none some =
-    some (core_taken (kept_of v)) (swap_taken (kept_of v)) v.core (core_map_is v core_map swap_map h maps) (swap_map_is v core_map swap_map h maps)
-    ∙ ap (λ c. is_some (first_fit (core_taken (kept_of v)) 1 c n) || is_some (first_fit (swap_taken (kept_of v)) 4000 4871 (blocks n))) (sym (core_kept v))
-    ∙ ap (λ (j : Kept). is_some (core_fit j n) || is_some (swap_fit j (blocks n))) view
-    ∙ (either_place (core_fit k n) (swap_fit k (blocks n)) ∙ ap (λ (o : Option Place). is_some o) (sym (bare_placed k s n none)))
-
--- the same without a slot's image
-pub place_without : (v : Stock) (k : Kept) (s n : ℕ) (core_map swap_map core_new swap_new : List Hole) (row : Row) (b : Bool) → kept_of v ≡ k → IsSound v → AreMaps v core_map swap_map → s < length v.rows → row ≡ row_at v.rows s
-    → text_of k s ≡ None
-    → ((x : ℕ) → is_free core_new x ≡ (is_free core_map x || core_units row.state (clicks_in row) x))
-    → ((x : ℕ) → is_free swap_new x ≡ (is_free swap_map x || swap_units row.state (clicks_in row) x))
-    → ((core swap : List Range) (last : ℕ) → IsMap core_new core 1 last → IsMap swap_new swap 4000 4871 → b ≡ (is_some (first_fit core 1 last n) || is_some (first_fit swap 4000 4871 (blocks n))))
-    → b ≡ is_some (placed (with_keeping k s Nothing) s n)
-place_without v k s n core_map swap_map core_new swap_new row b view h maps low at none step_core step_swap some =
-    let r : Row = row_at v.rows s in
-    let d = emptied v s h low in
-    let now : Stock = put_row v s (nothing_row r) v.line in
-    place_is now (with_keeping k s Nothing) s n core_new swap_new b (d.1 ∙ ap (λ j. with_keeping j s Nothing) view) d.0
-    (maps_put v s (nothing_row r) v.line core_map swap_map core_new swap_new h low maps tt (turned (row_spot v.core (nothing_row r)) (spot v (RowOf s)) (apart_none (spot v (RowOf s))))
-    (λ x. step_core x ∙ gives (is_free core_map x) (core_units row.state (clicks_in row) x) ∙ ap (λ (q : Row). (is_free core_map x && not false) || core_units q.state (clicks_in q) x) at)
-    (λ x. step_swap x ∙ gives (is_free swap_map x) (swap_units row.state (clicks_in row) x) ∙ ap (λ (q : Row). (is_free swap_map x && not false) || swap_units q.state (clicks_in q) x) at))
-    none some

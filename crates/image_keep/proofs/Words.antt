@@ -1,5 +1,5 @@
 -- Loads and stores of bytes and words, by what their addresses name.
-use Rattle.std.proofs.Common.{◌≡◌, ◌<◌, subst, ℕ, ◌+◌, ◌-◌, ◌*◌, ◌/◌, ◌%◌, ◌≤◌, List, length, drop, true, Ok, Err, Result, Option, Some, None, arith, refl, sym, ap, ◌∙◌}
+use Rattle.std.proofs.Common.{◌≡◌, ◌<◌, subst, ℕ, ◌+◌, ◌-◌, ◌*◌, ◌/◌, ◌%◌, ◌≤◌, List, length, true, Ok, Err, Result, Option, Some, None, arith, refl, sym, ap, ◌∙◌}
 use Rattle.v6_base.specs.declared.named.Named.{Named}
 use Rattle.v6_base.specs.declared.named.Named.TheVariants as named_is
 use Rattle.v6_base.specs.declared.space.Trap.{Trap}
@@ -9,7 +9,7 @@ use Rattle.v6_base.specs.Image.{Image, IsImage, named}
 use Rattle.v6_base.specs.Runs.{room, with_run}
 use Rattle.v6_base.proofs.RunLemmas.{image_fits, all_stored}
 use Rattle.v6_base.specs.Access.{load_byte, load_word, store_byte, store_word, byte_at, with_byte, image_after, answer_of}
-use Rattle.std.proofs.lemmas.List.{append-nil, drop_all}
+use Rattle.std.proofs.lemmas.List.{append-nil}
 use Rattle.v6_base.specs.Copy.{load_bytes, store_bytes, image_or}
 use Rattle.v6_base.proofs.Copies.{put_front}
 use Rattle.v6_base.specs.Words.{IsStorable, next_byte, with_word}
@@ -95,9 +95,6 @@ pub odd_loaded : (m : Image) (v : ℕ) → v % 2 ≡ 1 → Err Odd ≡ load_word
 unfolding load_word
 odd_loaded m v odd = rw odd refl
 
-none_next : (m : Image) → byte_at m named_is.Nothing ≡ Err Segment
-none_next m = refl
-
 pub word_unloaded : (m : Image) (v : ℕ) (p : Named) → v % 2 ≡ 0 → p ≡ named m v → p ≡ named_is.Nothing → Err Segment ≡ load_word m v
 unfolding load_word load_byte
 word_unloaded m v p even is none =
@@ -116,9 +113,6 @@ pub ruleset wording = (refused_kept, byte_refused, byte_stored, word_refused, wo
 -- a run that is done
 pub loaded_whole : (m : Image) (at n i : ℕ) (front : List ℕ) → n ≤ i → put_front front (load_bytes m (at + i) (n - i)) ≡ Some front
 loaded_whole m at n i front l = let z : n - i ≡ 0 = omega (arith, l) in ap (λ k. put_front front (load_bytes m (at + i) k)) z ∙ ap Some (append-nil front)
-
-pub stored_whole : (m : Image) (at i : ℕ) (bytes : List ℕ) → length bytes ≤ i → store_bytes m (at + i) (drop i bytes) ≡ Some m
-stored_whole m at i bytes l = ap (store_bytes m (at + i)) (drop_all i bytes l)
 
 pub none_kept : (k : Kept) (s : ℕ) (o : Option Image) → o ≡ None → k ≡ with_image k s (image_or (image_of k s) o)
 none_kept k s o none = sym (ap (λ r. with_image k s (image_or (image_of k s) r)) none ∙ image_back k s)

@@ -35,9 +35,6 @@ wrote_none line a e = record { below = refl; above = refl; size = refl }
 abbrev pub IsOff : Spot → ℕ → ℕ → Type 0
 IsOff p a e = (p.at + p.size ≤ a) ⊎ (e ≤ p.at)
 
-pub off_none : (a e : ℕ) → IsOff no_spot a e
-off_none a e = inl (omega arith)
-
 pub part_off : (line new : List ℕ) (a e at size n : ℕ) → Wrote line new a e → IsOff (record { at = at; size = size }) a e → n ≤ size → part new at n ≡ part line at n
 part_off line new a e at size n w (inl l) m = part_below new line a at n w.below (omega arith)
 part_off line new a e at size n w (inr l) m = part_above new line e at n w.above l

@@ -9,12 +9,13 @@ use Rattle.v6_base.specs.declared.named.Named.TheVariants as named_is
 use Rattle.v6_base.specs.Image.{Image}
 use Rattle.v6_base.specs.Access.{with_byte, image_after}
 use Rattle.v6_base.specs.Words.{IsWithin, IsStorable}
+use Rattle.image_keep.specs.declared.memory.TheConstants.{SWAP_BYTES}
 use Rattle.image_keep.specs.Kept.{Kept, Held, Has, image_of, with_image}
 use Rattle.image_keep.specs.Holds.{CoreHolds, SwapHolds}
 
 -- how many bytes core has, and how many the swap area
 abbrev pub memory_size : Kept → Bool → ℕ
-memory_size k swap = if swap then 446464 else 64 * k.core
+memory_size k swap = if swap then SWAP_BYTES else 64 * k.core
 
 -- whether a place is in the swap area, and the byte with which it begins
 abbrev pub is_out : Place → Bool

@@ -5,6 +5,7 @@ use Rattle.v6_base.specs.declared.entry.Place.TheVariants.{Core, Swap}
 use Rattle.core_mem.specs.Bytes.{part}
 use Rattle.u_area.specs.declared.area.UArea.{UArea}
 use Rattle.u_area.specs.Area.{area_bytes, half_bytes}
+use Rattle.image_keep.specs.declared.memory.TheConstants.{SWAP_BYTES}
 use Rattle.image_keep.specs.Kept.{Kept, Keeping, Nothing, Alive, Grave, Held, Has, Shared, keeping, shared, clicks_of}
 use Rattle.image_keep.specs.Memory.{Spot, no_spot, Owner, RowOf, OutOf, InOf, AreApart, place_at, place_size, swap_at}
 use Rattle.image_keep.specs.Places.{blocks}
@@ -44,7 +45,7 @@ pub record CoreHolds (core : List ℕ) (k : Kept) : Type 0 where
 
 -- The swap area holds the images that are out of core, half of the u area of each process that has ended, and all texts.
 pub record SwapHolds (swap : List ℕ) (k : Kept) : Type 0 where
-  pub size : length swap ≡ 446464
+  pub size : length swap ≡ SWAP_BYTES
   pub images : (s : ℕ) (held : Held) (block : ℕ) → Has k s held → held.place ≡ Swap block → part swap (512 * (block - 4000)) (64 * clicks_of held.u) ≡ image_bytes held
   pub graves : (s : ℕ) (u : UArea) (block : ℕ) → keeping k s ≡ Grave u block → part swap (512 * (block - 4000)) 512 ≡ half_bytes u
   pub texts : (t : ℕ) (x : Shared) → shared k t ≡ Some x → part swap (512 * (x.row.block - 4000)) (64 * x.row.clicks) ≡ x.bytes

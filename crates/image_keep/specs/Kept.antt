@@ -1,11 +1,10 @@
 -- What is kept of each process's image: `proc.h`, `user.h` and `text.h` in Lions' Commentary. An image is the u area of sixteen
 -- clicks, the data and the stack; it stands in core or in the swap area. A click is 64 bytes, a block 512.
-use Rattle.std.specs.Prelude.{◌≡◌, ℕ, ◌+◌, ◌*◌, ◌≤◌, Bool, true, false, List, [], replicate, slice_set, slice_index_or, length, Option, Some, None, take}
+use Rattle.std.specs.Prelude.{◌≡◌, ℕ, ◌+◌, ◌*◌, ◌≤◌, Bool, true, false, List, [], replicate, slice_set, slice_index_or, length, Option, Some, None}
 use Rattle.v6_base.specs.declared.entry.Place.{Place}
 use Rattle.v6_base.specs.declared.entry.Place.TheVariants.{Core, Swap}
 use Rattle.v6_base.specs.Image.{Image, IsImage}
 use Rattle.u_area.specs.declared.area.UArea.{UArea}
-use Rattle.u_area.specs.Area.{area_bytes}
 use Rattle.text_tab.specs.declared.row.TextRow.{TextRow}
 use Rattle.image_keep.specs.Area.{no_area}
 
@@ -178,7 +177,3 @@ pub record IsKept (k : Kept) : Type 0 where
   pub text : (s : ℕ) → HasImage k s → (image_of k s).text ≡ text_bytes k (text_of k s)
   pub sizes : (s : ℕ) → HasImage k s → HasSizes (area_of k s) (image_of k s)
   pub formed : (s : ℕ) → IsImage (image_of k s)
-
--- the half of a u area that is kept of a process that has ended
-abbrev pub half_of : UArea → List ℕ
-half_of u = take 512 (area_bytes u)

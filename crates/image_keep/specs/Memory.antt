@@ -12,6 +12,7 @@ use Rattle.text_tab.specs.Table.{text_at}
 use Rattle.image_keep.specs.declared.row.State.{State}
 use Rattle.image_keep.specs.declared.row.State.TheVariants as state
 use Rattle.image_keep.specs.declared.row.Row.{Row}
+use Rattle.image_keep.specs.declared.memory.TheConstants.{SWAP_BYTES}
 use Rattle.image_keep.specs.Kept.{Keeping, Nothing, Alive, Grave, Shared, Kept}
 use Rattle.image_keep.specs.Places.{blocks}
 
@@ -180,7 +181,7 @@ pub record IsText (line : List ℕ) (core : ℕ) (t : TextRow) : Type 0 where
 
 pub record IsSound (v : Stock) : Type 0 where
   pub slots : length v.rows ≡ 50
-  pub size : length v.line ≡ 64 * v.core + 446464
+  pub size : length v.line ≡ 64 * v.core + SWAP_BYTES
   pub least : 64 ≤ v.core
   pub most : v.core ≤ 3968
   pub rows : (s : ℕ) → Holds v.line v.core (row_at v.rows s)

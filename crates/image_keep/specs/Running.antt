@@ -1,4 +1,5 @@
--- What stays fixed of a process while it executes instructions, and the registers and condition codes at the front of its u area.
+-- What stays fixed of a process while it executes instructions, words of its memory, the registers and condition codes at the
+-- front of its u area, and the machine that these are.
 use Rattle.std.specs.Prelude.{ℕ, ◌+◌, ◌%◌, List, [], ◌∷◌, ◌++◌, slice_set, Result, Ok, Err}
 use Rattle.std.proofs.Math.Nat.{mod-lt}
 use Rattle.std.proofs.Common.{lit<}

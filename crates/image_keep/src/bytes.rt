@@ -1,5 +1,6 @@
 //! What stands in core and in the swap area.
 ghost use Rattle.std.specs.Prelude.{◌≡◌, ◌*◌, ◌<◌, slice_index};
+ghost use Rattle.image_keep.specs.declared.memory.TheConstants.{SWAP_BYTES};
 ghost use Rattle.image_keep.specs.Holds.{MemoryHolds};
 
 use crate::images::Images;
@@ -33,7 +34,7 @@ impl Images {
 
     /// A byte of the swap area.
     pub fn swap_byte(&self, at: u32) -> u8
-        requires { at < 446464 }
+        requires { at < SWAP_BYTES }
         ensures byte { result ≡ slice_index self.now.swap at }
         ensures holds { MemoryHolds self.now.core self.now.swap self.now.kept }
     {

@@ -1,4 +1,4 @@
-//! The process that executes instructions does one where it stands in core.
+//! One instruction of the process that executes instructions: where it stands in core, or else over its memory that is lent.
 ghost use Rattle.std.specs.Prelude.{◌≡◌, ◌↔◌, ◌<◌, IfSome, IsTrue, None, false, length, slice_set};
 ghost use Rattle.pdp_step.specs.declared.outcome.Outcome.TheVariants.{Call, Next};
 ghost use Rattle.pdp_step.specs.Instruction.{instr};

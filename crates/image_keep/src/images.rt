@@ -1,12 +1,13 @@
 //! The images of all slots, in core and in the swap area.
 ghost use Rattle.std.specs.Prelude.{◌≡◌, ◌⊎◌, ◌+◌, ◌*◌, ◌-◌, ◌<◌, ◌≤◌, ℕ, ◌||◌, true, false, None, Some, IfOk, MatchResult, List, length, slice_index, slice_index_or, slice_set, replicate};
-ghost use Rattle.image_keep.specs.Kept.{Kept, first_kept, IsKept, HasSizes, HasImage, HasGrave, half_of, place_of, image_of, area_of, with_area, with_keeping, text_of, Nothing};
+ghost use Rattle.image_keep.specs.declared.memory.TheConstants.{SWAP_BYTES};
+ghost use Rattle.image_keep.specs.Kept.{Kept, first_kept, IsKept, HasSizes, HasImage, HasGrave, place_of, image_of, area_of, with_area, with_keeping, text_of, Nothing};
 ghost use Rattle.image_keep.specs.Growth.{most_clicks};
 ghost use Rattle.image_keep.specs.Area.{no_area};
 ghost use Rattle.image_keep.specs.Memory.{no_row};
 ghost use Rattle.image_keep.specs.Places.{swap_fit, with_grave_at};
 ghost use Rattle.image_keep.specs.Running.{with_results, with_state};
-ghost use Rattle.u_area.specs.Area.{IsSized};
+ghost use Rattle.u_area.specs.Area.{IsSized, half_bytes};
 
 use crate::areas::{area_at, put_area, put_results, put_state};
 use crate::making::made_area;
@@ -17,6 +18,7 @@ use crate::parts::{
 };
 use crate::row::{Row, State};
 use crate::state::{state_bytes, two_words};
+use fs_codec::SWAP_START;
 use map_fit::Holes;
 use std::alloc::{AllocError, Global};
 use std::marker::Model;
@@ -27,9 +29,7 @@ use v6_base::{Place, Slot};
 /// The slots of the table of processes: `NPROC` in Lions' Commentary.
 const SLOTS: usize = 50;
 
-/// The first block of the swap area, and how many it has.
-const SWAP_FIRST: u16 = 4000;
-
+/// How many blocks the swap area has.
 const SWAP_BLOCKS: u16 = 872;
 
 /// The most clicks that an image may have, where core is as large.
@@ -100,7 +100,7 @@ impl Images {
     pub fn new(alloc: Global, core: u16, swap: &[u8]) -> Result<Images, AllocError>
         requires least { 64 ≤ core }
         requires most { core ≤ 3968 }
-        requires swap { length swap.now ≡ 446464 }
+        requires swap { length swap.now ≡ SWAP_BYTES }
         ensures kept { IfOk result (λ images. images.kept ≡ first_kept core) }
         ensures core { IfOk result (λ images. images.core ≡ replicate (64 * core) 0) }
         ensures swap { IfOk result (λ images. images.swap ≡ swap.now) }
@@ -112,7 +112,7 @@ impl Images {
             areas: empty_areas(alloc)?,
             texts: Texts::new(),
             core_map: Holes::new(1, core),
-            swap_map: Holes::new(SWAP_FIRST, SWAP_BLOCKS),
+            swap_map: Holes::new(SWAP_START, SWAP_BLOCKS),
         })
     }
 
@@ -231,7 +231,7 @@ impl Images {
     /// `sys1.c`.
     pub fn reap(&mut self, s: Slot) -> [u8; 512]
         requires { HasGrave self.old.kept s }
-        ensures half { result ≡ half_of (area_of self.old.kept s) }
+        ensures half { result ≡ half_bytes (area_of self.old.kept s) }
         ensures sized { IsSized (area_of self.old.kept s) }
         ensures kept { self.new.kept ≡ with_keeping self.old.kept s Nothing }
     {

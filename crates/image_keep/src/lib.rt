@@ -31,6 +31,7 @@ mod texts;
 
 pub use images::{Images, NoSwap};
 pub use loan::SpaceOf;
+pub use memory::SWAP_BYTES;
 pub use running::Fixed;
 pub use swapping::NoCore;
 pub use texts::TextRefusal;

@@ -14,6 +14,9 @@ use std::alloc::{AllocError, Global};
 use std::marker::Model;
 use u_area::UArea;
 
+/// How many bytes the swap area has: those of the blocks from 4000 to 4871 of the disk that has the root.
+pub const SWAP_BYTES: usize = 446_464;
+
 /// The bytes of core, and those of the swap area. Clicks are numbered from 0 on, first those of core.
 #[derive(Drop)]
 pub(crate) struct Memory {

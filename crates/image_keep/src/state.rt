@@ -1,4 +1,5 @@
-//! The process that executes instructions: its registers, at the front of its u area.
+//! The process that executes instructions: what stays fixed of it, words of its memory, and its registers, at the front of its
+//! u area.
 ghost use Rattle.std.specs.Prelude.{◌≡◌, ◌<◌, ◌↔◌, [], ◌∷◌, IsTrue};
 ghost use Rattle.fs_codec.specs.Bytes.{bytes_of};
 ghost use Rattle.image_keep.specs.Kept.{HasImage, IsKept, area_of, image_of, with_area};

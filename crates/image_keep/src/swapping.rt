@@ -3,6 +3,7 @@ ghost use Rattle.std.specs.Prelude.{◌≡◌, ◌⊎◌, ◌+◌, ◌*◌, ◌-
 ghost use Rattle.core_mem.specs.Bytes.{part, over};
 ghost use Rattle.map_fit.specs.Free.{is_free};
 ghost use Rattle.text_tab.specs.Table.{row_at as text_row, IsUsed, unloaded, with_change};
+ghost use Rattle.image_keep.specs.declared.memory.TheConstants.{SWAP_BYTES};
 ghost use Rattle.image_keep.specs.Line.{line_of};
 ghost use Rattle.image_keep.specs.Kept.{IsOut, IsLoaded, area_of, clicks_of};
 ghost use Rattle.image_keep.specs.Memory.{swap_at, IsText};
@@ -47,7 +48,7 @@ fn copy_text(memory: &mut Memory, core: u16, row: TextRow, at: u16)
     requires low { 1 ≤ at }
     requires high { at + need_by row ≤ core + 1 }
     requires core { length memory.old.core ≡ 64 * core }
-    requires swap { length memory.old.swap ≡ 446464 }
+    requires swap { length memory.old.swap ≡ SWAP_BYTES }
     ensures line { line_of memory.new ≡ come_by (line_of memory.old) core at row }
     ensures new_core { length memory.new.core ≡ length memory.old.core }
     ensures new_swap { length memory.new.swap ≡ length memory.old.swap }
@@ -75,7 +76,7 @@ pub(crate) fn load_text(
     requires low { 1 ≤ at }
     requires high { at + need_for texts.old text ≤ core + 1 }
     requires core { length memory.old.core ≡ 64 * core }
-    requires swap { length memory.old.swap ≡ 446464 }
+    requires swap { length memory.old.swap ≡ SWAP_BYTES }
     ensures line { line_of memory.new ≡ come_line (line_of memory.old) core texts.old text at }
     ensures texts { texts.new ≡ come_texts texts.old text at }
     ensures new_core { length memory.new.core ≡ length memory.old.core }
@@ -99,7 +100,7 @@ fn copy_image(memory: &mut Memory, core: u16, block: u16, to: u16, clicks: u16)
     requires block { 4000 ≤ block }
     requires end { block + blocks clicks ≤ 4872 }
     requires core { length memory.old.core ≡ 64 * core }
-    requires swap { length memory.old.swap ≡ 446464 }
+    requires swap { length memory.old.swap ≡ SWAP_BYTES }
     ensures line { line_of memory.new ≡ over (line_of memory.old) (64 * (to - 1)) (part (line_of memory.old) (swap_at core block) (64 * clicks)) }
     ensures new_core { length memory.new.core ≡ length memory.old.core }
     ensures new_swap { length memory.new.swap ≡ length memory.old.swap }

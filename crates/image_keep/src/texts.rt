@@ -4,6 +4,7 @@ ghost use Rattle.core_mem.specs.Bytes.{part, over};
 ghost use Rattle.map_fit.specs.Free.{is_free, is_within};
 ghost use Rattle.text_tab.specs.Table.{row_at as text_row, found, free_entry, new_text as new_row, joined, IsUsed, left, detached};
 ghost use Rattle.u_area.specs.Area.{area_bytes, IsStored};
+ghost use Rattle.image_keep.specs.declared.memory.TheConstants.{SWAP_BYTES};
 ghost use Rattle.image_keep.specs.Line.{line_of};
 ghost use Rattle.image_keep.specs.Kept.{Shared, Nothing, shared, keeping, bytes_in, text_of};
 ghost use Rattle.image_keep.specs.Maps.{InsideBy};
@@ -75,7 +76,7 @@ fn clear_size_at(memory: &mut Memory, core: u16, place: Place)
     requires inside { (n : ℕ) × (16 ≤ n) × IsIn core place n }
     requires stored { IsStored (part (line_of memory.old) (place_at core place) 1024) }
     requires core { length memory.old.core ≡ 64 * core }
-    requires swap { length memory.old.swap ≡ 446464 }
+    requires swap { length memory.old.swap ≡ SWAP_BYTES }
     ensures line { line_of memory.new ≡ over (line_of memory.old) (place_at core place) (area_bytes (textless_at (line_of memory.old) core place)) }
     ensures long { length (area_bytes (textless_at (line_of memory.old) core place)) ≡ 1024 }
     ensures new_core { length memory.new.core ≡ length memory.old.core }
@@ -95,7 +96,7 @@ fn clear_text_size(memory: &mut Memory, core: u16, row: Row)
     requires inside { InsideBy core row.state (clicks_in row) }
     requires stored { IsStoredBy (line_of memory.old) core row.state }
     requires core { length memory.old.core ≡ 64 * core }
-    requires swap { length memory.old.swap ≡ 446464 }
+    requires swap { length memory.old.swap ≡ SWAP_BYTES }
     ensures line { line_of memory.new ≡ textless_line (line_of memory.old) core row.state }
     ensures long { IsLongBy (line_of memory.old) core row.state }
     ensures new_core { length memory.new.core ≡ length memory.old.core }

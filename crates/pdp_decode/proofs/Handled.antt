@@ -16,7 +16,7 @@ use Rattle.pdp_decode.specs.declared.instr.Condition.TheVariants.{Always, NotEqu
 use Rattle.pdp_decode.specs.declared.addressing.Addressing.{Addressing}
 use Rattle.pdp_decode.specs.Numbers.{byte_bit, reg_code, code, one_if, flag_bits, branch_code}
 use Rattle.pdp_decode.specs.Decode.{reg_of, operand_of, flags_of, decode_of}
-use Rattle.pdp_decode.specs.Handlers.{IsAddressed, IsDouble, IsSingle, IsExtended, Handles, IsDispatch}
+use Rattle.pdp_decode.specs.Handlers.{IsAddressed, IsDouble, IsSingle, IsExtended, IsHandlerOf, IsDispatch}
 use Rattle.pdp_decode.proofs.Alone.{operand_back, reg_back, reg_small, code_small}
 
 -- a word ends in the codes of its source and its destination
@@ -147,24 +147,26 @@ branch_by t m n word few is =
     is ∙ ap (λ (x : ℕ). Branch t x) e
 
 -- one entry more
-pub pushed : (xs : List Handler) (h : Handler) (k : ℕ) → length xs ≡ k → ((n : ℕ) → n < k → Handles (get_or xs n Other) n) → Handles h k → (n : ℕ) → n < k + 1 → Handles (get_or (xs ++ h ∷ []) n Other) n
+pub pushed : (xs : List Handler) (h : Handler) (k : ℕ) → length xs ≡ k → ((n : ℕ) → n < k → IsHandlerOf (get_or xs n Other) n) → IsHandlerOf h k → (n : ℕ) → n < k + 1 → IsHandlerOf (get_or (xs ++ h ∷ []) n Other) n
 pushed xs h k is before new n within = by (nat_lt n k) refl
   where
-    by : (b : Bool) → nat_lt n k ≡ b → Handles (get_or (xs ++ h ∷ []) n Other) n
+    by : (b : Bool) → nat_lt n k ≡ b → IsHandlerOf (get_or (xs ++ h ∷ []) n Other) n
     by true e =
         let low = ltb-true n k e in
         let inside : n < length xs = omega (arith, low, is) in
-        subst (λ (x : Handler). Handles x n) (sym (get_or_append_left xs (h ∷ []) Other n inside)) (before n low)
+        subst (λ (x : Handler). IsHandlerOf x n) (sym (get_or_append_left xs (h ∷ []) Other n inside)) (before n low)
     by false e =
         let high = ltb-false n k e in
         let last : n ≡ k = omega (arith, high, within) in
         let seat : length xs ≡ n = omega (arith, last, is) in
-        subst (λ (x : Handler). Handles x n) (sym (get_or_push xs h Other n seat)) (subst (λ (j : ℕ). Handles h j) (sym last) new)
+        subst (λ (x : Handler). IsHandlerOf x n) (sym (get_or_push xs h Other n seat)) (subst (λ (j : ℕ). IsHandlerOf h j) (sym last) new)
 
-pub filled : (xs : List Handler) (h : Handler) (k : ℕ) → k ≡ 65535 → length xs ≡ k → ((n : ℕ) → n < k → Handles (get_or xs n Other) n) → Handles h 65535 → IsDispatch (xs ++ h ∷ [])
+pub filled : (xs : List Handler) (h : Handler) (k : ℕ) → k ≡ 65535 → length xs ≡ k → ((n : ℕ) → n < k → IsHandlerOf (get_or xs n Other) n) → IsHandlerOf h 65535 → IsDispatch (xs ++ h ∷ [])
 filled xs h k last is before new =
     let more = length-append xs (h ∷ []) in
+    let all = pushed xs h k is before (subst (λ (j : ℕ). IsHandlerOf h j) (sym last) new) in
     record {
       size = omega (arith, more, is, last);
-      each = λ n within. pushed xs h k is before (subst (λ (j : ℕ). Handles h j) (sym last) new) n (omega (arith, within, last));
+      each = λ n within. (all n (omega (arith, within, last))).handles;
+      known = λ n within. (all n (omega (arith, within, last))).known;
     }

@@ -1,5 +1,6 @@
--- What a handler says of a word: its instruction, and how the operands of that are found.
-use Rattle.std.specs.Prelude.{◌≡◌, ◌≢◌, ◌<◌, ℕ, ◌/◌, ◌%◌, List, length, slice_index_or, true, false}
+-- What a handler says of a word: its instruction, and how the operands of that are found; and which words have a handler
+-- for certain.
+use Rattle.std.specs.Prelude.{◌≡◌, ◌≢◌, ◌<◌, ◌⊎◌, ℕ, ◌/◌, ◌%◌, List, length, slice_index_or, true, false}
 use Rattle.pdp_decode.specs.declared.instr.Width.{Width}
 use Rattle.pdp_decode.specs.declared.instr.Width.TheVariants.{Word, Byte}
 use Rattle.pdp_decode.specs.declared.instr.Mode.TheVariants as mode
@@ -9,7 +10,7 @@ use Rattle.pdp_decode.specs.declared.instr.Operand.{Operand}
 use Rattle.pdp_decode.specs.declared.instr.Condition.{Condition}
 use Rattle.pdp_decode.specs.declared.instr.Condition.TheVariants as condition
 use Rattle.pdp_decode.specs.declared.instr.Instr.{Instr}
-use Rattle.pdp_decode.specs.declared.instr.Instr.TheVariants.{Mov, Cmp, Bit, Bic, Bis, Add, Sub, Clr, Com, Inc, Dec, Neg, Adc, Sbc, Tst, Ror, Rol, Asr, Asl, Swab, Sxt, Mul, Div, Ash, Ashc, Xor, Sob, Branch, Jmp, Jsr, Rts, Codes}
+use Rattle.pdp_decode.specs.declared.instr.Instr.TheVariants.{Mov, Cmp, Bit, Bic, Bis, Add, Sub, Clr, Com, Inc, Dec, Neg, Adc, Sbc, Tst, Ror, Rol, Asr, Asl, Swab, Sxt, Mul, Div, Ash, Ashc, Xor, Sob, Branch, Jmp, Jsr, Rts, Mark, Rti, Codes, Wait, SoftTrap, Emt, Sys, Illegal}
 use Rattle.pdp_decode.specs.declared.addressing.Addressing.{Addressing}
 use Rattle.pdp_decode.specs.declared.addressing.Addressing.TheVariants.{Register, Immediate, Absolute, Indexed, Deferred, Autoincrement, Autodecrement, Relative, Other}
 use Rattle.pdp_decode.specs.declared.handler.Handler.{Handler}
@@ -296,7 +297,71 @@ Handles handler.ClearCodes n = decode_of n ≡ Codes false (flags_of n)
 Handles handler.SetCodes n = decode_of n ≡ Codes true (flags_of n)
 Handles handler.Other n = Unit {0}
 
+-- where a source lies that has a handler with each instruction: in a register; or, a word, in the program, at an absolute
+-- address or at an indexed one
+abbrev pub IsSource : Addressing → Width → Type 0
+IsSource a w = (a ≡ Register) ⊎ ((w ≡ Word) × ((a ≡ Immediate) ⊎ ((a ≡ Absolute) ⊎ (a ≡ Indexed))))
+
+abbrev pub IsFromSource : Width → Operand → Type 0
+IsFromSource w s = IsAddressed Register w s ⊎ ((w ≡ Word) × (IsAddressed Immediate w s ⊎ (IsAddressed Absolute w s ⊎ IsAddressed Indexed w s)))
+
+-- a label: an absolute address, or one relative to PC
+abbrev pub IsLabel : Addressing → Type 0
+IsLabel a = (a ≡ Absolute) ⊎ (a ≡ Relative)
+
+abbrev pub IsAtLabel : Operand → Type 0
+IsAtLabel d = IsAddressed Absolute Word d ⊎ IsAddressed Relative Word d
+
+-- the instructions that have a handler for certain: those that work on a register, with such a source; branches; jumps to a
+-- label. Frequent ways to other operands have one too.
+abbrev pub HasHandler : Instr → Type 0
+HasHandler (Mov w s d) = IsFromSource w s × IsAddressed Register w d
+HasHandler (Cmp w s d) = IsFromSource w s × IsAddressed Register w d
+HasHandler (Bit w s d) = IsFromSource w s × IsAddressed Register w d
+HasHandler (Bic w s d) = IsFromSource w s × IsAddressed Register w d
+HasHandler (Bis w s d) = IsFromSource w s × IsAddressed Register w d
+HasHandler (Add s d) = IsFromSource Word s × IsAddressed Register Word d
+HasHandler (Sub s d) = IsFromSource Word s × IsAddressed Register Word d
+HasHandler (Clr w d) = IsAddressed Register w d
+HasHandler (Com w d) = IsAddressed Register w d
+HasHandler (Inc w d) = IsAddressed Register w d
+HasHandler (Dec w d) = IsAddressed Register w d
+HasHandler (Neg w d) = IsAddressed Register w d
+HasHandler (Adc w d) = IsAddressed Register w d
+HasHandler (Sbc w d) = IsAddressed Register w d
+HasHandler (Tst w d) = IsAddressed Register w d
+HasHandler (Ror w d) = IsAddressed Register w d
+HasHandler (Rol w d) = IsAddressed Register w d
+HasHandler (Asr w d) = IsAddressed Register w d
+HasHandler (Asl w d) = IsAddressed Register w d
+HasHandler (Swab d) = IsAddressed Register Word d
+HasHandler (Sxt d) = IsAddressed Register Word d
+HasHandler (Mul n s) = IsAddressed Register Word s
+HasHandler (Div n s) = IsAddressed Register Word s
+HasHandler (Ash n s) = IsAddressed Register Word s
+HasHandler (Ashc n s) = IsAddressed Register Word s
+HasHandler (Xor n d) = (n ≢ Pc) × IsAddressed Register Word d
+HasHandler (Sob n words) = Unit {0}
+HasHandler (Branch test words) = Unit {0}
+HasHandler (Jmp d) = IsAtLabel d
+HasHandler (Jsr n d) = IsAtLabel d
+HasHandler (Rts n) = Unit {0}
+HasHandler (Mark words) = ⊥
+HasHandler Rti = ⊥
+HasHandler (Codes set names) = Unit {0}
+HasHandler Wait = ⊥
+HasHandler (SoftTrap trap) = ⊥
+HasHandler Emt = ⊥
+HasHandler (Sys n) = ⊥
+HasHandler Illegal = ⊥
+
+-- the handler of a word
+pub record IsHandlerOf (h : Handler) (n : ℕ) : Type 0 where
+  pub handles : Handles h n
+  pub known : HasHandler (decode_of n) → h ≢ handler.Other
+
 -- a table of the handlers of all words
 pub record IsDispatch (handlers : List Handler) : Type 0 where
   pub size : length handlers ≡ 65536
   pub each : (n : ℕ) → n < 65536 → Handles (slice_index_or handlers n handler.Other) n
+  pub known : (n : ℕ) → n < 65536 → HasHandler (decode_of n) → slice_index_or handlers n handler.Other ≢ handler.Other

@@ -1,7 +1,8 @@
 //! The ways to an operand that a handler tells apart.
 ghost use Rattle.std.specs.Prelude.{◌≡◌, ◌≢◌, IsTrue, false};
 ghost use Rattle.pdp_decode.specs.declared.instr.Reg.{Reg};
-ghost use Rattle.pdp_decode.specs.Handlers.{IsAddressed, IsStepped};
+ghost use Rattle.pdp_decode.specs.declared.addressing.Addressing.{Addressing};
+ghost use Rattle.pdp_decode.specs.Handlers.{IsAddressed, IsStepped, IsSource, IsFromSource, IsLabel, IsAtLabel};
 
 use crate::instr::{Mode, Operand, Reg, Width};
 
@@ -54,7 +55,10 @@ fn steps(width: Width, n: Reg) -> bool
 
 /// How an operand is found.
 pub(crate) fn addressed(width: Width, o: Operand) -> Addressing
-    ensures { IsAddressed result width o }
+    ensures is { IsAddressed result width o }
+    ensures register { IsAddressed Addressing.Register width o → result ≡ Addressing.Register }
+    ensures source { IsFromSource width o → IsSource result width }
+    ensures label { IsAtLabel o → IsLabel result }
 {
     if is_pc(o.reg) {
         return match o.mode {

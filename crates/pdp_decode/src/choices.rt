@@ -1,9 +1,12 @@
 //! The choice of a handler by the ways to an instruction's operands.
-ghost use Rattle.std.specs.Prelude.{ℕ, ◌≡◌, ◌/◌, ◌%◌};
+ghost use Rattle.std.specs.Prelude.{ℕ, ◌≡◌, ◌≢◌, ◌/◌, ◌%◌};
 ghost use Rattle.pdp_decode.specs.Decode.{reg_of, flags_of, decode_of};
+ghost use Rattle.pdp_decode.specs.declared.addressing.Addressing.{Addressing};
+ghost use Rattle.pdp_decode.specs.declared.handler.Handler.{Handler};
 ghost use Rattle.pdp_decode.specs.declared.instr.Width.{Width};
+ghost use Rattle.pdp_decode.specs.declared.instr.Reg.{Reg};
 ghost use Rattle.pdp_decode.specs.declared.instr.Instr.{Instr};
-ghost use Rattle.pdp_decode.specs.Handlers.{IsDouble, IsSingle, IsExtended, IsBranch, Handles};
+ghost use Rattle.pdp_decode.specs.Handlers.{IsDouble, IsSingle, IsExtended, IsBranch, IsSource, IsLabel, Handles};
 
 use crate::addressing::Addressing::{
     self, Absolute, Autodecrement, Autoincrement, Deferred, Immediate, Indexed, Register, Relative,
@@ -13,7 +16,8 @@ use crate::handler::Handler;
 use crate::instr::{Condition, Reg, Width};
 
 pub(crate) fn mov(width: Width, source: Addressing, dest: Addressing) -> Handler
-    ensures { (n : ℕ) → IsDouble n width (Instr.Mov width) source dest → Handles result n }
+    ensures handles { (n : ℕ) → IsDouble n width (Instr.Mov width) source dest → Handles result n }
+    ensures known { IsSource source width → dest ≡ Addressing.Register → result ≢ Handler.Other }
 {
     match (width, source, dest) {
         (Width::Word, Register, Register) => Handler::MovRR,
@@ -67,7 +71,8 @@ pub(crate) fn mov(width: Width, source: Addressing, dest: Addressing) -> Handler
 }
 
 pub(crate) fn cmp(width: Width, source: Addressing, dest: Addressing) -> Handler
-    ensures { (n : ℕ) → IsDouble n width (Instr.Cmp width) source dest → Handles result n }
+    ensures handles { (n : ℕ) → IsDouble n width (Instr.Cmp width) source dest → Handles result n }
+    ensures known { IsSource source width → dest ≡ Addressing.Register → result ≢ Handler.Other }
 {
     match (width, source, dest) {
         (Width::Word, Register, Register) => Handler::CmpRR,
@@ -102,7 +107,8 @@ pub(crate) fn cmp(width: Width, source: Addressing, dest: Addressing) -> Handler
 }
 
 pub(crate) fn bit(width: Width, source: Addressing, dest: Addressing) -> Handler
-    ensures { (n : ℕ) → IsDouble n width (Instr.Bit width) source dest → Handles result n }
+    ensures handles { (n : ℕ) → IsDouble n width (Instr.Bit width) source dest → Handles result n }
+    ensures known { IsSource source width → dest ≡ Addressing.Register → result ≢ Handler.Other }
 {
     match (width, source, dest) {
         (Width::Word, Register, Register) => Handler::BitRR,
@@ -121,7 +127,8 @@ pub(crate) fn bit(width: Width, source: Addressing, dest: Addressing) -> Handler
 }
 
 pub(crate) fn bic(width: Width, source: Addressing, dest: Addressing) -> Handler
-    ensures { (n : ℕ) → IsDouble n width (Instr.Bic width) source dest → Handles result n }
+    ensures handles { (n : ℕ) → IsDouble n width (Instr.Bic width) source dest → Handles result n }
+    ensures known { IsSource source width → dest ≡ Addressing.Register → result ≢ Handler.Other }
 {
     match (width, source, dest) {
         (Width::Word, Register, Register) => Handler::BicRR,
@@ -139,7 +146,8 @@ pub(crate) fn bic(width: Width, source: Addressing, dest: Addressing) -> Handler
 }
 
 pub(crate) fn bis(width: Width, source: Addressing, dest: Addressing) -> Handler
-    ensures { (n : ℕ) → IsDouble n width (Instr.Bis width) source dest → Handles result n }
+    ensures handles { (n : ℕ) → IsDouble n width (Instr.Bis width) source dest → Handles result n }
+    ensures known { IsSource source width → dest ≡ Addressing.Register → result ≢ Handler.Other }
 {
     match (width, source, dest) {
         (Width::Word, Register, Register) => Handler::BisRR,
@@ -162,7 +170,8 @@ pub(crate) fn bis(width: Width, source: Addressing, dest: Addressing) -> Handler
 }
 
 pub(crate) fn add(source: Addressing, dest: Addressing) -> Handler
-    ensures { (n : ℕ) → IsDouble n Width.Word Instr.Add source dest → Handles result n }
+    ensures handles { (n : ℕ) → IsDouble n Width.Word Instr.Add source dest → Handles result n }
+    ensures known { IsSource source Width.Word → dest ≡ Addressing.Register → result ≢ Handler.Other }
 {
     match (source, dest) {
         (Register, Register) => Handler::AddRR,
@@ -186,7 +195,8 @@ pub(crate) fn add(source: Addressing, dest: Addressing) -> Handler
 }
 
 pub(crate) fn sub(source: Addressing, dest: Addressing) -> Handler
-    ensures { (n : ℕ) → IsDouble n Width.Word Instr.Sub source dest → Handles result n }
+    ensures handles { (n : ℕ) → IsDouble n Width.Word Instr.Sub source dest → Handles result n }
+    ensures known { IsSource source Width.Word → dest ≡ Addressing.Register → result ≢ Handler.Other }
 {
     match (source, dest) {
         (Register, Register) => Handler::SubRR,
@@ -204,7 +214,8 @@ pub(crate) fn sub(source: Addressing, dest: Addressing) -> Handler
 }
 
 pub(crate) fn clr(width: Width, dest: Addressing) -> Handler
-    ensures { (n : ℕ) → IsSingle n width (Instr.Clr width) dest → Handles result n }
+    ensures handles { (n : ℕ) → IsSingle n width (Instr.Clr width) dest → Handles result n }
+    ensures known { dest ≡ Addressing.Register → result ≢ Handler.Other }
 {
     match (width, dest) {
         (Width::Word, Register) => Handler::ClrR,
@@ -224,7 +235,8 @@ pub(crate) fn clr(width: Width, dest: Addressing) -> Handler
 }
 
 pub(crate) fn com(width: Width, dest: Addressing) -> Handler
-    ensures { (n : ℕ) → IsSingle n width (Instr.Com width) dest → Handles result n }
+    ensures handles { (n : ℕ) → IsSingle n width (Instr.Com width) dest → Handles result n }
+    ensures known { dest ≡ Addressing.Register → result ≢ Handler.Other }
 {
     match (width, dest) {
         (Width::Word, Register) => Handler::ComR,
@@ -234,7 +246,8 @@ pub(crate) fn com(width: Width, dest: Addressing) -> Handler
 }
 
 pub(crate) fn inc(width: Width, dest: Addressing) -> Handler
-    ensures { (n : ℕ) → IsSingle n width (Instr.Inc width) dest → Handles result n }
+    ensures handles { (n : ℕ) → IsSingle n width (Instr.Inc width) dest → Handles result n }
+    ensures known { dest ≡ Addressing.Register → result ≢ Handler.Other }
 {
     match (width, dest) {
         (Width::Word, Register) => Handler::IncR,
@@ -251,7 +264,8 @@ pub(crate) fn inc(width: Width, dest: Addressing) -> Handler
 }
 
 pub(crate) fn dec(width: Width, dest: Addressing) -> Handler
-    ensures { (n : ℕ) → IsSingle n width (Instr.Dec width) dest → Handles result n }
+    ensures handles { (n : ℕ) → IsSingle n width (Instr.Dec width) dest → Handles result n }
+    ensures known { dest ≡ Addressing.Register → result ≢ Handler.Other }
 {
     match (width, dest) {
         (Width::Word, Register) => Handler::DecR,
@@ -267,7 +281,8 @@ pub(crate) fn dec(width: Width, dest: Addressing) -> Handler
 }
 
 pub(crate) fn neg(width: Width, dest: Addressing) -> Handler
-    ensures { (n : ℕ) → IsSingle n width (Instr.Neg width) dest → Handles result n }
+    ensures handles { (n : ℕ) → IsSingle n width (Instr.Neg width) dest → Handles result n }
+    ensures known { dest ≡ Addressing.Register → result ≢ Handler.Other }
 {
     match (width, dest) {
         (Width::Word, Register) => Handler::NegR,
@@ -278,7 +293,8 @@ pub(crate) fn neg(width: Width, dest: Addressing) -> Handler
 }
 
 pub(crate) fn adc(width: Width, dest: Addressing) -> Handler
-    ensures { (n : ℕ) → IsSingle n width (Instr.Adc width) dest → Handles result n }
+    ensures handles { (n : ℕ) → IsSingle n width (Instr.Adc width) dest → Handles result n }
+    ensures known { dest ≡ Addressing.Register → result ≢ Handler.Other }
 {
     match (width, dest) {
         (Width::Word, Register) => Handler::AdcR,
@@ -290,7 +306,8 @@ pub(crate) fn adc(width: Width, dest: Addressing) -> Handler
 }
 
 pub(crate) fn sbc(width: Width, dest: Addressing) -> Handler
-    ensures { (n : ℕ) → IsSingle n width (Instr.Sbc width) dest → Handles result n }
+    ensures handles { (n : ℕ) → IsSingle n width (Instr.Sbc width) dest → Handles result n }
+    ensures known { dest ≡ Addressing.Register → result ≢ Handler.Other }
 {
     match (width, dest) {
         (Width::Word, Register) => Handler::SbcR,
@@ -300,7 +317,8 @@ pub(crate) fn sbc(width: Width, dest: Addressing) -> Handler
 }
 
 pub(crate) fn tst(width: Width, dest: Addressing) -> Handler
-    ensures { (n : ℕ) → IsSingle n width (Instr.Tst width) dest → Handles result n }
+    ensures handles { (n : ℕ) → IsSingle n width (Instr.Tst width) dest → Handles result n }
+    ensures known { dest ≡ Addressing.Register → result ≢ Handler.Other }
 {
     match (width, dest) {
         (Width::Word, Register) => Handler::TstR,
@@ -320,7 +338,8 @@ pub(crate) fn tst(width: Width, dest: Addressing) -> Handler
 }
 
 pub(crate) fn ror(width: Width, dest: Addressing) -> Handler
-    ensures { (n : ℕ) → IsSingle n width (Instr.Ror width) dest → Handles result n }
+    ensures handles { (n : ℕ) → IsSingle n width (Instr.Ror width) dest → Handles result n }
+    ensures known { dest ≡ Addressing.Register → result ≢ Handler.Other }
 {
     match (width, dest) {
         (Width::Word, Register) => Handler::RorR,
@@ -330,7 +349,8 @@ pub(crate) fn ror(width: Width, dest: Addressing) -> Handler
 }
 
 pub(crate) fn rol(width: Width, dest: Addressing) -> Handler
-    ensures { (n : ℕ) → IsSingle n width (Instr.Rol width) dest → Handles result n }
+    ensures handles { (n : ℕ) → IsSingle n width (Instr.Rol width) dest → Handles result n }
+    ensures known { dest ≡ Addressing.Register → result ≢ Handler.Other }
 {
     match (width, dest) {
         (Width::Word, Register) => Handler::RolR,
@@ -340,7 +360,8 @@ pub(crate) fn rol(width: Width, dest: Addressing) -> Handler
 }
 
 pub(crate) fn asr(width: Width, dest: Addressing) -> Handler
-    ensures { (n : ℕ) → IsSingle n width (Instr.Asr width) dest → Handles result n }
+    ensures handles { (n : ℕ) → IsSingle n width (Instr.Asr width) dest → Handles result n }
+    ensures known { dest ≡ Addressing.Register → result ≢ Handler.Other }
 {
     match (width, dest) {
         (Width::Word, Register) => Handler::AsrR,
@@ -351,7 +372,8 @@ pub(crate) fn asr(width: Width, dest: Addressing) -> Handler
 }
 
 pub(crate) fn asl(width: Width, dest: Addressing) -> Handler
-    ensures { (n : ℕ) → IsSingle n width (Instr.Asl width) dest → Handles result n }
+    ensures handles { (n : ℕ) → IsSingle n width (Instr.Asl width) dest → Handles result n }
+    ensures known { dest ≡ Addressing.Register → result ≢ Handler.Other }
 {
     match (width, dest) {
         (Width::Word, Register) => Handler::AslR,
@@ -362,7 +384,8 @@ pub(crate) fn asl(width: Width, dest: Addressing) -> Handler
 }
 
 pub(crate) fn swab(dest: Addressing) -> Handler
-    ensures { (n : ℕ) → IsSingle n Width.Word Instr.Swab dest → Handles result n }
+    ensures handles { (n : ℕ) → IsSingle n Width.Word Instr.Swab dest → Handles result n }
+    ensures known { dest ≡ Addressing.Register → result ≢ Handler.Other }
 {
     match dest {
         Register => Handler::SwabR,
@@ -371,7 +394,8 @@ pub(crate) fn swab(dest: Addressing) -> Handler
 }
 
 pub(crate) fn sxt(dest: Addressing) -> Handler
-    ensures { (n : ℕ) → IsSingle n Width.Word Instr.Sxt dest → Handles result n }
+    ensures handles { (n : ℕ) → IsSingle n Width.Word Instr.Sxt dest → Handles result n }
+    ensures known { dest ≡ Addressing.Register → result ≢ Handler.Other }
 {
     match dest {
         Register => Handler::SxtR,
@@ -380,7 +404,8 @@ pub(crate) fn sxt(dest: Addressing) -> Handler
 }
 
 pub(crate) fn xor(n: Reg, dest: Addressing) -> Handler
-    ensures { (word : ℕ) → IsExtended word Instr.Xor dest → n ≡ reg_of (word / 0o100 % 0o10) → Handles result word }
+    ensures handles { (word : ℕ) → IsExtended word Instr.Xor dest → n ≡ reg_of (word / 0o100 % 0o10) → Handles result word }
+    ensures known { n ≢ Reg.Pc → dest ≡ Addressing.Register → result ≢ Handler.Other }
 {
     match dest {
         Register => {
@@ -395,7 +420,8 @@ pub(crate) fn xor(n: Reg, dest: Addressing) -> Handler
 }
 
 pub(crate) fn mul(operand: Addressing) -> Handler
-    ensures { (n : ℕ) → IsExtended n Instr.Mul operand → Handles result n }
+    ensures handles { (n : ℕ) → IsExtended n Instr.Mul operand → Handles result n }
+    ensures known { operand ≡ Addressing.Register → result ≢ Handler.Other }
 {
     match operand {
         Register => Handler::MulR,
@@ -406,7 +432,8 @@ pub(crate) fn mul(operand: Addressing) -> Handler
 }
 
 pub(crate) fn div(operand: Addressing) -> Handler
-    ensures { (n : ℕ) → IsExtended n Instr.Div operand → Handles result n }
+    ensures handles { (n : ℕ) → IsExtended n Instr.Div operand → Handles result n }
+    ensures known { operand ≡ Addressing.Register → result ≢ Handler.Other }
 {
     match operand {
         Register => Handler::DivR,
@@ -417,7 +444,8 @@ pub(crate) fn div(operand: Addressing) -> Handler
 }
 
 pub(crate) fn ash(operand: Addressing) -> Handler
-    ensures { (n : ℕ) → IsExtended n Instr.Ash operand → Handles result n }
+    ensures handles { (n : ℕ) → IsExtended n Instr.Ash operand → Handles result n }
+    ensures known { operand ≡ Addressing.Register → result ≢ Handler.Other }
 {
     match operand {
         Register => Handler::AshR,
@@ -428,7 +456,8 @@ pub(crate) fn ash(operand: Addressing) -> Handler
 }
 
 pub(crate) fn ashc(operand: Addressing) -> Handler
-    ensures { (n : ℕ) → IsExtended n Instr.Ashc operand → Handles result n }
+    ensures handles { (n : ℕ) → IsExtended n Instr.Ashc operand → Handles result n }
+    ensures known { operand ≡ Addressing.Register → result ≢ Handler.Other }
 {
     match operand {
         Register => Handler::AshcR,
@@ -439,7 +468,8 @@ pub(crate) fn ashc(operand: Addressing) -> Handler
 }
 
 pub(crate) fn jsr(operand: Addressing) -> Handler
-    ensures { (n : ℕ) → IsExtended n Instr.Jsr operand → Handles result n }
+    ensures handles { (n : ℕ) → IsExtended n Instr.Jsr operand → Handles result n }
+    ensures known { IsLabel operand → result ≢ Handler.Other }
 {
     match operand {
         Absolute => Handler::JsrA,
@@ -449,7 +479,8 @@ pub(crate) fn jsr(operand: Addressing) -> Handler
 }
 
 pub(crate) fn jmp(dest: Addressing) -> Handler
-    ensures { (n : ℕ) → IsSingle n Width.Word Instr.Jmp dest → Handles result n }
+    ensures handles { (n : ℕ) → IsSingle n Width.Word Instr.Jmp dest → Handles result n }
+    ensures known { IsLabel dest → result ≢ Handler.Other }
 {
     match dest {
         Absolute => Handler::JmpA,
@@ -460,7 +491,8 @@ pub(crate) fn jmp(dest: Addressing) -> Handler
 }
 
 pub(crate) fn branch(condition: Condition) -> Handler
-    ensures { (n : ℕ) → IsBranch n condition → Handles result n }
+    ensures handles { (n : ℕ) → IsBranch n condition → Handles result n }
+    ensures known { result ≢ Handler.Other }
 {
     match condition {
         Condition::Always => Handler::Always,
@@ -482,7 +514,8 @@ pub(crate) fn branch(condition: Condition) -> Handler
 }
 
 pub(crate) fn codes(set: bool) -> Handler
-    ensures { (n : ℕ) → decode_of n ≡ Instr.Codes set (flags_of n) → Handles result n }
+    ensures handles { (n : ℕ) → decode_of n ≡ Instr.Codes set (flags_of n) → Handles result n }
+    ensures known { result ≢ Handler.Other }
 {
     if set {
         Handler::SetCodes

@@ -1,6 +1,9 @@
 //! The handlers of all words, at hand.
-ghost use Rattle.std.specs.Prelude.{◌<◌, IfOk};
-ghost use Rattle.pdp_decode.specs.Handlers.{Handles, IsDispatch};
+ghost use Rattle.std.specs.Prelude.{◌≡◌, ◌≢◌, ◌<◌, IfOk};
+ghost use Rattle.pdp_decode.specs.declared.handler.Handler.{Handler};
+ghost use Rattle.pdp_decode.specs.Table.{IsWordOf};
+ghost use Rattle.pdp_decode.specs.Decode.{decode_of};
+ghost use Rattle.pdp_decode.specs.Handlers.{Handles, HasHandler, IsHandlerOf, IsDispatch};
 
 use crate::addressing::addressed;
 use crate::choices::{
@@ -13,11 +16,14 @@ use crate::reading::decode;
 use std::alloc::{AllocError, Global};
 use std::marker::Model;
 
-// The handler of a word.
-fn handler_of(word: u16) -> Handler
-    ensures { Handles result word }
+// The handler of an instruction by its word.
+fn choose(instr: Instr, word: u16) -> Handler
+    requires value { decode_of word ≡ instr }
+    requires word { IsWordOf instr word }
+    ensures handles { Handles result word }
+    ensures known { HasHandler instr → result ≢ Handler.Other }
 {
-    match decode(word) {
+    match instr {
         Instr::Mov(w, s, d) => mov(w, addressed(w, s), addressed(w, d)),
         Instr::Cmp(w, s, d) => cmp(w, addressed(w, s), addressed(w, d)),
         Instr::Bit(w, s, d) => bit(w, addressed(w, s), addressed(w, d)),
@@ -52,6 +58,13 @@ fn handler_of(word: u16) -> Handler
         Instr::Codes(set, _) => codes(set),
         _ => Handler::Other,
     }
+}
+
+// The handler of a word.
+fn handler_of(word: u16) -> Handler
+    ensures { IsHandlerOf result word }
+{
+    choose(decode(word), word)
 }
 
 /// The handler of each of the 65,536 words.
@@ -90,11 +103,13 @@ impl Dispatch {
         Ok(Dispatch { handlers })
     }
 
-    /// The handler of a word.
+    /// The handler of a word. What it says of the word holds; and it is not `Other` where the instruction works on a register,
+    /// with a source that is frequent, nor for a branch.
     #[inline(always)]
     pub fn handler(&self, word: u32) -> Handler
         requires { word < 65536 }
-        ensures { Handles result word }
+        ensures handles { Handles result word }
+        ensures known { HasHandler (decode_of word) → result ≢ Handler.Other }
     {
         self.handlers[word as usize]
     }

@@ -10,7 +10,6 @@ mod handler;
 mod instr;
 mod reading;
 
-pub use addressing::Addressing;
 pub use dispatch::Dispatch;
 pub use handler::Handler;
 pub use instr::{Condition, Flags, Instr, Mode, Operand, Reg, SoftTrap, Width};

@@ -12,7 +12,7 @@ use Rattle.pdp_step.specs.declared.halt.Halt.{Halt}
 use Rattle.pdp_step.specs.declared.halt.Halt.TheVariants.{Trapped}
 use Rattle.pdp_step.specs.Registers.{plus, minus, held_in, holding}
 use Rattle.pdp_step.specs.Machine.{Machine, reg_in, with_reg, with_codes}
-use Rattle.pdp_step.specs.Operands.{Stop, stop_of, stop_with, at_memory, Formed, formed}
+use Rattle.pdp_step.specs.Operands.{Stop, stop_of, stop_with, Formed, formed}
 use Rattle.pdp_step.specs.Rows.{Popped, without_write, distance_of, branched, address_of, jumped, jumped_to_subroutine, popped, returned, marked, resumed}
 use Rattle.pdp_step.specs.Instruction.{go, stored}
 use Rattle.pdp_step.specs.After.{Done, Stopped, after_write, finish_of, finished, stored_by, popped_by}
@@ -84,11 +84,6 @@ top_at m down new sp to a eight down_is new_is is =
 pub top_kept : (old m new : Machine) (pc to sp a : ℕ) → m ≡ at_pc old pc → new ≡ with_reg m Pc to → sp ≡ reg_in old Sp → a ≡ sp → a ≡ reg_in new Sp
 top_kept old m new pc to sp a m_is new_is sp_is is =
     is ∙ (sp_is ∙ (sym (stack_kept old.r (pc % 65536)) ∙ (ap (λ (x : Machine). reg_in x Sp) (sym m_is) ∙ (sym (stack_kept m.r to) ∙ ap (λ (x : Machine). reg_in x Sp) (sym new_is)))))
-
--- a word that was popped
-pub popped_is : (m : Machine) (answer : Result ℕ Trap) → popped_by answer m ≡ then_do (at_memory m answer) (λ value. popped_by (Ok value) m)
-popped_is m (Ok value) = refl
-popped_is m (Err trap) = refl
 
 pub popped_done : (new last : Machine) (image : Image) (value : ℕ) (top : Result Popped Stop) (k : ℕ → Machine → Machine) → popped_by (Ok value) new ≡ top → last ≡ k value new → (k value new).image ≡ image → Ends (Ok tt) last (finished image (go (then_do top (λ x. Ok (without_write (k x.value x.machine))))))
 popped_done new last image value top k is ends same =

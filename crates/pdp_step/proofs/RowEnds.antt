@@ -1,5 +1,5 @@
 -- The end of a row, by what its parts answer: a source is read, a destination is located, and what is made is stored.
-use Rattle.std.proofs.Common.{◌≡◌, ℕ, ◌/◌, ◌%◌, Bool, true, false, ◌&&◌, ◌||◌, ◌⊎◌, inl, inr, IsTrue, Result, Ok, Err, refl, sym, ap, ◌∙◌, subst, arith}
+use Rattle.std.proofs.Common.{◌≡◌, ℕ, ◌/◌, ◌%◌, Bool, false, ◌&&◌, ◌||◌, ◌⊎◌, Result, Ok, Err, refl, sym, ap, ◌∙◌, subst, arith}
 use Rattle.v6_base.specs.declared.space.Trap.{Trap}
 use Rattle.v6_base.specs.Image.{Image}
 use Rattle.v6_base.specs.Access.{then_do}
@@ -113,14 +113,6 @@ unread_at m new image w o l trap k is got same = stopped_as new image trap (fetc
 pub altered_at : (m new last : Machine) (image : Image) (w : Width) (o : Operand) (l : Location) (value : ℕ) (answer : Result (Unit {0}) Trap) (k : Machine → Location → ℕ → Effect) → formed m w o.mode o.reg ≡ lies l new → at_memory new (Ok value) ≡ value_at new w l → new.image ≡ image → stored_by answer last ≡ finish_of new.image (k new l value) → Ends (halted_by answer) last (finished image (go (then_do (fetched m w o) (λ dest. Ok (k dest.machine dest.location dest.value)))))
 altered_at m new last image w o l value answer k is got same stores =
     ends_as (halted_by answer) last image (then_do (fetched m w o) (λ dest. Ok (k dest.machine dest.location dest.value))) (Ok (k new l value)) (ap (λ (x : Result Fetched Stop). then_do x (λ dest. Ok (k dest.machine dest.location dest.value))) (got_at m new w o l (Ok value) is got)) (stored_ends answer last (finish_of image (k new l value)) (stores ∙ ap (λ (i : Image). finish_of i (k new l value)) same))
-
--- both operands are at hand before anything changes
-pub late_both : (a b s u : Bool) → IsTrue (a && (b && (s || u))) → IsTrue a × IsTrue b × (IsTrue s ⊎ IsTrue u)
-late_both true true true u is = (refl, refl, inl refl)
-late_both true true false true is = (refl, refl, inr refl)
-late_both true true false false is = cc
-late_both true false s u is = cc
-late_both false b s u is = cc
 
 -- each row with a source, once that is read: the codes are as they were
 pub moved_goes : (answer : Result (Unit {0}) Halt) (last old mid : Machine) (pc from v : ℕ) (w : Width) (s d : Operand) → mid.image ≡ old.image → mid.cc ≡ old.cc → IsSource (Ok v) (at_pc mid pc) (fetched (at_pc old from) w s) → Ends answer last (finished mid.image (go (then_do (formed (at_pc mid pc) w d.mode d.reg) (λ dest. Ok (moved_result dest.machine w dest.location (result_of w v false (carry_in mid))))))) → Ends answer last (finished old.image (go (moved (at_pc old from) w s d)))

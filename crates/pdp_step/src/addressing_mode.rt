@@ -112,7 +112,7 @@ pub trait AddressingMode {
         ensures rest { P.rest p.new ≡ P.rest p.old };
 }
 
-// The next word of the program.
+/// The next word of the program.
 #[inline(always)]
 pub fn next<P: Processor>(p: &P, pc: &mut usize) -> Result<u16, Halt>
     requires room { pc.old ≤ 1000000 }

@@ -31,6 +31,7 @@ pub fn below<W: Size>(a: u16, b: u16) -> bool
     W::cut(a as u32 + W::top()) < W::cut(b as u32 + W::top())
 }
 
+/// A code as a number.
 #[inline(always)]
 pub fn one(b: bool) -> u32
     ensures value { result ≡ one_if b }

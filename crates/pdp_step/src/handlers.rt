@@ -5,6 +5,7 @@ ghost use Rattle.pdp_decode.specs.Handlers.{Handles};
 ghost use Rattle.pdp_step.specs.Instruction.{row_of};
 ghost use Rattle.pdp_step.specs.After.{finished};
 ghost use Rattle.pdp_step.specs.Parts.{at_pc, IsMissed, IsTrapped, Ends};
+ghost use Rattle.pdp_step.specs.Families.{Frequent, OfBytes, Apart, Between, Extended, Stepping, family_of};
 
 use crate::alteration::{
     AddingCarry, Complementing, Decreasing, Increasing, Negating, RotatingLeft, RotatingRight,
@@ -35,6 +36,7 @@ pub fn perform<P: Processor>(p: &mut P, handler: Handler, pc: usize, word: u32) 
     requires room { pc ≤ 65538 }
     ensures row { Ends result (P.machine p.new) (finished (P.machine p.old).image (row_of (at_pc (P.machine p.old) pc) word (decode_of word))) }
     ensures kept { IsMissed result → P.machine p.new ≡ P.machine p.old }
+    ensures missed { family_of handler ≡ Frequent → IsMissed result → P.MayMiss }
     ensures trapped { IsTrapped result → P.MayTrap }
     ensures rest { P.rest p.new ≡ P.rest p.old }
 {
@@ -148,6 +150,7 @@ pub fn perform_apart<P: Processor>(
     requires room { pc ≤ 65538 }
     ensures row { Ends result (P.machine p.new) (finished (P.machine p.old).image (row_of (at_pc (P.machine p.old) pc) word (decode_of word))) }
     ensures kept { IsMissed result → P.machine p.new ≡ P.machine p.old }
+    ensures missed { family_of handler ≡ Apart → IsMissed result → P.MayMiss }
     ensures trapped { IsTrapped result → P.MayTrap }
     ensures rest { P.rest p.new ≡ P.rest p.old }
 {
@@ -219,6 +222,7 @@ pub fn perform_between<P: Processor>(
     requires room { pc ≤ 65538 }
     ensures row { Ends result (P.machine p.new) (finished (P.machine p.old).image (row_of (at_pc (P.machine p.old) pc) word (decode_of word))) }
     ensures kept { IsMissed result → P.machine p.new ≡ P.machine p.old }
+    ensures missed { family_of handler ≡ Between → IsMissed result → P.MayMiss }
     ensures trapped { IsTrapped result → P.MayTrap }
     ensures rest { P.rest p.new ≡ P.rest p.old }
 {
@@ -260,6 +264,7 @@ pub fn perform_extended<P: Processor>(
     requires room { pc ≤ 65538 }
     ensures row { Ends result (P.machine p.new) (finished (P.machine p.old).image (row_of (at_pc (P.machine p.old) pc) word (decode_of word))) }
     ensures kept { IsMissed result → P.machine p.new ≡ P.machine p.old }
+    ensures missed { family_of handler ≡ Extended → IsMissed result → P.MayMiss }
     ensures trapped { IsTrapped result → P.MayTrap }
     ensures rest { P.rest p.new ≡ P.rest p.old }
 {
@@ -301,6 +306,7 @@ pub fn perform_bytes<P: Processor>(
     requires room { pc ≤ 65538 }
     ensures row { Ends result (P.machine p.new) (finished (P.machine p.old).image (row_of (at_pc (P.machine p.old) pc) word (decode_of word))) }
     ensures kept { IsMissed result → P.machine p.new ≡ P.machine p.old }
+    ensures missed { family_of handler ≡ OfBytes → IsMissed result → P.MayMiss }
     ensures trapped { IsTrapped result → P.MayTrap }
     ensures rest { P.rest p.new ≡ P.rest p.old }
 {
@@ -382,6 +388,7 @@ pub fn perform_stepping<P: Processor>(
     requires room { pc ≤ 65538 }
     ensures row { Ends result (P.machine p.new) (finished (P.machine p.old).image (row_of (at_pc (P.machine p.old) pc) word (decode_of word))) }
     ensures image { IsMissed result → (P.machine p.new).image ≡ (P.machine p.old).image }
+    ensures missed { family_of handler ≡ Stepping → IsMissed result → P.MayMiss }
     ensures trapped { IsTrapped result → P.MayTrap }
     ensures rest { P.rest p.new ≡ P.rest p.old }
 {

@@ -24,7 +24,7 @@ fn read<P: Processor, W: Size>(p: &P, place: usize) -> Result<u16, Halt>
     Ok(W::load(p, place)?)
 }
 
-// Reads the operand at an address.
+/// Reads the operand at an address.
 #[inline(always)]
 pub fn read_at<P: Processor, W: Size>(p: &P, at: u16) -> Result<u16, Halt>
     ensures value { IsLoaded result (value_in W.width (P.machine p.now).image at) }
@@ -38,7 +38,7 @@ pub fn read_at<P: Processor, W: Size>(p: &P, at: u16) -> Result<u16, Halt>
     }
 }
 
-// Finds the place of the operand at an address.
+/// Finds the place of the operand at an address.
 #[inline(always)]
 pub fn place_at<P: Processor, W: Size>(p: &P, at: u16) -> Result<usize, Halt>
     ensures place { IfOk result (λ place. P.IsPlace (P.rest p.now) W.width place) }

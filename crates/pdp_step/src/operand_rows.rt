@@ -24,7 +24,7 @@ use crate::regs::{carry, codes, pack};
 use crate::size::{Size, Words};
 use std::marker::PhantomData;
 
-// Puts what is moved to the destination, which isn't read.
+/// Puts what is moved to the destination, which isn't read.
 #[inline(always)]
 pub fn put_moved<P: Processor, W: Size, D: AddressingMode>(
     p: &mut P,
@@ -78,7 +78,7 @@ pub fn move_to<P: Processor, W: Size, S: AddressingMode, D: AddressingMode>(
     }
 }
 
-// Reads the destination, and keeps the codes alone of what is made of it.
+/// Reads the destination, and keeps the codes alone of what is made of it.
 #[inline(always)]
 pub fn test_with<P: Processor, W: Size, D: AddressingMode, A: Alteration>(
     p: &mut P,
@@ -139,7 +139,7 @@ pub fn compare<P: Processor, W: Size, S: AddressingMode, D: AddressingMode, O: O
     }
 }
 
-// Reads the destination, and puts there what is made of it.
+/// Reads the destination, and puts there what is made of it.
 #[inline(always)]
 pub fn alter_with<P: Processor, W: Size, D: AddressingMode, A: Alteration>(
     p: &mut P,

@@ -94,8 +94,10 @@ pub trait Size {
         ensures rest { P.rest p.new ≡ P.rest p.old };
 }
 
+/// Operands of two bytes.
 pub struct Words;
 
+/// Operands of one byte.
 pub struct Bytes;
 
 #[tactic(auto, unfolding(crate::specs::Operands::value_at, crate::specs::Operands::word_at, crate::specs::Rows::stored_result, crate::specs::After::finish_of, crate::specs::Instruction::stored))]

@@ -106,9 +106,6 @@ record IsBrought (t : Table) (k : Kept) (s c : ℕ) (o : Option ℕ) (now : Boar
   pub core : now.core ≡ k.core
 
 module _ (t : Table) (k : Kept) (s c : ℕ) where
-  here : Board
-  here = board_of t k
-
   plain : (o : Option ℕ) (d : ℕ) → d ≡ c + text_need k o → (b : Board) → b.table ≡ untimed t → b.core ≡ k.core
       → (change_text b (row_at b.table s).text one_more).texts ≡ map text_place (come_shared k o c).texts
       → IsBrought t k s c o (at_place b s (row_at t s).size (Core d))

@@ -2,6 +2,7 @@
 use Rattle.std.proofs.Common.{◌≡◌, ◌<◌, ◌+◌, ◌%◌, ◌^◌, ℕ, false, pos, List, [], ◌∷◌, Option, Some, None, is_some, unwrap_or, IsSome, refl, sym, ap, ◌∙◌}
 use Rattle.v6_base.specs.Image.{Image}
 use Rattle.v6_base.specs.declared.answer.Answer.TheVariants.{Sleep}
+use Rattle.v6_base.specs.declared.entry.Chan.{Chan}
 use Rattle.proc_tab.specs.declared.row.Row.{Row}
 use Rattle.u_area.specs.declared.layout.TheConstants.{LINE_READ}
 use Rattle.u_area.specs.declared.area.UArea.{UArea}
@@ -32,13 +33,14 @@ pending_changed u pending call codes =
     refl refl refl refl refl refl refl refl refl refl refl refl refl refl refl refl refl refl refl
 
 -- A process waits for keys, and its area keeps what it needs to go on.
-pub keys_by : (h : Handed) (l : ℕ) (u new : UArea) (row : Row) (entry at count : ℕ) → h.u ≡ u → h.row ≡ row → is_some (due row u) ≡ false
+pub keys_by : (h : Handed) (l : ℕ) (u new : UArea) (row : Row) (entry at count : ℕ) (chan : Chan) → chan ≡ keys_of l → h.u ≡ u → h.row ≡ row → is_some (due row u) ≡ false
     → record u { pending = LINE_READ; call = entry ∷ at ∷ count ∷ 0 ∷ 0 ∷ 0 ∷ 0 ∷ 0 ∷ [] } ≡ new
-    → waits_for_keys h l entry at count ≡ did_with (record h { u = new }) (Sleep (pos 10) (keys_of l))
-keys_by h l u new row entry at count area own none kept =
+    → waits_for_keys h l entry at count ≡ did_with (record h { u = new }) (Sleep (pos 10) chan)
+keys_by h l u new row entry at count chan keys area own none kept =
     sleeps_on h u row _ area own none
     ∙ ap (λ (x : UArea). did_with (record h { u = x }) (Sleep (pos 10) (keys_of l)))
     (ap (λ (x : UArea). record x { pending = LINE_READ; call = entry ∷ at ∷ count ∷ 0 ∷ 0 ∷ 0 ∷ 0 ∷ 0 ∷ [] }) area ∙ kept)
+    ∙ ap (λ (x : Chan). did_with (record h { u = new }) (Sleep (pos 10) x)) (sym keys)
 
 node_by : (o : Option Node) → IsSome o → o ≡ Some (unwrap_or o no_node)
 node_by None used = absurd (cc)

@@ -57,6 +57,16 @@ line_closed_is h (Some l) = by (is_line_open h l)
     by true = refl
     by false = refl
 
+-- It is closed where no file of it is open, and who waits for its keys is woken.
+pub line_shut : (h : Handed) (l : ℕ) → is_line_open h l ≡ false
+    → closes_line h (Some l) ≡ record { state = record h { line = terminal.closed h.line }; items = Log (Wake Keys) ∷ [] }
+line_shut h l is = ap (λ (others : Bool). cond {A = Closing} others (record { state = h; items = [] })
+    (record { state = record h { line = terminal.closed h.line }; items = Log (Wake Keys) ∷ [] })) is
+
+pub line_stays : (h : Handed) (l : ℕ) → is_line_open h l ≡ true → closes_line h (Some l) ≡ record { state = h; items = [] }
+line_stays h l is = ap (λ (others : Bool). cond {A = Closing} others (record { state = h; items = [] })
+    (record { state = record h { line = terminal.closed h.line }; items = Log (Wake Keys) ∷ [] })) is
+
 -- Where it is freed a line may be another, and a reference goes.
 pub released_last : (h : Handed) (file : OpenFile)
     → let rest : Handed = record h { pipes = gone h.files (roused h.pipes file) file } in

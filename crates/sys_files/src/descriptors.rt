@@ -135,8 +135,9 @@ fn close_line<T: Trace>(f: &mut Files, file: OpenFile, trace: &mut T)
         → Took (T.taken trace.old) (line_closed (handed f.old u row image) file).items (T.taken trace.new) }
     ensures frame { T.leads_to trace.old trace.new }
 {
-    let Some(line) = line_at(&f.tree.nodes, file.ino) else {
-        return;
+    let line = match line_at(&f.tree.nodes, file.ino) {
+        Some(line) => line,
+        None => return,
     };
     if !is_line_open(f, line) {
         f.line.closed();

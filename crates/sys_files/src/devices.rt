@@ -1,5 +1,5 @@
 //! The devices that can be opened: tty(IV), null(IV).
-ghost use Rattle.std.specs.Prelude.{◌≡◌, ◌<◌, IfSome, slice_index};
+ghost use Rattle.std.specs.Prelude.{◌≡◌, ◌<◌, IfSome, is_some, slice_index};
 ghost use Rattle.fs_codec.specs.Store.{Node};
 ghost use Rattle.fs_nodes.specs.FileSystem.{Shows};
 ghost use Rattle.sys_files.specs.Handed.{Handed, line_of, keys_of, is_null, node_in};
@@ -25,6 +25,13 @@ pub(crate) fn line_of(inode: &DiskNode) -> Option<u8>
         return Some(device as u8);
     }
     None
+}
+
+/// Whether an inode is a terminal line.
+pub(crate) fn is_line(inode: &DiskNode) -> bool
+    ensures { (h : Handed) (node : Node) → Shows inode.now node → result ≡ is_some (line_of h node) }
+{
+    line_of(inode).is_some()
 }
 
 /// Whether an inode is the null device: the character device 8, 2.

@@ -14,7 +14,7 @@ ghost use Rattle.sys_files.specs.Opening.{opens_to_read, opens_to_write, or_earl
 ghost use Rattle.sys_files.specs.Sound.{IsSound};
 ghost use Rattle.sys_files.specs.Does.{Does};
 
-use crate::devices::{is_null, line_at, line_of};
+use crate::devices::{is_line, is_null, line_at};
 use crate::files::Files;
 use crate::inodes::inode_of;
 use crate::naming::{find_name, user_of};
@@ -94,7 +94,10 @@ fn can_open(nodes: &Nodes, ino: u16) -> bool
     ensures { (h : Handed) → result ≡ can_open h (node_in nodes.now.store ino) }
 {
     let inode = inode_of(nodes, ino);
-    !is_device(inode.mode) || line_of(&inode).is_some() || is_null(&inode)
+    if !is_device(inode.mode) {
+        return true;
+    }
+    is_line(&inode) || is_null(&inode)
 }
 
 /// Makes a line the terminal of a process that opens it and has none.
@@ -102,8 +105,9 @@ fn take_terminal(nodes: &Nodes, row: &mut Row, ino: u16)
     requires { 0 < slice_index nodes.now.references ino }
     ensures { (h : Handed) → row.new ≡ with_tty row.old (line_of h (node_in nodes.now.store ino)) }
 {
-    let Some(line) = line_at(nodes, ino) else {
-        return;
+    let line = match line_at(nodes, ino) {
+        Some(line) => line,
+        None => return,
     };
     if row.tty == 0 {
         row.tty = line + 1;

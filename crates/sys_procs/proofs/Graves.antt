@@ -9,7 +9,7 @@ use Rattle.v6_base.specs.declared.entry.Entry.TheVariants as line
 use Rattle.v6_base.specs.declared.errno.Errno.TheVariants.{EINTR}
 use Rattle.fs_codec.specs.Words.{word, long}
 use Rattle.u_area.specs.declared.area.UArea.{UArea}
-use Rattle.u_area.specs.Area.{area_bytes, times, IsSized}
+use Rattle.u_area.specs.Area.{area_bytes, half_bytes, times, IsSized}
 use Rattle.u_area.proofs.PartLemmas.{word_of_bytes}
 use Rattle.u_area.proofs.AreaLemmas.{Parts, parts_of_area}
 use Rattle.pick_rules.specs.Priority.{pwait}
@@ -22,7 +22,7 @@ use Rattle.proc_tab.specs.declared.child.Child.{Child}
 use Rattle.proc_tab.specs.declared.child.Child.TheVariants.{Living}
 use Rattle.proc_tab.specs.Processes.{Processes, member_at, without, passes}
 use Rattle.proc_tab.specs.Children.{child, is_child_of, is_dead_child_of}
-use Rattle.image_keep.specs.Kept.{Held, Keeping, Nothing, Alive, Grave, Kept, keeping, with_keeping, text_of, area_in, half_of, HasImage, HasGrave}
+use Rattle.image_keep.specs.Kept.{Held, Keeping, Nothing, Alive, Grave, Kept, keeping, with_keeping, text_of, area_in, HasImage, HasGrave}
 use Rattle.fs_nodes.specs.FileSystem.{FileSystem}
 use Rattle.sys_procs.specs.declared.procs.Procs.{Procs}
 use Rattle.sys_procs.specs.Process.{Process, no_process, process_by, process_in}
@@ -52,23 +52,23 @@ pub record TellsOf (half : List ℕ) (u : UArea) : Type 0 where
 joined_words : (high low x : ℕ) → high ≡ x / 65536 → low ≡ x % 65536 → 65536 * high + low ≡ x
 joined_words high low x e f = omega (arith, e, f)
 
-half_tells : (u : UArea) → IsSized u → TellsOf (half_of u) u
+half_tells : (u : UArea) → IsSized u → TellsOf (half_bytes u) u
 half_tells u sized =
     let b : List ℕ = area_bytes u in
     let p : Parts b u = parts_of_area b u sized refl in
     record {
       user_time = word_of_half b 48 (omega arith) ∙ word_of_bytes b (times u) 48 6 0 p.times (omega arith);
       system_time = word_of_half b 50 (omega arith) ∙ word_of_bytes b (times u) 48 6 1 p.times (omega arith);
-      child_user = joined_words (word (half_of u) 52) (word (half_of u) 54) u.child_user
+      child_user = joined_words (word (half_bytes u) 52) (word (half_bytes u) 54) u.child_user
           (word_of_half b 52 (omega arith) ∙ word_of_bytes b (times u) 48 6 2 p.times (omega arith))
           (word_of_half b 54 (omega arith) ∙ word_of_bytes b (times u) 48 6 3 p.times (omega arith));
-      child_system = joined_words (word (half_of u) 56) (word (half_of u) 58) u.child_system
+      child_system = joined_words (word (half_bytes u) 56) (word (half_bytes u) 58) u.child_system
           (word_of_half b 56 (omega arith) ∙ word_of_bytes b (times u) 48 6 4 p.times (omega arith))
           (word_of_half b 58 (omega arith) ∙ word_of_bytes b (times u) 48 6 5 p.times (omega arith));
       status = word_of_half b 60 (omega arith) ∙ word_of_bytes b (u.status ∷ []) 60 1 0 p.status (omega arith);
     }
 
-pub tells : (half : List ℕ) (u : UArea) → IsSized u → half ≡ half_of u → TellsOf half u
+pub tells : (half : List ℕ) (u : UArea) → IsSized u → half ≡ half_bytes u → TellsOf half u
 tells half u sized e = subst (λ h. TellsOf h u) (sym e) (half_tells u sized)
 
 -- Times are added modulo 2^32, one after the other.

@@ -3,9 +3,9 @@ ghost use Rattle.std.specs.Prelude.{◌≡◌, ◌<◌, ◌∷◌, [], replicate
 ghost use Rattle.v6_base.specs.Trace.{Took, Log};
 ghost use Rattle.fs_nodes.specs.FileSystem.{FileSystem, SameRest};
 ghost use Rattle.u_area.specs.declared.area.UArea.{UArea};
-ghost use Rattle.u_area.specs.Area.{IsSized};
+ghost use Rattle.u_area.specs.Area.{IsSized, half_bytes};
 ghost use Rattle.u_area.specs.declared.layout.TheConstants.{WAIT_CALL};
-ghost use Rattle.image_keep.specs.Kept.{half_of, with_keeping, HasGrave, IsKept, Nothing};
+ghost use Rattle.image_keep.specs.Kept.{with_keeping, HasGrave, IsKept, Nothing};
 ghost use Rattle.pick_rules.specs.Table.{IsTable, empty_row, with_row};
 ghost use Rattle.pick_rules.specs.Apply.{applied};
 ghost use Rattle.proc_tab.specs.Processes.{AreProcesses};
@@ -39,7 +39,7 @@ fn waiting(u: UArea) -> UArea
 /// The u area of a process that has waited for a child, of whose own u area half is kept: the times of the child and of
 /// its children are added, modulo 2^32.
 fn with_times_of(own: UArea, half: &[u8; 512]) -> UArea
-    ensures { (dead : UArea) → IsSized dead → half.now ≡ half_of dead → result ≡ with_times_of own dead }
+    ensures { (dead : UArea) → IsSized dead → half.now ≡ half_bytes dead → result ≡ with_times_of own dead }
 {
     let user_time = word_at(half, TIMES);
     let system_time = word_at(half, TIMES + 2);
@@ -59,7 +59,7 @@ fn with_times_of(own: UArea, half: &[u8; 512]) -> UArea
 
 /// The status with which a process has ended, of whose u area half is kept.
 fn status_of(half: &[u8; 512]) -> u16
-    ensures { (dead : UArea) → IsSized dead → half.now ≡ half_of dead → result ≡ dead.status }
+    ensures { (dead : UArea) → IsSized dead → half.now ≡ half_bytes dead → result ≡ dead.status }
 {
     word_at(half, STATUS)
 }
@@ -82,7 +82,7 @@ fn clear(p: &mut Procs, dead: Slot) -> [u8; 512]
     requires grave { HasGrave p.old.images.kept dead }
     requires rows { AreProcesses p.old.rows }
     requires images { IsKept p.old.images.kept }
-    ensures half { result ≡ half_of (process_here p.old dead).u }
+    ensures half { result ≡ half_bytes (process_here p.old dead).u }
     ensures sized { IsSized (process_here p.old dead).u }
     ensures state { (fs : FileSystem) → handed p.new fs ≡ without_process (handed p.old fs) dead }
     ensures board { board p.new ≡ applied (board p.old) (Entry.Reap dead) }

@@ -8,10 +8,8 @@ use Rattle.proc_tab.specs.declared.row.Row.{Row}
 use Rattle.proc_tab.specs.declared.member.Member.{Member}
 use Rattle.proc_tab.specs.Processes.{Processes, member_at, row_of, row_at, changed, with_change, with_row}
 use Rattle.image_keep.specs.Kept.{Held, Keeping, Nothing, Alive, Grave, Kept, Has, HasImage, keeping, with_keeping, imaged, described, with_image, with_area, area_in, area_of, image_of}
-use Rattle.std.specs.Borrow.{GName}
-use Rattle.image_keep.specs.Lent.{Lent, left_of}
 use Rattle.image_keep.specs.State.{ImagesState}
-use Rattle.image_keep.proofs.Frames.{after, keeping_same, keeping_other, keeping_back, alive_low, image_alive, image_back}
+use Rattle.image_keep.proofs.Frames.{keeping_same, keeping_other, keeping_back, alive_low, image_alive, image_back}
 
 -- what is kept is a part of the images
 pub same_kept : {a b : ImagesState} → a ≡ b → a.kept ≡ b.kept
@@ -78,13 +76,3 @@ area_back k s has = ap (with_keeping k s) (by (keeping k s) has.1) ∙ keeping_b
 -- A u area that is put where nothing else has changed.
 pub area_alone : (k : Kept) (s : ℕ) (u : UArea) → with_area k s u ≡ with_area (with_image k s (image_of k s)) s u
 area_alone k s u = ap (λ x. with_area x s u) (sym (image_back k s))
-
--- When the memory of a slot that was lent comes back, that alone has changed.
-pub lent_back : (k before now : Kept) (s was is : ℕ) (a b : GName) → before ≡ k → was ≡ s
-    → ◌≡◌ {A = Lent} (record { loan = a; slot = is; left = left_of now is }) (record { loan = b; slot = was; left = left_of before was })
-    → now ≡ with_image k s (image_of now is)
-lent_back k before now s was is a b begins slot same =
-    let at : is ≡ s = ap (λ (l : Lent). l.slot) same ∙ slot in
-    let left : left_of now is ≡ left_of before was = ap (λ (l : Lent). l.left) same in
-    let alike : left_of now s ≡ left_of k s = ap (left_of now) (sym at) ∙ (left ∙ (ap (λ x. left_of x was) begins ∙ ap (left_of k) slot)) in
-    after k now s alike ∙ ap (λ x. with_image k s (image_of now x)) (sym at)

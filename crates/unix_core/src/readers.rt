@@ -4,6 +4,7 @@ ghost use Rattle.std.specs.Prelude.{◌≡◌, ◌<◌, ◌≤◌, ◌+◌, ◌*
 ghost use Rattle.fs_codec.specs.declared.layout.TheConstants.{SWAP_START};
 ghost use Rattle.buf_cache.specs.Blocks.{block_at};
 ghost use Rattle.core_mem.specs.Bytes.{part};
+ghost use Rattle.image_keep.specs.declared.memory.TheConstants.{SWAP_BYTES};
 ghost use Rattle.image_keep.specs.Kept.{place_of};
 ghost use Rattle.image_keep.specs.Holds.{MemoryHolds};
 
@@ -71,7 +72,7 @@ impl Kernel {
 
     /// A byte of the swap area, which holds what `swap` says.
     pub fn swap_byte(&self, at: u32) -> u8
-        requires { at < 446464 }
+        requires { at < SWAP_BYTES }
         ensures byte { result ≡ slice_index self.now.swap at }
         ensures holds { MemoryHolds self.now.core self.now.swap self.now.kept }
         ensures told { self.now.phase ≡ Started → self.now.kept ≡ kept_in self.now.system }

@@ -6,6 +6,7 @@ use Rattle.fs_codec.specs.Stands.{StandsFor}
 use Rattle.fs_codec.specs.declared.layout.TheConstants.{DISK_BYTES, SWAP_START}
 use Rattle.buf_cache.specs.Blocks.{block_at}
 use Rattle.core_mem.specs.Bytes.{part}
+use Rattle.image_keep.specs.declared.memory.TheConstants.{SWAP_BYTES}
 use Rattle.image_keep.specs.Holds.{AreRangesApart, SwapHolds, MemoryHolds}
 use Rattle.abstract_unix.specs.Unix.{System}
 use Rattle.unix_core.specs.Memory.{kept_in}
@@ -20,7 +21,7 @@ pub record IsFinal (first : Disk) (m : System) (text : List ℕ) : Type 0 where
   pub boot : disk_of text 0 ≡ first 0
   pub size : (head (disk_of text)).f_size ≡ (head first).f_size
   pub behind : (n : ℕ) → (head first).f_size ≤ n → n < SWAP_START → disk_of text n ≡ first n
-  pub swap : SwapHolds (part text (512 * SWAP_START) 446464) (kept_in m)
+  pub swap : SwapHolds (part text (512 * SWAP_START) SWAP_BYTES) (kept_in m)
   pub apart : AreRangesApart (kept_in m)
 
 -- the bytes of all blocks of a disk before the swap area, in order

@@ -17,9 +17,9 @@ returns-in-Some-clause-answer g c row =
     let image : Image = g.S.Space.image c.args.space.now in
     let h : Handed = handed c.args.f.now c.args.u.now row image in
     let bytes : List ℕ = readable image c.args.at c.args.count in
-    c.write_line.ensures.answer (handed c.write_bytes-moved.new.f c.args.u.now row image) c.in-Some.l refl
-    ∙ ap (λ (k : Handed). (writes_line k c.in-Some.l c.args.count bytes).answer) (c.write_bytes-moved.ensures.state c.args.u.now row)
-    ∙ ap (λ (d : Did). d.answer) (write_shows h c.args.entry c.args.at c.args.count c.args.now c.in-Some.l c.args.file.now
+    c.write_line.ensures.answer (handed c.write_bytes-moved.new.f c.args.u.now row image) c.in-Some.field-0 refl
+    ∙ ap (λ (k : Handed). (writes_line k c.in-Some.field-0 c.args.count bytes).answer) (c.write_bytes-moved.ensures.state c.args.u.now row)
+    ∙ ap (λ (d : Did). d.answer) (write_shows h c.args.entry c.args.at c.args.count c.args.now c.in-Some.field-0 c.args.file.now
     (file_is c.args.f.now c.args.entry c.args.file.now c.requires.file c.args.u.now row image) (sym c.in-Some.is ∙ c.line_at-line.ensures.line h))
 
 pub returns-in-Some-clause-state : goal.returns-in-Some-clause-state
@@ -27,16 +27,16 @@ returns-in-Some-clause-state g c row =
     let image : Image = g.S.Space.image c.args.space.now in
     let h : Handed = handed c.args.f.now c.args.u.now row image in
     let bytes : List ℕ = readable image c.args.at c.args.count in
-    c.write_line.ensures.state (handed c.write_bytes-moved.new.f c.args.u.now row image) c.in-Some.l refl
-    ∙ ap (λ (k : Handed). (writes_line k c.in-Some.l c.args.count bytes).state) (c.write_bytes-moved.ensures.state c.args.u.now row)
-    ∙ ap (λ (d : Did). d.state) (write_shows h c.args.entry c.args.at c.args.count c.args.now c.in-Some.l c.args.file.now
+    c.write_line.ensures.state (handed c.write_bytes-moved.new.f c.args.u.now row image) c.in-Some.field-0 refl
+    ∙ ap (λ (k : Handed). (writes_line k c.in-Some.field-0 c.args.count bytes).state) (c.write_bytes-moved.ensures.state c.args.u.now row)
+    ∙ ap (λ (d : Did). d.state) (write_shows h c.args.entry c.args.at c.args.count c.args.now c.in-Some.field-0 c.args.file.now
     (file_is c.args.f.now c.args.entry c.args.file.now c.requires.file c.args.u.now row image) (sym c.in-Some.is ∙ c.line_at-line.ensures.line h))
 
 pub returns-in-Some-clause-items : goal.returns-in-Some-clause-items
 returns-in-Some-clause-items g c row =
     let image : Image = g.S.Space.image c.args.space.now in
     let h : Handed = handed c.args.f.now c.args.u.now row image in
-    took_shown _ _ (handed c.write_bytes-moved.new.f c.args.u.now row image) h c.args.entry c.args.at c.args.count c.args.now c.in-Some.l c.args.file.now (file_is c.args.f.now c.args.entry c.args.file.now c.requires.file c.args.u.now row image) (sym c.in-Some.is ∙ c.line_at-line.ensures.line h)
+    took_shown _ _ (handed c.write_bytes-moved.new.f c.args.u.now row image) h c.args.entry c.args.at c.args.count c.args.now c.in-Some.field-0 c.args.file.now (file_is c.args.f.now c.args.entry c.args.file.now c.requires.file c.args.u.now row image) (sym c.in-Some.is ∙ c.line_at-line.ensures.line h)
     (c.write_bytes-moved.ensures.state c.args.u.now row) c.write_line.ensures.items
 
 pub returns-in-None-clause-answer : goal.returns-in-None-clause-answer

@@ -1,7 +1,6 @@
 use Rattle.std.proofs.Common.{◌∙◌, refl, ap, subst}
 use Rattle.u_area.specs.declared.area.UArea.{UArea}
-use Rattle.u_area.specs.Area.{IsSized}
-use Rattle.image_keep.specs.Kept.{half_of}
+use Rattle.u_area.specs.Area.{IsSized, half_bytes}
 use Rattle.sys_procs.proofs.SameKept.{SameKept, same_handed, same_board, same_agree}
 use Rattle.sys_procs.proofs.Graves.{area_buried, cleared, state_cleared, board_cleared, agree_cleared}
 use Rattle.sys_procs.proofs.wait.clear.Goals as goal
@@ -13,7 +12,7 @@ now c = record { rows = c.clear_row.ensures; table = c.clear_slot.ensures.table;
 
 pub returns-clause-half : goal.returns-clause-half
 returns-clause-half c =
-    c.reap-half.ensures.half ∙ ap half_of (area_buried c.args.p.now c.args.dead c.requires.agree c.requires.above c.requires.low c.requires.grave)
+    c.reap-half.ensures.half ∙ ap half_bytes (area_buried c.args.p.now c.args.dead c.requires.agree c.requires.above c.requires.low c.requires.grave)
 
 pub returns-clause-sized : goal.returns-clause-sized
 returns-clause-sized c =

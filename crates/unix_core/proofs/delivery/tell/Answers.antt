@@ -5,7 +5,8 @@ use Rattle.image_keep.specs.Kept.{Kept, HasImage, HasSizes, area_of, image_of, w
 use Rattle.image_keep.specs.Lent.{Lent, left_of}
 use Rattle.image_keep.proofs.Frames.{image_alive, with_image_has, with_image_same}
 use Rattle.sig_core.specs.Delivery.{Delivery, delivery}
-use Rattle.unix_core.proofs.LoanLemmas.{same_kept, lent_back}
+use Rattle.unix_core.proofs.LoanLemmas.{same_kept}
+use Rattle.image_keep.proofs.Loans.{lent_back}
 use Rattle.unix_core.proofs.DeliveryLemmas.{told_sizes}
 use Rattle.unix_core.proofs.delivery.tell.Goals as goal
 

@@ -3,7 +3,8 @@ use Rattle.v6_base.specs.Image.{Image}
 use Rattle.fs_codec.specs.Bytes.{bytes_of}
 use Rattle.image_keep.specs.Kept.{Kept, image_of, with_image}
 use Rattle.abstract_unix.specs.Init.{init_words, init_data}
-use Rattle.unix_core.proofs.LoanLemmas.{same_kept, lent_back}
+use Rattle.unix_core.proofs.LoanLemmas.{same_kept}
+use Rattle.image_keep.proofs.Loans.{lent_back}
 use Rattle.unix_core.proofs.init.put_program.Goals as goal
 
 pub store_program-requires-clause-text : goal.store_program-requires-clause-text

@@ -10,7 +10,8 @@ use Rattle.unix_core.specs.declared.world.World.{World}
 use Rattle.unix_core.specs.Parts.{unix_of}
 use Rattle.unix_core.proofs.AreaLemmas.{none_pending}
 use Rattle.unix_core.proofs.WorldLemmas.{sound_parts}
-use Rattle.unix_core.proofs.LoanLemmas.{same_kept, lent_back}
+use Rattle.unix_core.proofs.LoanLemmas.{same_kept}
+use Rattle.image_keep.proofs.Loans.{lent_back}
 use Rattle.unix_core.proofs.LoanBack.{area_put, row_put}
 use Rattle.unix_core.proofs.LeavingLemmas.{given, area_is, lends, call_done}
 use Rattle.unix_core.proofs.onfiles.do_on_files.Goals as goal

@@ -13,7 +13,8 @@ use Rattle.abstract_unix.proofs.GoingOnLemmas.{handed_goes_on, handed_pends}
 use Rattle.unix_core.specs.Parts.{unix_of, IsReady}
 use Rattle.unix_core.proofs.AreaLemmas.{own_area}
 use Rattle.unix_core.proofs.WorldLemmas.{slot_is, is_living, sound_parts}
-use Rattle.unix_core.proofs.LoanLemmas.{same_kept, lent_back}
+use Rattle.unix_core.proofs.LoanLemmas.{same_kept}
+use Rattle.image_keep.proofs.Loans.{lent_back}
 use Rattle.unix_core.proofs.LoanBack.{area_put, row_put}
 use Rattle.unix_core.proofs.LeavingLemmas.{given, area_is, lends, lent_parts, call_done}
 use Rattle.unix_core.proofs.onfiles.resume_on_files.Goals as goal
