@@ -29,7 +29,7 @@ _v6() {
     row.py)
         rows=$(dirname "${COMP_WORDS[0]}")/../crates/run_rows/data/rows
         case $word in
-        -*) words='--data --help --quiet --v6 --version -q' ;;
+        -*) words='--data --from --help --page --quiet --slots --v6 --version -q' ;;
         *) words=$(cd "$rows" 2>/dev/null && printf '%s\n' */*) ;;
         esac ;;
     esac

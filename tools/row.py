@@ -209,17 +209,31 @@ def chosen(words, data):
 
 def main(words):
     parser = argparse.ArgumentParser(prog="row.py", description="Shows and runs rows of whole runs: docs/rows.md")
-    parser.add_argument("names", metavar="NAME", nargs="*", help="a row, or a pattern as 'calls/*'; none: the list of all")
+    parser.add_argument("names", metavar="NAME", nargs="*", help="a row, or a pattern as 'calls/*'; none: the list of all; new "
+                        "FAMILY/NAME makes one")
     parser.add_argument("-q", "--quiet", action="store_true", help="tell only whether each row came out as it says")
     parser.add_argument("--v6", metavar="COMMAND", default=V6, help="the program that runs them (bin/v6)")
     parser.add_argument("--data", metavar="FOLDER", default=DATA, help="another folder that has rows/FAMILY/NAME")
+    parser.add_argument("--from", dest="source", metavar="FILE", help="of a new row: its program, in assembly")
+    parser.add_argument("--page", default="calls.md", metavar="PAGE", help="of a new row: the page of docs/manual (calls.md)")
+    parser.add_argument("--slots", type=int, default=100, help="of a new row: how many its script gives (100)")
     add_version(parser)
     options = parser.parse_args(words)
+    if options.source and (len(options.names) != 2 or options.names[0] != "new"):
+        parser.error("--from: row.py new FAMILY/NAME --from FILE makes a row")
+    if options.names[:1] == ["new"] and not options.source:
+        parser.error("new: --from names the program of the row, in assembly")
     return guarded("row.py", lambda: run(options), RowError, ProgramError)
 
 
 def run(options):
     """The status: 1 where a row that was run didn't come out as it says."""
+    if options.source:
+        from rownew import new_row
+
+        path = new_row(options.names[1], options.source, options.page, options.slots, options.data)
+        print(f"{path}: say there what it must come to, by hand; then row.py {options.names[1]}")
+        return 0
     failed = 0
     if not options.names:
         for name in names(options.data):

@@ -5,7 +5,7 @@ import subprocess
 import sys
 import unittest
 
-from common import TOP, Case, tool
+from common import TOP, Case, read, tool
 
 row_main = tool("row").main
 import rowfile
@@ -144,6 +144,28 @@ class Command(Case):
         self.assertEqual(self.call(row_main, "--data", self.folder), (1, "some/good: good\nsome/other: word\n", odd + place))
         word = "row.py: some/other: init, 2: 'mov r0,r1' is 010001, and 010002 stands there\n"
         self.assertEqual(self.call(row_main, "--data", self.folder, "-q", "*"), (1, "ok some/good\n", odd + word + place))
+
+    def test_a_new_row(self):
+        """Its program has the words of the source and the sources beside them, and texts; it says what is left to be said."""
+        source = self.put("it.s", b"start:\tmov\t$name,r0\t/ a name\n\tsys\tdup; sys exit\n\n\t.data\nname:\t</a\\0>\n\t.even\n\t5\n")
+        words = ("--data", self.folder, "new", "some/row_of_mine", "--from", source, "--page", "names.md", "--slots", "7")
+        path = self.path("rows/some/row_of_mine")
+        self.assertEqual(self.call(row_main, *words), (0, f"{path}: say there what it must come to, by hand; then row.py "
+                                                          "some/row_of_mine\n", ""))
+        text = read(path).decode()
+        self.assertEqual(text.split("\n")[:2], ["# row of mine", "# docs/manual/names.md"])
+        self.assertEqual(text.partition("made 0\n")[2], """\
+init
+         0  012700 000010              ; mov $10,r0
+         4  104451                     ; sys dup
+         6  104401                     ; sys exit
+        10  "/a\\000"
+        13  "\\000"
+        14  000005                     ; 5
+script
+    run 7
+""")
+        self.assertEqual(self.call(row_main, *words)[::2], (1, f"row.py: {path}: there already\n"))
 
     def test_another_folder(self):
         os.makedirs(self.path("rows/fuzz"))
