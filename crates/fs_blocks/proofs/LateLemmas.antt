@@ -13,9 +13,9 @@ late_same blocks after is late =
     let count = is.count in
     same_lists after blocks long (λ n d low.
     get_or_default after n d [] low ∙ one (late.each n (omega (arith, long, count, low))) ∙ get_or_default blocks n [] d (omega (arith, long, low))) where
-  one : {A : Type 0} {x y : A} → (x ≡ y) ⊎ (x ≡ y) → x ≡ y
-  one (inl h) = h
-  one (inr h) = h
+      one : {A : Type 0} {x y : A} → (x ≡ y) ⊎ (x ≡ y) → x ≡ y
+      one (inl h) = h
+      one (inr h) = h
 
 pub late_twice : (blocks stored middle between after : List (List ℕ)) → IsDisk blocks → stored ≡ blocks → between ≡ blocks
     → WritesLate stored blocks middle → WritesLate middle between after → after ≡ blocks

@@ -176,566 +176,566 @@ named_told Known file named = by (file.count == 1)
 module _ {P : Handed → Type 0} {Q : Did → Type 0} {Few Known : ℕ → Type 0} {Moves : Type 0} {slot : ℕ}
     (k : Walks P Q Few Known Moves slot)
   where
-  checks : {A : Type 0} (h : Handed) (test : Result A Errno) (next : A → Did) → P h → ((a : A) → Q (next a))
-      → Q (check h test next)
-  checks h (Ok a) next p goes = goes a
-  checks h (Err e) next p goes = k.refused h e p
-
-  -- the same, where what goes on asks what the test has given
-  checks_so : {A : Type 0} (h : Handed) (test : Result A Errno) (next : A → Did) → P h → ((a : A) → test ≡ Ok a → Q (next a))
-      → Q (check h test next)
-  checks_so h (Ok a) next p goes = goes a refl
-  checks_so h (Err e) next p goes = k.refused h e p
-
-  walk_named : {A : Type 0} (h : Handed) (found : Finding A) (next : Handed → A → Did)
-      → found.inodes.store.count ≡ h.inodes.store.count → P h
-      → ((now : Handed) (a : A) → P now → Q (next now a)) → Q (then_named h found next)
-  walk_named h found next same p goes =
-      let now : P (with_inodes h found.inodes) = k.inodes h found.inodes same p in
-      checks (with_inodes h found.inodes) found.answer (next (with_inodes h found.inodes)) now
-      (λ a. goes (with_inodes h found.inodes) a now)
-
-  walk_finds : (h : Handed) (name : ℕ) (next : Handed → ℕ → Did) → P h → ((now : Handed) (ino : ℕ) → P now → Q (next now ino))
-      → Q (finds h name next)
-  walk_finds h name next p goes = walk_named h _ _ (finding_count h.inodes _) p
-      (λ now ino q. k.lets_go ino (next now ino) (goes now ino q))
-
-  walk_made : (h : Handed) (answer : Made) (there : Handed → ℕ → Did) (new : Handed → ℕ → ℕ → List ℕ → Did) → P h
-      → ((now : Handed) (ino : ℕ) → P now → Q (there now ino))
-      → ((now : Handed) (dir offset : ℕ) (name : List ℕ) → P now → Q (new now dir offset name)) → Q (by_made there new h answer)
-  walk_made h (made.Found ino) there new p one two = k.lets_go ino (there h ino) (one h ino p)
-  walk_made h (made.Room dir offset name) there new p one two = k.lets_go dir (new h dir offset name) (two h dir offset name p)
-
-  walk_makes : (h : Handed) (name : ℕ) (there : Handed → ℕ → Did) (new : Handed → ℕ → ℕ → List ℕ → Did) → P h
-      → ((now : Handed) (ino : ℕ) → P now → Q (there now ino))
-      → ((now : Handed) (dir offset : ℕ) (name : List ℕ) → P now → Q (new now dir offset name)) → Q (makes h name there new)
-  walk_makes h name there new p one two =
-      walk_named h _ (by_made there new) (making_count h.inodes _) p (λ now answer q. walk_made now answer there new q one two)
-
-  walk_writes : (h : Handed) (dir offset : ℕ) (bytes : List ℕ) (now : ℕ) (next : Handed → Did) → P h
-      → ((l : Handed) → P l → Q (next l))
-      → Q (writes_entry h dir offset bytes now next)
-  walk_writes h dir offset bytes now next p goes = walk_named h (entry_written h.inodes dir offset bytes now)
-      (λ l done. next l) refl p (λ l done q. goes l q)
-
-  walk_node : (h : Handed) (dir offset : ℕ) (name : List ℕ) (mode now : ℕ) (next : Handed → ℕ → Did) → P h
-      → ((l : Handed) (ino : ℕ) → P l → Q (next l ino)) → Q (makes_node h dir offset name mode now next)
-  walk_node h dir offset name mode now next p goes =
-      walk_named h (new_in h.inodes mode (user_of h.u) now) _ (numbered_count h.inodes mode (user_of h.u) now _ _) p (λ l ino q.
-      k.lets_go ino (enters_new l dir offset name ino now next)
-      (walk_writes l dir offset _ now (λ m. next (with_links m ino 1 now) ino) q (λ m r.
-      goes (with_links m ino 1 now) ino (k.inodes m (with_links m ino 1 now).inodes refl r))))
-
-  -- An inode is opened.
-  opened : (h : Handed) (ino : ℕ) (kind : FileKind) (fd entry : ℕ) → kind.pipe ≡ false → free_number h.u.files ≡ Some fd
-      → free_entry h.files ≡ Some entry
-      → Moves → P h → P (with_opened h ino kind fd entry)
-  opened h ino kind fd entry plain number free moves p = by (line_of h (node_at h ino))
-    where
-      next : Handed
-      next = with_opened h ino kind fd entry
-
-      entered : (now : Handed) → free_number now.u.files ≡ Some fd → free_entry now.files ≡ Some entry → P now
-          → P (record now {
-            inodes = with_reference now.inodes ino;
-            files = slice_set now.files entry (Some (files.opened ino kind));
-            u = with_number now.u fd (entry + 1);
-            line = next.line;
-          })
-      entered now number free p = k.console _ next.line (k.opened
-          (with_inodes now (with_reference now.inodes ino)) ino kind fd entry plain number free moves
-          (k.inodes now (with_reference now.inodes ino) refl p))
-
-      taken : (l : ℕ) (b : Bool) → P (record next { row = cond b (record h.row { tty = l + 1 }) h.row })
-      taken l true = entered (record h { row = record h.row { tty = l + 1 } }) number free (k.terminal h (l + 1) p)
-      taken l false = entered h number free p
-
-      by : (line : Option ℕ) → P (record next { row = with_tty h.row line })
-      by None = entered h number free p
-      by (Some l) = taken l (h.row.tty == 0)
-
-  walk_opens : (h : Handed) (ino : ℕ) (kind : FileKind) → kind.pipe ≡ false → Moves → P h → Q (opens h ino kind)
-  walk_opens h ino kind plain moves p =
-      checks_so h (need EMFILE (free_number h.u.files)) _ p (λ fd number.
-      checks_so h (need ENFILE (free_entry h.files)) _ p (λ entry free.
-      checks h (must ENXIO (can_open h (node_at h ino))) _ p (λ can.
-      k.done (with_opened h ino kind fd entry) fd (r1 h)
-      (opened h ino kind fd entry plain (need_some EMFILE (free_number h.u.files) fd number)
-      (need_some ENFILE (free_entry h.files) entry free) moves p))))
-
-  -- Bytes are read, and written.
-  after_moved : {Memory : Type 0} (h : Handed) (entry : ℕ) (m : Moving Memory) → P h → P (with_moved h entry m)
-  after_moved h entry m p =
-      k.offset _ entry (((file_of h entry).offset + m.done) % 2 ^ 32) (k.inodes h (with_moved h entry m).inodes refl p)
-
-  walk_count : (h : Handed) (count : ℕ) (e : Option Errno) → P h → Q (gives_count h count e)
-  walk_count h count None p = k.done h count (r1 h) p
-  walk_count h count (Some e) p = k.refused h e p
-
-  -- a sleep that a signal may break
-  unless_due_walk : (h : Handed) (sleep : Did) → P h → Q sleep → Q (unless_due h sleep)
-  unless_due_walk h sleep p q = by (is_some (due h.row h.u))
-    where
-      by : (b : Bool) → Q (cond b (fails h EINTR) sleep)
-      by true = k.refused h EINTR p
-      by false = q
-
-  walk_line : (h : Handed) (l entry at count : ℕ) (took : Took) → P h → Q (takes_line h l entry at count took)
-  walk_line h l entry at count (Done n) p = k.done h n (r1 h) p
-  walk_line h l entry at count Wait p = unless_due_walk h (asleep_for_keys h entry at count) p (k.waits h entry at count p)
-  walk_line h l entry at count Fault p = k.refused h EFAULT p
-
-  walk_reads_line : (h : Handed) (l entry at count : ℕ) → P h → Q (reads_line h l entry at count)
-  walk_reads_line h l entry at count p =
-      let reading : Reading = line_read h l at count in
-      walk_line (with_line_read h l reading) l entry at count reading.took
-      (k.stored (record h { line = reading.terminal }) reading.image (line_lengths h.line h.image at count)
-      (k.console h reading.terminal p))
-
-  read_by : (h : Handed) (entry at count now : ℕ) (line : Option ℕ) → P h
-      → Q (reads_by (with_read h entry (read_of h entry at count now)) line entry at count (read_of h entry at count now))
-  read_by h entry at count now line p = by line
-    where
-      m : Moving Image
-      m = read_of h entry at count now
-
-      after : P (with_read h entry m)
-      after = k.stored (with_moved h entry m) m.memory (read_lengths h entry at count now) (after_moved h entry m p)
-
-      by : (line : Option ℕ) → Q (reads_by (with_read h entry m) line entry at count m)
-      by (Some l) = walk_reads_line (with_read h entry m) l entry at count after
-      by None = walk_count (with_read h entry m) m.done m.error after
-
-  shown_by : (h : Handed) (image : Image) (at count : ℕ) (all : Bool) → Few count → P h
-      → Q (record (cond all (returns (record h { line = after_shown h.line (readable image at count) }) count)
-      (fails (record h { line = after_shown h.line (readable image at count) }) EFAULT)) {
-        items =
-            sent 0 (shows h.line (readable image at count));
-      })
-  shown_by h image at count true few p =
-      let after : Handed = record h { line = after_shown h.line (readable image at count) } in
-      k.showing h.line image at count (returns after count) few (k.done after count (r1 after) (k.console h after.line p))
-  shown_by h image at count false few p =
-      let after : Handed = record h { line = after_shown h.line (readable image at count) } in
-      k.showing h.line image at count (fails after EFAULT) few (k.refused after EFAULT (k.console h after.line p))
-
-  write_by : (h : Handed) (entry at count now : ℕ) (line : Option ℕ) → ((l : ℕ) → line ≡ Some l → l ≡ 0) → Few count → P h
-      → Q (writes_by (with_moved h entry (write_of h entry at count now)) line (is_device (node_at h (file_of h entry).ino).mode)
-      at count (write_of h entry at count now))
-  write_by h entry at count now (Some l) there few p =
-      let after : Handed = with_moved h entry (write_of h entry at count now) in
-      subst (λ n. Q (writes_line after n count (readable h.image at count))) (sym (there l refl))
-      (shown_by after h.image at count (length (readable h.image at count) == count) few
-      (after_moved h entry (write_of h entry at count now) p))
-  write_by h entry at count now None there few p =
-      walk_count (with_moved h entry (write_of h entry at count now)) _ _ (after_moved h entry (write_of h entry at count now) p)
-
-  -- Bytes are put into the image.
-  walk_stored : (h : Handed) (o : Option Image) → IfSome o (SameLengths h.image) → P h → Q (with_stored h o)
-  walk_stored h (Some m) same p = k.done (record h { image = m }) (r0 h) (r1 h) (k.stored h m same p)
-  walk_stored h None same p = k.refused h EFAULT p
-
-  walk_status : (h : Handed) (ino at : ℕ) → P h → Q (tells_status h ino at)
-  walk_status h ino at p =
-      walk_stored h _ (bytes_lengths h.image h.image at (status_bytes ino (node_at h ino)) (same_lengths h.image)) p
-
-  walk_told : (h : Handed) (at : ℕ) (odd : Bool) → P h → Q
-      (with_stored h (cond odd None (store_bytes h.image at (bytes_of h.line.modes))))
-  walk_told h at true p = k.refused h EFAULT p
-  walk_told h at false p = walk_stored h _ (bytes_lengths h.image h.image at (bytes_of h.line.modes) (same_lengths h.image)) p
-
-  walk_terminal : (h : Handed) (does : ℕ → Did) → P h → ((l : ℕ) → Q (does l)) → Q (of_terminal h does)
-  walk_terminal h does p goes =
-      checks h (open_entry h (r0 h)) _ p (λ entry.
-      checks h (terminal_line h (node_at h (file_of h entry).ino)) does p goes)
-
-  wake_line : (chan : Chan) (entries : List Entry) → IsOfFiles Known chan → All (IsLineOf Known slot) entries
-      → All (IsLineOf Known slot) (Wake chan ∷ entries)
-  wake_line chan entries named all = All-cons (IsLineOf Known slot) (Wake chan) entries (inl (chan, refl, named)) all
-
-  no_line : All (IsLineOf Known slot) []
-  no_line = All-nil (IsLineOf Known slot)
-
-  answers : (h : Handed) (a b : ℕ) (entries : List Entry) → length entries ≤ 3 → All (IsLineOf Known slot) entries → P h
-      → Q (record { answer = Ret a b; state = h; items = map Log entries })
-  answers h a b entries few all p =
-      k.tells entries (record { answer = Ret a b; state = h; items = [] }) few all refl (k.done h a b p)
-
-  closes_by : (h : Handed) (a b ino : ℕ) (pipe last : Bool) → (pipe ≡ true → Known ino) → P h
-      → Q (record {
-        answer = Ret a b;
-        state = h;
-        items = cond pipe
-            (Log (Wake (chan.Write ino)) ∷ Log (Wake (chan.Read ino)) ∷ []) [] ++ cond last (Log (Wake Keys) ∷ []) [];
-      })
-  closes_by h a b ino true true named p =
-      answers h a b (Wake (chan.Write ino) ∷ Wake (chan.Read ino) ∷ Wake Keys ∷ []) (omega arith)
-      (wake_line (chan.Write ino) (Wake (chan.Read ino) ∷ Wake Keys ∷ []) (named refl)
-      (wake_line (chan.Read ino) (Wake Keys ∷ []) (named refl) (wake_line Keys [] tt no_line))) p
-  closes_by h a b ino true false named p =
-      answers h a b (Wake (chan.Write ino) ∷ Wake (chan.Read ino) ∷ []) (omega arith)
-      (wake_line (chan.Write ino) (Wake (chan.Read ino) ∷ []) (named refl) (wake_line (chan.Read ino) [] (named refl) no_line)) p
-  closes_by h a b ino false true named p = answers h a b (Wake Keys ∷ []) (omega arith) (wake_line Keys [] tt no_line) p
-  closes_by h a b ino false false named p = k.done h a b p
-
-  -- Pipes are read and written. What a call on a pipe comes to has one line of its own at most.
-  told_after : (first rest : List Entry) (d : Did) → length first ≤ 1 → length rest ≤ 1 → All (IsLineOf Known slot) first
-      → All (IsLineOf Known slot) rest
-      → d.items ≡ map Log rest → Q (record d { items = [] }) → Q (after (map Log first) d)
-  told_after first rest d few one all own are q =
-      let P' : List Item → Type 0 = λ l. Q (record d { items = l }) in
-      let long = length-append first rest in
-      subst P' (map-append Log first rest ∙ ap (λ l. map Log first ++ l) (sym are))
-      (k.tells (first ++ rest) (record d { items = [] }) (omega (arith, few, one, long))
-      (All-append (IsLineOf Known slot) first rest all own) refl q)
-
-  told_woken : (woken : Bool) (chan : Chan) (rest : List Entry) (d : Did) → IsOfFiles Known chan → length rest ≤ 1
-      → All (IsLineOf Known slot) rest
-      → d.items ≡ map Log rest → Q (record d { items = [] }) → Q (after (cond woken (Log (Wake chan) ∷ []) []) d)
-  told_woken true chan rest d named one own are q =
-      told_after (Wake chan ∷ []) rest d (omega arith) one (wake_line chan [] named no_line) own are q
-  told_woken false chan rest d named one own are q = told_after [] rest d (omega arith) one no_line own are q
-
-  -- a call that ends quietly on a pipe, after somebody was woken or not
-  quiet_woken : (woken : Bool) (chan : Chan) (d : Did) → IsOfFiles Known chan → d.items ≡ [] → Q d
-      → Q (after (cond woken (Log (Wake chan) ∷ []) []) d)
-  quiet_woken woken chan d named none q =
-      told_woken woken chan [] d named (omega arith) no_line none
-      (subst Q (ap (λ (l : List Item). record { answer = d.answer; state = d.state; items = l }) none) q)
-
-  waits_woken : (woken : Bool) (on chan : Chan) (h : Handed) (pending entry at count left : ℕ) → IsPipeCall pending
-      → IsOfFiles Known on → IsOfPipe Known chan → IsAwaiting h entry count left → P h
-      → Q (after (cond woken (Log (Wake on) ∷ []) []) (waits_in_pipe h chan pending (words_of entry at count left)))
-  waits_woken woken on chan h pending entry at count left kind named name awaits p = by (is_some (due h.row h.u))
-    where
-      by : (b : Bool) → Q
-          (after (cond woken (Log (Wake on) ∷ []) [])
-          (cond b (fails h EINTR) (asleep_in_pipe h chan pending (words_of entry at count left))))
-      by true = quiet_woken woken on (fails h EINTR) named refl (k.refused h EINTR p)
-      by false = quiet_woken woken on (asleep_in_pipe h chan pending (words_of entry at count left)) named refl
-          (k.waits_in_pipe h chan pending entry at count left kind name awaits p)
-
-  read_ends : (woken : Bool) (h : Handed) (ino entry at count : ℕ) (answer : Piped) → Known ino → IsAwaiting h entry count 0 → P h
-      → Q (after (cond woken (Log (Wake (chan.Write ino)) ∷ []) []) (ends_read h ino entry at count answer))
-  read_ends woken h ino entry at count (piped.Done n) name awaits p =
-      quiet_woken woken (chan.Write ino) (returns h n) name refl (k.done h n (r1 h) p)
-  read_ends woken h ino entry at count (piped.Wait left) name awaits p =
-      waits_woken woken (chan.Write ino) (chan.Read ino) h PIPE_READ entry at count 0 (inl refl) name name awaits p
-  read_ends woken h ino entry at count piped.Broken name awaits p =
-      quiet_woken woken (chan.Write ino) (fails h EPIPE) name refl (k.refused h EPIPE p)
-  read_ends woken h ino entry at count (piped.Error e) name awaits p =
-      quiet_woken woken (chan.Write ino) (fails h e) name refl (k.refused h e p)
-
-  write_ends : (woken : Bool) (h : Handed) (ino entry at count : ℕ) (answer : Piped) → Known ino
-      → IsAwaiting h entry count (left_of answer) → P h
-      → Q (after (cond woken (Log (Wake (chan.Read ino)) ∷ []) []) (ends_write h slot ino entry at count answer))
-  write_ends woken h ino entry at count (piped.Done n) name awaits p =
-      quiet_woken woken (chan.Read ino) (returns h count) name refl (k.done h count (r1 h) p)
-  write_ends woken h ino entry at count (piped.Wait left) name awaits p =
-      waits_woken woken (chan.Read ino) (chan.Write ino) h PIPE_WRITE entry at count left (inr refl) name name awaits p
-  write_ends woken h ino entry at count piped.Broken name awaits p =
-      told_woken woken (chan.Read ino) (Signal slot SIGPIPE ∷ []) (breaks h slot) name (omega arith)
-      (All-cons (IsLineOf Known slot) (Signal slot SIGPIPE) [] (inr refl) no_line) refl
-      (k.refused (record h { row = posted h.row SIGPIPE }) EPIPE (k.signalled h p))
-  write_ends woken h ino entry at count (piped.Error e) name awaits p =
-      quiet_woken woken (chan.Read ino) (fails h e) name refl (k.refused h e p)
-
-  walk_reads_pipe : (h : Handed) (entry at count now : ℕ) → (file_of h entry).kind.pipe ≡ true → 1 ≤ times h.u.files entry → P h
-      → Q (reads_pipe h entry at count now)
-  walk_reads_pipe h entry at count now is named p =
-      let r : PipeRead = pipe_read h entry at count now in
-      let q : Pipe = pipe_at h entry in
-      let known : Known q.ino = (k.known h entry is p).1 in
-      let read : P (with_store h r.store) = k.inodes h (record h.inodes { store = r.store })
-      (read_leaves h.inodes.store (ends_at h entry) q h.image at count now).count p in
-      let stored : P (record (with_store h r.store) { image = r.image }) =
-      k.stored (with_store h r.store) r.image (pipe_lengths h.inodes.store (ends_at h entry) q h.image at count now) read in
-      read_ends (q.writer_waits && not r.pipe.writer_waits) (with_pipe_read h r) q.ino entry at count r.answer known
-      (record { pipe = is; named = named; few = omega arith })
-      (k.marked (record (with_store h r.store) { image = r.image }) r.pipe stored)
-
-  walk_writes_pipe : (h : Handed) (entry at count left now : ℕ) → (file_of h entry).kind.pipe ≡ true
-      → 1 ≤ times h.u.files entry → left ≤ count → P h → Q (writes_pipe h slot entry at count left now)
-  walk_writes_pipe h entry at count left now is named less p =
-      let w : PipeWrite = pipe_write h entry at count left now in
-      let q : Pipe = pipe_at h entry in
-      let known : Known q.ino = (k.known h entry is p).1 in
-      let leaves = write_leaves h.inodes.store (ends_at h entry) q h.image ((at + (count - left)) % 65536) left now in
-      let few = leaves.few in
-      let written : P (with_store h w.store) = k.inodes h (record h.inodes { store = w.store }) leaves.leaves.count p in
-      write_ends (q.reader_waits && not w.pipe.reader_waits) (with_pipe_write h w) q.ino entry at count w.answer known
-      (record { pipe = is; named = named; few = omega (arith, few, less) }) (k.marked (with_store h w.store) w.pipe written)
-
-  -- one or the other, as a file is an end of a pipe or none
-  by_kind : (b : Bool) (x y : Did) → (b ≡ true → Q x) → Q y → Q (cond b x y)
-  by_kind true x y first second = first refl
-  by_kind false x y first second = second
-
-  -- What a number lets go, when its entry has been left: the inode of a pipe is known.
-  roused : (h : Handed) (file : OpenFile) (b : Bool) → P h
-      → P (cond b (record h { pipes = with_pipe h.pipes (without_marks (pipe_of h.pipes file.ino)) }) h)
-  roused h file true p = k.marked h (without_marks (pipe_of h.pipes file.ino)) p
-  roused h file false p = p
-
-  without_end : (h : Handed) (ino : ℕ) (b c : Bool) → has_end h.files ino ≡ c → P h
-      → P (cond (b && not c) (record h { pipes = without_pipe h.pipes ino }) h)
-  without_end h ino true true e p = p
-  without_end h ino true false e p = k.gone h ino e p
-  without_end h ino false c e p = p
-
-  line_closes : (h : Handed) (a b : ℕ) (file : OpenFile) (line : Option ℕ) → (file.kind.pipe ≡ true → Known file.ino) → P h
-      → Q (record {
-        answer = Ret a b;
-        state = let_go (closes_line h line).state file.ino;
-        items = pipe_roused file ++ (closes_line h line).items;
-      })
-  line_closes h a b file line known p = by line
-    where
-      shut : ℕ → Handed
-      shut l = with_line h l (terminal.closed (line_at h l))
-
-      closing : ℕ → Bool → Closing
-      closing l used =
-          if used then record { state = h; items = [] }
-          else record { state = shut l; items = Log (Wake (keys_of l)) ∷ [] }
-
-      stays : Q (record { answer = Ret a b; state = let_go h file.ino; items = pipe_roused file ++ [] })
-      stays =
-          closes_by (let_go h file.ino) a b file.ino file.kind.pipe false known
-          (k.inodes h (let_go h file.ino).inodes (put_back_count h.inodes file.ino) p)
-
-      either : (l : ℕ) (used : Bool) → Q (record {
-        answer = Ret a b;
-        state = let_go (closing l used).state file.ino;
-        items = pipe_roused file ++ (closing l used).items;
-      })
-      either l true = stays
-      either l false =
-          closes_by (let_go (shut l) file.ino) a b file.ino file.kind.pipe true known
-          (k.inodes (shut l) (let_go h file.ino).inodes (put_back_count h.inodes file.ino) (k.console h (shut l).line p))
-
-      by : (line : Option ℕ) → Q (record {
-        answer = Ret a b;
-        state = let_go (closes_line h line).state file.ino;
-        items = pipe_roused file ++ (closes_line h line).items;
-      })
-      by None = stays
-      by (Some l) = either l (is_line_open h l)
-
-  walk_released : (h : Handed) (a b : ℕ) (told : Closed) → IsNamedBy Known told → P h
-      → Q (record { answer = Ret a b; state = (released h told).state; items = (released h told).items })
-  walk_released h a b (Still file) known p =
-      subst (λ items. Q (record { answer = Ret a b; state = with_roused h file; items = items })) (append-nil (pipe_roused file))
-      (closes_by (with_roused h file) a b file.ino file.kind.pipe false known (roused h file file.kind.pipe p))
-  walk_released h a b (Last file) known p =
-      let rest : Handed = with_gone (with_roused h file) file in
-      let here : P rest = without_end (with_roused h file) file.ino file.kind.pipe
-      (has_end (with_roused h file).files file.ino) refl (roused h file file.kind.pipe p) in
-      line_closes rest a b file (line_of rest (node_at rest file.ino)) known here
-
-  pub walk_closes : (h : Handed) (fd a b : ℕ) → 0 < slice_index h.u.files fd → Moves → P h
-      → Q (record { answer = Ret a b; state = (closes h fd).state; items = (closes h fd).items })
-  walk_closes h fd a b named moves p =
-      let file : OpenFile = file_of h (entry_of h.u.files fd) in
-      walk_released (dropped h fd) a b (told_by h fd)
-      (named_told Known file (λ pipe. (k.known h (entry_of h.u.files fd) pipe p).0)) (k.dropped h fd named moves p)
-
-  -- The rows: 3, read
-  pub walk_read : (h : Handed) (at count now : ℕ) → P h → Q (read_file_of h at count now)
-  walk_read h at count now p =
-      checks_so h (open_entry h (r0 h)) _ p (λ entry is.
-      checks h (must EBADF (file_of h entry).kind.reading) _ p (λ may.
-      by_kind (file_of h entry).kind.pipe (reads_pipe h entry at count now) (reads_from h entry at count now)
-      (λ pipe. walk_reads_pipe h entry at count now pipe (is_named h (r0 h) entry is) p)
-      (read_by h entry at count now (line_of h (node_at h (file_of h entry).ino)) p)))
-
-  -- 4, write
-  pub walk_write : (h : Handed) (at count now : ℕ) → Few count → P h → Q (write_file_of h slot at count now)
-  walk_write h at count now few p =
-      checks_so h (open_entry h (r0 h)) _ p (λ entry is.
-      checks h (must EBADF (file_of h entry).kind.writing) _ p (λ may.
-      by_kind (file_of h entry).kind.pipe (writes_pipe h slot entry at count count now) (writes_to h entry at count now)
-      (λ pipe. walk_writes_pipe h entry at count count now pipe (is_named h (r0 h) entry is) (omega arith) p)
-      (write_by h entry at count now (line_of h (node_at h (file_of h entry).ino))
-      (line_is_0 h (node_at h (file_of h entry).ino)) few p)))
-
-  -- 5, open
-  pub walk_open : (h : Handed) (name mode : ℕ) → Moves → P h → Q (open_file h name mode)
-  walk_open h name mode moves p =
-      walk_finds h name (λ l ino. opens_named l ino mode) p (λ l ino q.
-      checks l (last_failure (open_tests l.marks ino (node_at l ino) (user_of l.u) mode)) _ q
-      (λ passed. walk_opens l ino _ refl moves q))
-
-  -- 6, close
-  pub walk_close : (h : Handed) → Moves → P h → Q (close_file h)
-  walk_close h moves p =
-      checks_so h (open_entry h (r0 h)) _ p (λ entry is.
-      walk_closes h (r0 h) (r0 h) (r1 h) (entry_named h (r0 h) entry is).0 moves p)
-
-  -- 8, creat
-  again : (h : Handed) (ino now : ℕ) → Moves → P h → Q (opens_again now h ino)
-  again h ino now moves p =
-      checks h (access h.marks ino (node_at h ino) (user_of h.u) Write) _ p (λ may.
-      checks h (must EISDIR (not (is_directory (node_at h ino).mode))) _ p (λ file.
-      walk_opens (with_no_blocks h ino now) ino _ refl moves (k.inodes h (with_no_blocks h ino now).inodes
-      (truncated_count h.inodes ino now) p)))
-
-  pub walk_creat : (h : Handed) (name mode now : ℕ) → Moves → P h → Q (creat_file h name mode now)
-  walk_creat h name mode now moves p =
-      walk_makes h name (opens_again now) (makes_file mode now) p (λ l ino q. again l ino now moves q) (λ l dir offset bytes q.
-      walk_node l dir offset bytes _ now opens_for_writing q (λ m ino r. walk_opens m ino _ refl moves r))
-
-  -- 9, link
-  linked : (h : Handed) (ino links now : ℕ) → P h → Q (is_done (with_links h ino links now))
-  linked h ino links now p = k.done (with_links h ino links now) (r0 h) (r1 h) (k.inodes h (with_links h ino links now).inodes refl p)
-
-  entered : (h : Handed) (ino now dir offset : ℕ) (name : List ℕ) → P h → Q (enters_again ino now h dir offset name)
-  entered h ino now dir offset name p =
-      walk_writes h dir offset _ now (λ l. is_done (with_links l ino ((node_at l ino).nlink + 1) now)) p
-      (λ l q. linked l ino _ now q)
-
-  pub walk_link : (h : Handed) (name new now : ℕ) → P h → Q (link_file h name new now)
-  walk_link h name new now p =
-      walk_finds h name (links_to new now) p (λ l ino q.
-      checks l (must EMLINK (nat_lt (node_at l ino).nlink 127)) _ q (λ few.
-      checks l (must EPERM (may_link l ino)) _ q (λ may.
-      walk_makes l new (λ m there. fails m EEXIST) (enters_again ino now) q (λ m there r. k.refused m EEXIST r)
-      (λ m dir offset bytes r. entered m ino now dir offset bytes r))))
-
-  -- 10, unlink
-  emptied : (h : Handed) (dir offset ino now : ℕ) → P h → Q (empties now h dir offset ino)
-  emptied h dir offset ino now p =
-      checks h (must EPERM (may_link h ino)) _ p (λ may.
-      walk_writes h dir offset (0 ∷ 0 ∷ []) now (λ l. is_done (with_links l ino ((node_at l ino).nlink - 1) now)) p
-      (λ l q. linked l ino _ now q))
-
-  removed : (h : Handed) (now : ℕ) (entry : ℕ × ℕ × ℕ) → P h → Q (removes now h entry)
-  removed h now (dir, offset, ino) p =
-      k.lets_go ino (until_end dir (empties now h dir offset ino))
-      (k.lets_go dir (empties now h dir offset ino) (emptied h dir offset ino now p))
-
-  pub walk_unlink : (h : Handed) (name now : ℕ) → P h → Q (unlink_file h name now)
-  walk_unlink h name now p =
-      walk_named h (remove_in h.inodes h.marks (user_of h.u) h.u.dir (name_at h.image name)) (removes now)
-      (removing_count h.inodes _) p (λ l entry q. removed l now entry q)
-
-  -- 12, chdir
-  pub walk_chdir : (h : Handed) (name : ℕ) → Moves → P h → Q (chdir_to h name)
-  walk_chdir h name moves p =
-      walk_finds h name enters_directory p (λ l ino q.
-      checks l (must ENOTDIR (is_directory (node_at l ino).mode)) _ q (λ is.
-      checks l (permission (node_at l ino) (user_of l.u) Execute) _ q (λ may.
-      k.done (with_directory l ino) (r0 l) (r1 l)
-      (k.inodes _ (with_directory l ino).inodes (put_back_count (with_reference l.inodes ino) l.u.dir) (k.enters l ino moves q)))))
-
-  -- 14, mknod
-  pub walk_mknod : (h : Handed) (name mode device now : ℕ) → P h → Q (mknod_at h name mode device now)
-  walk_mknod h name mode device now p =
-      checks h (must EPERM (is_super_user h)) _ p (λ may.
-      walk_makes h name (λ l there. fails l EEXIST) (makes_any mode device now) p (λ l there q. k.refused l EEXIST q)
-      (λ l dir offset bytes q.
-      walk_node l dir offset bytes _ now (λ m ino. is_done (with_device m ino device)) q (λ m ino r.
-      k.done (with_device m ino device) (r0 m) (r1 m) (k.inodes m (with_device m ino device).inodes
-      (device_count m.inodes ino device) r))))
-
-  -- 15, chmod, and 16, chown
-  changed : (h : Handed) (ino : ℕ) (node : Node) → P h → Q (is_done (with_changed h ino node))
-  changed h ino node p = k.done (with_changed h ino node) (r0 h) (r1 h) (k.inodes h (with_changed h ino node).inodes refl p)
-
-  pub walk_chmod : (h : Handed) (name mode now : ℕ) → P h → Q (chmod_to h name mode now)
-  walk_chmod h name mode now p =
-      walk_finds h name (changes_mode mode now) p (λ l ino q. checks l (must EPERM (is_owner l ino)) _ q
-      (λ may. changed l ino _ q))
-
-  pub walk_chown : (h : Handed) (name owner now : ℕ) → P h → Q (chown_to h name owner now)
-  walk_chown h name owner now p =
-      checks h (must EPERM (is_super_user h)) _ p (λ may.
-      walk_finds h name _ p
-      (λ l ino q. changed l ino (record (node_at l ino) { uid = owner % 256; gid = owner / 256; modtime = now }) q))
-
-  -- 18, stat, and 28, fstat
-  pub walk_stat : (h : Handed) (name at : ℕ) → P h → Q (stat_file h name at)
-  walk_stat h name at p = walk_finds h name (λ l ino. tells_status l ino at) p (λ l ino q. walk_status l ino at q)
-
-  pub walk_stat_open : (h : Handed) (at : ℕ) → P h → Q (stat_open h at)
-  walk_stat_open h at p = checks h (open_entry h (r0 h)) _ p (λ entry. walk_status h (file_of h entry).ino at p)
-
-  -- 19, seek
-  pub walk_seek : (h : Handed) (offset mode : ℕ) → P h → Q (seek_to h offset mode)
-  walk_seek h offset mode p =
-      checks h (open_entry h (r0 h)) _ p (λ entry.
-      checks h (must ESPIPE (not (file_of h entry).kind.pipe)) _ p (λ may.
-      k.done _ (r0 h) (r1 h) (k.offset h entry _ p)))
-
-  -- 31, stty, and 32, gtty
-  pub walk_stty : (h : Handed) (at : ℕ) → P h → Q (stty_set h at)
-  walk_stty h at p =
-      walk_terminal h (λ l. check h (need EFAULT (words_at h at)) (sets_modes h l)) p (λ l.
-      checks h (need EFAULT (words_at h at)) (sets_modes h l) p (λ bytes.
-      closes_by (sets_modes h l bytes).state (r0 h) (r1 h) 0 false true (λ none. absurd (cc none))
-      (k.console h (sets_modes h l bytes).state.line p)))
-
-  pub walk_gtty : (h : Handed) (at : ℕ) → P h → Q (gtty_get h at)
-  walk_gtty h at p = walk_terminal h (λ l. tells_modes h l at) p (λ l. walk_told h at (at % 2 == 1) p)
-
-  -- 36, sync
-  pub walk_sync : (h : Handed) (now : ℕ) → P h → Q (sync_all h now)
-  walk_sync h now p = k.done (sync_all h now).state (r0 h) (r1 h)
-      (k.inodes h (sync_all h now).state.inodes (synced_when h.inodes.store.mark h.inodes.store _ refl) p)
-
-  -- 41, dup
-  pub walk_dup : (h : Handed) → Moves → P h → Q (dup_file h)
-  walk_dup h moves p =
-      checks_so h (open_entry h (r0 h)) _ p (λ entry is.
-      checks_so h (need EMFILE (free_number h.u.files)) _ p (λ fd number.
-      let named = entry_named h (r0 h) entry is in
-      subst (λ e. Q (returns (record h { files = with_change h.files e (with_more 1); u = with_number h.u fd (e + 1) }) fd))
-      (sym named.1)
-      (k.done _ fd (r1 h) (k.given h (r0 h) fd named.0 (need_some EMFILE (free_number h.u.files) fd number) moves p))))
-
-  -- 42, pipe
-  opens_pipe : (h : Handed) (ino : ℕ) → 1 ≤ ino → ino ≤ h.inodes.store.count → Moves → P h → Q (opens_ends h ino)
-  opens_pipe h ino above within moves p =
-      checks_so h (need EMFILE (free_number h.u.files)) _ p (λ fd number.
-      checks_so h (need ENFILE (free_entry h.files)) _ p (λ entry free.
-      let first : Handed = with_end h ino reading_end fd entry in
-      checks_so h (need EMFILE (free_number first.u.files)) _ p (λ next_fd next_number.
-      checks_so h (need ENFILE (free_entry first.files)) _ p (λ next_entry next_free.
-      k.done _ fd next_fd (k.ends h ino fd entry next_fd next_entry above within
-      (need_some EMFILE (free_number h.u.files) fd number) (need_some ENFILE (free_entry h.files) entry free)
-      (need_some EMFILE (free_number first.u.files) next_fd next_number)
-      (need_some ENFILE (free_entry first.files) next_entry next_free) moves p)))))
-
-  pub walk_pipe : (h : Handed) (now : ℕ) → Moves → P h → Q (pipe_new h now)
-  walk_pipe h now moves p =
-      let found : Finding ℕ = new_in h.inodes IALLOC (record { uid = 0; gid = 0 }) now in
-      let same : found.inodes.store.count ≡ h.inodes.store.count =
-      numbered_count h.inodes IALLOC (record { uid = 0; gid = 0 }) now _ _ in
-      let there : P (with_inodes h found.inodes) = k.inodes h found.inodes same p in
-      checks_so (with_inodes h found.inodes) found.answer _ there (λ ino is.
-      let within = new_within h.inodes IALLOC (record { uid = 0; gid = 0 }) now ino is in
-      k.lets_go ino (opens_ends (with_inodes h found.inodes) ino)
-      (opens_pipe (with_inodes h found.inodes) ino within.0 (subst (λ n. ino ≤ n) (sym same) within.1) moves there))
-
-  -- A call in which a process slept goes on: what it waits for in a pipe is there.
-  pub walk_resume : (h : Handed) (now : ℕ)
-      → ((h.u.pending == LINE_READ) ≡ false → IsAwaiting h (slice_index h.u.call 0) (slice_index h.u.call 2) (slice_index h.u.call 3))
-      → P (without_pending h) → Q (resumes h slot now)
-  walk_resume h now waiting p = unless_due_walk rest _ p (by (h.u.pending == LINE_READ) (h.u.pending == PIPE_READ) refl)
-    where
-      rest : Handed
-      rest = without_pending h
-
-      word : ℕ → ℕ
-      word i = slice_index h.u.call i
-
-      by : (typed reads : Bool) → (h.u.pending == LINE_READ) ≡ typed
-          → Q (cond typed (resume_read h) (cond reads (reads_pipe rest (word 0) (word 1) (word 2) now)
-          (writes_pipe rest slot (word 0) (word 1) (word 2) (word 3) now)))
-      by true reads is = walk_reads_line rest 0 _ _ _ p
-      by false true is = let a = waiting is in walk_reads_pipe rest (word 0) (word 1) (word 2) now a.pipe a.named p
-      by false false is =
-          let a = waiting is in walk_writes_pipe rest (word 0) (word 1) (word 2) (word 3) now a.pipe a.named a.few p
+    checks : {A : Type 0} (h : Handed) (test : Result A Errno) (next : A → Did) → P h → ((a : A) → Q (next a))
+        → Q (check h test next)
+    checks h (Ok a) next p goes = goes a
+    checks h (Err e) next p goes = k.refused h e p
+
+    -- the same, where what goes on asks what the test has given
+    checks_so : {A : Type 0} (h : Handed) (test : Result A Errno) (next : A → Did) → P h → ((a : A) → test ≡ Ok a → Q (next a))
+        → Q (check h test next)
+    checks_so h (Ok a) next p goes = goes a refl
+    checks_so h (Err e) next p goes = k.refused h e p
+
+    walk_named : {A : Type 0} (h : Handed) (found : Finding A) (next : Handed → A → Did)
+        → found.inodes.store.count ≡ h.inodes.store.count → P h
+        → ((now : Handed) (a : A) → P now → Q (next now a)) → Q (then_named h found next)
+    walk_named h found next same p goes =
+        let now : P (with_inodes h found.inodes) = k.inodes h found.inodes same p in
+        checks (with_inodes h found.inodes) found.answer (next (with_inodes h found.inodes)) now
+        (λ a. goes (with_inodes h found.inodes) a now)
+
+    walk_finds : (h : Handed) (name : ℕ) (next : Handed → ℕ → Did) → P h → ((now : Handed) (ino : ℕ) → P now → Q (next now ino))
+        → Q (finds h name next)
+    walk_finds h name next p goes = walk_named h _ _ (finding_count h.inodes _) p
+        (λ now ino q. k.lets_go ino (next now ino) (goes now ino q))
+
+    walk_made : (h : Handed) (answer : Made) (there : Handed → ℕ → Did) (new : Handed → ℕ → ℕ → List ℕ → Did) → P h
+        → ((now : Handed) (ino : ℕ) → P now → Q (there now ino))
+        → ((now : Handed) (dir offset : ℕ) (name : List ℕ) → P now → Q (new now dir offset name)) → Q (by_made there new h answer)
+    walk_made h (made.Found ino) there new p one two = k.lets_go ino (there h ino) (one h ino p)
+    walk_made h (made.Room dir offset name) there new p one two = k.lets_go dir (new h dir offset name) (two h dir offset name p)
+
+    walk_makes : (h : Handed) (name : ℕ) (there : Handed → ℕ → Did) (new : Handed → ℕ → ℕ → List ℕ → Did) → P h
+        → ((now : Handed) (ino : ℕ) → P now → Q (there now ino))
+        → ((now : Handed) (dir offset : ℕ) (name : List ℕ) → P now → Q (new now dir offset name)) → Q (makes h name there new)
+    walk_makes h name there new p one two =
+        walk_named h _ (by_made there new) (making_count h.inodes _) p (λ now answer q. walk_made now answer there new q one two)
+
+    walk_writes : (h : Handed) (dir offset : ℕ) (bytes : List ℕ) (now : ℕ) (next : Handed → Did) → P h
+        → ((l : Handed) → P l → Q (next l))
+        → Q (writes_entry h dir offset bytes now next)
+    walk_writes h dir offset bytes now next p goes = walk_named h (entry_written h.inodes dir offset bytes now)
+        (λ l done. next l) refl p (λ l done q. goes l q)
+
+    walk_node : (h : Handed) (dir offset : ℕ) (name : List ℕ) (mode now : ℕ) (next : Handed → ℕ → Did) → P h
+        → ((l : Handed) (ino : ℕ) → P l → Q (next l ino)) → Q (makes_node h dir offset name mode now next)
+    walk_node h dir offset name mode now next p goes =
+        walk_named h (new_in h.inodes mode (user_of h.u) now) _ (numbered_count h.inodes mode (user_of h.u) now _ _) p (λ l ino q.
+        k.lets_go ino (enters_new l dir offset name ino now next)
+        (walk_writes l dir offset _ now (λ m. next (with_links m ino 1 now) ino) q (λ m r.
+        goes (with_links m ino 1 now) ino (k.inodes m (with_links m ino 1 now).inodes refl r))))
+
+    -- An inode is opened.
+    opened : (h : Handed) (ino : ℕ) (kind : FileKind) (fd entry : ℕ) → kind.pipe ≡ false → free_number h.u.files ≡ Some fd
+        → free_entry h.files ≡ Some entry
+        → Moves → P h → P (with_opened h ino kind fd entry)
+    opened h ino kind fd entry plain number free moves p = by (line_of h (node_at h ino))
+      where
+        next : Handed
+        next = with_opened h ino kind fd entry
+
+        entered : (now : Handed) → free_number now.u.files ≡ Some fd → free_entry now.files ≡ Some entry → P now
+            → P (record now {
+              inodes = with_reference now.inodes ino;
+              files = slice_set now.files entry (Some (files.opened ino kind));
+              u = with_number now.u fd (entry + 1);
+              line = next.line;
+            })
+        entered now number free p = k.console _ next.line (k.opened
+            (with_inodes now (with_reference now.inodes ino)) ino kind fd entry plain number free moves
+            (k.inodes now (with_reference now.inodes ino) refl p))
+
+        taken : (l : ℕ) (b : Bool) → P (record next { row = cond b (record h.row { tty = l + 1 }) h.row })
+        taken l true = entered (record h { row = record h.row { tty = l + 1 } }) number free (k.terminal h (l + 1) p)
+        taken l false = entered h number free p
+
+        by : (line : Option ℕ) → P (record next { row = with_tty h.row line })
+        by None = entered h number free p
+        by (Some l) = taken l (h.row.tty == 0)
+
+    walk_opens : (h : Handed) (ino : ℕ) (kind : FileKind) → kind.pipe ≡ false → Moves → P h → Q (opens h ino kind)
+    walk_opens h ino kind plain moves p =
+        checks_so h (need EMFILE (free_number h.u.files)) _ p (λ fd number.
+        checks_so h (need ENFILE (free_entry h.files)) _ p (λ entry free.
+        checks h (must ENXIO (can_open h (node_at h ino))) _ p (λ can.
+        k.done (with_opened h ino kind fd entry) fd (r1 h)
+        (opened h ino kind fd entry plain (need_some EMFILE (free_number h.u.files) fd number)
+        (need_some ENFILE (free_entry h.files) entry free) moves p))))
+
+    -- Bytes are read, and written.
+    after_moved : {Memory : Type 0} (h : Handed) (entry : ℕ) (m : Moving Memory) → P h → P (with_moved h entry m)
+    after_moved h entry m p =
+        k.offset _ entry (((file_of h entry).offset + m.done) % 2 ^ 32) (k.inodes h (with_moved h entry m).inodes refl p)
+
+    walk_count : (h : Handed) (count : ℕ) (e : Option Errno) → P h → Q (gives_count h count e)
+    walk_count h count None p = k.done h count (r1 h) p
+    walk_count h count (Some e) p = k.refused h e p
+
+    -- a sleep that a signal may break
+    unless_due_walk : (h : Handed) (sleep : Did) → P h → Q sleep → Q (unless_due h sleep)
+    unless_due_walk h sleep p q = by (is_some (due h.row h.u))
+      where
+        by : (b : Bool) → Q (cond b (fails h EINTR) sleep)
+        by true = k.refused h EINTR p
+        by false = q
+
+    walk_line : (h : Handed) (l entry at count : ℕ) (took : Took) → P h → Q (takes_line h l entry at count took)
+    walk_line h l entry at count (Done n) p = k.done h n (r1 h) p
+    walk_line h l entry at count Wait p = unless_due_walk h (asleep_for_keys h entry at count) p (k.waits h entry at count p)
+    walk_line h l entry at count Fault p = k.refused h EFAULT p
+
+    walk_reads_line : (h : Handed) (l entry at count : ℕ) → P h → Q (reads_line h l entry at count)
+    walk_reads_line h l entry at count p =
+        let reading : Reading = line_read h l at count in
+        walk_line (with_line_read h l reading) l entry at count reading.took
+        (k.stored (record h { line = reading.terminal }) reading.image (line_lengths h.line h.image at count)
+        (k.console h reading.terminal p))
+
+    read_by : (h : Handed) (entry at count now : ℕ) (line : Option ℕ) → P h
+        → Q (reads_by (with_read h entry (read_of h entry at count now)) line entry at count (read_of h entry at count now))
+    read_by h entry at count now line p = by line
+      where
+        m : Moving Image
+        m = read_of h entry at count now
+
+        after : P (with_read h entry m)
+        after = k.stored (with_moved h entry m) m.memory (read_lengths h entry at count now) (after_moved h entry m p)
+
+        by : (line : Option ℕ) → Q (reads_by (with_read h entry m) line entry at count m)
+        by (Some l) = walk_reads_line (with_read h entry m) l entry at count after
+        by None = walk_count (with_read h entry m) m.done m.error after
+
+    shown_by : (h : Handed) (image : Image) (at count : ℕ) (all : Bool) → Few count → P h
+        → Q (record (cond all (returns (record h { line = after_shown h.line (readable image at count) }) count)
+        (fails (record h { line = after_shown h.line (readable image at count) }) EFAULT)) {
+          items =
+              sent 0 (shows h.line (readable image at count));
+        })
+    shown_by h image at count true few p =
+        let after : Handed = record h { line = after_shown h.line (readable image at count) } in
+        k.showing h.line image at count (returns after count) few (k.done after count (r1 after) (k.console h after.line p))
+    shown_by h image at count false few p =
+        let after : Handed = record h { line = after_shown h.line (readable image at count) } in
+        k.showing h.line image at count (fails after EFAULT) few (k.refused after EFAULT (k.console h after.line p))
+
+    write_by : (h : Handed) (entry at count now : ℕ) (line : Option ℕ) → ((l : ℕ) → line ≡ Some l → l ≡ 0) → Few count → P h
+        → Q (writes_by (with_moved h entry (write_of h entry at count now)) line (is_device (node_at h (file_of h entry).ino).mode)
+        at count (write_of h entry at count now))
+    write_by h entry at count now (Some l) there few p =
+        let after : Handed = with_moved h entry (write_of h entry at count now) in
+        subst (λ n. Q (writes_line after n count (readable h.image at count))) (sym (there l refl))
+        (shown_by after h.image at count (length (readable h.image at count) == count) few
+        (after_moved h entry (write_of h entry at count now) p))
+    write_by h entry at count now None there few p =
+        walk_count (with_moved h entry (write_of h entry at count now)) _ _ (after_moved h entry (write_of h entry at count now) p)
+
+    -- Bytes are put into the image.
+    walk_stored : (h : Handed) (o : Option Image) → IfSome o (SameLengths h.image) → P h → Q (with_stored h o)
+    walk_stored h (Some m) same p = k.done (record h { image = m }) (r0 h) (r1 h) (k.stored h m same p)
+    walk_stored h None same p = k.refused h EFAULT p
+
+    walk_status : (h : Handed) (ino at : ℕ) → P h → Q (tells_status h ino at)
+    walk_status h ino at p =
+        walk_stored h _ (bytes_lengths h.image h.image at (status_bytes ino (node_at h ino)) (same_lengths h.image)) p
+
+    walk_told : (h : Handed) (at : ℕ) (odd : Bool) → P h → Q
+        (with_stored h (cond odd None (store_bytes h.image at (bytes_of h.line.modes))))
+    walk_told h at true p = k.refused h EFAULT p
+    walk_told h at false p = walk_stored h _ (bytes_lengths h.image h.image at (bytes_of h.line.modes) (same_lengths h.image)) p
+
+    walk_terminal : (h : Handed) (does : ℕ → Did) → P h → ((l : ℕ) → Q (does l)) → Q (of_terminal h does)
+    walk_terminal h does p goes =
+        checks h (open_entry h (r0 h)) _ p (λ entry.
+        checks h (terminal_line h (node_at h (file_of h entry).ino)) does p goes)
+
+    wake_line : (chan : Chan) (entries : List Entry) → IsOfFiles Known chan → All (IsLineOf Known slot) entries
+        → All (IsLineOf Known slot) (Wake chan ∷ entries)
+    wake_line chan entries named all = All-cons (IsLineOf Known slot) (Wake chan) entries (inl (chan, refl, named)) all
+
+    no_line : All (IsLineOf Known slot) []
+    no_line = All-nil (IsLineOf Known slot)
+
+    answers : (h : Handed) (a b : ℕ) (entries : List Entry) → length entries ≤ 3 → All (IsLineOf Known slot) entries → P h
+        → Q (record { answer = Ret a b; state = h; items = map Log entries })
+    answers h a b entries few all p =
+        k.tells entries (record { answer = Ret a b; state = h; items = [] }) few all refl (k.done h a b p)
+
+    closes_by : (h : Handed) (a b ino : ℕ) (pipe last : Bool) → (pipe ≡ true → Known ino) → P h
+        → Q (record {
+          answer = Ret a b;
+          state = h;
+          items = cond pipe
+              (Log (Wake (chan.Write ino)) ∷ Log (Wake (chan.Read ino)) ∷ []) [] ++ cond last (Log (Wake Keys) ∷ []) [];
+        })
+    closes_by h a b ino true true named p =
+        answers h a b (Wake (chan.Write ino) ∷ Wake (chan.Read ino) ∷ Wake Keys ∷ []) (omega arith)
+        (wake_line (chan.Write ino) (Wake (chan.Read ino) ∷ Wake Keys ∷ []) (named refl)
+        (wake_line (chan.Read ino) (Wake Keys ∷ []) (named refl) (wake_line Keys [] tt no_line))) p
+    closes_by h a b ino true false named p =
+        answers h a b (Wake (chan.Write ino) ∷ Wake (chan.Read ino) ∷ []) (omega arith)
+        (wake_line (chan.Write ino) (Wake (chan.Read ino) ∷ []) (named refl) (wake_line (chan.Read ino) [] (named refl) no_line)) p
+    closes_by h a b ino false true named p = answers h a b (Wake Keys ∷ []) (omega arith) (wake_line Keys [] tt no_line) p
+    closes_by h a b ino false false named p = k.done h a b p
+
+    -- Pipes are read and written. What a call on a pipe comes to has one line of its own at most.
+    told_after : (first rest : List Entry) (d : Did) → length first ≤ 1 → length rest ≤ 1 → All (IsLineOf Known slot) first
+        → All (IsLineOf Known slot) rest
+        → d.items ≡ map Log rest → Q (record d { items = [] }) → Q (after (map Log first) d)
+    told_after first rest d few one all own are q =
+        let P' : List Item → Type 0 = λ l. Q (record d { items = l }) in
+        let long = length-append first rest in
+        subst P' (map-append Log first rest ∙ ap (λ l. map Log first ++ l) (sym are))
+        (k.tells (first ++ rest) (record d { items = [] }) (omega (arith, few, one, long))
+        (All-append (IsLineOf Known slot) first rest all own) refl q)
+
+    told_woken : (woken : Bool) (chan : Chan) (rest : List Entry) (d : Did) → IsOfFiles Known chan → length rest ≤ 1
+        → All (IsLineOf Known slot) rest
+        → d.items ≡ map Log rest → Q (record d { items = [] }) → Q (after (cond woken (Log (Wake chan) ∷ []) []) d)
+    told_woken true chan rest d named one own are q =
+        told_after (Wake chan ∷ []) rest d (omega arith) one (wake_line chan [] named no_line) own are q
+    told_woken false chan rest d named one own are q = told_after [] rest d (omega arith) one no_line own are q
+
+    -- a call that ends quietly on a pipe, after somebody was woken or not
+    quiet_woken : (woken : Bool) (chan : Chan) (d : Did) → IsOfFiles Known chan → d.items ≡ [] → Q d
+        → Q (after (cond woken (Log (Wake chan) ∷ []) []) d)
+    quiet_woken woken chan d named none q =
+        told_woken woken chan [] d named (omega arith) no_line none
+        (subst Q (ap (λ (l : List Item). record { answer = d.answer; state = d.state; items = l }) none) q)
+
+    waits_woken : (woken : Bool) (on chan : Chan) (h : Handed) (pending entry at count left : ℕ) → IsPipeCall pending
+        → IsOfFiles Known on → IsOfPipe Known chan → IsAwaiting h entry count left → P h
+        → Q (after (cond woken (Log (Wake on) ∷ []) []) (waits_in_pipe h chan pending (words_of entry at count left)))
+    waits_woken woken on chan h pending entry at count left kind named name awaits p = by (is_some (due h.row h.u))
+      where
+        by : (b : Bool) → Q
+            (after (cond woken (Log (Wake on) ∷ []) [])
+            (cond b (fails h EINTR) (asleep_in_pipe h chan pending (words_of entry at count left))))
+        by true = quiet_woken woken on (fails h EINTR) named refl (k.refused h EINTR p)
+        by false = quiet_woken woken on (asleep_in_pipe h chan pending (words_of entry at count left)) named refl
+            (k.waits_in_pipe h chan pending entry at count left kind name awaits p)
+
+    read_ends : (woken : Bool) (h : Handed) (ino entry at count : ℕ) (answer : Piped) → Known ino → IsAwaiting h entry count 0 → P h
+        → Q (after (cond woken (Log (Wake (chan.Write ino)) ∷ []) []) (ends_read h ino entry at count answer))
+    read_ends woken h ino entry at count (piped.Done n) name awaits p =
+        quiet_woken woken (chan.Write ino) (returns h n) name refl (k.done h n (r1 h) p)
+    read_ends woken h ino entry at count (piped.Wait left) name awaits p =
+        waits_woken woken (chan.Write ino) (chan.Read ino) h PIPE_READ entry at count 0 (inl refl) name name awaits p
+    read_ends woken h ino entry at count piped.Broken name awaits p =
+        quiet_woken woken (chan.Write ino) (fails h EPIPE) name refl (k.refused h EPIPE p)
+    read_ends woken h ino entry at count (piped.Error e) name awaits p =
+        quiet_woken woken (chan.Write ino) (fails h e) name refl (k.refused h e p)
+
+    write_ends : (woken : Bool) (h : Handed) (ino entry at count : ℕ) (answer : Piped) → Known ino
+        → IsAwaiting h entry count (left_of answer) → P h
+        → Q (after (cond woken (Log (Wake (chan.Read ino)) ∷ []) []) (ends_write h slot ino entry at count answer))
+    write_ends woken h ino entry at count (piped.Done n) name awaits p =
+        quiet_woken woken (chan.Read ino) (returns h count) name refl (k.done h count (r1 h) p)
+    write_ends woken h ino entry at count (piped.Wait left) name awaits p =
+        waits_woken woken (chan.Read ino) (chan.Write ino) h PIPE_WRITE entry at count left (inr refl) name name awaits p
+    write_ends woken h ino entry at count piped.Broken name awaits p =
+        told_woken woken (chan.Read ino) (Signal slot SIGPIPE ∷ []) (breaks h slot) name (omega arith)
+        (All-cons (IsLineOf Known slot) (Signal slot SIGPIPE) [] (inr refl) no_line) refl
+        (k.refused (record h { row = posted h.row SIGPIPE }) EPIPE (k.signalled h p))
+    write_ends woken h ino entry at count (piped.Error e) name awaits p =
+        quiet_woken woken (chan.Read ino) (fails h e) name refl (k.refused h e p)
+
+    walk_reads_pipe : (h : Handed) (entry at count now : ℕ) → (file_of h entry).kind.pipe ≡ true → 1 ≤ times h.u.files entry → P h
+        → Q (reads_pipe h entry at count now)
+    walk_reads_pipe h entry at count now is named p =
+        let r : PipeRead = pipe_read h entry at count now in
+        let q : Pipe = pipe_at h entry in
+        let known : Known q.ino = (k.known h entry is p).1 in
+        let read : P (with_store h r.store) = k.inodes h (record h.inodes { store = r.store })
+        (read_leaves h.inodes.store (ends_at h entry) q h.image at count now).count p in
+        let stored : P (record (with_store h r.store) { image = r.image }) =
+        k.stored (with_store h r.store) r.image (pipe_lengths h.inodes.store (ends_at h entry) q h.image at count now) read in
+        read_ends (q.writer_waits && not r.pipe.writer_waits) (with_pipe_read h r) q.ino entry at count r.answer known
+        (record { pipe = is; named = named; few = omega arith })
+        (k.marked (record (with_store h r.store) { image = r.image }) r.pipe stored)
+
+    walk_writes_pipe : (h : Handed) (entry at count left now : ℕ) → (file_of h entry).kind.pipe ≡ true
+        → 1 ≤ times h.u.files entry → left ≤ count → P h → Q (writes_pipe h slot entry at count left now)
+    walk_writes_pipe h entry at count left now is named less p =
+        let w : PipeWrite = pipe_write h entry at count left now in
+        let q : Pipe = pipe_at h entry in
+        let known : Known q.ino = (k.known h entry is p).1 in
+        let leaves = write_leaves h.inodes.store (ends_at h entry) q h.image ((at + (count - left)) % 65536) left now in
+        let few = leaves.few in
+        let written : P (with_store h w.store) = k.inodes h (record h.inodes { store = w.store }) leaves.leaves.count p in
+        write_ends (q.reader_waits && not w.pipe.reader_waits) (with_pipe_write h w) q.ino entry at count w.answer known
+        (record { pipe = is; named = named; few = omega (arith, few, less) }) (k.marked (with_store h w.store) w.pipe written)
+
+    -- one or the other, as a file is an end of a pipe or none
+    by_kind : (b : Bool) (x y : Did) → (b ≡ true → Q x) → Q y → Q (cond b x y)
+    by_kind true x y first second = first refl
+    by_kind false x y first second = second
+
+    -- What a number lets go, when its entry has been left: the inode of a pipe is known.
+    roused : (h : Handed) (file : OpenFile) (b : Bool) → P h
+        → P (cond b (record h { pipes = with_pipe h.pipes (without_marks (pipe_of h.pipes file.ino)) }) h)
+    roused h file true p = k.marked h (without_marks (pipe_of h.pipes file.ino)) p
+    roused h file false p = p
+
+    without_end : (h : Handed) (ino : ℕ) (b c : Bool) → has_end h.files ino ≡ c → P h
+        → P (cond (b && not c) (record h { pipes = without_pipe h.pipes ino }) h)
+    without_end h ino true true e p = p
+    without_end h ino true false e p = k.gone h ino e p
+    without_end h ino false c e p = p
+
+    line_closes : (h : Handed) (a b : ℕ) (file : OpenFile) (line : Option ℕ) → (file.kind.pipe ≡ true → Known file.ino) → P h
+        → Q (record {
+          answer = Ret a b;
+          state = let_go (closes_line h line).state file.ino;
+          items = pipe_roused file ++ (closes_line h line).items;
+        })
+    line_closes h a b file line known p = by line
+      where
+        shut : ℕ → Handed
+        shut l = with_line h l (terminal.closed (line_at h l))
+
+        closing : ℕ → Bool → Closing
+        closing l used =
+            if used then record { state = h; items = [] }
+            else record { state = shut l; items = Log (Wake (keys_of l)) ∷ [] }
+
+        stays : Q (record { answer = Ret a b; state = let_go h file.ino; items = pipe_roused file ++ [] })
+        stays =
+            closes_by (let_go h file.ino) a b file.ino file.kind.pipe false known
+            (k.inodes h (let_go h file.ino).inodes (put_back_count h.inodes file.ino) p)
+
+        either : (l : ℕ) (used : Bool) → Q (record {
+          answer = Ret a b;
+          state = let_go (closing l used).state file.ino;
+          items = pipe_roused file ++ (closing l used).items;
+        })
+        either l true = stays
+        either l false =
+            closes_by (let_go (shut l) file.ino) a b file.ino file.kind.pipe true known
+            (k.inodes (shut l) (let_go h file.ino).inodes (put_back_count h.inodes file.ino) (k.console h (shut l).line p))
+
+        by : (line : Option ℕ) → Q (record {
+          answer = Ret a b;
+          state = let_go (closes_line h line).state file.ino;
+          items = pipe_roused file ++ (closes_line h line).items;
+        })
+        by None = stays
+        by (Some l) = either l (is_line_open h l)
+
+    walk_released : (h : Handed) (a b : ℕ) (told : Closed) → IsNamedBy Known told → P h
+        → Q (record { answer = Ret a b; state = (released h told).state; items = (released h told).items })
+    walk_released h a b (Still file) known p =
+        subst (λ items. Q (record { answer = Ret a b; state = with_roused h file; items = items })) (append-nil (pipe_roused file))
+        (closes_by (with_roused h file) a b file.ino file.kind.pipe false known (roused h file file.kind.pipe p))
+    walk_released h a b (Last file) known p =
+        let rest : Handed = with_gone (with_roused h file) file in
+        let here : P rest = without_end (with_roused h file) file.ino file.kind.pipe
+        (has_end (with_roused h file).files file.ino) refl (roused h file file.kind.pipe p) in
+        line_closes rest a b file (line_of rest (node_at rest file.ino)) known here
+
+    pub walk_closes : (h : Handed) (fd a b : ℕ) → 0 < slice_index h.u.files fd → Moves → P h
+        → Q (record { answer = Ret a b; state = (closes h fd).state; items = (closes h fd).items })
+    walk_closes h fd a b named moves p =
+        let file : OpenFile = file_of h (entry_of h.u.files fd) in
+        walk_released (dropped h fd) a b (told_by h fd)
+        (named_told Known file (λ pipe. (k.known h (entry_of h.u.files fd) pipe p).0)) (k.dropped h fd named moves p)
+
+    -- The rows: 3, read
+    pub walk_read : (h : Handed) (at count now : ℕ) → P h → Q (read_file_of h at count now)
+    walk_read h at count now p =
+        checks_so h (open_entry h (r0 h)) _ p (λ entry is.
+        checks h (must EBADF (file_of h entry).kind.reading) _ p (λ may.
+        by_kind (file_of h entry).kind.pipe (reads_pipe h entry at count now) (reads_from h entry at count now)
+        (λ pipe. walk_reads_pipe h entry at count now pipe (is_named h (r0 h) entry is) p)
+        (read_by h entry at count now (line_of h (node_at h (file_of h entry).ino)) p)))
+
+    -- 4, write
+    pub walk_write : (h : Handed) (at count now : ℕ) → Few count → P h → Q (write_file_of h slot at count now)
+    walk_write h at count now few p =
+        checks_so h (open_entry h (r0 h)) _ p (λ entry is.
+        checks h (must EBADF (file_of h entry).kind.writing) _ p (λ may.
+        by_kind (file_of h entry).kind.pipe (writes_pipe h slot entry at count count now) (writes_to h entry at count now)
+        (λ pipe. walk_writes_pipe h entry at count count now pipe (is_named h (r0 h) entry is) (omega arith) p)
+        (write_by h entry at count now (line_of h (node_at h (file_of h entry).ino))
+        (line_is_0 h (node_at h (file_of h entry).ino)) few p)))
+
+    -- 5, open
+    pub walk_open : (h : Handed) (name mode : ℕ) → Moves → P h → Q (open_file h name mode)
+    walk_open h name mode moves p =
+        walk_finds h name (λ l ino. opens_named l ino mode) p (λ l ino q.
+        checks l (last_failure (open_tests l.marks ino (node_at l ino) (user_of l.u) mode)) _ q
+        (λ passed. walk_opens l ino _ refl moves q))
+
+    -- 6, close
+    pub walk_close : (h : Handed) → Moves → P h → Q (close_file h)
+    walk_close h moves p =
+        checks_so h (open_entry h (r0 h)) _ p (λ entry is.
+        walk_closes h (r0 h) (r0 h) (r1 h) (entry_named h (r0 h) entry is).0 moves p)
+
+    -- 8, creat
+    again : (h : Handed) (ino now : ℕ) → Moves → P h → Q (opens_again now h ino)
+    again h ino now moves p =
+        checks h (access h.marks ino (node_at h ino) (user_of h.u) Write) _ p (λ may.
+        checks h (must EISDIR (not (is_directory (node_at h ino).mode))) _ p (λ file.
+        walk_opens (with_no_blocks h ino now) ino _ refl moves (k.inodes h (with_no_blocks h ino now).inodes
+        (truncated_count h.inodes ino now) p)))
+
+    pub walk_creat : (h : Handed) (name mode now : ℕ) → Moves → P h → Q (creat_file h name mode now)
+    walk_creat h name mode now moves p =
+        walk_makes h name (opens_again now) (makes_file mode now) p (λ l ino q. again l ino now moves q) (λ l dir offset bytes q.
+        walk_node l dir offset bytes _ now opens_for_writing q (λ m ino r. walk_opens m ino _ refl moves r))
+
+    -- 9, link
+    linked : (h : Handed) (ino links now : ℕ) → P h → Q (is_done (with_links h ino links now))
+    linked h ino links now p = k.done (with_links h ino links now) (r0 h) (r1 h) (k.inodes h (with_links h ino links now).inodes refl p)
+
+    entered : (h : Handed) (ino now dir offset : ℕ) (name : List ℕ) → P h → Q (enters_again ino now h dir offset name)
+    entered h ino now dir offset name p =
+        walk_writes h dir offset _ now (λ l. is_done (with_links l ino ((node_at l ino).nlink + 1) now)) p
+        (λ l q. linked l ino _ now q)
+
+    pub walk_link : (h : Handed) (name new now : ℕ) → P h → Q (link_file h name new now)
+    walk_link h name new now p =
+        walk_finds h name (links_to new now) p (λ l ino q.
+        checks l (must EMLINK (nat_lt (node_at l ino).nlink 127)) _ q (λ few.
+        checks l (must EPERM (may_link l ino)) _ q (λ may.
+        walk_makes l new (λ m there. fails m EEXIST) (enters_again ino now) q (λ m there r. k.refused m EEXIST r)
+        (λ m dir offset bytes r. entered m ino now dir offset bytes r))))
+
+    -- 10, unlink
+    emptied : (h : Handed) (dir offset ino now : ℕ) → P h → Q (empties now h dir offset ino)
+    emptied h dir offset ino now p =
+        checks h (must EPERM (may_link h ino)) _ p (λ may.
+        walk_writes h dir offset (0 ∷ 0 ∷ []) now (λ l. is_done (with_links l ino ((node_at l ino).nlink - 1) now)) p
+        (λ l q. linked l ino _ now q))
+
+    removed : (h : Handed) (now : ℕ) (entry : ℕ × ℕ × ℕ) → P h → Q (removes now h entry)
+    removed h now (dir, offset, ino) p =
+        k.lets_go ino (until_end dir (empties now h dir offset ino))
+        (k.lets_go dir (empties now h dir offset ino) (emptied h dir offset ino now p))
+
+    pub walk_unlink : (h : Handed) (name now : ℕ) → P h → Q (unlink_file h name now)
+    walk_unlink h name now p =
+        walk_named h (remove_in h.inodes h.marks (user_of h.u) h.u.dir (name_at h.image name)) (removes now)
+        (removing_count h.inodes _) p (λ l entry q. removed l now entry q)
+
+    -- 12, chdir
+    pub walk_chdir : (h : Handed) (name : ℕ) → Moves → P h → Q (chdir_to h name)
+    walk_chdir h name moves p =
+        walk_finds h name enters_directory p (λ l ino q.
+        checks l (must ENOTDIR (is_directory (node_at l ino).mode)) _ q (λ is.
+        checks l (permission (node_at l ino) (user_of l.u) Execute) _ q (λ may.
+        k.done (with_directory l ino) (r0 l) (r1 l)
+        (k.inodes _ (with_directory l ino).inodes (put_back_count (with_reference l.inodes ino) l.u.dir) (k.enters l ino moves q)))))
+
+    -- 14, mknod
+    pub walk_mknod : (h : Handed) (name mode device now : ℕ) → P h → Q (mknod_at h name mode device now)
+    walk_mknod h name mode device now p =
+        checks h (must EPERM (is_super_user h)) _ p (λ may.
+        walk_makes h name (λ l there. fails l EEXIST) (makes_any mode device now) p (λ l there q. k.refused l EEXIST q)
+        (λ l dir offset bytes q.
+        walk_node l dir offset bytes _ now (λ m ino. is_done (with_device m ino device)) q (λ m ino r.
+        k.done (with_device m ino device) (r0 m) (r1 m) (k.inodes m (with_device m ino device).inodes
+        (device_count m.inodes ino device) r))))
+
+    -- 15, chmod, and 16, chown
+    changed : (h : Handed) (ino : ℕ) (node : Node) → P h → Q (is_done (with_changed h ino node))
+    changed h ino node p = k.done (with_changed h ino node) (r0 h) (r1 h) (k.inodes h (with_changed h ino node).inodes refl p)
+
+    pub walk_chmod : (h : Handed) (name mode now : ℕ) → P h → Q (chmod_to h name mode now)
+    walk_chmod h name mode now p =
+        walk_finds h name (changes_mode mode now) p (λ l ino q. checks l (must EPERM (is_owner l ino)) _ q
+        (λ may. changed l ino _ q))
+
+    pub walk_chown : (h : Handed) (name owner now : ℕ) → P h → Q (chown_to h name owner now)
+    walk_chown h name owner now p =
+        checks h (must EPERM (is_super_user h)) _ p (λ may.
+        walk_finds h name _ p
+        (λ l ino q. changed l ino (record (node_at l ino) { uid = owner % 256; gid = owner / 256; modtime = now }) q))
+
+    -- 18, stat, and 28, fstat
+    pub walk_stat : (h : Handed) (name at : ℕ) → P h → Q (stat_file h name at)
+    walk_stat h name at p = walk_finds h name (λ l ino. tells_status l ino at) p (λ l ino q. walk_status l ino at q)
+
+    pub walk_stat_open : (h : Handed) (at : ℕ) → P h → Q (stat_open h at)
+    walk_stat_open h at p = checks h (open_entry h (r0 h)) _ p (λ entry. walk_status h (file_of h entry).ino at p)
+
+    -- 19, seek
+    pub walk_seek : (h : Handed) (offset mode : ℕ) → P h → Q (seek_to h offset mode)
+    walk_seek h offset mode p =
+        checks h (open_entry h (r0 h)) _ p (λ entry.
+        checks h (must ESPIPE (not (file_of h entry).kind.pipe)) _ p (λ may.
+        k.done _ (r0 h) (r1 h) (k.offset h entry _ p)))
+
+    -- 31, stty, and 32, gtty
+    pub walk_stty : (h : Handed) (at : ℕ) → P h → Q (stty_set h at)
+    walk_stty h at p =
+        walk_terminal h (λ l. check h (need EFAULT (words_at h at)) (sets_modes h l)) p (λ l.
+        checks h (need EFAULT (words_at h at)) (sets_modes h l) p (λ bytes.
+        closes_by (sets_modes h l bytes).state (r0 h) (r1 h) 0 false true (λ none. absurd (cc none))
+        (k.console h (sets_modes h l bytes).state.line p)))
+
+    pub walk_gtty : (h : Handed) (at : ℕ) → P h → Q (gtty_get h at)
+    walk_gtty h at p = walk_terminal h (λ l. tells_modes h l at) p (λ l. walk_told h at (at % 2 == 1) p)
+
+    -- 36, sync
+    pub walk_sync : (h : Handed) (now : ℕ) → P h → Q (sync_all h now)
+    walk_sync h now p = k.done (sync_all h now).state (r0 h) (r1 h)
+        (k.inodes h (sync_all h now).state.inodes (synced_when h.inodes.store.mark h.inodes.store _ refl) p)
+
+    -- 41, dup
+    pub walk_dup : (h : Handed) → Moves → P h → Q (dup_file h)
+    walk_dup h moves p =
+        checks_so h (open_entry h (r0 h)) _ p (λ entry is.
+        checks_so h (need EMFILE (free_number h.u.files)) _ p (λ fd number.
+        let named = entry_named h (r0 h) entry is in
+        subst (λ e. Q (returns (record h { files = with_change h.files e (with_more 1); u = with_number h.u fd (e + 1) }) fd))
+        (sym named.1)
+        (k.done _ fd (r1 h) (k.given h (r0 h) fd named.0 (need_some EMFILE (free_number h.u.files) fd number) moves p))))
+
+    -- 42, pipe
+    opens_pipe : (h : Handed) (ino : ℕ) → 1 ≤ ino → ino ≤ h.inodes.store.count → Moves → P h → Q (opens_ends h ino)
+    opens_pipe h ino above within moves p =
+        checks_so h (need EMFILE (free_number h.u.files)) _ p (λ fd number.
+        checks_so h (need ENFILE (free_entry h.files)) _ p (λ entry free.
+        let first : Handed = with_end h ino reading_end fd entry in
+        checks_so h (need EMFILE (free_number first.u.files)) _ p (λ next_fd next_number.
+        checks_so h (need ENFILE (free_entry first.files)) _ p (λ next_entry next_free.
+        k.done _ fd next_fd (k.ends h ino fd entry next_fd next_entry above within
+        (need_some EMFILE (free_number h.u.files) fd number) (need_some ENFILE (free_entry h.files) entry free)
+        (need_some EMFILE (free_number first.u.files) next_fd next_number)
+        (need_some ENFILE (free_entry first.files) next_entry next_free) moves p)))))
+
+    pub walk_pipe : (h : Handed) (now : ℕ) → Moves → P h → Q (pipe_new h now)
+    walk_pipe h now moves p =
+        let found : Finding ℕ = new_in h.inodes IALLOC (record { uid = 0; gid = 0 }) now in
+        let same : found.inodes.store.count ≡ h.inodes.store.count =
+        numbered_count h.inodes IALLOC (record { uid = 0; gid = 0 }) now _ _ in
+        let there : P (with_inodes h found.inodes) = k.inodes h found.inodes same p in
+        checks_so (with_inodes h found.inodes) found.answer _ there (λ ino is.
+        let within = new_within h.inodes IALLOC (record { uid = 0; gid = 0 }) now ino is in
+        k.lets_go ino (opens_ends (with_inodes h found.inodes) ino)
+        (opens_pipe (with_inodes h found.inodes) ino within.0 (subst (λ n. ino ≤ n) (sym same) within.1) moves there))
+
+    -- A call in which a process slept goes on: what it waits for in a pipe is there.
+    pub walk_resume : (h : Handed) (now : ℕ)
+        → ((h.u.pending == LINE_READ) ≡ false → IsAwaiting h (slice_index h.u.call 0) (slice_index h.u.call 2) (slice_index h.u.call 3))
+        → P (without_pending h) → Q (resumes h slot now)
+    walk_resume h now waiting p = unless_due_walk rest _ p (by (h.u.pending == LINE_READ) (h.u.pending == PIPE_READ) refl)
+      where
+        rest : Handed
+        rest = without_pending h
+
+        word : ℕ → ℕ
+        word i = slice_index h.u.call i
+
+        by : (typed reads : Bool) → (h.u.pending == LINE_READ) ≡ typed
+            → Q (cond typed (resume_read h) (cond reads (reads_pipe rest (word 0) (word 1) (word 2) now)
+            (writes_pipe rest slot (word 0) (word 1) (word 2) (word 3) now)))
+        by true reads is = walk_reads_line rest 0 _ _ _ p
+        by false true is = let a = waiting is in walk_reads_pipe rest (word 0) (word 1) (word 2) now a.pipe a.named p
+        by false false is =
+            let a = waiting is in walk_writes_pipe rest (word 0) (word 1) (word 2) (word 3) now a.pipe a.named a.few p
 
 -- All numbers of a process let their files go, one after another.
 pub closes_all : (K : Closing → Type 0)

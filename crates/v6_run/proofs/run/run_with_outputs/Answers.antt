@@ -14,6 +14,6 @@ returns-in-Disk-clause-outcome g c =
     let old : Outside = g.H.Host.outside c.args.host.now in
     let new : Outside = g.H.Host.outside c.run_to_disk.new.host in
     subst (λ (o : Outputs). MatchResult c.run_to_disk.result
-        (λ ends. EndsRun (outputs_value o) (run_writes (outputs_value o) (block_at c.args.kernel.now.blocks) taken) taken ends old new)
-        (λ port. StopsRun (outputs_value o) (run_writes (outputs_value o) (block_at c.args.kernel.now.blocks) taken) port old new))
+    (λ ends. EndsRun (outputs_value o) (run_writes (outputs_value o) (block_at c.args.kernel.now.blocks) taken) taken ends old new)
+    (λ port. StopsRun (outputs_value o) (run_writes (outputs_value o) (block_at c.args.kernel.now.blocks) taken) port old new))
     (sym c.in-Disk.is) c.run_to_disk.ensures.outcome
