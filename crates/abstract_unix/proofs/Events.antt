@@ -1,5 +1,12 @@
 -- Each event of a run adds lines that fit, as long as the run goes on: the slots.
-use Rattle.std.proofs.Common.{◌≡◌, ◌∙◌, inl, inr, ℕ, zero, suc, List, [], ◌∷◌, ◌++◌, append-nil, fold, Option, Some, None, refl, sym, ap, subst}
+use Rattle.std.proofs.Common.{◌≡◌, ◌∙◌, ◌≤◌, ◌+◌, ◌&&◌, not, cond, inl, inr, ℕ, zero, suc, Bool, true, false, List, [], ◌∷◌, ◌++◌, append-nil, fold, map, filter, get_or, Option, Some, None, refl, sym, ap, subst, arith}
+use Rattle.std.specs.List.{range_with_len}
+use Rattle.v6_base.specs.declared.entry.Chan.TheVariants.{Disk}
+use Rattle.v6_base.specs.declared.entry.Entry.TheVariants as entry
+use Rattle.pick_rules.specs.Ranges.{IsSlot}
+use Rattle.proc_tab.specs.Processes.{slots_above_0}
+use Rattle.sys_procs.specs.Process.{Process}
+use Rattle.sys_procs.specs.Signals.{is_meant, meant_in}
 use Rattle.v6_base.specs.Trace.{Item, Byte, Log, entries_of}
 use Rattle.v6_base.specs.declared.entry.Entry.{Entry}
 use Rattle.pick_rules.specs.Choice.{settle}
@@ -9,8 +16,9 @@ use Rattle.v6_base.specs.declared.entry.PanicKind.{PanicKind}
 use Rattle.pick_rules.specs.Effects.{Effect, Show, Size, Fork, Text, Image, Exit, came}
 use Rattle.pick_rules.specs.Logged.{Stop, Logged, log_one, logged, left_by}
 use Rattle.pick_rules.specs.Lawful.{Over, Seen, FitAll, seen_after}
-use Rattle.log_laws.proofs.Fitting.{fit_item, seen_append, seen_items, Apt, Ends, Fitted, apt_fits}
-use Rattle.log_laws.proofs.Seats.{RunnerAt, InTurn, Paused, Holds}
+use Rattle.log_laws.proofs.Fitting.{fit_item, fit_items, seen_append, seen_items, Apt, Ends, Fitted, apt_fits, wake_apt}
+use Rattle.log_laws.proofs.Seats.{Seats, RunnerAt, InTurn, Paused, Holds}
+use Rattle.log_laws.proofs.Lines.{wake_paused}
 use Rattle.log_laws.proofs.Settles.{Settled, IsSettled, settling}
 use Rattle.swap_sched.specs.Pass.{pass, stop_over}
 use Rattle.abstract_unix.specs.declared.ending.Ending.{Ending}
@@ -20,7 +28,8 @@ use Rattle.abstract_unix.specs.declared.ends.Ends.TheVariants as ends
 use Rattle.abstract_unix.specs.declared.ends.Ends.TheVariants.{AtEnd}
 use Rattle.abstract_unix.specs.Unix.{Unix, System}
 use Rattle.abstract_unix.specs.Steps.{Steps}
-use Rattle.abstract_unix.specs.Turn.{Turn, happens, settled_after, end_effects, ending_of, ending_by, settled_as, settled, turn_of, passes, pass_of, slot_of}
+use Rattle.abstract_unix.specs.Endings.{is_early}
+use Rattle.abstract_unix.specs.Turn.{Happened, Turn, stays, settling, happens, with_slot, counted, followed, waits_until, disk_lines, wakes_disks, after_slot, whole_slot, settled_after, end_effects, ending_of, ending_by, settled_as, settled, turn_of, passes, pass_of, slot_of}
 use Rattle.abstract_unix.proofs.Sitting.{seats_of, all_sized, runner_there, runner_alive}
 use Rattle.abstract_unix.proofs.Steps.{GoesOn, IsCalm, AptSteps}
 use Rattle.abstract_unix.proofs.Passing.{Passed, pass_passes}
@@ -165,9 +174,66 @@ panics : (Q : Seen → Type 0) (o : Option (Stop Unix)) (ending : Ending) (kind 
 panics Q None ending kind seen calm e q = absurd (self_calm ending kind calm e)
 panics Q (Some stop) ending kind seen calm e q = q
 
-turned_fine : (s : ℕ) (u : Unix) (seen : Seen) (steps : Steps) → AptSteps s seen steps
-    → FineTurn seen (settled_after (turn_of (system_at u seen) s steps))
-turned_fine s u seen steps a = by (ending_by l.stop steps.ending) refl
+-- the slots that are meant are slots
+abbrev pub AllSlots : List ℕ → Type 0
+AllSlots [] = Unit {0}
+AllSlots (s ∷ slots) = IsSlot s × AllSlots slots
+
+slots_either : (b : Bool) (s : ℕ) (slots : List ℕ) → IsSlot s → AllSlots slots → AllSlots (cond b (s ∷ slots) slots)
+slots_either true s slots is all = (is, all)
+slots_either false s slots is all = all
+
+filter_slots : (f : ℕ → Bool) (slots : List ℕ) → AllSlots slots → AllSlots (filter f slots)
+filter_slots f [] all = tt
+filter_slots f (s ∷ slots) all = slots_either (f s) s (filter f slots) all.0 (filter_slots f slots all.1)
+
+range_slots : (first n : ℕ) → first + n ≤ 50 → AllSlots (range_with_len first n)
+range_slots first zero low = tt
+range_slots first (suc n) low = (omega (arith, low), range_slots (first + 1) n (omega (arith, low)))
+
+meant_slots : (who : ℕ → Process → Bool) (processes : List (Option Process)) → AllSlots (meant_in who processes)
+meant_slots who processes = filter_slots (λ s. is_meant who s (get_or processes s None)) slots_above_0 (range_slots 1 49 (omega arith))
+
+-- What has happened in an event, before the kernel settles: lines that fit, and, where the run goes on, who is where after them.
+pub record Came (seen : Seen) (h : Happened) : Type 0 where
+  pub fit : FitAll seen (entries_of h.log.items)
+  pub board : (seen_items seen h.log.items).board ≡ h.log.board
+  pub goes : h.ending ≡ AtEnd → Paused (seats_of h.unix) (seen_items seen h.log.items)
+  pub rests : h.ending ≡ AtEnd → h.settles ≡ false → Holds (seats_of h.unix) (seen_items seen h.log.items)
+  pub over : (kind : PanicKind) → h.ending ≡ ends.Panic kind → (seen_items seen h.log.items).stage ≡ Over
+
+-- and when it has settled, where it does
+pub came_fine : (seen : Seen) (h : Happened) → Came seen h → FineTurn seen (settled_after h)
+came_fine seen h c = by h.ending refl h.settles refl
+  where
+    stops : (e : run.Ends) (kind : PanicKind) → h.ending ≡ e → e ≡ ends.Panic kind → Fine seen h.log.items (stays h).next h.ending
+    stops e kind is panic = record {
+      fit = c.fit;
+      stands = λ goes. absurd (let other = sym is ∙ goes in cc (other, panic));
+      over = λ other x. c.over other x;
+    }
+
+    by : (e : run.Ends) → h.ending ≡ e → (b : Bool) → h.settles ≡ b → FineTurn seen (cond (not (is_early e) && b) (settling h) (stays h))
+    by AtEnd is true calls = subst (λ o. Fine seen (h.log.items ++ (settled h.log.board).items) (record { unix = h.unix; board = (settled h.log.board).board }) o) (sym is)
+        (settled_fine h.unix seen h.log c.fit c.board (c.goes is))
+    by AtEnd is false calls = record {
+      fit = c.fit;
+      stands = λ e. record { board = c.board; holds = c.rests is calls };
+      over = λ kind x. c.over kind x;
+    }
+    by (ends.Panic kind) is b calls = stops (ends.Panic kind) kind is refl
+
+turned_came : (s : ℕ) (u : Unix) (seen : Seen) (steps : Steps) → AptSteps s seen steps → Came seen (turn_of (system_at u seen) s steps)
+turned_came s u seen steps a = record {
+  fit = f.fit;
+  board = f.board;
+  goes = λ e.
+      let k = stops l.stop steps e in
+      subst (λ v. Paused (seats_of v) (seen_items seen l.items)) (sym (ap (λ o. left_by o steps.unix) k.0))
+      (ends_none Goes l.stop (seen_items seen l.items) k.0 f.ends k.1);
+  rests = λ e calls. absurd (cc calls);
+  over = λ kind e. panics Goes l.stop steps.ending kind (seen_items seen l.items) a.calm e f.ends;
+}
   where
     es : List (Effect Unix)
     es = steps.effects ++ end_effects s steps.ending
@@ -181,21 +247,10 @@ turned_fine s u seen steps a = by (ending_by l.stop steps.ending) refl
     f : Fitted Goes seen l
     f = apt_fits Goes seen es a.apt
 
-    by : (o : run.Ends) → ending_by l.stop steps.ending ≡ o
-        → FineTurn seen (settled_after (record (happens steps.unix l) { ending = o }))
-    by AtEnd e =
-        let k = stops l.stop steps e in
-        settles_fine steps.unix seen l f.fit f.board (ends_none Goes l.stop (seen_items seen l.items) k.0 f.ends k.1) k.0
-    by (ends.Panic kind) e = record {
-      fit = f.fit;
-      stands = λ x. absurd (cc x);
-      over = λ other x. panics Goes l.stop steps.ending kind (seen_items seen l.items) a.calm e f.ends;
-    }
-
 -- The pass of process 0: it ends asleep, or in a panic.
-pass_fine : (u : Unix) (seen : Seen) → Paused (seats_of u) seen → seen.board.table.running ≡ Some 0
-    → FineTurn seen (settled_after (pass_of (system_at u seen)))
-pass_fine u seen p r = by l.stop refl
+pass_came : (u : Unix) (seen : Seen) → Paused (seats_of u) seen → seen.board.table.running ≡ Some 0
+    → Came seen (pass_of (system_at u seen))
+pass_came u seen p r = by l.stop refl
   where
     l : Logged (Unit {0})
     l = pass seen.board
@@ -204,9 +259,25 @@ pass_fine u seen p r = by l.stop refl
     passed = pass_passes (seats_of u) seen (all_sized u) p r
 
     by : (o : Option (Stop (Unit {0}))) → l.stop ≡ o
-        → FineTurn seen (settled_after (passes u (record { items = l.items; board = l.board; stop = stop_over u o })))
-    by None e = settles_fine u seen (record { items = l.items; board = l.board; stop = None }) passed.fit passed.board (passed.goes e).paused refl
-    by (Some stop) e = record { fit = passed.fit; stands = λ x. absurd (cc x); over = λ kind x. passed.over stop e }
+        → Came seen (passes u (record { items = l.items; board = l.board; stop = stop_over u o }))
+    by None e = record {
+      fit = passed.fit;
+      board = passed.board;
+      goes = λ x. (passed.goes e).paused;
+      rests = λ x calls. absurd (cc calls);
+      over = λ kind x. absurd (cc x);
+    }
+    by (Some stop) e = record {
+      fit = passed.fit;
+      board = passed.board;
+      goes = λ x. absurd (cc x);
+      rests = λ x calls. absurd (cc calls);
+      over = λ kind x. passed.over stop e;
+    }
+
+pass_fine : (u : Unix) (seen : Seen) → Paused (seats_of u) seen → seen.board.table.running ≡ Some 0
+    → FineTurn seen (settled_after (pass_of (system_at u seen)))
+pass_fine u seen p r = came_fine seen (pass_of (system_at u seen)) (pass_came u seen p r)
 
 -- who runs lives in its slot
 pub runs_at : (u : Unix) (s : ℕ) (b : Board) → IsTidy u → InTurn s (seats_of u) b → Runs s u
@@ -217,17 +288,76 @@ runs_at u s b tidy t = record {
 }
 
 -- a slot
-pub slot_fine : (u : Unix) (seen : Seen) → IsTidy u → Holds (seats_of u) seen
-    → FineTurn seen (settled_after (slot_of (system_at u seen) seen.board.table.running))
+slot_came : (u : Unix) (seen : Seen) → IsTidy u → Holds (seats_of u) seen → Came seen (slot_of (system_at u seen) seen.board.table.running)
 unfolding FitAll
-slot_fine u seen tidy h = by seen.board.table.running refl h.paused.runner
+slot_came u seen tidy h = by seen.board.table.running refl h.paused.runner
   where
-    by : (o : Option ℕ) → seen.board.table.running ≡ o → RunnerAt (seats_of u) seen.board o
-        → FineTurn seen (settled_after (slot_of (system_at u seen) o))
-    by None e r =
-        record { fit = tt; stands = λ f. record { board = refl; holds = h }; over = λ kind f. absurd (cc f) }
-    by (Some zero) e r = pass_fine u seen h.paused e
+    by : (o : Option ℕ) → seen.board.table.running ≡ o → RunnerAt (seats_of u) seen.board o → Came seen (slot_of (system_at u seen) o)
+    by None e r = record { fit = tt; board = refl; goes = λ f. h.paused; rests = λ f calls. h; over = λ kind f. absurd (cc f) }
+    by (Some zero) e r = pass_came u seen h.paused e
     by (Some (suc s)) e (inl z) = absurd (cc z)
     by (Some (suc s)) e (inr t) =
-        turned_fine (suc s) u seen _ (turn_apt (suc s) seen u tidy
+        turned_came (suc s) u seen _ (turn_apt (suc s) seen u tidy
         (begins_numbers (suc s) u seen.board (runs_at u (suc s) seen.board tidy t)) h.paused t)
+
+-- Wakes that follow it.
+wakes_all : (v : Seats) (seen : Seen) (slots : List ℕ) → AllSlots slots → Paused v seen
+    → Apt {W = Unix} (Paused v) seen (map Show (map (λ s. Log (entry.Wake (Disk s))) slots))
+unfolding Apt
+wakes_all v seen [] all p = p
+wakes_all v seen (s ∷ slots) all p =
+    wake_apt (Paused v) seen (Disk s) (map Show (map (λ s. Log (entry.Wake (Disk s))) slots)) p.going all.0
+    (wakes_all v (seen_after seen (entry.Wake (Disk s))) slots all.1 (wake_paused v seen (Disk s) p))
+
+wakes_shown : (slots : List ℕ) → AreShown (map Show (map (λ s. Log (entry.Wake (Disk s))) slots))
+wakes_shown [] = tt
+wakes_shown (s ∷ slots) = wakes_shown slots
+
+-- Effects that follow, by which the run goes on.
+followed_came : (seen : Seen) (h : Happened) (es : List (Effect Unix)) → h.ending ≡ AtEnd → Came seen h → AreShown es
+    → ((now : Seen) → Paused (seats_of h.unix) now → Apt (Paused (seats_of h.unix)) now es) → Came seen (followed h es)
+followed_came seen h [] goes c shown apt = c
+followed_came seen h (e ∷ es) goes c shown apt = record {
+  fit = fit_items seen h.log.items l.items c.fit f.fit;
+  board = ap (λ (x : Seen). x.board) after ∙ f.board;
+  goes = λ x. subst (Paused (seats_of h.unix)) (sym after) (ends_none (Paused (seats_of h.unix)) l.stop (seen_items now l.items) stop f.ends);
+  rests = λ x calls. absurd (cc calls);
+  over = λ kind x. absurd (let other = sym goes ∙ x in cc other);
+}
+  where
+    now : Seen
+    now = seen_items seen h.log.items
+
+    l : Logged Unix
+    l = logged h.log.board (e ∷ es)
+
+    after : seen_items seen (h.log.items ++ l.items) ≡ seen_items now l.items
+    after = seen_append seen h.log.items l.items
+
+    stop : l.stop ≡ None
+    stop = shown_stop h.log.board (e ∷ es) shown
+
+    f : Fitted (Paused (seats_of h.unix)) now l
+    f = subst (λ b. Fitted (Paused (seats_of h.unix)) now (logged b (e ∷ es))) c.board
+        (apt_fits (Paused (seats_of h.unix)) now (e ∷ es) (apt now (c.goes goes)))
+
+-- a slot that counts
+counted_came : (seen : Seen) (h : Happened) → Came seen h → Came seen (counted h)
+counted_came seen h c = record { fit = c.fit; board = c.board; goes = c.goes; rests = c.rests; over = c.over }
+
+pub after_came : (seen : Seen) (h : Happened) → Came seen h → Came seen (after_slot h)
+after_came seen h c = by h.ending refl
+  where
+    by : (e : run.Ends) → h.ending ≡ e → Came seen (cond (is_early e) h (wakes_disks (counted h)))
+    by AtEnd is =
+        let slots : List ℕ = meant_in (waits_until (with_slot h.unix).timing.passed) h.unix.processes in
+        followed_came seen (counted h) (map Show (disk_lines (with_slot h.unix))) is (counted_came seen h c) (wakes_shown slots)
+        (λ now p. wakes_all (seats_of h.unix) now slots (meant_slots (waits_until (with_slot h.unix).timing.passed) h.unix.processes) p)
+    by (ends.Panic kind) is = c
+
+-- a slot, with what follows it
+pub slot_fine : (u : Unix) (seen : Seen) → IsTidy u → Holds (seats_of u) seen
+    → FineTurn seen (settled_after (whole_slot (system_at u seen)))
+slot_fine u seen tidy h =
+    let what : Happened = slot_of (system_at u seen) seen.board.table.running in
+    came_fine seen (after_slot what) (after_came seen what (slot_came u seen tidy h))

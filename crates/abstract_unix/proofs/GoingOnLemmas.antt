@@ -8,7 +8,7 @@ use Rattle.v6_base.specs.declared.answer.Answer.TheVariants.{Ret, Fail, Sleep}
 use Rattle.open_files.specs.declared.file.OpenFile.{OpenFile}
 use Rattle.open_files.specs.declared.file.FileKind.{FileKind}
 use Rattle.open_files.specs.Files.{file_at, times, changed, with_more, shared}
-use Rattle.u_area.specs.declared.layout.TheConstants.{NOTHING_PENDING, LINE_READ}
+use Rattle.u_area.specs.declared.layout.TheConstants.{NOTHING_PENDING, LINE_READ, DISK_WAIT}
 use Rattle.u_area.specs.Pending.{is_on_files, IsPipeCall}
 use Rattle.u_area.proofs.PendingLemmas.{on_files_cases}
 use Rattle.sys_files.specs.Handed.{Handed}
@@ -39,32 +39,40 @@ goes_on_by u each = record {
       record { file = own.end.file; there = own.end.there; pipe = own.end.pipe; named = own.end.named; left = own.left };
 }
 
--- Who waits in a pipe in a slot waited in it before, in the same call and with the same numbers.
+-- a pending call that is a wait in a pipe, or for the disk
+abbrev pub Waiting : ℕ → Type 0
+Waiting n = IsPipeCall n ⊎ (n ≡ DISK_WAIT)
+
+pub never_waiting : {P : Type 0} (n : ℕ) → n ≡ NOTHING_PENDING → Waiting n → P
+never_waiting n free (inl pipe) = never_in_pipe n free pipe
+never_waiting n free (inr disk) = absurd (omega (arith, free, disk))
+
+-- Who waits so in a slot waited in it before, in the same call and with the same numbers.
 pub record Waited (o : Option Process) (q : Process) : Type 0 where
   pub before : Process
   pub there : o ≡ Some before
-  pub lives : before.is_zombie ≡ false
+  pub dead : before.is_zombie ≡ q.is_zombie
   pub pending : before.u.pending ≡ q.u.pending
   pub call : before.u.call ≡ q.u.call
   pub files : before.u.files ≡ q.u.files
 
 abbrev pub WaitedIn : Option Process → Option Process → Type 0
-WaitedIn old new = (q : Process) → new ≡ Some q → q.is_zombie ≡ false → IsPipeCall q.u.pending → Waited old q
+WaitedIn old new = (q : Process) → new ≡ Some q → Waiting q.u.pending → Waited old q
 
 abbrev pub AllWaited : List (Option Process) → List (Option Process) → Type 0
 AllWaited old new = (s : ℕ) → WaitedIn (get_or old s None) (get_or new s None)
 
 pub waited_same : (o : Option Process) → WaitedIn o o
-waited_same o q is lives waits = record { before = q; there = is; lives = lives; pending = refl; call = refl; files = refl }
+waited_same o q is waits = record { before = q; there = is; dead = refl; pending = refl; call = refl; files = refl }
 
 pub waited_then : (a b c : Option Process) → WaitedIn a b → WaitedIn b c → WaitedIn a c
-waited_then a b c first second q is lives waits =
-    let later = second q is lives waits in
-    let sooner = first later.before later.there later.lives (subst IsPipeCall (sym later.pending) waits) in
+waited_then a b c first second q is waits =
+    let later = second q is waits in
+    let sooner = first later.before later.there (subst Waiting (sym later.pending) waits) in
     record {
       before = sooner.before;
       there = sooner.there;
-      lives = sooner.lives;
+      dead = sooner.dead ∙ later.dead;
       pending = sooner.pending ∙ later.pending;
       call = sooner.call ∙ later.call;
       files = sooner.files ∙ later.files;
@@ -76,50 +84,47 @@ all_waited_same ps s = waited_same (get_or ps s None)
 pub all_waited_then : (a b c : List (Option Process)) → AllWaited a b → AllWaited b c → AllWaited a c
 all_waited_then a b c first second s = waited_then (get_or a s None) (get_or b s None) (get_or c s None) (first s) (second s)
 
--- a process that waits as another does, and one that waits in no pipe
+-- a process that waits as another does, and one that waits neither in a pipe nor for the disk
 pub like_waited : (p q : Process) → q.is_zombie ≡ p.is_zombie → q.u.pending ≡ p.u.pending → q.u.call ≡ p.u.call
     → q.u.files ≡ p.u.files → WaitedIn (Some p) (Some q)
-like_waited p q dead pending call files r is lives waits =
+like_waited p q dead pending call files r is waits =
     let same : q ≡ r = cc is in
     record {
       before = p;
       there = refl;
-      lives = sym dead ∙ ap (λ (x : Process). x.is_zombie) same ∙ lives;
+      dead = sym dead ∙ ap (λ (x : Process). x.is_zombie) same;
       pending = sym pending ∙ ap (λ (x : Process). x.u.pending) same;
       call = sym call ∙ ap (λ (x : Process). x.u.call) same;
       files = sym files ∙ ap (λ (x : Process). x.u.files) same;
     }
 
-pub apart_waited : (o : Option Process) (q : Process) → (IsPipeCall q.u.pending → ⊥) → WaitedIn o (Some q)
-apart_waited o q never r is lives waits =
-    let same : q ≡ r = cc is in absurd (never (subst (λ (x : Process). IsPipeCall x.u.pending) (sym same) waits))
+pub apart_waited : (o : Option Process) (q : Process) → (Waiting q.u.pending → ⊥) → WaitedIn o (Some q)
+apart_waited o q never r is waits =
+    let same : q ≡ r = cc is in absurd (never (subst (λ (x : Process). Waiting x.u.pending) (sym same) waits))
 
 pub user_waited : (o : Option Process) (q : Process) → q.u.pending ≡ NOTHING_PENDING → WaitedIn o (Some q)
-user_waited o q free = apart_waited o q (never_in_pipe q.u.pending free)
-
-pub dead_waited : (o : Option Process) (q : Process) → q.is_zombie ≡ true → WaitedIn o (Some q)
-dead_waited o q dead r is lives waits = absurd (let same : q ≡ r = cc is in let living : q.is_zombie ≡ false = ap (λ (x : Process). x.is_zombie) same ∙ lives in cc (dead, living))
+user_waited o q free = apart_waited o q (never_waiting q.u.pending free)
 
 pub gone_waited : (o : Option Process) → WaitedIn o None
-gone_waited o q is lives waits = absurd (cc is)
+gone_waited o q is waits = absurd (cc is)
 
 -- one slot is put
 pub all_waited_put : (ps : List (Option Process)) (s : ℕ) (o : Option Process) → WaitedIn (get_or ps s None) o
     → AllWaited ps (set ps s o)
-all_waited_put ps s o own r q is lives waits = elim (cases_eq r s) [
+all_waited_put ps s o own r q is waits = elim (cases_eq r s) [
   | inl here ↦
       let low : s < length ps = let l = some_within (set ps s o) r q is in let same = length-set ps s o in omega (arith, l, same, here) in
       let there : o ≡ Some q = sym (get_or-set_same ps s o None low) ∙ ap (λ n. get_or (set ps s o) n None) (sym here) ∙ is in
-      subst (λ n. Waited (get_or ps n None) q) (sym here) (own q there lives waits)
-  | inr other ↦ waited_same (get_or ps r None) q (sym (get_or-set_other ps s r o None other) ∙ is) lives waits
+      subst (λ n. Waited (get_or ps n None) q) (sym here) (own q there waits)
+  | inr other ↦ waited_same (get_or ps r None) q (sym (get_or-set_other ps s r o None other) ∙ is) waits
 ]
 
 -- 1. Processes change, and the table of open files doesn't.
 waited_end : (files : List (Option OpenFile)) (old new : Option Process) → HoldsEnd files old → WaitedIn old new
     → HoldsEnd files new
 waited_end files old new held waited q is lives waits =
-    let was = waited q is lives waits in
-    let own = held was.before was.there was.lives (subst IsPipeCall (sym was.pending) waits) in
+    let was = waited q is (inl waits) in
+    let own = held was.before was.there (was.dead ∙ lives) (subst IsPipeCall (sym was.pending) waits) in
     let call : was.before.u.call ≡ q.u.call = was.call in
     let entry : slice_index was.before.u.call 0 ≡ slice_index q.u.call 0 = ap (λ l. slice_index l 0) call in
     record {
@@ -138,6 +143,21 @@ waited_goes_on u v can waited files =
 
 pub put_goes_on : (u : Unix) (s : ℕ) (q : Process) → CanGoOn u → WaitedIn (process_at u s) (Some q) → CanGoOn (with_process u s q)
 put_goes_on u s q can waited = waited_goes_on u (with_process u s q) can (all_waited_put u.processes s (Some q) waited) refl
+
+-- A process in a slot is another, and waits in no pipe.
+pub moved_goes_on : (u : Unix) (s : ℕ) (q : Process) → CanGoOn u → s < length u.processes → (IsPipeCall q.u.pending → ⊥)
+    → CanGoOn (with_process u s q)
+moved_goes_on u s q can low never = goes_on_by (with_process u s q) each
+  where
+    own : HoldsEnd u.files (Some q)
+    own r same living waits =
+        let eq : q ≡ r = cc same in absurd (never (subst (λ (x : Process). IsPipeCall x.u.pending) (sym eq) waits))
+
+    each : (r : ℕ) → HoldsEnd u.files (get_or (set u.processes s (Some q)) r None)
+    each r = elim (cases_eq r s) [
+      | inl here ↦ subst (HoldsEnd u.files) (sym (ap (λ n. get_or (set u.processes s (Some q)) n None) here ∙ get_or-set_same u.processes s (Some q) None low)) own
+      | inr other ↦ subst (HoldsEnd u.files) (sym (get_or-set_other u.processes s r (Some q) None other)) (end_held u r can)
+    ]
 
 pub world_goes_on : (u : Unix) (w : World) → CanGoOn u → AllWaited u.processes w.processes → CanGoOn (with_world u w)
 world_goes_on u w can waited = waited_goes_on u (with_world u w) can waited refl

@@ -1,5 +1,5 @@
 -- A process that comes out of a trap waits for nothing, and what comes from outside keeps who waits in a pipe.
-use Rattle.std.proofs.Common.{◌≡◌, ◌<◌, ◌∙◌, ◌==◌, ℕ, Bool, true, false, cond, nat_lt, List, [], length, get_or, Option, Some, None, refl, ap, arith, option_map, unwrap_or}
+use Rattle.std.proofs.Common.{◌≡◌, ◌<◌, ◌∙◌, ◌==◌, ◌&&◌, not, ℕ, Bool, true, false, cond, nat_lt, List, [], length, get_or, Option, Some, None, refl, ap, arith, option_map, unwrap_or}
 use Rattle.std.proofs.lemmas.Bool.{eqb-true, eq-eqb}
 use Rattle.std.proofs.lemmas.List.{get_or-set_same, length-set}
 use Rattle.v6_base.specs.declared.answer.Answer.{Answer}
@@ -14,7 +14,7 @@ use Rattle.pdp_step.specs.declared.outcome.Kind.TheVariants as kind
 use Rattle.pdp_step.specs.declared.outcome.Outcome.{Outcome}
 use Rattle.pdp_step.specs.declared.outcome.Outcome.TheVariants as outcome
 use Rattle.pdp_step.specs.Instruction.{Stepped, instr}
-use Rattle.u_area.specs.declared.layout.TheConstants.{NOTHING_PENDING}
+use Rattle.u_area.specs.declared.layout.TheConstants.{NOTHING_PENDING, DISK_WAIT}
 use Rattle.u_area.specs.Pending.{is_on_files}
 use Rattle.sig_core.specs.declared.numbers.TheConstants.{SIGINS, SIGTRC, SIGIOT, SIGEMT, SIGBUS, SIGSEG, SIGSYS}
 use Rattle.sys_files.specs.Handed.{Handed}
@@ -24,17 +24,19 @@ use Rattle.sys_procs.specs.Process.{Process, no_process, register, image_of}
 use Rattle.sys_procs.specs.Comes.{Comes}
 use Rattle.sys_procs.specs.Break.{sized, expands, grown_stack, grow}
 use Rattle.sys_procs.specs.Fork.{fork_one}
-use Rattle.sys_procs.specs.Resume.{resume_proc}
+use Rattle.sys_procs.specs.Resume.{awake, resume_proc}
 use Rattle.sys_procs.specs.Signals.{signalled, has_line}
 use Rattle.abstract_unix.specs.declared.asked.Asked.{Asked}
 use Rattle.abstract_unix.specs.declared.calls.SystemCall.{SystemCall}
 use Rattle.abstract_unix.specs.declared.calls.SystemCall.TheVariants.{Indirect, Exit, Fork, Unknown, OnFiles, OnProcesses}
 use Rattle.abstract_unix.specs.declared.calls.Sysent.{Sysent}
-use Rattle.abstract_unix.specs.declared.ending.Ending.TheVariants.{Trapped}
+use Rattle.v6_base.specs.declared.entry.Chan.TheVariants.{Disk}
+use Rattle.pick_rules.specs.Priority.{pribio}
+use Rattle.abstract_unix.specs.declared.ending.Ending.TheVariants.{Trapped, Slept}
 use Rattle.abstract_unix.specs.Unix.{Unix, System, process_at, process_of, with_process}
 use Rattle.abstract_unix.specs.Errors.{error_number}
-use Rattle.abstract_unix.specs.Steps.{Steps, signals}
-use Rattle.abstract_unix.specs.Calls.{handed_of, with_handed, world_of, with_world, with_area, entered_area, given_area, refused_area, words_passed, asked, refuses, answers, did_by, came_by, grown_by, grows_to, file_row, process_row, does_call, does_asked, sysent_of, resumed}
+use Rattle.abstract_unix.specs.Steps.{Steps, returns, signals}
+use Rattle.abstract_unix.specs.Calls.{handed_of, with_handed, world_of, with_world, with_area, entered_area, given_area, refused_area, words_passed, asked, refuses, answers, did_by, came_by, grown_by, grows_to, file_row, process_row, reads_disk, loads_program, waits_for_disk, takes_time, does_call, does_asked, sysent_of, resumed}
 use Rattle.abstract_unix.specs.Turn.{machine_of, with_machine, passes_setd, faults, comes_to, instruction, is_user, begins_turn}
 use Rattle.abstract_unix.specs.Outside.{timed, charged, with_key}
 use Rattle.abstract_unix.specs.Whole.{CanGoOn}
@@ -108,6 +110,15 @@ module _ (s : ℕ) where
       → TrapsUser s (came_by u s c)
   came_trap u c awake = answers_trap (with_world u c.state) c.answer awake
 
+  -- a call that waits for the disk doesn't end in a trap
+  timed_trap : (has_read : Bool) (steps : Steps) → TrapsUser s steps → TrapsUser s (takes_time has_read s steps)
+  timed_trap has_read steps traps = by (has_read && not (steps.unix.timing.disk == 0))
+    where
+      by : (b : Bool)
+          → TrapsUser s (cond b (record steps { unix = waits_for_disk steps.unix s; ending = Slept pribio (Disk s) }) steps)
+      by true ends = absurd (cc ends)
+      by false ends = traps ends
+
   call_trap : (u : Unix) (call : SystemCall) (args : List ℕ) → s < length u.processes → IsUserIn u s
       → TrapsUser s (does_call u s call args)
   call_trap u Indirect args low free ends = free
@@ -116,9 +127,11 @@ module _ (s : ℕ) where
   call_trap u Unknown args low free ends = refuses_trap u (error_number ENOSYS) free ends
   call_trap u (OnFiles call) args low free ends =
       let h : Handed = handed_of u (process_of u s) in
-      did_trap u (file_row call h s args u.clock.time) low (row_user call h s args u.clock.time free) ends
+      let did : Did = file_row call h s args u.clock.time in
+      timed_trap (reads_disk call h did.answer) (did_by u s did) (did_trap u did low (row_user call h s args u.clock.time free)) ends
   call_trap u (OnProcesses call) args low free ends =
-      came_trap u (process_row call (world_of u) s args) (process_user (world_of u) s free call args) ends
+      let c : Comes = process_row call (world_of u) s args in
+      timed_trap (loads_program call c.answer) (came_by u s c) (came_trap u c (process_user (world_of u) s free call args)) ends
 
   asked_trap : (u : Unix) (a : Asked) (entry : Sysent) → s < length u.processes → IsUserIn u s
       → TrapsUser s (does_asked u s a entry)
@@ -162,10 +175,13 @@ module _ (s : ℕ) where
 
   pub resumed_trap : (u : Unix) → CanGoOn u → get_or u.processes s None ≡ Some (process_of u s)
       → (process_of u s).is_zombie ≡ false → TrapsUser s (resumed u s)
-  resumed_trap u can is lives = by (is_on_files (process_of u s).u.pending) refl
+  resumed_trap u can is lives = first ((process_of u s).u.pending == DISK_WAIT)
     where
       h : Handed
       h = handed_of u (process_of u s)
+
+      rests : Unix
+      rests = with_process u s (awake (process_of u s))
 
       by : (b : Bool) → is_on_files (process_of u s).u.pending ≡ b
           → TrapsUser s (cond b (did_by u s (resumes h s u.clock.time)) (came_by u s (resume_proc (world_of u) s)))
@@ -173,6 +189,14 @@ module _ (s : ℕ) where
           did_trap u (resumes h s u.clock.time) (some_within u.processes s (process_of u s) is)
           (resume_user h s u.clock.time on (handed_pends u s can is lives))
       by false on = came_trap u (resume_proc (world_of u) s) (resumed_user (world_of u) s)
+
+      others : Steps
+      others = cond (is_on_files (process_of u s).u.pending) (did_by u s (resumes h s u.clock.time)) (came_by u s (resume_proc (world_of u) s))
+
+      first : (b : Bool) → TrapsUser s (cond b (returns rests) others)
+      first true ends = ap (λ o. (unwrap_or o no_process).u.pending) (get_or-set_same u.processes s (Some (awake (process_of u s))) None
+          (some_within u.processes s (process_of u s) is))
+      first false ends = by (is_on_files (process_of u s).u.pending) refl ends
 
 -- A turn that comes out of a trap leaves its process in user mode.
 pub trapped_user : (m : System) (s : ℕ) → CanGoOn m.unix → get_or m.unix.processes s None ≡ Some (process_of m.unix s)

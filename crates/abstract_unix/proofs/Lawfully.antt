@@ -33,12 +33,12 @@ use Rattle.abstract_unix.specs.declared.ends.Ends.TheVariants.{AtEnd}
 use Rattle.abstract_unix.specs.Endings.{is_whole, last_line}
 use Rattle.abstract_unix.specs.Unix.{Unix, System, no_texts}
 use Rattle.abstract_unix.specs.Turn.{Turn, settled_after, passes, pass_of}
-use Rattle.abstract_unix.specs.Runs.{first_unix, system_with, Event, Slot, Tick, Byte, Switch, event_of, Course, goes_on_by, unless_ended, after_event, course, started, boots}
+use Rattle.abstract_unix.specs.Runs.{first_unix, system_with, Event, Slot, Tick, Byte, Switch, Disk, event_of, Course, goes_on_by, unless_ended, after_event, course, started, boots}
 use Rattle.abstract_unix.specs.Law.{log_of, LogsAreLawful}
 use Rattle.abstract_unix.proofs.Sitting.{seats_of}
 use Rattle.abstract_unix.proofs.Passing.{only_sleeps, pass_sleeps}
 use Rattle.abstract_unix.proofs.Events.{system_at, Stands, Fine, FineTurn, settles_fine, slot_fine}
-use Rattle.abstract_unix.proofs.Outside.{tick_fine, typed_fine, switched_fine}
+use Rattle.abstract_unix.proofs.Outside.{tick_fine, typed_fine, switched_fine, disk_set_fine}
 use Rattle.abstract_unix.proofs.Tidy.{IsTidy}
 use Rattle.abstract_unix.proofs.TidyEvents.{event_tidy, start_tidy}
 use Rattle.abstract_unix.proofs.FirstTidy.{few_nodes, first_tidy}
@@ -54,6 +54,7 @@ event_fine Slot u seen tidy h = slot_fine u seen tidy h
 event_fine Tick u seen tidy h = tick_fine u seen tidy h.paused
 event_fine (Byte byte) u seen tidy h = typed_fine u seen byte h.paused
 event_fine (Switch word) u seen tidy h = switched_fine u seen word h
+event_fine (Disk count) u seen tidy h = disk_set_fine u seen count h
 
 -- a run as far as it has come: its lines fit, and where it goes on its Unix is tidy
 record FineCourse (c : Course) : Type 0 where

@@ -33,3 +33,7 @@ pub mod PendingRows
 pub mod GoingOnLemmas
 pub mod WaitingRows
 pub mod GoingOnSteps
+pub mod Stretches
+pub mod DiskRows
+pub mod DiskSteps
+pub mod Dues

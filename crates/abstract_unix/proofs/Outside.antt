@@ -32,7 +32,7 @@ use Rattle.pick_rules.proofs.Laws.{passed_running, wakeup_kept}
 use Rattle.pick_rules.proofs.TickShapes.{tick_same}
 use Rattle.abstract_unix.specs.Steps.{Steps, returns}
 use Rattle.abstract_unix.specs.Delivery.{delivers_due}
-use Rattle.abstract_unix.specs.Outside.{is_user_mode, is_second, is_as_trap, delivers_to, tick_delivery, mode_by, tick_entry, timed, charged, clock_after, is_due, ticked, wakes, tick_of, calls, with_key, key_lines, typed_of, switched_of}
+use Rattle.abstract_unix.specs.Outside.{is_user_mode, is_second, is_as_trap, delivers_to, tick_delivery, mode_by, tick_entry, timed, charged, clock_after, is_due, ticked, wakes, tick_of, calls, with_key, key_lines, typed_of, switched_of, disk_set_of}
 use Rattle.abstract_unix.proofs.Sitting.{seat_for, seats_of, seat_in, runner_seat}
 use Rattle.abstract_unix.proofs.Posting.{posted_seats, signal_lines_apt, meant_seated}
 use Rattle.abstract_unix.proofs.Turning.{same_seats}
@@ -291,8 +291,13 @@ pub typed_fine : (u : Unix) (seen : Seen) (byte : ℕ) → Paused (seats_of u) s
     → FineTurn seen (settled_after (typed_of (system_at u seen) 0 byte))
 typed_fine u seen byte p = typed_for (system_at u seen) seen byte refl p
 
--- the switches
-pub switched_fine : (u : Unix) (seen : Seen) (word : ℕ) → Holds (seats_of u) seen → FineTurn seen (stays (switched_of (system_at u seen) word))
+-- the switches, and how long a transfer takes
+pub switched_fine : (u : Unix) (seen : Seen) (word : ℕ) → Holds (seats_of u) seen → FineTurn seen (settled_after (switched_of (system_at u seen) word))
 unfolding FitAll
 switched_fine u seen word h =
+    record { fit = tt; stands = λ e. record { board = refl; holds = h }; over = λ kind e. absurd (cc e) }
+
+pub disk_set_fine : (u : Unix) (seen : Seen) (count : ℕ) → Holds (seats_of u) seen → FineTurn seen (settled_after (disk_set_of (system_at u seen) count))
+unfolding FitAll
+disk_set_fine u seen count h =
     record { fit = tt; stands = λ e. record { board = refl; holds = h }; over = λ kind e. absurd (cc e) }

@@ -20,6 +20,7 @@ use Rattle.proc_tab.specs.declared.child.Child.TheVariants.{NoChild, Living, Dea
 use Rattle.proc_tab.specs.Processes.{passes}
 use Rattle.proc_tab.specs.Children.{Tells, child, is_dead_child_of}
 use Rattle.proc_tab.proofs.SearchLemmas.{tells}
+use Rattle.u_area.specs.declared.layout.TheConstants.{DISK_WAIT}
 use Rattle.u_area.specs.Pending.{is_on_files}
 use Rattle.image_keep.specs.Kept.{clicks_of}
 use Rattle.sig_core.specs.declared.numbers.TheConstants.{SIGKIL}
@@ -45,10 +46,11 @@ pub record SameProcess (p q : Process) : Type 0 where
   pub files : q.u.files ≡ p.u.files
   pub dir : q.u.dir ≡ p.u.dir
 
--- a process that waits in a call, and in none on files
+-- a process that waits in a call, in none on files and not for the disk
 pub record IsApart (p : Process) : Type 0 where
   pub waits : is_user p ≡ false
   pub apart : is_on_files p.u.pending ≡ false
+  pub other : (p.u.pending == DISK_WAIT) ≡ false
 
 -- a dead process in a slot
 pub record IsGrave (w : World) (d : ℕ) : Type 0 where
@@ -99,7 +101,7 @@ module _ (s : ℕ) (w : World) where
   waits_plain NoChild pid t = refuses w ECHILD
   waits_plain Living pid t =
       unless_plain _ (waits w waiting pwait (Wait s) (record { dead = refl; size = refl; text = refl; files = refl; dir = refl })
-      (record { waits = refl; apart = refl }) (refl, refl) (λ low. low))
+      (record { waits = refl; apart = refl; other = refl }) (refl, refl) (λ low. low))
   waits_plain (Dead d) pid t =
       buries w d _ (grave w pid d t)
       (changes (without_process w d) (λ p. record p { u = with_times_of p.u (process_of w d).u }) _
@@ -118,7 +120,7 @@ module _ (s : ℕ) (w : World) where
       (due w (tout_with w.clock until) _
       (unless_plain s (with_sleeper w until) _
       (waits _ (sleeping_until until) pslep Tout (record { dead = refl; size = refl; text = refl; files = refl; dir = refl })
-      (record { waits = refl; apart = refl }) refl (λ low. tt))))
+      (record { waits = refl; apart = refl; other = refl }) refl (λ low. tt))))
 
   stored_plain : (o : Option Image) → Plain s w (stored w s o)
   stored_plain None = refuses w EFAULT

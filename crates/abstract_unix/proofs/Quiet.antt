@@ -7,7 +7,7 @@ use Rattle.v6_base.specs.Trace.{Item, Byte, Log, sent, line_bytes, entries_of}
 use Rattle.v6_base.specs.declared.answer.Answer.{Answer}
 use Rattle.v6_base.specs.declared.answer.Answer.TheVariants.{Ret, Fail, Sleep}
 use Rattle.v6_base.specs.declared.entry.Chan.{Chan}
-use Rattle.v6_base.specs.declared.entry.Chan.TheVariants.{RunIn, RunOut, Tout, Keys, Wait, Read, Write}
+use Rattle.v6_base.specs.declared.entry.Chan.TheVariants.{RunIn, RunOut, Tout, Keys, Show, Wait, Read, Write, Disk, KeysOf, ShowOf}
 use Rattle.v6_base.specs.declared.entry.Entry.{Entry}
 use Rattle.v6_base.specs.declared.entry.Entry.TheVariants.{Wake, Signal}
 use Rattle.u_area.specs.declared.layout.TheConstants.{NOTHING_PENDING, LINE_READ}
@@ -136,6 +136,10 @@ line_quiet s Keys of = inl (Keys, refl, tt)
 line_quiet s (Wait slot) of = absurd of
 line_quiet s (Read ino) of = inl (Read ino, refl, of)
 line_quiet s (Write ino) of = inl (Write ino, refl, of)
+line_quiet s Show of = absurd of
+line_quiet s (Disk slot) of = absurd of
+line_quiet s (KeysOf line) of = absurd of
+line_quiet s (ShowOf line) of = absurd of
 
 lines_quiet : (s : ℕ) (entries : List Entry) → All (IsLineOf IsInode s) entries → AreQuiet s (map Log entries)
 lines_quiet s [] all = tt
@@ -154,6 +158,10 @@ sleeps_so old new pending RunOut same which is of = absurd of
 sleeps_so old new pending Tout same which is of = absurd of
 sleeps_so old new pending Keys same which is of = absurd of
 sleeps_so old new pending (Wait slot) same which is of = absurd of
+sleeps_so old new pending Show same which is of = absurd of
+sleeps_so old new pending (Disk slot) same which is of = absurd of
+sleeps_so old new pending (KeysOf line) same which is of = absurd of
+sleeps_so old new pending (ShowOf line) same which is of = absurd of
 sleeps_so old new pending (Read ino) same which is of = record {
   size = same;
   pending = not_user new.pending pending which is;

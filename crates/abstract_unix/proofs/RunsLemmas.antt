@@ -1,6 +1,7 @@
 -- How a run over a list of events is made of runs over its parts.
-use Rattle.std.proofs.Common.{◌≡◌, ◌≢◌, ℕ, cond, Bool, true, false, List, [], ◌∷◌, ◌++◌, Ok, Err, refl, sym, ◌∙◌, ap, append_assoc}
+use Rattle.std.proofs.Common.{Option, ◌≡◌, ◌≢◌, ◌||◌, ℕ, cond, Bool, true, false, map, List, [], ◌∷◌, ◌++◌, Ok, Err, refl, sym, ◌∙◌, ap, append_assoc}
 use Rattle.std.proofs.lemmas.List.{append-nil}
+use Rattle.std.proofs.lemmas.List.Folds.{list_any-append}
 use Rattle.v6_base.specs.Trace.{Item}
 use Rattle.v6_base.specs.declared.entry.PanicKind.{PanicKind}
 use Rattle.abstract_unix.specs.declared.ends.Ends.{Ends}
@@ -8,8 +9,12 @@ use Rattle.abstract_unix.specs.declared.ends.Ends.TheVariants as ends
 use Rattle.abstract_unix.specs.declared.ends.Ends.TheVariants.{AtEnd}
 use Rattle.abstract_unix.specs.declared.turned.Turned.{Turned}
 use Rattle.abstract_unix.specs.declared.turned.Turned.TheVariants.{Ran, Idle, Panic}
-use Rattle.abstract_unix.specs.Unix.{System}
-use Rattle.abstract_unix.specs.Turn.{Happened, Turn, stays, settles, calls_for_settling, settled_after, turned_by, turned, ticked_by}
+use Rattle.std.specs.List.{list_any}
+use Rattle.pick_rules.specs.Effects.{Effect, Show}
+use Rattle.pick_rules.specs.Logged.{Stop, logged}
+use Rattle.abstract_unix.specs.Endings.{is_early}
+use Rattle.abstract_unix.specs.Unix.{Unix, System}
+use Rattle.abstract_unix.specs.Turn.{settled, Happened, Turn, with_slot, counted, followed, disk_lines, wakes_disks, after_slot, stays, settling, calls_for_settling, settled_after, turned_by, turned, ticked_by}
 use Rattle.abstract_unix.specs.Runs.{Event, Tick, Byte, Switch, Course, begun, event_of, goes_on_by, unless_ended, after_event, course, after_items}
 
 -- first these events and then those
@@ -76,9 +81,122 @@ turn_told t = told_by t.ending t.is_idle
 pub settled_ending : (h : Happened) → (settled_after h).ending ≡ h.ending
 settled_ending h = by (calls_for_settling h)
   where
-    by : (b : Bool) → (cond b (settles h) (stays h)).ending ≡ h.ending
+    by : (b : Bool) → (cond b (settling h) (stays h)).ending ≡ h.ending
     by true = refl
     by false = refl
+
+-- What follows a slot leaves all that doesn't count slots.
+pub after_keeps : (X : Type 0) (f : Unix → X) → ((u : Unix) → f (with_slot u) ≡ f u) → (h : Happened)
+    → f (after_slot h).unix ≡ f h.unix
+after_keeps X f same h = by (is_early h.ending)
+  where
+    followed_keeps : (g : Happened) (es : List (Effect Unix)) → f (followed g es).unix ≡ f g.unix
+    followed_keeps g [] = refl
+    followed_keeps g (e ∷ es) = refl
+
+    by : (b : Bool) → f (cond b h (wakes_disks (counted h))).unix ≡ f h.unix
+    by true = refl
+    by false = followed_keeps (counted h) (map Show (disk_lines (with_slot h.unix))) ∙ same h.unix
+
+-- it ends no run, and leaves who was there
+pub after_ending : (h : Happened) → (after_slot h).ending ≡ h.ending
+after_ending h = by (is_early h.ending)
+  where
+    followed_ends : (g : Happened) (es : List (Effect Unix)) → (followed g es).ending ≡ g.ending
+    followed_ends g [] = refl
+    followed_ends g (e ∷ es) = refl
+
+    by : (b : Bool) → (cond b h (wakes_disks (counted h))).ending ≡ h.ending
+    by true = refl
+    by false = followed_ends (counted h) (map Show (disk_lines (with_slot h.unix)))
+
+-- and shows what was shown first
+pub after_items_none : (test : Item → Bool) (h : Happened) → list_any test (after_slot h).log.items ≡ false
+    → list_any test h.log.items ≡ false
+after_items_none test h = by (is_early h.ending)
+  where
+    front : (xs ys : List Item) → list_any test (xs ++ ys) ≡ false → list_any test xs ≡ false
+    front xs ys none = or_false (list_any test xs) (list_any test ys) (sym (list_any-append test xs ys) ∙ none)
+      where
+        or_false : (a b : Bool) → (a || b) ≡ false → a ≡ false
+        or_false true b e = absurd (cc e)
+        or_false false b e = refl
+
+    followed_none : (g : Happened) (es : List (Effect Unix)) → list_any test (followed g es).log.items ≡ false
+        → list_any test g.log.items ≡ false
+    followed_none g [] none = none
+    followed_none g (e ∷ es) none = front g.log.items (logged g.log.board (e ∷ es)).items none
+
+    by : (b : Bool) → list_any test (cond b h (wakes_disks (counted h))).log.items ≡ false → list_any test h.log.items ≡ false
+    by true none = none
+    by false none = followed_none (counted h) (map Show (disk_lines (with_slot h.unix))) none
+
+-- and neither what follows a slot nor settling changes what is answered
+pub whole_answer : (h : Happened) → turned (settled_after (after_slot h)) ≡ turned_by h.ending h.is_idle
+whole_answer h = settled_told (after_slot h) ∙ by (is_early h.ending)
+  where
+    settled_told : (g : Happened) → turned (settled_after g) ≡ turned_by g.ending g.is_idle
+    settled_told g = either (calls_for_settling g)
+      where
+        either : (b : Bool) → turned (cond b (settling g) (stays g)) ≡ turned_by g.ending g.is_idle
+        either true = refl
+        either false = refl
+
+    followed_told : (g : Happened) (es : List (Effect Unix)) → turned_by (followed g es).ending (followed g es).is_idle ≡ turned_by g.ending g.is_idle
+    followed_told g [] = refl
+    followed_told g (e ∷ es) = refl
+
+    by : (b : Bool) → turned_by (cond b h (wakes_disks (counted h))).ending (cond b h (wakes_disks (counted h))).is_idle ≡ turned_by h.ending h.is_idle
+    by true = refl
+    by false = followed_told (counted h) (map Show (disk_lines (with_slot h.unix)))
+
+-- Items that stand in front stay there, and how a log stopped is not seen.
+abbrev pub with_front : List Item → Happened → Happened
+with_front items h = record h { log = record h.log { items = items ++ h.log.items } }
+
+pub after_front : (items : List Item) (h : Happened) → after_slot (with_front items h) ≡ with_front items (after_slot h)
+after_front items h = by (is_early h.ending)
+  where
+    followed_front : (g : Happened) (es : List (Effect Unix)) → followed (with_front items g) es ≡ with_front items (followed g es)
+    followed_front g [] = refl
+    followed_front g (e ∷ es) = λ i. record g {
+      log = record (logged g.log.board (e ∷ es)) { items = append_assoc items g.log.items (logged g.log.board (e ∷ es)).items i };
+      settles = true;
+    }
+
+    by : (b : Bool) → cond b (with_front items h) (wakes_disks (counted (with_front items h))) ≡ with_front items (cond b h (wakes_disks (counted h)))
+    by true = refl
+    by false = followed_front (counted h) (map Show (disk_lines (with_slot h.unix)))
+
+pub settled_front : (items : List Item) (h : Happened)
+    → settled_after (with_front items h) ≡ record (settled_after h) { items = items ++ (settled_after h).items }
+settled_front items h = by (calls_for_settling h)
+  where
+    by : (b : Bool) → cond b (settling (with_front items h)) (stays (with_front items h))
+        ≡ record (cond b (settling h) (stays h)) { items = items ++ (cond b (settling h) (stays h)).items }
+    by true = λ i. record (settling h) { items = append_assoc items h.log.items (settled h.log.board).items i }
+    by false = refl
+
+abbrev pub with_stop : Option (Stop Unix) → Happened → Happened
+with_stop o h = record h { log = record h.log { stop = o } }
+
+settled_stop : (o : Option (Stop Unix)) (h : Happened) → settled_after (with_stop o h) ≡ settled_after h
+settled_stop o h = by (calls_for_settling h)
+  where
+    by : (b : Bool) → cond b (settling (with_stop o h)) (stays (with_stop o h)) ≡ cond b (settling h) (stays h)
+    by true = refl
+    by false = refl
+
+pub after_stop : (o : Option (Stop Unix)) (h : Happened) → settled_after (after_slot (with_stop o h)) ≡ settled_after (after_slot h)
+after_stop o h = by (is_early h.ending)
+  where
+    followed_stop : (g : Happened) (es : List (Effect Unix)) → settled_after (followed (with_stop o g) es) ≡ settled_after (followed g es)
+    followed_stop g [] = settled_stop o g
+    followed_stop g (e ∷ es) = refl
+
+    by : (b : Bool) → settled_after (cond b (with_stop o h) (wakes_disks (counted (with_stop o h)))) ≡ settled_after (cond b h (wakes_disks (counted h)))
+    by true = settled_stop o h
+    by false = followed_stop (counted h) (map Show (disk_lines (with_slot h.unix)))
 
 -- A tick lets the run go on, or ends it in a panic, as its answer says.
 pub tick_told : (m : System) (o : Ends) → (ticked_by (event_of Tick m).ending ≡ Ok tt → o ≡ AtEnd)

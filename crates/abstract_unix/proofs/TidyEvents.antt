@@ -1,5 +1,5 @@
 -- Each event by which a run goes on leaves a tidy Unix, and a run begins with one.
-use Rattle.std.proofs.Common.{◌≡◌, ◌∙◌, ◌≤◌, ◌==◌, ℕ, zero, suc, Bool, true, false, cond, ◌++◌, ◌&&◌, List, length, map, set, get_or, get_or-set_same, unwrap_or, Option, Some, None, refl, sym, ap, subst, inl, inr}
+use Rattle.std.proofs.Common.{◌≡◌, ◌∙◌, ◌≤◌, ◌==◌, ℕ, zero, suc, Bool, true, false, cond, ◌++◌, ◌&&◌, List, [], ◌∷◌, length, map, set, get_or, get_or-set_same, unwrap_or, Option, Some, None, refl, sym, ap, subst, inl, inr}
 use Rattle.std.proofs.lemmas.Bool.{eqb-true, eqb-false}
 use Rattle.std.proofs.lemmas.List.FromFn.{length-map-range_with_len}
 use Rattle.fs_codec.specs.Store.{Store}
@@ -16,17 +16,20 @@ use Rattle.sys_files.specs.Sound.{numbers_of}
 use Rattle.open_files.specs.Files.{file_at}
 use Rattle.sys_procs.specs.Process.{Process, no_process}
 use Rattle.sys_procs.specs.Signals.{has_line, signalled, signalled_if, all_signalled}
+use Rattle.abstract_unix.specs.declared.ends.Ends.{Ends}
+use Rattle.abstract_unix.specs.declared.ends.Ends.TheVariants as ends
 use Rattle.abstract_unix.specs.declared.ends.Ends.TheVariants.{AtEnd}
+use Rattle.abstract_unix.specs.Endings.{is_early}
 use Rattle.abstract_unix.specs.Unix.{Unix, System, process_of, with_process}
 use Rattle.v6_base.specs.Trace.{Item, sent}
 use Rattle.v6_base.specs.declared.entry.Chan.TheVariants.{Keys}
-use Rattle.pick_rules.specs.Effects.{Show}
+use Rattle.pick_rules.specs.Effects.{Effect, Show}
 use Rattle.sys_procs.specs.World.{Clock}
 use Rattle.abstract_unix.specs.Delivery.{delivers_due}
 use Rattle.abstract_unix.specs.Steps.{Steps, returns}
-use Rattle.abstract_unix.specs.Turn.{is_user, Happened, stays, settles, calls_for_settling, settled_after, ending_by, ending_of_pass, turn_of, pass_of, slot_of, turn}
+use Rattle.abstract_unix.specs.Turn.{is_user, Happened, with_slot, counted, followed, disk_lines, wakes_disks, after_slot, whole_slot, stays, settling, calls_for_settling, settled_after, ending_by, ending_of_pass, turn_of, pass_of, slot_of, turn}
 use Rattle.abstract_unix.specs.Outside.{is_user_mode, is_second, delivers_to, tick_delivery, tick_of, mode_by, timed, charged, clock_after, with_key, typed_of, key_lines, wakes, calls}
-use Rattle.abstract_unix.specs.Runs.{Event, Slot, Tick, Byte, Switch, event_of}
+use Rattle.abstract_unix.specs.Runs.{Event, Slot, Tick, Byte, Switch, Disk, event_of}
 use Rattle.abstract_unix.specs.Whole.{told_by, told_in, all_names, CanGoOn}
 use Rattle.abstract_unix.proofs.RunsLemmas.{settled_ending}
 use Rattle.abstract_unix.proofs.Posting.{all_alike}
@@ -45,7 +48,7 @@ use Rattle.abstract_unix.proofs.TidySteps.{turn_tidy, due_tidy}
 settled_unix : (h : Happened) → (settled_after h).next.unix ≡ h.unix
 settled_unix h = by (calls_for_settling h)
   where
-    by : (b : Bool) → (cond b (settles h) (stays h)).next.unix ≡ h.unix
+    by : (b : Bool) → (cond b (settling h) (stays h)).next.unix ≡ h.unix
     by true = refl
     by false = refl
 
@@ -180,13 +183,34 @@ tick_tidy u seen p tidy = by seen.board.table.running p.runner
     by None r = tidy_like u (record u { clock = clock }) refl refl refl refl tidy
     by (Some s) r = some s r (s == 0) (is_user (process_of u s)) refl refl
 
+-- What follows a slot leaves processes and files as they are.
+followed_unix : (h : Happened) (es : List (Effect Unix)) → (followed h es).unix ≡ h.unix
+followed_unix h [] = refl
+followed_unix h (e ∷ es) = refl
+
+pub followed_ending : (h : Happened) (es : List (Effect Unix)) → (followed h es).ending ≡ h.ending
+followed_ending h [] = refl
+followed_ending h (e ∷ es) = refl
+
+whole_tidy : (m : System) (h : Happened) → (h.ending ≡ AtEnd → IsTidy h.unix) → (after_slot h).ending ≡ AtEnd
+    → IsTidy (after_slot h).unix
+whole_tidy m h tidy goes = by h.ending refl goes
+  where
+    by : (e : Ends) → h.ending ≡ e → (cond (is_early e) h (wakes_disks (counted h))).ending ≡ AtEnd
+        → IsTidy (cond (is_early e) h (wakes_disks (counted h))).unix
+    by AtEnd is f =
+        subst IsTidy (sym (followed_unix (counted h) (map Show (disk_lines (with_slot h.unix)))))
+        (tidy_like h.unix (with_slot h.unix) refl refl refl refl (tidy is))
+    by (ends.Panic kind) is f = absurd (let other = sym is ∙ f in cc other)
+
 -- Each event by which the run goes on.
 pub event_tidy : (e : Event) (u : Unix) (seen : Seen) → Holds (seats_of u) seen → IsTidy u
     → (event_of e (system_at u seen)).ending ≡ AtEnd
     → IsTidy (event_of e (system_at u seen)).next.unix
 event_tidy Slot u seen h tidy ends =
-    let what : Happened = slot_of (system_at u seen) seen.board.table.running in
-    subst IsTidy (sym (settled_unix what)) (slot_tidy u seen h.paused tidy (sym (settled_ending what) ∙ ends))
+    let m : System = system_at u seen in
+    subst IsTidy (sym (settled_unix (whole_slot m))) (whole_tidy m (slot_of m m.board.table.running)
+    (λ e. slot_tidy u seen h.paused tidy e) (sym (settled_ending (whole_slot m)) ∙ ends))
 event_tidy Tick u seen h tidy ends =
     let m : System = system_at u seen in
     let what : Happened = tick_of m in
@@ -205,6 +229,8 @@ event_tidy (Byte byte) u seen h tidy ends =
     (key_tidy k.keyed (record u { line = k.terminal })
     (tidy_like u (record u { line = k.terminal }) refl refl refl refl tidy)))
 event_tidy (Switch word) u seen h tidy ends = tidy_like u (record u { switches = word }) refl refl refl refl tidy
+event_tidy (Disk count) u seen h tidy ends =
+    tidy_like u (record u { timing = record u.timing { disk = count } }) refl refl refl refl tidy
 
 -- The pass of the swapper with which a run begins changes nothing.
 pub start_tidy : (m : System) → IsTidy m.unix → (settled_after (pass_of m)).ending ≡ AtEnd

@@ -1,5 +1,5 @@
 -- Each turn leaves a tidy Unix: calls, faults, growth, deliveries, and the end of a process.
-use Rattle.std.proofs.Common.{◌≡◌, ◌≢◌, ◌∙◌, ◌<◌, ◌≤◌, ◌+◌, ◌==◌, ℕ, Bool, true, false, cond, List, length, get_or, get_or-set_same, set, Option, Some, None, is_none, option_map, unwrap_or, nat_lt, refl, sym, ap, subst, arith}
+use Rattle.std.proofs.Common.{◌≡◌, ◌≢◌, ◌∙◌, ◌<◌, ◌≤◌, ◌+◌, ◌==◌, ◌&&◌, not, inl, inr, ℕ, Bool, true, false, cond, List, length, get_or, get_or-set_same, set, Option, Some, None, is_none, option_map, unwrap_or, nat_lt, refl, sym, ap, subst, arith}
 use Rattle.std.proofs.lemmas.Bool.{eqb-true}
 use Rattle.std.proofs.lemmas.List.{length-map, length-set, map-set, get_or-set_other}
 use Rattle.std.proofs.Math.ListN.{get_or-map}
@@ -7,6 +7,8 @@ use Rattle.v6_base.specs.declared.answer.Answer.{Answer}
 use Rattle.v6_base.specs.declared.answer.Answer.TheVariants.{Ret, Fail, Sleep}
 use Rattle.v6_base.specs.declared.errno.Errno.TheVariants.{EAGAIN, ENOSYS}
 use Rattle.v6_base.specs.Image.{Image}
+use Rattle.v6_base.specs.declared.entry.Chan.TheVariants.{Disk}
+use Rattle.pick_rules.specs.Priority.{pribio}
 use Rattle.pdp_step.specs.declared.outcome.Kind.{Kind}
 use Rattle.pdp_step.specs.declared.outcome.Kind.TheVariants as kind
 use Rattle.pdp_step.specs.declared.outcome.Outcome.{Outcome}
@@ -18,9 +20,9 @@ use Rattle.sig_core.specs.declared.numbers.TheConstants.{SIGSEG, SIGSYS, SIGINS,
 use Rattle.sig_core.specs.Signals.{handler_of, due}
 use Rattle.sig_core.specs.declared.psig.Delivered.TheVariants.{Ends, Caught}
 use Rattle.sig_core.specs.Delivery.{Delivery, makes_core, signal_stack, delivery, caught, pushed}
-use Rattle.u_area.specs.declared.layout.TheConstants.{NOTHING_PENDING, LINE_READ}
+use Rattle.u_area.specs.declared.layout.TheConstants.{NOTHING_PENDING, LINE_READ, DISK_WAIT}
 use Rattle.u_area.specs.declared.area.UArea.{UArea}
-use Rattle.u_area.specs.Pending.{is_on_files}
+use Rattle.u_area.specs.Pending.{is_on_files, IsPipeCall}
 use Rattle.open_files.specs.Files.{file_at, times, shared}
 use Rattle.sys_files.specs.Handed.{Handed}
 use Rattle.sys_files.specs.Did.{Did}
@@ -39,7 +41,7 @@ use Rattle.sys_procs.specs.Signals.{signalled}
 use Rattle.sys_procs.specs.Break.{sized, expands, grown_stack, grow, grown_or_not}
 use Rattle.sys_procs.specs.Fork.{copied, past_word, next_pid, with_child, fork_into, fork_one}
 use Rattle.sys_procs.specs.Exit.{exit_status, end_proc}
-use Rattle.sys_procs.specs.Resume.{resume_proc}
+use Rattle.sys_procs.specs.Resume.{awake, resume_proc}
 use Rattle.abstract_unix.specs.declared.asked.Asked.{Asked}
 use Rattle.abstract_unix.specs.declared.calls.SystemCall.{SystemCall}
 use Rattle.abstract_unix.specs.declared.calls.SystemCall.TheVariants.{Indirect, Exit, Fork, Unknown, OnFiles, OnProcesses}
@@ -49,11 +51,11 @@ use Rattle.abstract_unix.specs.declared.ending.Ending.TheVariants as ending
 use Rattle.abstract_unix.specs.Unix.{Unix, System, process_of, with_process}
 use Rattle.abstract_unix.specs.Errors.{error_number}
 use Rattle.abstract_unix.specs.Steps.{Steps, returns, signals}
-use Rattle.abstract_unix.specs.Calls.{handed_of, with_handed, world_of, with_world, given_area, refused_area, entered_area, words_passed, with_area, refuses, answers, did_by, came_by, shares, forks, grows, grown_by, grows_to, exits_with, asked, file_row, process_row, does_call, sysent_of, does_asked, resumed}
+use Rattle.abstract_unix.specs.Calls.{handed_of, with_handed, world_of, with_world, given_area, refused_area, entered_area, words_passed, with_area, refuses, answers, did_by, came_by, shares, forks, grows, grown_by, grows_to, exits_with, asked, file_row, process_row, reads_disk, loads_program, waiting_until, disk_end, waits_for_disk, takes_time, does_call, sysent_of, does_asked, resumed}
 use Rattle.abstract_unix.specs.Turn.{machine_of, with_machine, faults, comes_to, instruction, is_user, passes_setd, begins_turn, turn}
 use Rattle.abstract_unix.specs.Delivery.{heeding, heeds, catches, signal_status, dumped, ends_after, ends_by, delivers_if, delivers_due, ends_by_ending}
 use Rattle.abstract_unix.specs.Whole.{Told, told_of, told_by, told_in, names, all_names}
-use Rattle.abstract_unix.proofs.Owing.{told_at, told_none, some_within, names_set, fifteen_set}
+use Rattle.abstract_unix.proofs.Owing.{told_at, told_change, told_none, some_within, names_set, fifteen_set}
 use Rattle.abstract_unix.proofs.Sharing.{shared_numbers}
 use Rattle.abstract_unix.proofs.PipeNumbers.{shared_ends}
 use Rattle.abstract_unix.proofs.Dying.{closed_none}
@@ -61,8 +63,8 @@ use Rattle.abstract_unix.proofs.Quiet.{HasNumbers, InCalm, same_call, other_inod
 use Rattle.abstract_unix.proofs.FileRows.{walk_row}
 use Rattle.abstract_unix.proofs.Tidy.{IsTidy, tidy_numbers, tidy_end}
 use Rattle.abstract_unix.proofs.StillWorlds.{IsStill, still_row, still_resume, IsGone, gone_ended}
-use Rattle.abstract_unix.proofs.PendingRows.{Pends, row_pends, resume_pends, close_user, core_user, close_pends, core_pends}
-use Rattle.abstract_unix.proofs.GoingOnLemmas.{AllWaited, user_waited, all_waited_put, world_goes_on, handed_pends, shared_goes_on}
+use Rattle.abstract_unix.proofs.PendingRows.{never_in_pipe, Pends, row_pends, resume_pends, close_user, core_user, close_pends, core_pends}
+use Rattle.abstract_unix.proofs.GoingOnLemmas.{AllWaited, moved_goes_on, user_waited, all_waited_put, world_goes_on, handed_pends, shared_goes_on}
 use Rattle.abstract_unix.proofs.WaitingRows.{row_waited, end_waited, resume_waited}
 use Rattle.abstract_unix.proofs.GoingOnSteps.{trapped_user}
 use Rattle.pick_rules.specs.Board.{Board}
@@ -286,6 +288,42 @@ module _ (s : ℕ) where
   leaves_runs : (steps : Steps) → Runs s steps.unix → Leaves s steps
   leaves_runs steps r = record { tidy = r.tidy; runs = λ e. r }
 
+  -- a wait for the disk, and its end
+  not_disk : {P : Type 0} (n : ℕ) → n ≡ DISK_WAIT → IsPipeCall n → P
+  not_disk n disk (inl three) = absurd (omega (arith, disk, three))
+  not_disk n disk (inr four) = absurd (omega (arith, disk, four))
+
+  runs_moved : (u : Unix) (q : Process) → q.u.files ≡ (process_of u s).u.files → q.u.dir ≡ (process_of u s).u.dir
+      → q.is_zombie ≡ (process_of u s).is_zombie → (IsPipeCall q.u.pending → ⊥) → Runs s u → Runs s (with_process u s q)
+  runs_moved u q files dir dead never r =
+      let p : Process = process_of u s in
+      let at : get_or (set u.processes s (Some q)) s None ≡ Some q =
+      get_or-set_same u.processes s (Some q) None (some_within u.processes s p r.there) in
+      let is : process_of (with_process u s q) s ≡ q = ap (λ o. unwrap_or o no_process) at in
+      let as_told : told_by (Some q) ≡ told_by (Some p) = (λ i. cond (dead i) None (Some (record { files = files i; dir = dir i }))) in
+      let told : told_in (set u.processes s (Some q)) ≡ told_in u.processes = told_change u.processes s p q r.there as_told in
+      record {
+        tidy = record {
+          numbers = λ entry. r.tidy.numbers entry ∙ ap (λ ts. all_names ts entry) (sym told);
+          fifty = length-set u.processes s (Some q) ∙ r.tidy.fifty;
+          fifteen = λ k t e. r.tidy.fifteen k t (ap (λ ts. get_or ts k None) (sym told) ∙ e);
+          waits = moved_goes_on u s q r.tidy.waits (some_within u.processes s p r.there) never;
+          count = r.tidy.count;
+          pipes = r.tidy.pipes;
+        };
+        there = at ∙ ap Some (sym is);
+        lives = ap (λ (x : Process). x.is_zombie) is ∙ dead ∙ r.lives;
+      }
+
+  runs_timed : (has_read : Bool) (steps : Steps) → Runs s steps.unix → Runs s (takes_time has_read s steps).unix
+  runs_timed has_read steps r = by (has_read && not (steps.unix.timing.disk == 0))
+    where
+      by : (b : Bool)
+          → Runs s (cond b (record steps { unix = waits_for_disk steps.unix s; ending = ending.Slept pribio (Disk s) }) steps).unix
+      by true = runs_moved steps.unix (waiting_until (disk_end steps.unix.timing) (process_of steps.unix s)) refl refl refl
+          (not_disk DISK_WAIT refl) r
+      by false = r
+
   leaves_call : (u : Unix) (call : SystemCall) (args : List ℕ) → (process_of u s).u.pending ≡ NOTHING_PENDING → Runs s u
       → Leaves s (does_call u s call args)
   leaves_call u Indirect args free r = leaves_runs (returns u) r
@@ -300,13 +338,16 @@ module _ (s : ℕ) where
       let did : Did = file_row call h s args u.clock.time in
       let calm : Calm h.u s did = walk_row (calm_walks h.u s) call h args u.clock.time tt (λ moves. tt)
       (record { same = same_call h.u; numbers = tidy_numbers u s r.tidy }) in
-      leaves_runs (did_by u s did)
+      leaves_runs (takes_time (reads_disk call h did.answer) s (did_by u s did))
+      (runs_timed (reads_disk call h did.answer) (did_by u s did)
       (runs_did s u did (walk_row (counted_walks h s) call h args u.clock.time tt (λ moves. tt) (runs_counted s u r)) calm.numbers
-      (row_pends call h s args u.clock.time free) r)
+      (row_pends call h s args u.clock.time free) r))
   leaves_call u (OnProcesses call) args free r =
-      leaves_runs (came_by u s (process_row call (world_of u) s args))
-      (runs_came s u (process_row call (world_of u) s args) (still_row (world_of u) s call (world_of u) args (runs_still s u r))
-      (row_waited (world_of u) s free call args) r)
+      let c : Comes = process_row call (world_of u) s args in
+      leaves_runs (takes_time (loads_program call c.answer) s (came_by u s c))
+      (runs_timed (loads_program call c.answer) (came_by u s c)
+      (runs_came s u c (still_row (world_of u) s call (world_of u) args (runs_still s u r))
+      (row_waited (world_of u) s free call args) r))
 
   leaves_asked : (u : Unix) (a : Asked) (entry : Sysent) → (process_of u s).u.pending ≡ NOTHING_PENDING → Runs s u
       → Leaves s (does_asked u s a entry)
@@ -346,7 +387,7 @@ module _ (s : ℕ) where
       (some_within u.processes s p r.there)) ∙ free) now
 
   leaves_resumed : (u : Unix) → Runs s u → Leaves s (resumed u s)
-  leaves_resumed u r = by (is_on_files (process_of u s).u.pending) refl
+  leaves_resumed u r = first ((process_of u s).u.pending == DISK_WAIT)
     where
       h : Handed
       h = handed_of u (process_of u s)
@@ -367,6 +408,15 @@ module _ (s : ℕ) where
           (runs_came s u (resume_proc (world_of u) s) (still_resume (world_of u) s (world_of u) (runs_still s u r))
           (resume_waited (world_of u) s) r)
 
+      others : Steps
+      others = cond (is_on_files (process_of u s).u.pending) (did_by u s did) (came_by u s (resume_proc (world_of u) s))
+
+      first : (b : Bool) → Leaves s (cond b (returns (with_process u s (awake (process_of u s)))) others)
+      first true =
+          leaves_runs (returns (with_process u s (awake (process_of u s))))
+          (runs_moved u (awake (process_of u s)) refl refl refl (never_in_pipe NOTHING_PENDING refl) r)
+      first false = by (is_on_files (process_of u s).u.pending) refl
+
   pub leaves_begun : (m : System) → Runs s m.unix → Leaves s (begins_turn m s)
   leaves_begun m r = by (is_user (process_of m.unix s)) refl
     where
@@ -375,7 +425,7 @@ module _ (s : ℕ) where
       by false user = leaves_resumed m.unix r
 
   -- A signal is delivered.
-  delivered_held : (p : Process) (sig : ℕ) (image : Image)
+  pub delivered_held : (p : Process) (sig : ℕ) (image : Image)
       → SameHeld p (record p {
         u = (delivery p.u sig image).area;
         «data» = (delivery p.u sig image).image.data;

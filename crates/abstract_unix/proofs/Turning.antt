@@ -1,15 +1,15 @@
 -- The turn of each slot is apt.
-use Rattle.std.proofs.Common.{◌≡◌, ◌∙◌, ◌==◌, ℕ, not, Bool, true, false, cond, List, [], Option, Some, slice_index, replicate, arith, set, refl, sym, ap, subst}
+use Rattle.std.proofs.Common.{◌≡◌, ◌∙◌, ◌==◌, ◌&&◌, ℕ, not, Bool, true, false, cond, List, [], ◌∷◌, Option, Some, slice_index, replicate, arith, set, refl, sym, ap, subst}
 use Rattle.pdp_step.specs.declared.outcome.Kind.{Kind}
 use Rattle.pdp_step.specs.declared.outcome.Kind.TheVariants as kind
 use Rattle.pdp_step.specs.declared.outcome.Outcome.{Outcome}
 use Rattle.pdp_step.specs.declared.outcome.Outcome.TheVariants as outcome
 use Rattle.pdp_step.specs.Instruction.{Stepped, instr}
 use Rattle.pick_rules.specs.Lawful.{Seen}
-use Rattle.log_laws.proofs.Fitting.{Apt}
-use Rattle.log_laws.proofs.Seats.{Seats, with_seat, InTurn, InCall, Paused, busy_agrees}
-use Rattle.log_laws.proofs.Lines.{seat_stays}
-use Rattle.u_area.specs.declared.layout.TheConstants.{NOTHING_PENDING, LINE_READ}
+use Rattle.log_laws.proofs.Fitting.{Apt, apt_append}
+use Rattle.log_laws.proofs.Seats.{Seats, with_seat, InTurn, InCall, Paused, busy_agrees, in_its_slot}
+use Rattle.log_laws.proofs.Lines.{seat_stays, sleep_apt}
+use Rattle.u_area.specs.declared.layout.TheConstants.{NOTHING_PENDING, LINE_READ, DISK_WAIT}
 use Rattle.u_area.specs.declared.area.UArea.{UArea}
 use Rattle.u_area.specs.Pending.{is_on_files}
 use Rattle.sys_files.specs.Handed.{Handed}
@@ -19,7 +19,15 @@ use Rattle.sys_procs.specs.TextTable.{Text}
 use Rattle.sys_procs.specs.World.{Clock, World, change}
 use Rattle.sys_procs.specs.Fork.{fork_one}
 use Rattle.sys_procs.specs.Resume.{awake, resume_proc}
-use Rattle.v6_base.specs.declared.answer.Answer.TheVariants.{Fail}
+use Rattle.v6_base.specs.Trace.{Log}
+use Rattle.v6_base.specs.declared.entry.Chan.TheVariants.{Disk}
+use Rattle.v6_base.specs.declared.entry.Entry.TheVariants as line
+use Rattle.pick_rules.specs.Effects.{Effect, Show}
+use Rattle.pick_rules.specs.Priority.{pribio}
+use Rattle.sys_files.specs.Did.{Did}
+use Rattle.sys_procs.specs.Comes.{Comes}
+use Rattle.v6_base.specs.declared.answer.Answer.{Answer}
+use Rattle.v6_base.specs.declared.answer.Answer.TheVariants.{Ret, Fail, Sleep}
 use Rattle.v6_base.specs.declared.errno.Errno.TheVariants.{ENOSYS}
 use Rattle.sig_core.specs.declared.numbers.TheConstants.{SIGINS, SIGTRC, SIGIOT, SIGEMT, SIGBUS}
 use Rattle.open_files.specs.declared.file.OpenFile.{OpenFile}
@@ -33,11 +41,11 @@ use Rattle.abstract_unix.specs.declared.calls.SystemCall.{SystemCall}
 use Rattle.abstract_unix.specs.declared.calls.SystemCall.TheVariants.{Indirect, Exit, Fork, Unknown, OnFiles, OnProcesses}
 use Rattle.abstract_unix.specs.declared.calls.Sysent.{Sysent}
 use Rattle.abstract_unix.specs.Unix.{Unix, process_of, with_process}
-use Rattle.abstract_unix.specs.Steps.{Steps}
-use Rattle.abstract_unix.specs.Calls.{handed_of, world_of, with_area, entered_area, words_passed, asked, did_by, came_by, shares, forks, file_row, process_row, does_call, sysent_of, does_asked, system_call, resumed}
+use Rattle.abstract_unix.specs.Steps.{Steps, returns}
+use Rattle.abstract_unix.specs.Calls.{handed_of, world_of, with_area, entered_area, words_passed, asked, did_by, came_by, shares, forks, file_row, process_row, answers, with_handed, with_world, is_read, has_bytes, reads_disk, is_exec, is_done, loads_program, waiting_until, disk_end, waits_for_disk, takes_time, does_call, sysent_of, does_asked, system_call, resumed}
 use Rattle.abstract_unix.specs.Turn.{machine_of, with_machine, faults, comes_to, instruction, is_user, passes_setd, begins_turn, turn}
 use Rattle.abstract_unix.proofs.Sitting.{seat_for, seats_in, seats_of, found_in, runner_seat, runner_there, runner_alive, put_in, kept_in, changed_in}
-use Rattle.abstract_unix.proofs.Steps.{AptSteps, Begun, AptBegun, returns_apt, signals_apt, answers_apt, came_apt}
+use Rattle.abstract_unix.proofs.Steps.{AptSteps, Begun, AptBegun, ends_in, returns_apt, signals_apt, answers_apt, came_apt}
 use Rattle.abstract_unix.proofs.Quiet.{HasNumbers, Calm, same_call, calm_walks, resume_calm}
 use Rattle.sys_files.proofs.Walks.{IsAwaiting}
 use Rattle.abstract_unix.proofs.FileRows.{walk_row}
@@ -85,6 +93,55 @@ module _ (s : ℕ) (seen : Seen) where
       let came : AptBegun s seen (came_by u s (fork_one (world_of u) s)) = came_apt s seen u (fork_one (world_of u) s) (fork_fine s seen (world_of u) i).fine in
       shared_apt (came_by u s (fork_one (world_of u) s)) (shares u.files (process_of u s).u.files (fork_one (world_of u) s).answer) came
 
+  -- a call that has read the disk waits for it, in place of coming out of its trap
+  waits_apt : (u : Unix) (es : List (Effect Unix)) → Apt {W = Unix} (InCall s false (seats_of u)) seen es
+      → AptSteps s seen (record { effects = es; unix = waits_for_disk u s; ending = ending.Slept pribio (Disk s) })
+  waits_apt u es a =
+      let v : Unix = waits_for_disk u s in
+      ends_in s seen v es (ending.Slept pribio (Disk s)) tt
+      (apt_append (InCall s false (seats_of u)) (Paused (seats_of v)) seen es (Show (Log (line.Sleep s pribio (Disk s))) ∷ []) a
+      (λ now i. sleep_apt Unix s (seats_of v) now pribio (Disk s)
+      (changed_in u.processes u.clock u.texts u.limit s false now (waiting_until (disk_end u.timing) (process_of u s)) i
+      (runner_alive u.processes u.clock u.texts u.limit s now.board i.turn) refl refl) (refl, refl) (in_its_slot i.turn)))
+
+  timed_apt : (has_read : Bool) (steps : Steps) → (has_read ≡ true → steps.ending ≡ ending.Trapped) → AptBegun s seen steps
+      → AptBegun s seen (takes_time has_read s steps)
+  timed_apt has_read steps trapped a = by has_read (not (steps.unix.timing.disk == 0)) trapped
+    where
+      by : (b c : Bool) → (b ≡ true → steps.ending ≡ ending.Trapped)
+          → AptBegun s seen (cond (b && c) (record steps { unix = waits_for_disk steps.unix s; ending = ending.Slept pribio (Disk s) }) steps)
+      by true true t = record { begun = waits_apt steps.unix steps.effects (subst (Begun s seen steps.effects steps.unix) (t refl) a.begun) }
+      by true false t = a
+      by false c t = a
+
+  -- only what is done has read the disk
+  did_trapped : (u : Unix) (call : FileCall) (h : Handed) (did : Did) → reads_disk call h did.answer ≡ true
+      → (did_by u s did).ending ≡ ending.Trapped
+  did_trapped u call h did reads = by did.answer reads
+    where
+      has : (b c d : Bool) → (b && c && d) ≡ true → c ≡ true
+      has true true d e = refl
+      has true false d e = absurd (cc e)
+      has false c d e = absurd (cc e)
+
+      by : (a : Answer) → reads_disk call h a ≡ true → (answers (with_handed u s did.state) s a).ending ≡ ending.Trapped
+      by (Ret r0 r1) e = refl
+      by (Fail x) e = absurd (let f = has (is_read call) (has_bytes (Fail x)) _ e in cc f)
+      by (Sleep pri chan) e = absurd (let f = has (is_read call) (has_bytes (Sleep pri chan)) _ e in cc f)
+
+  came_trapped : (u : Unix) (call : ProcessCall) (c : Comes) → loads_program call c.answer ≡ true
+      → (came_by u s c).ending ≡ ending.Trapped
+  came_trapped u call c loads = by c.answer loads
+    where
+      has : (b c : Bool) → (b && c) ≡ true → c ≡ true
+      has true c e = e
+      has false c e = absurd (cc e)
+
+      by : (a : Answer) → loads_program call a ≡ true → (answers (with_world u c.state) s a).ending ≡ ending.Trapped
+      by (Ret r0 r1) e = refl
+      by (Fail x) e = absurd (let f = has (is_exec call) (is_done (Fail x)) e in cc f)
+      by (Sleep pri chan) e = absurd (let f = has (is_exec call) (is_done (Sleep pri chan)) e in cc f)
+
   call_apt : (u : Unix) (call : SystemCall) (args : List ℕ) → HasNumbers (handed_of u (process_of u s)) → Calling s (world_of u) seen
       → AptBegun s seen (does_call u s call args)
   unfolding Apt
@@ -93,9 +150,14 @@ module _ (s : ℕ) (seen : Seen) where
   call_apt u Fork args numbers i = forks_apt u i
   call_apt u Unknown args numbers i = answers_apt s seen u [] (Fail ENOSYS) i
   call_apt u (OnFiles call) args numbers i =
-      did_apt s u seen false (process_of u s).u (file_row call (handed_of u (process_of u s)) s args u.clock.time) i (same_call (process_of u s).u).size (no_pending s u seen i)
-      (calm_row call (handed_of u (process_of u s)) s args u.clock.time numbers)
-  call_apt u (OnProcesses call) args numbers i = came_apt s seen u (process_row call (world_of u) s args) (fine_row call s seen (world_of u) args i).fine
+      let h : Handed = handed_of u (process_of u s) in
+      let did : Did = file_row call h s args u.clock.time in
+      timed_apt (reads_disk call h did.answer) (did_by u s did) (did_trapped u call h did)
+      (did_apt s u seen false (process_of u s).u did i (same_call (process_of u s).u).size (no_pending s u seen i)
+      (calm_row call h s args u.clock.time numbers))
+  call_apt u (OnProcesses call) args numbers i =
+      let c : Comes = process_row call (world_of u) s args in
+      timed_apt (loads_program call c.answer) (came_by u s c) (came_trapped u call c) (came_apt s seen u c (fine_row call s seen (world_of u) args i).fine)
 
   asked_apt : (u : Unix) (a : Asked) (entry : Sysent) → HasNumbers (handed_of u (process_of u s)) → Calling s (world_of u) seen → AptBegun s seen (does_asked u s a entry)
   asked_apt u a entry numbers i =
@@ -121,7 +183,7 @@ module _ (s : ℕ) (seen : Seen) where
       (runner_alive u.processes u.clock u.texts u.limit s seen.board t) refl refl
 
   resumed_apt : (u : Unix) → IsTidy u → Paused (seats_of u) seen → InTurn s (seats_of u) seen.board → AptBegun s seen (resumed u s)
-  resumed_apt u tidy p t = by (is_on_files (process_of u s).u.pending) refl
+  resumed_apt u tidy p t = first ((process_of u s).u.pending == DISK_WAIT)
     where
       old : UArea
       old = record (process_of u s).u { pending = NOTHING_PENDING; call = replicate 8 0 }
@@ -140,6 +202,13 @@ module _ (s : ℕ) (seen : Seen) where
           (resume_calm (handed_of u (process_of u s)) s u.clock.time (at_end on) (tidy_numbers u s tidy))
       by false on =
           came_apt s seen u (resume_proc (world_of u) s) (plain_fine s seen _ _ (resume_plain s (world_of u)) (wakes u p t)).fine
+
+      others : Steps
+      others = cond (is_on_files (process_of u s).u.pending) (did_by u s (resumes (handed_of u (process_of u s)) s u.clock.time)) (came_by u s (resume_proc (world_of u) s))
+
+      first : (b : Bool) → AptBegun s seen (cond b (returns (with_process u s (awake (process_of u s)))) others)
+      first true = returns_apt s seen (with_process u s (awake (process_of u s))) (wakes u p t)
+      first false = by (is_on_files (process_of u s).u.pending) refl
 
   -- another process that sits as this one did
   pub same_seats : (processes : List (Option Process)) (clock : Clock) (texts : List (Option Text)) (limit : ℕ) (p : Process)

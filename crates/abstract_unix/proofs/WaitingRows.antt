@@ -10,9 +10,9 @@ use Rattle.v6_base.specs.declared.errno.Errno.{Errno}
 use Rattle.fs_codec.specs.Store.{Node}
 use Rattle.fs_codec.specs.declared.modes.TheConstants.{ISUID, ISGID}
 use Rattle.fs_tree.specs.Finding.{with_reference}
-use Rattle.u_area.specs.declared.layout.TheConstants.{NOTHING_PENDING}
+use Rattle.u_area.specs.declared.layout.TheConstants.{NOTHING_PENDING, DISK_WAIT}
 use Rattle.u_area.specs.declared.area.UArea.{UArea}
-use Rattle.u_area.specs.Pending.{is_on_files, IsPipeCall}
+use Rattle.u_area.specs.Pending.{is_on_files}
 use Rattle.seg_regs.specs.Sizes.{is_refused}
 use Rattle.pick_rules.specs.Effects as effect
 use Rattle.proc_tab.specs.Processes.{lowest}
@@ -38,7 +38,7 @@ use Rattle.abstract_unix.specs.Calls.{process_row}
 use Rattle.abstract_unix.proofs.PendingRows.{is_sleep}
 use Rattle.abstract_unix.proofs.ProcessRows.{Plain, gives, refuses, waits, changes, due, nice, wakes, dated, buries, plain_row, resume_plain}
 use Rattle.v6_base.specs.declared.entry.Entry.{Entry}
-use Rattle.abstract_unix.proofs.GoingOnLemmas.{WaitedIn, AllWaited, waited_same, all_waited_same, all_waited_then, like_waited, apart_waited, user_waited, dead_waited, gone_waited, all_waited_put}
+use Rattle.abstract_unix.proofs.GoingOnLemmas.{Waiting, WaitedIn, AllWaited, waited_same, all_waited_same, all_waited_then, like_waited, apart_waited, user_waited, gone_waited, all_waited_put}
 
 -- What has a fact where a slot is set: the new one has it, and so has what is there where there is no such slot.
 pub set_either : {A : Type 0} (P : A → Type 0) (xs : List A) (s : ℕ) (x d : A) → P x → P (get_or xs s d)
@@ -99,10 +99,11 @@ module _ (ps : List (Option Process)) (s : ℕ) where
     ];
   }
 
-  -- a call that wants no place for an image: where it sleeps, its process waits in no pipe
-  apart : (n : ℕ) → is_on_files n ≡ false → IsPipeCall n → ⊥
-  apart n none (inl three) = let on : is_on_files n ≡ true = ap is_on_files three in cc (none, on)
-  apart n none (inr four) = let on : is_on_files n ≡ true = ap is_on_files four in cc (none, on)
+  -- a call that wants no place for an image: where it sleeps, its process waits in no pipe, and not for the disk
+  apart : (n : ℕ) → is_on_files n ≡ false → (n == DISK_WAIT) ≡ false → Waiting n → ⊥
+  apart n none other (inl (inl three)) = let on : is_on_files n ≡ true = ap is_on_files three in cc (none, on)
+  apart n none other (inl (inr four)) = let on : is_on_files n ≡ true = ap is_on_files four in cc (none, on)
+  apart n none other (inr disk) = let on : (n == DISK_WAIT) ≡ true = ap (λ m. m == DISK_WAIT) disk in cc (other, on)
 
   plain_eased : (w : World) (c : Comes) → Plain s w c → IsFree w → IsEased c
   plain_eased w c (gives v r0 r1) is = eased _ is
@@ -111,7 +112,7 @@ module _ (ps : List (Option Process)) (s : ℕ) where
       let q : Process = rule (process_of w s) in
       record {
         waited = all_waited_then ps w.processes _ is.waited
-            (all_waited_put w.processes s (Some q) (apart_waited _ q (apart q.u.pending sleeping.apart)));
+            (all_waited_put w.processes s (Some q) (apart_waited _ q (apart q.u.pending sleeping.apart sleeping.other)));
         user = λ awake. absurd (cc awake);
       }
   plain_eased w c (changes v rule d same pending rest) is =
@@ -348,19 +349,19 @@ module _ (ps : List (Option Process)) (s : ℕ) where
   strays_waited true ppid qs = all_adopted ppid qs
   strays_waited false ppid qs = all_waited_same qs
 
-  dead_all_waited : (w : World) → AllWaited ps w.processes → AllWaited ps (dead w s).processes
-  dead_all_waited w waited =
+  dead_all_waited : (w : World) → IsFree ps s w → AllWaited ps (dead w s).processes
+  dead_all_waited w is =
       let p : Process = process_of w s in
       let z : Process = record p { is_zombie = true; «data» = []; stack = [] } in
       let qs : List (Option Process) = set w.processes s (Some z) in
       let strays : List (Option Process) = strays_adopted (slot_of w p.row.ppid) p.row.ppid qs in
-      all_waited_then ps qs _ (all_waited_then ps w.processes qs waited (all_waited_put w.processes s (Some z) (dead_waited _ z refl)))
+      all_waited_then ps qs _ (all_waited_then ps w.processes qs is.waited (all_waited_put w.processes s (Some z) (user_waited _ z is.free)))
       (all_waited_then qs strays _ (strays_waited (is_none (slot_of w p.row.ppid)) p.row.ppid qs) (all_adopted p.row.pid strays))
 
   freed_waited : (w : World) (text : Option ℕ) → IsFree ps s w
       → AllWaited ps (xfree w s text (λ left. dies left s)).state.processes
-  freed_waited w None is = dead_all_waited w is.waited
-  freed_waited w (Some k) is = dead_all_waited (leaves_text w s k (is_sticky w k)) (left_free ps s w k is).waited
+  freed_waited w None is = dead_all_waited w is
+  freed_waited w (Some k) is = dead_all_waited (leaves_text w s k (is_sticky w k)) (left_free ps s w k is)
 
   ended_waited : (w : World) (status : ℕ) → IsFree ps s w → AllWaited ps (end_proc w s status).state.processes
   unfolding end_proc

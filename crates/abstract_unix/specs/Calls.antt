@@ -1,6 +1,8 @@
 -- The system calls that are built: section II of the UNIX Programmer's Manual; Lions' Commentary, `sysent` and `trap`.
-use Rattle.std.specs.Prelude.{ℕ, zero, suc, ◌+◌, ◌-◌, ◌*◌, ◌%◌, ◌==◌, ◌&&◌, nat_lt, nat_le, true, false, if◌then◌else◌, List, [], ◌∷◌, ◌++◌, map, find, Option, Some, None, Result, Ok, Err, slice_index, slice_set}
+use Rattle.std.specs.Prelude.{ℕ, zero, suc, ◌+◌, ◌-◌, ◌*◌, ◌/◌, ◌%◌, ◌==◌, not, ◌&&◌, nat_lt, nat_le, Bool, true, false, if◌then◌else◌, List, [], ◌∷◌, ◌++◌, map, find, Option, Some, None, Result, Ok, Err, slice_index, slice_set}
 use Rattle.std.specs.Option.{option_map, unwrap_or}
+use Rattle.v6_base.specs.declared.entry.Chan.TheVariants.{Disk}
+use Rattle.v6_base.specs.declared.errno.Errno.{Errno}
 use Rattle.v6_base.specs.declared.errno.Errno.TheVariants.{ENOSYS}
 use Rattle.v6_base.specs.Access.{load_word}
 use Rattle.v6_base.specs.Image.{Image}
@@ -8,16 +10,19 @@ use Rattle.v6_base.specs.Trace.{Item, Log, sent, line_bytes, entries_of}
 use Rattle.v6_base.specs.declared.answer.Answer.{Answer}
 use Rattle.v6_base.specs.declared.answer.Answer.TheVariants.{Ret, Fail, Sleep}
 use Rattle.v6_base.specs.declared.space.Trap.{Trap}
+use Rattle.fs_codec.specs.Modes.{is_device}
 use Rattle.pick_rules.specs.Effects.{Show, lifted}
+use Rattle.pick_rules.specs.Priority.{pribio}
 use Rattle.open_files.specs.declared.file.OpenFile.{OpenFile}
 use Rattle.open_files.specs.Files.{shared}
 use Rattle.u_area.specs.declared.area.UArea.{UArea}
+use Rattle.u_area.specs.declared.layout.TheConstants.{DISK_WAIT}
 use Rattle.u_area.specs.Pending.{is_on_files}
 use Rattle.image_keep.specs.Running.{with_state}
 use Rattle.sys_files.specs.declared.devices.TheConstants.{LINES}
-use Rattle.sys_files.specs.Handed.{Handed}
+use Rattle.sys_files.specs.Handed.{Handed, r0, node_at, file_of}
 use Rattle.sys_files.specs.Did.{Did}
-use Rattle.sys_files.specs.Descriptors.{Closing, dup_file, close_file, close_all}
+use Rattle.sys_files.specs.Descriptors.{Closing, open_entry, dup_file, close_file, close_all}
 use Rattle.sys_files.specs.Making.{creat_file, mknod_at, link_file, unlink_file}
 use Rattle.sys_files.specs.Modes.{stty_set, gtty_get}
 use Rattle.sys_files.specs.Moving.{read_file_of, write_file_of, seek_to, resumes}
@@ -36,7 +41,7 @@ use Rattle.sys_procs.specs.Times.{time_now, set_time, times_to, sleep_for}
 use Rattle.sys_procs.specs.Fork.{fork_one}
 use Rattle.sys_procs.specs.Wait.{wait_child}
 use Rattle.sys_procs.specs.Exit.{exit_status, end_proc}
-use Rattle.sys_procs.specs.Resume.{resume_proc}
+use Rattle.sys_procs.specs.Resume.{awake, resume_proc}
 use Rattle.sys_procs.specs.Signals.{kill_to, signal_set}
 use Rattle.sig_core.specs.declared.numbers.TheConstants.{SIGSEG, SIGSYS}
 use Rattle.abstract_unix.specs.declared.asked.Asked.{Asked}
@@ -47,8 +52,8 @@ use Rattle.abstract_unix.specs.declared.calls.ProcessCall.TheVariants as process
 use Rattle.abstract_unix.specs.declared.calls.SystemCall.{SystemCall}
 use Rattle.abstract_unix.specs.declared.calls.SystemCall.TheVariants.{Indirect, Exit, Fork, Unknown, OnFiles, OnProcesses}
 use Rattle.abstract_unix.specs.declared.calls.Sysent.{Sysent}
-use Rattle.abstract_unix.specs.declared.ending.Ending.TheVariants.{Ended, Trapped}
-use Rattle.abstract_unix.specs.Unix.{Unix, process_of, with_process}
+use Rattle.abstract_unix.specs.declared.ending.Ending.TheVariants.{Ended, Trapped, Slept}
+use Rattle.abstract_unix.specs.Unix.{Timing, Unix, process_of, with_process}
 use Rattle.abstract_unix.specs.References.{references_of}
 use Rattle.abstract_unix.specs.Errors.{error_number}
 use Rattle.abstract_unix.specs.Steps.{Steps, returns, sleeps, signals, after_effects}
@@ -256,14 +261,74 @@ exits_with u slot status =
 abbrev pub exits : Unix → ℕ → Steps
 exits u slot = exits_with u slot (exit_status (process_of u slot))
 
+-- The number of an open file names a plain file or a directory, and no pipe: a pipe's inode is plain too, but its bytes come
+-- from a writer.
+abbrev pub is_of_disk : Handed → Result ℕ Errno → Bool
+is_of_disk h (Ok entry) =
+    let file : OpenFile = file_of h entry in not file.kind.pipe && not (is_device (node_at h file.ino).mode)
+is_of_disk h (Err e) = false
+
+abbrev pub has_bytes : Answer → Bool
+has_bytes (Ret r0 r1) = not (r0 == 0)
+has_bytes (Fail e) = false
+has_bytes (Sleep pri chan) = false
+
+abbrev pub is_read : FileCall → Bool
+is_read file.Read = true
+is_read call = false
+
+-- A read has taken bytes from the disk: R0 names the file before the call, and afterwards holds how many there were.
+abbrev pub reads_disk : FileCall → Handed → Answer → Bool
+reads_disk call h answer = is_read call && has_bytes answer && is_of_disk h (open_entry h (r0 h))
+
+abbrev pub is_exec : ProcessCall → Bool
+is_exec process.Exec = true
+is_exec call = false
+
+abbrev pub is_done : Answer → Bool
+is_done (Ret r0 r1) = true
+is_done (Fail e) = false
+is_done (Sleep pri chan) = false
+
+-- an exec has loaded its program
+abbrev pub loads_program : ProcessCall → Answer → Bool
+loads_program call answer = is_exec call && is_done answer
+
+-- The pending call is a wait for the disk, up to the end of the slot of this number: its words keep that where sleep(II) keeps
+-- its time.
+abbrev pub waiting_area : ℕ → UArea → UArea
+waiting_area n u = record u { pending = DISK_WAIT; call = 0 ∷ 0 ∷ 0 ∷ 0 ∷ n / 65536 ∷ n % 65536 ∷ 0 ∷ 0 ∷ [] }
+
+abbrev pub waiting_until : ℕ → Process → Process
+waiting_until n p = record p { u = waiting_area n p.u }
+
+-- the slot isn't over in which the call was made, and the transfer takes so many more
+abbrev pub disk_end : Timing → ℕ
+disk_end t = t.passed + 1 + t.disk
+
+abbrev pub waits_for_disk : Unix → ℕ → Unix
+waits_for_disk u slot = with_process u slot (waiting_until (disk_end u.timing) (process_of u slot))
+
+-- Where a transfer takes time, the turn of a call that has read the disk ends with a wait for it: `iowait` in Lions'
+-- Commentary, `bio.c`.
+abbrev pub takes_time : Bool → ℕ → Steps → Steps
+takes_time has_read slot s =
+    if has_read && not (s.unix.timing.disk == 0)
+    then record s { unix = waits_for_disk s.unix slot; ending = Slept pribio (Disk slot) } else s
+
 -- A call that has been entered. An indirect call that leads to another does nothing.
 abbrev pub does_call : Unix → ℕ → SystemCall → List ℕ → Steps
 does_call u slot Indirect args = returns u
 does_call u slot Exit args = exits u slot
 does_call u slot Fork args = forks u slot
 does_call u slot Unknown args = refuses u slot (error_number ENOSYS)
-does_call u slot (OnFiles call) args = did_by u slot (file_row call (handed_of u (process_of u slot)) slot args u.clock.time)
-does_call u slot (OnProcesses call) args = came_by u slot (process_row call (world_of u) slot args)
+does_call u slot (OnFiles call) args =
+    let h : Handed = handed_of u (process_of u slot) in
+    let did : Did = file_row call h slot args u.clock.time in
+    takes_time (reads_disk call h did.answer) slot (did_by u slot did)
+does_call u slot (OnProcesses call) args =
+    let c : Comes = process_row call (world_of u) slot args in
+    takes_time (loads_program call c.answer) slot (came_by u slot c)
 
 -- A line of the table of calls: a number; how many arguments follow the word of its call, and which call it is. What has no
 -- line is no call, and takes no arguments.
@@ -340,8 +405,9 @@ system_call number u slot =
     let a : Asked = asked (image_of u.texts p) (register p 7) number in
     does_asked u slot a (sysent_of a.number)
 
--- A process that slept in a call goes on with it.
+-- A process that slept in a call goes on with it. One that waited for the disk has done its call.
 abbrev pub resumed : Unix → ℕ → Steps
 resumed u slot =
+    if (process_of u slot).u.pending == DISK_WAIT then returns (with_process u slot (awake (process_of u slot))) else (
     if is_on_files (process_of u slot).u.pending then did_by u slot (resumes (handed_of u (process_of u slot)) slot u.clock.time)
-    else came_by u slot (resume_proc (world_of u) slot)
+    else came_by u slot (resume_proc (world_of u) slot))

@@ -11,6 +11,7 @@ use Rattle.tty_line.specs.declared.line.Keyed.TheVariants.{Nothing, Ready, Flush
 use Rattle.tty_line.specs.Input.{Typed, typed}
 use Rattle.pick_rules.specs.declared.row.Mode.{Mode}
 use Rattle.pick_rules.specs.declared.row.Mode.TheVariants.{User, Kernel, Idle}
+use Rattle.pick_rules.specs.Board.{Board}
 use Rattle.pick_rules.specs.Effects.{Effect, Show}
 use Rattle.pick_rules.specs.Logged.{nothing_logged, logged}
 use Rattle.u_area.specs.declared.area.UArea.{UArea}
@@ -123,5 +124,12 @@ typed_of m l byte =
     happens (with_key l k.keyed (with_terminal m.unix l k.terminal))
     (logged m.board (map Show (sent l k.shown ++ key_lines l k.keyed m.unix) ++ wakes (calls k.keyed) (keys_of l)))
 
+-- nothing is logged, and nobody settles
+abbrev pub quietly : Unix → Board → Happened
+quietly u b = record (happens u (nothing_logged b)) { settles = false }
+
 abbrev pub switched_of : System → ℕ → Happened
-switched_of m word = happens (record m.unix { switches = word }) (nothing_logged m.board)
+switched_of m word = quietly (record m.unix { switches = word }) m.board
+
+abbrev pub disk_set_of : System → ℕ → Happened
+disk_set_of m count = quietly (record m.unix { timing = record m.unix.timing { disk = count } }) m.board

@@ -18,8 +18,8 @@ use Rattle.abstract_unix.specs.declared.ends.Ends.TheVariants.{AtEnd, Panic}
 use Rattle.abstract_unix.specs.Unix.{Unix, System, no_texts}
 use Rattle.abstract_unix.specs.Endings.{last_line}
 use Rattle.abstract_unix.specs.Init.{init_data}
-use Rattle.abstract_unix.specs.Turn.{Happened, Turn, stays, settled_after, pass_of, slot_of}
-use Rattle.abstract_unix.specs.Outside.{tick_of, typed_of, switched_of}
+use Rattle.abstract_unix.specs.Turn.{Happened, Turn, settled_after, pass_of, whole_slot}
+use Rattle.abstract_unix.specs.Outside.{tick_of, typed_of, switched_of, disk_set_of}
 
 -- process 1, whose program executes `/etc/init`: it has no parent, one click of data, and the root as its directory
 abbrev pub first_process : Process
@@ -43,6 +43,7 @@ first_unix store core = record {
   switches = 0;
   last_pid = 1;
   limit = min core 2048;
+  timing = record { passed = 0; disk = 0 };
 }
 
 -- the system before its first turn
@@ -67,17 +68,18 @@ pub data Event : Type 0 where
   Tick : Event  -- a sixtieth of a second has passed
   Byte : ℕ → Event  -- a byte is typed at the console
   Switch : ℕ → Event  -- the switches of the console are set to a word
+  Disk : ℕ → Event  -- from now on a transfer from the disk takes so many slots
 
 -- what happens in an event
 abbrev pub happened : Event → System → Happened
-happened Slot m = slot_of m m.board.table.running
+happened Slot m = whole_slot m
 happened Tick m = tick_of m
 happened (Byte byte) m = typed_of m 0 byte
 happened (Switch word) m = switched_of m word
+happened (Disk count) m = disk_set_of m count
 
--- and what the event comes to: the switches let nobody settle
+-- and what the event comes to
 abbrev pub event_of : Event → System → Turn
-event_of (Switch word) m = stays (happened (Switch word) m)
 event_of e m = settled_after (happened e m)
 
 -- a run up to some point: what it has shown, the system there, and how it ends, as far as it has come

@@ -1,6 +1,7 @@
 -- The turn of a slot, where there is a process: an instruction, or a call that it goes on with, until it exits. `trap` and `swtch` in Lions' Commentary, `trap.c` and `slp.c`.
-use Rattle.std.specs.Prelude.{◌≡◌, ℕ, zero, suc, ◌==◌, ◌&&◌, Bool, true, false, not, List, [], ◌∷◌, ◌++◌, Option, Some, None, Result, Ok, Err, if◌then◌else◌}
+use Rattle.std.specs.Prelude.{◌≡◌, ℕ, zero, suc, ◌+◌, ◌*◌, ◌==◌, ◌&&◌, Bool, true, false, not, List, [], ◌∷◌, ◌++◌, map, slice_index, Option, Some, None, Result, Ok, Err, if◌then◌else◌}
 use Rattle.v6_base.specs.Trace.{Item, Log}
+use Rattle.v6_base.specs.declared.entry.Chan.TheVariants.{Disk}
 use Rattle.v6_base.specs.declared.entry.Entry.{Entry}
 use Rattle.v6_base.specs.declared.entry.PanicKind.{PanicKind}
 use Rattle.v6_base.specs.declared.entry.Entry.TheVariants as entry
@@ -34,6 +35,8 @@ use Rattle.abstract_unix.specs.Steps as to
 use Rattle.abstract_unix.specs.Steps.{Steps, returns, signals}
 use Rattle.sig_core.specs.declared.numbers.TheConstants.{SIGINS, SIGTRC, SIGIOT, SIGEMT, SIGBUS}
 use Rattle.sig_core.specs.Signals.{handler_of}
+use Rattle.sys_procs.specs.Signals.{meant_in}
+use Rattle.u_area.specs.declared.layout.TheConstants.{DISK_WAIT}
 use Rattle.abstract_unix.specs.Calls.{system_call, grows_to, resumed}
 use Rattle.abstract_unix.specs.Delivery.{ends_turn}
 
@@ -103,17 +106,18 @@ settled_as (Some e) b = record { items = Log e ∷ []; board = applied b e }
 abbrev pub settled : Board → Settled
 settled b = settled_as (settle b.table) b
 
--- What has happened in an event, before the kernel settles: the Unix and the log then, whether nobody was there to run, and
--- how the run ends, as far as the event tells.
+-- What has happened in an event, before the kernel settles: the Unix and the log then, whether nobody was there to run, whether
+-- the kernel settles after it, and how the run ends, as far as the event tells.
 pub record Happened : Type 0 where
   pub unix : Unix
   pub log : Logged Unix
   pub is_idle : Bool
+  pub settles : Bool
   pub ending : Ends
 
 -- An event leaves this Unix and this log. A panic leaves the Unix that stood before it.
 abbrev pub happens : Unix → Logged Unix → Happened
-happens u l = record { unix = left_by l.stop u; log = l; is_idle = false; ending = AtEnd }
+happens u l = record { unix = left_by l.stop u; log = l; is_idle = false; settles = true; ending = AtEnd }
 
 -- what an event comes to: what is shown, the system then, whether nobody was there to run, and how the run ends, as far as
 -- the event tells
@@ -133,17 +137,17 @@ stays h = record {
 }
 
 -- the kernel settles after it
-abbrev pub settles : Happened → Turn
-settles h =
+abbrev pub settling : Happened → Turn
+settling h =
     let now : Settled = settled h.log.board in
     record (stays h) { items = h.log.items ++ now.items; next = record { unix = h.unix; board = now.board } }
 
--- Settling comes where somebody ran, or something came from outside, and the run goes on.
+-- Settling comes where the event calls for it, and the run goes on.
 abbrev pub calls_for_settling : Happened → Bool
-calls_for_settling h = not (is_early h.ending) && not h.is_idle
+calls_for_settling h = not (is_early h.ending) && h.settles
 
 abbrev pub settled_after : Happened → Turn
-settled_after h = if calls_for_settling h then settles h else stays h
+settled_after h = if calls_for_settling h then settling h else stays h
 
 -- how a turn ends the run, if it does
 abbrev pub ending_of : Ending → Ends
@@ -181,10 +185,45 @@ abbrev pub slot_by : System → ℕ → Happened
 slot_by m zero = pass_of m
 slot_by m (suc s) = turn_of m (suc s) (turn m (suc s))
 
--- A slot with nobody running does nothing.
+-- In a slot with nobody running there is no turn.
 abbrev pub slot_of : System → Option ℕ → Happened
-slot_of m None = record (happens m.unix (nothing_logged m.board)) { is_idle = true }
+slot_of m None = record (happens m.unix (nothing_logged m.board)) { is_idle = true; settles = false }
 slot_of m (Some slot) = slot_by m slot
+
+-- A slot has been taken: it counts.
+abbrev pub with_slot : Unix → Unix
+with_slot u = record u { timing = record u.timing { passed = u.timing.passed + 1 } }
+
+abbrev pub counted : Happened → Happened
+counted h = record h { unix = with_slot h.unix }
+
+-- Effects follow what has happened: the kernel settles after them.
+abbrev pub followed : Happened → List (Effect Unix) → Happened
+followed h [] = h
+followed h (effect ∷ effects) =
+    let l : Logged Unix = logged h.log.board (effect ∷ effects) in
+    record h { log = record l { items = h.log.items ++ l.items }; settles = true }
+
+-- the number of the slot with whose end a wait for the disk ends
+abbrev pub disk_end_of : Process → ℕ
+disk_end_of p = 65536 * slice_index p.u.call 4 + slice_index p.u.call 5
+
+abbrev pub waits_until : ℕ → ℕ → Process → Bool
+waits_until n s p = (p.u.pending == DISK_WAIT) && (disk_end_of p == n)
+
+-- Who has waited for the disk up to the end of this slot is woken, lowest slot first: `iodone` in Lions' Commentary, `bio.c`.
+abbrev pub disk_lines : Unix → List Item
+disk_lines u = map (λ s. Log (entry.Wake (Disk s))) (meant_in (waits_until u.timing.passed) u.processes)
+
+abbrev pub wakes_disks : Happened → Happened
+wakes_disks h = followed h (map Show (disk_lines h.unix))
+
+-- What follows a slot. One in which the run stops isn't counted.
+abbrev pub after_slot : Happened → Happened
+after_slot h = if is_early h.ending then h else wakes_disks (counted h)
+
+abbrev pub whole_slot : System → Happened
+whole_slot m = after_slot (slot_of m m.board.table.running)
 
 -- what a kernel answers of a turn
 abbrev pub turned_by : Ends → Bool → Turned

@@ -11,6 +11,11 @@ use Rattle.sys_procs.specs.World.{Clock}
 pub use Rattle.sys_procs.specs.TextTable.{Text}
 unfoldable pub use Rattle.sys_procs.specs.TextTable.{no_texts}
 
+-- how many slots have passed, and how many a transfer from the disk takes: 0 is none
+pub record Timing : Type 0 where
+  pub passed : ℕ
+  pub disk : ℕ
+
 pub record Unix : Type 0 where
   pub store : Store  -- the file system
   pub processes : List (Option Process)  -- by their slots, of which there are 50; slot 0 is the kernel's own
@@ -22,6 +27,7 @@ pub record Unix : Type 0 where
   pub switches : ℕ  -- the console's
   pub last_pid : ℕ  -- the number that was given last to a process
   pub limit : ℕ  -- the most clicks of an image
+  pub timing : Timing
 
 -- all that a kernel holds: what programs can see, and the board that its log tells, by which it chooses who runs
 pub record System : Type 0 where

@@ -1,5 +1,5 @@
 -- What belongs together in a system: open files count the numbers that name them, and inodes who refers to them.
-use Rattle.std.specs.Prelude.{◌≡◌, ◌≤◌, ℕ, true, false, ◌+◌, ◌==◌, if◌then◌else◌, List, Option, Some, None, map, count_by, length, slice_index, slice_index_or}
+use Rattle.std.specs.Prelude.{◌≡◌, ◌≢◌, ◌≤◌, ◌<◌, ◌⊎◌, ℕ, true, false, ◌+◌, ◌==◌, if◌then◌else◌, List, Option, Some, None, map, count_by, length, slice_index, slice_index_or}
 use Rattle.std.specs.List.{sum_by}
 use Rattle.open_files.specs.declared.file.OpenFile.{OpenFile}
 use Rattle.open_files.specs.Files.{file_at, times}
@@ -10,6 +10,8 @@ use Rattle.sys_files.specs.Sound.{is_of, numbers_of}
 use Rattle.sys_procs.specs.Process.{Process}
 use Rattle.abstract_unix.specs.Unix.{Text, Unix, process_at}
 use Rattle.abstract_unix.specs.References.{is_text_of}
+use Rattle.u_area.specs.declared.layout.TheConstants.{DISK_WAIT}
+use Rattle.abstract_unix.specs.Turn.{disk_end_of}
 
 -- what the counts see of a process that lives: the numbers of its files, and its directory
 pub record Told : Type 0 where
@@ -67,3 +69,13 @@ pub record IsInPipe (files : List (Option OpenFile)) (p : Process) : Type 0 wher
 
 pub record CanGoOn (u : Unix) : Type 0 where
   pub waits : (s : ℕ) (p : Process) → process_at u s ≡ Some p → p.is_zombie ≡ false → IsPipeCall p.u.pending → IsInPipe u.files p
+
+-- Who waits for the disk waits for the end of a slot that has passed, or of one from `due` on.
+pub record AreDue (due : ℕ) (u : Unix) : Type 0 where
+  pub next : u.timing.passed < due
+  pub each : (s : ℕ) (p : Process) → process_at u s ≡ Some p → p.u.pending ≡ DISK_WAIT
+      → (disk_end_of p ≤ u.timing.passed) ⊎ (due ≤ disk_end_of p)
+
+-- Who has ended waits for nothing.
+abbrev pub NoGraveWaits : Unix → Type 0
+NoGraveWaits u = (s : ℕ) (p : Process) → process_at u s ≡ Some p → p.is_zombie ≡ true → p.u.pending ≢ DISK_WAIT

@@ -4,7 +4,8 @@ use Rattle.std.proofs.lemmas.Int.{ints}
 use Rattle.std.proofs.lemmas.List.{set-get_or}
 use Rattle.v6_base.specs.Trace.{Log}
 use Rattle.v6_base.specs.declared.entry.Chan.{Chan}
-use Rattle.v6_base.specs.declared.entry.Chan.TheVariants.{RunIn, RunOut, Tout, Keys, Wait, Read, Write}
+use Rattle.v6_base.specs.declared.entry.Chan.TheVariants.{RunIn, RunOut, Tout, Keys, Wait, Read, Write, Disk, KeysOf, ShowOf}
+use Rattle.v6_base.specs.declared.entry.Chan.TheVariants as channel
 use Rattle.v6_base.specs.declared.entry.Entry.{Entry}
 use Rattle.v6_base.specs.declared.entry.Entry.TheVariants as line
 use Rattle.pick_rules.specs.declared.row.Stat.TheVariants.{Empty, Sleeping, Waiting}
@@ -242,9 +243,13 @@ sleep_pri s RunIn pri k = absurd k
 sleep_pri s RunOut pri k = absurd k
 sleep_pri s Tout pri k = rw k (omega (arith, ints), omega (arith, ints))
 sleep_pri s Keys pri k = rw k (omega (arith, ints), omega (arith, ints))
+sleep_pri s channel.Show pri k = rw k (omega (arith, ints), omega (arith, ints))
 sleep_pri s (Wait t) pri k = rw k.0 (omega (arith, ints), omega (arith, ints))
 sleep_pri s (Read i) pri k = rw k (omega (arith, ints), omega (arith, ints))
 sleep_pri s (Write i) pri k = rw k (omega (arith, ints), omega (arith, ints))
+sleep_pri s (Disk t) pri k = rw k.0 (omega (arith, ints), omega (arith, ints))
+sleep_pri s (KeysOf l) pri k = rw k (omega (arith, ints), omega (arith, ints))
+sleep_pri s (ShowOf l) pri k = rw k (omega (arith, ints), omega (arith, ints))
 
 pub sleep_apt : (W : Type 0) (s : ℕ) (v : Seats) (seen : Seen) (pri : ℤ) (chan : Chan) → InCall s true v seen
     → IsSleep s chan pri → IsChannel chan

@@ -3,14 +3,14 @@ use Rattle.std.proofs.Common.{◌≡◌, ◌≤◌, ℕ, Bool, true, false, List
 use Rattle.std.proofs.lemmas.Option.{none-some, same_Some}
 use Rattle.std.proofs.lemmas.Bool.{false≢true}
 use Rattle.v6_base.specs.declared.entry.Chan.{Chan}
-use Rattle.v6_base.specs.declared.entry.Chan.TheVariants.{RunIn, RunOut, Tout, Keys, Wait, Read, Write}
+use Rattle.v6_base.specs.declared.entry.Chan.TheVariants.{RunIn, RunOut, Tout, Keys, Show, Wait, Read, Write, Disk, KeysOf, ShowOf}
 use Rattle.v6_base.specs.declared.entry.PanicKind.TheVariants as panic
 use Rattle.v6_base.specs.declared.entry.Place.{Place}
 use Rattle.v6_base.specs.declared.entry.Place.TheVariants as place
 use Rattle.v6_base.specs.declared.entry.Entry.{Entry}
 use Rattle.v6_base.specs.declared.entry.Entry.TheVariants.{Boot, Go, Idle, Trap, TickUser, TickKernel, TickIdle, Sleep, Wake, Signal, Nice, Time, Size, SizeKeep, Fork, Leave, Bare, Text, Share, Image, SwapIn, SwapOut, Exit, Reap, Panic, End}
 use Rattle.v6_base.specs.LogLine.{entry_words, entry_line}
-use Rattle.pick_rules.specs.Ranges.{IsSlot, IsText, IsBlock, IsSignal, IsInode, IsChannel, IsPlace, IsInRange}
+use Rattle.pick_rules.specs.Ranges.{IsSlot, IsText, IsBlock, IsSignal, IsInode, IsLine, IsChannel, IsPlace, IsInRange}
 use Rattle.log_text.specs.Held.{IsByte, IsWord, HoldsChannel, HoldsPlace, IsHeld}
 use Rattle.log_text.specs.inside.Reading.{words_of, entry_of}
 use Rattle.log_text.proofs.SplitLemmas.{are_words, come_apart, are_short}
@@ -118,14 +118,21 @@ block_held n range = omega arith
 inode_held : (n : ℕ) → IsInode n → IsWord n
 inode_held n range = range.1
 
+line_held : (n : ℕ) → IsLine n → IsByte n
+line_held n range = omega arith
+
 channel_held : (chan : Chan) → IsChannel chan → HoldsChannel chan
 channel_held RunIn range = tt
 channel_held RunOut range = tt
 channel_held Tout range = tt
 channel_held Keys range = tt
+channel_held Show range = tt
 channel_held (Wait slot) range = slot_held slot range
 channel_held (Read inode) range = inode_held inode range
 channel_held (Write inode) range = inode_held inode range
+channel_held (Disk slot) range = slot_held slot range
+channel_held (KeysOf line) range = line_held line range
+channel_held (ShowOf line) range = line_held line range
 
 place_held : (p : Place) → IsPlace p → HoldsPlace p
 place_held (place.Core click) range = range

@@ -8,7 +8,7 @@ use Rattle.std.proofs.lemmas.Int.{ints}
 use Rattle.std.proofs.lemmas.Fmt.{decimal_is_IsNumeral}
 use Rattle.std.proofs.lemmas.Str.Parse.{not_in_digits}
 use Rattle.v6_base.specs.declared.entry.Chan.{Chan}
-use Rattle.v6_base.specs.declared.entry.Chan.TheVariants.{RunIn, RunOut, Tout, Keys, Wait, Read, Write}
+use Rattle.v6_base.specs.declared.entry.Chan.TheVariants.{RunIn, RunOut, Tout, Keys, Show, Wait, Read, Write, Disk, KeysOf, ShowOf}
 use Rattle.v6_base.specs.LogLine.{channel}
 use Rattle.pick_rules.specs.Ranges.{IsPriority}
 use Rattle.log_text.specs.Held.{IsByte, IsWord, IsLong, HoldsChannel}
@@ -56,6 +56,10 @@ channel_back RunIn range = refl
 channel_back RunOut range = refl
 channel_back Tout range = refl
 channel_back Keys range = refl
+channel_back Show range = refl
 channel_back (Wait slot) range = ap (option_map Wait) (byte_back slot range)
 channel_back (Read inode) range = ap (option_map Read) (word_back inode range)
 channel_back (Write inode) range = ap (option_map Write) (word_back inode range)
+channel_back (Disk slot) range = ap (option_map Disk) (byte_back slot range)
+channel_back (KeysOf line) range = ap (option_map KeysOf) (byte_back line range)
+channel_back (ShowOf line) range = ap (option_map ShowOf) (byte_back line range)

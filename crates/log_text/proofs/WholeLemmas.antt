@@ -4,7 +4,7 @@ use Rattle.std.specs.Fmt.{decimal, signed_decimal}
 use Rattle.std.proofs.lemmas.Fmt.{length-decimal-le}
 use Rattle.std.proofs.lemmas.Int.{ints}
 use Rattle.v6_base.specs.declared.entry.Chan.{Chan}
-use Rattle.v6_base.specs.declared.entry.Chan.TheVariants.{RunIn, RunOut, Tout, Keys, Wait, Read, Write}
+use Rattle.v6_base.specs.declared.entry.Chan.TheVariants.{RunIn, RunOut, Tout, Keys, Show, Wait, Read, Write, Disk, KeysOf, ShowOf}
 use Rattle.v6_base.specs.LogLine.{channel}
 use Rattle.pick_rules.specs.Ranges.{IsPriority}
 use Rattle.log_text.specs.Held.{IsByte, IsWord, IsLong, HoldsChannel}
@@ -36,9 +36,16 @@ channel_whole RunIn range = refl
 channel_whole RunOut range = refl
 channel_whole Tout range = refl
 channel_whole Keys range = refl
+channel_whole Show range = refl
 channel_whole (Wait slot) range =
     let few = five slot (omega arith) in whole_with (codes "wait.") slot refl (decimal_has_none slot (omega arith)) (omega (arith, few))
 channel_whole (Read inode) range =
     let few = five inode range in whole_with (codes "read.") inode refl (decimal_has_none inode (omega arith)) (omega (arith, few))
 channel_whole (Write inode) range =
     let few = five inode range in whole_with (codes "write.") inode refl (decimal_has_none inode (omega arith)) (omega (arith, few))
+channel_whole (Disk slot) range =
+    let few = five slot (omega arith) in whole_with (codes "disk.") slot refl (decimal_has_none slot (omega arith)) (omega (arith, few))
+channel_whole (KeysOf line) range =
+    let few = five line (omega arith) in whole_with (codes "keys.") line refl (decimal_has_none line (omega arith)) (omega (arith, few))
+channel_whole (ShowOf line) range =
+    let few = five line (omega arith) in whole_with (codes "show.") line refl (decimal_has_none line (omega arith)) (omega (arith, few))

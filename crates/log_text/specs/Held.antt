@@ -2,7 +2,7 @@
 -- with a sign.
 use Rattle.std.specs.Prelude.{ℕ, ◌≤◌, ⊤}
 use Rattle.v6_base.specs.declared.entry.Chan.{Chan}
-use Rattle.v6_base.specs.declared.entry.Chan.TheVariants.{RunIn, RunOut, Tout, Keys, Wait, Read, Write}
+use Rattle.v6_base.specs.declared.entry.Chan.TheVariants.{RunIn, RunOut, Tout, Keys, Show, Wait, Read, Write, Disk, KeysOf, ShowOf}
 use Rattle.v6_base.specs.declared.entry.Place.{Place}
 use Rattle.v6_base.specs.declared.entry.Place.TheVariants as place
 use Rattle.v6_base.specs.declared.entry.Entry.{Entry}
@@ -23,9 +23,13 @@ HoldsChannel RunIn = ⊤
 HoldsChannel RunOut = ⊤
 HoldsChannel Tout = ⊤
 HoldsChannel Keys = ⊤
+HoldsChannel Show = ⊤
 HoldsChannel (Wait slot) = IsByte slot
 HoldsChannel (Read inode) = IsWord inode
 HoldsChannel (Write inode) = IsWord inode
+HoldsChannel (Disk slot) = IsByte slot
+HoldsChannel (KeysOf line) = IsByte line
+HoldsChannel (ShowOf line) = IsByte line
 
 abbrev pub HoldsPlace : Place → Type 0
 HoldsPlace (place.Core click) = IsWord click

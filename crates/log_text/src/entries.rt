@@ -18,12 +18,20 @@ fn channel(name: &[u8]) -> Option<Chan>
         Some(Chan::Tout)
     } else if is(name, b"keys") {
         Some(Chan::Keys)
+    } else if is(name, b"show") {
+        Some(Chan::Show)
     } else if let Some(slot) = name.strip_prefix(b"wait.") {
         Some(Chan::Wait(read_u8(slot)?))
     } else if let Some(inode) = name.strip_prefix(b"read.") {
         Some(Chan::Read(read_u16(inode)?))
     } else if let Some(inode) = name.strip_prefix(b"write.") {
         Some(Chan::Write(read_u16(inode)?))
+    } else if let Some(slot) = name.strip_prefix(b"disk.") {
+        Some(Chan::Disk(read_u8(slot)?))
+    } else if let Some(line) = name.strip_prefix(b"keys.") {
+        Some(Chan::KeysOf(read_u8(line)?))
+    } else if let Some(line) = name.strip_prefix(b"show.") {
+        Some(Chan::ShowOf(read_u8(line)?))
     } else {
         None
     }

@@ -1,8 +1,8 @@
 //! Whether the numbers of a line are those that a line of the log may have.
 ghost use Rattle.std.specs.Prelude.{◌↔◌, IsTrue};
-ghost use Rattle.pick_rules.specs.Ranges.{IsSlot, IsText, IsBlock, IsSignal, IsInode, IsChannel, IsPlace, IsInRange};
+ghost use Rattle.pick_rules.specs.Ranges.{IsSlot, IsText, IsBlock, IsSignal, IsInode, IsLine, IsChannel, IsPlace, IsInRange};
 
-use pick_rules::{LAST_BLOCK, LAST_SIGNAL, LAST_SLOT, LAST_TEXT, SWAP_START};
+use pick_rules::{LAST_BLOCK, LAST_LINE, LAST_SIGNAL, LAST_SLOT, LAST_TEXT, SWAP_START};
 use v6_base::{Chan, Entry, Place, Slot};
 
 fn is_slot(slot: Slot) -> bool
@@ -35,14 +35,20 @@ fn is_inode(inode: u16) -> bool
     inode != 0
 }
 
+fn is_line(line: u8) -> bool
+    ensures { IsTrue result ↔ IsLine line }
+{
+    (1..=LAST_LINE).contains(&line)
+}
+
 fn is_channel(chan: Chan) -> bool
     ensures { IsTrue result ↔ IsChannel chan }
 {
     match chan {
-        Chan::RunIn | Chan::RunOut | Chan::Tout | Chan::Keys => true,
-        Chan::Wait(slot) => is_slot(slot),
-        Chan::Read(inode) => is_inode(inode),
-        Chan::Write(inode) => is_inode(inode),
+        Chan::RunIn | Chan::RunOut | Chan::Tout | Chan::Keys | Chan::Show => true,
+        Chan::Wait(slot) | Chan::Disk(slot) => is_slot(slot),
+        Chan::Read(inode) | Chan::Write(inode) => is_inode(inode),
+        Chan::KeysOf(line) | Chan::ShowOf(line) => is_line(line),
     }
 }
 

@@ -177,9 +177,13 @@ fn add_channel(line: &mut Line, chan: Chan)
         Chan::RunOut => add_word(line, b"runout"),
         Chan::Tout => add_word(line, b"tout"),
         Chan::Keys => add_word(line, b"keys"),
+        Chan::Show => add_word(line, b"show"),
         Chan::Wait(slot) => add_numbered(line, b"wait.", slot.into()),
         Chan::Read(inode) => add_numbered(line, b"read.", inode.into()),
         Chan::Write(inode) => add_numbered(line, b"write.", inode.into()),
+        Chan::Disk(slot) => add_numbered(line, b"disk.", slot.into()),
+        Chan::KeysOf(number) => add_numbered(line, b"keys.", number.into()),
+        Chan::ShowOf(number) => add_numbered(line, b"show.", number.into()),
     }
 }
 

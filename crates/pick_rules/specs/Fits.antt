@@ -1,7 +1,7 @@
 -- Which line of the log fits a board.
 use Rattle.std.specs.Prelude.{◌≡◌, ◌≢◌, ◌⊎◌, ℕ, ◌<◌, ◌≤◌, ◌==◌, ℤ, if◌then◌else◌, find, Option, Some, None}
 use Rattle.v6_base.specs.declared.entry.Chan.{Chan}
-use Rattle.v6_base.specs.declared.entry.Chan.TheVariants.{RunIn, RunOut, Tout, Keys, Wait, Read, Write}
+use Rattle.v6_base.specs.declared.entry.Chan.TheVariants.{RunIn, RunOut, Tout, Keys, Show, Wait, Read, Write, Disk, KeysOf, ShowOf}
 use Rattle.v6_base.specs.declared.entry.PanicKind.{PanicKind}
 use Rattle.v6_base.specs.declared.entry.PanicKind.TheVariants as panic
 use Rattle.v6_base.specs.declared.entry.Entry.{Entry}
@@ -12,7 +12,7 @@ use Rattle.pick_rules.specs.declared.row.Stat.TheVariants.{Empty, Zombie}
 use Rattle.pick_rules.specs.Search.{slots_above_0}
 use Rattle.pick_rules.specs.declared.table.Table.{Table}
 use Rattle.pick_rules.specs.Table.{row_at, is_empty}
-use Rattle.pick_rules.specs.Priority.{pswp, ppipe, ttipri, pwait, pslep}
+use Rattle.pick_rules.specs.Priority.{pswp, pribio, ppipe, ttipri, ttopri, pwait, pslep}
 use Rattle.pick_rules.specs.Choice.{settle}
 use Rattle.pick_rules.specs.Board.{Board, limit, blocks, text_at, free_text, placed, swap_fit}
 use Rattle.pick_rules.specs.Swapper.{In, Out, Waits, swap_move}
@@ -44,8 +44,12 @@ abbrev pub IsSleep : ℕ → Chan → ℤ → Type 0
 IsSleep s (Read i) pri = pri ≡ ppipe
 IsSleep s (Write i) pri = pri ≡ ppipe
 IsSleep s Keys pri = pri ≡ ttipri
+IsSleep s (KeysOf l) pri = pri ≡ ttipri
+IsSleep s Show pri = pri ≡ ttopri
+IsSleep s (ShowOf l) pri = pri ≡ ttopri
 IsSleep s (Wait t) pri = (pri ≡ pwait) × (t ≡ s)
 IsSleep s Tout pri = pri ≡ pslep
+IsSleep s (Disk t) pri = (pri ≡ pribio) × (t ≡ s)
 IsSleep s RunIn pri = ⊥
 IsSleep s RunOut pri = ⊥
 

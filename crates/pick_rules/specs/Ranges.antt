@@ -1,12 +1,12 @@
 -- The numbers that a line of the log may have. A line with any other number is no line of a log.
 use Rattle.std.specs.Prelude.{ℕ, ℤ, pos, negsuc, ◌≤◌, ◌≤ℤ◌, ⊤}
 use Rattle.v6_base.specs.declared.entry.Chan.{Chan}
-use Rattle.v6_base.specs.declared.entry.Chan.TheVariants.{RunIn, RunOut, Tout, Keys, Wait, Read, Write}
+use Rattle.v6_base.specs.declared.entry.Chan.TheVariants.{RunIn, RunOut, Tout, Keys, Show, Wait, Read, Write, Disk, KeysOf, ShowOf}
 use Rattle.v6_base.specs.declared.entry.Place.{Place}
 use Rattle.v6_base.specs.declared.entry.Place.TheVariants as place
 use Rattle.v6_base.specs.declared.entry.Entry.{Entry}
 use Rattle.v6_base.specs.declared.entry.Entry.TheVariants.{Boot, Go, Idle, Trap, TickUser, TickKernel, TickIdle, Sleep, Wake, Signal, Nice, Time, Size, SizeKeep, Fork, Leave, Bare, Text, Share, Image, SwapIn, SwapOut, Exit, Reap, Panic, End}
-use Rattle.pick_rules.specs.declared.ranges.TheConstants.{LAST_SLOT, LAST_TEXT, SWAP_START, LAST_BLOCK, LAST_SIGNAL}
+use Rattle.pick_rules.specs.declared.ranges.TheConstants.{LAST_SLOT, LAST_TEXT, SWAP_START, LAST_BLOCK, LAST_SIGNAL, LAST_LINE}
 
 -- a slot of the table of processes
 abbrev pub IsSlot : ℕ → Type 0
@@ -38,14 +38,22 @@ IsInode n = (1 ≤ n) × (n ≤ 65535)
 abbrev pub IsPriority : ℤ → Type 0
 IsPriority z = (negsuc 127 ≤ℤ z) × (z ≤ℤ pos 127)
 
+-- a line of a terminal other than the console
+abbrev pub IsLine : ℕ → Type 0
+IsLine n = (1 ≤ n) × (n ≤ LAST_LINE)
+
 abbrev pub IsChannel : Chan → Type 0
 IsChannel RunIn = ⊤
 IsChannel RunOut = ⊤
 IsChannel Tout = ⊤
 IsChannel Keys = ⊤
+IsChannel Show = ⊤
 IsChannel (Wait slot) = IsSlot slot
 IsChannel (Read inode) = IsInode inode
 IsChannel (Write inode) = IsInode inode
+IsChannel (Disk slot) = IsSlot slot
+IsChannel (KeysOf line) = IsLine line
+IsChannel (ShowOf line) = IsLine line
 
 abbrev pub IsPlace : Place → Type 0
 IsPlace (place.Core click) = IsClicks click

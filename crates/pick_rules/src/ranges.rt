@@ -15,3 +15,6 @@ pub const LAST_BLOCK: u16 = 4871;
 
 /// The last of the signals: signal(II).
 pub const LAST_SIGNAL: u8 = 19;
+
+/// The last of the lines of terminals: the console is line 0.
+pub const LAST_LINE: u8 = 7;

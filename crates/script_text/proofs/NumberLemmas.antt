@@ -8,7 +8,8 @@ use Rattle.std.proofs.Math.Nat.{pow-le-pow_right}
 use Rattle.std.specs.List.{list_all}
 use Rattle.std.specs.Char.{is_ascii_digit, digit_value}
 use Rattle.std.specs.Str.Parse.{digits_value, AllDigits}
-use Rattle.script_text.specs.Number.{is_octal_digit}
+use Rattle.std.proofs.lemmas.Bool.Decides.{nat_tests}
+use Rattle.script_text.specs.Number.{is_number, is_octal_digit}
 
 digit_of : (d : ℕ) → is_ascii_digit d ≡ true → digit_value d < 10
 digit_of d pass = grind (arith, common_steps)
@@ -75,4 +76,13 @@ octal_small ds i short pass =
     let whole = digits_value-lt 8 ds (all_octal ds pass) in
     let front = digits_value-take-le 8 ds i (omega arith) in
     let power : 8 ^ length ds ≤ 8 ^ 6 = pow-le-pow_right (omega arith) short in
+    omega arith
+
+-- a number of one to nine digits
+pub number_small : (text : List ℕ) → is_number text ≡ true → digits_value 10 text < 1000000000
+number_small text is =
+    let short : length text ≤ 9 = grind (arith, nat_tests) in
+    let pass : list_all is_ascii_digit text ≡ true = grind (arith, nat_tests) in
+    let whole = digits_value-lt 10 text (all_digits text pass) in
+    let power : 10 ^ length text ≤ 10 ^ 9 = pow-le-pow_right (omega arith) short in
     omega arith

@@ -6,7 +6,9 @@ use Rattle.script_text.specs.declared.script.ScriptFault.{ScriptFault}
 use Rattle.script_text.specs.declared.script.ScriptFault.TheVariants.{TooManySlots}
 use Rattle.script_text.specs.Lines.{lines_of}
 use Rattle.script_text.specs.Command.{events_of_line}
-use Rattle.script_text.specs.Script.{slots_of, before, then_lines, script_from, script_of}
+use Rattle.std.proofs.lemmas.List.Sums.{sum_by-append}
+use Rattle.script_text.proofs.RateLemmas.{rates_append, rates_line}
+use Rattle.script_text.specs.Script.{slots_of, AreRates, before, then_lines, script_from, script_of}
 
 before_more : (events more : List Event) (later : Result (List Event) ScriptFault)
     → before events (before more later) ≡ before (events ++ more) later
@@ -17,6 +19,8 @@ before_more events more (Err fault) = refl
 pub record HasRead (script rest : List ℕ) (line slots : ℕ) (events : List Event) : Type 0 where
   pub whole : script_of script ≡ before events (script_from (line + 1) slots (lines_of rest))
   pub few : slots ≤ 200000000
+  pub asked : sum_by slots_of events ≡ slots
+  pub rates : AreRates events
   pub within : line + length rest ≤ length script
 
 -- the next line
@@ -45,5 +49,7 @@ module _ (script rest : List ℕ) (line slots : ℕ) (events : List Event) (read
         record {
           whole = at_events ∙ rw below (before_more events asked _);
           few = few;
+          asked = sum_by-append slots_of events asked ∙ ap (λ n. n + sum_by slots_of asked) read.asked;
+          rates = rates_append events asked read.rates (rates_line text asked is);
           within = omega (arith, read.within);
         }

@@ -1,8 +1,8 @@
 -- What a script makes happen, or its first fault, by docs/manual/scripts.md.
-use Rattle.std.specs.Prelude.{◌≡◌, ⊤, ℕ, ◌+◌, nat_lt, if◌then◌else◌, Option, Some, None, Result, Ok, Err, List, [], ◌∷◌, ◌++◌, length, sum_by}
+use Rattle.std.specs.Prelude.{◌≡◌, ⊤, ℕ, ◌<◌, ◌+◌, nat_lt, if◌then◌else◌, Option, Some, None, Result, Ok, Err, List, [], ◌∷◌, ◌++◌, length, sum_by}
 use Rattle.script_text.specs.declared.script.TheConstants.{MAX_BYTES, MAX_SLOTS}
 use Rattle.script_text.specs.declared.script.Event.{Event}
-use Rattle.script_text.specs.declared.script.Event.TheVariants.{Clock, Run, Tick, Byte, Switch}
+use Rattle.script_text.specs.declared.script.Event.TheVariants.{Clock, Run, Tick, Byte, Switch, Disk}
 use Rattle.script_text.specs.declared.script.ScriptFault.{ScriptFault}
 use Rattle.script_text.specs.declared.script.ScriptFault.TheVariants.{TooLong, BadLine, TooManySlots, NoMemory}
 use Rattle.script_text.specs.Lines.{lines_of}
@@ -14,6 +14,13 @@ slots_of (Run n) = n
 slots_of Tick = 0
 slots_of (Byte b) = 0
 slots_of (Switch w) = 0
+slots_of (Disk n) = 0
+
+-- a transfer from the disk takes less than 10^9 slots
+abbrev pub AreRates : List Event → Type 0
+AreRates [] = ⊤
+AreRates (Disk n ∷ events) = (n < 1000000000) × AreRates events
+AreRates (event ∷ events) = AreRates events
 
 -- the events of a line, and then those of the lines after it, where there is no fault
 abbrev pub before : List Event → Result (List Event) ScriptFault → Result (List Event) ScriptFault

@@ -95,6 +95,13 @@ fn switch(text: &[u8]) -> Option<Command<'_>>
     Some(Command::One(Event::Switch(value as u16)))
 }
 
+fn disk(text: &[u8]) -> Option<Command<'_>>
+    ensures events { option_map events_of result ≡ one event.Disk (number_of text.now) }
+{
+    let slots = number_of(text)?;
+    Some(Command::One(Event::Disk(slots)))
+}
+
 fn command_of(line: &[u8]) -> Option<Command<'_>>
     ensures events { option_map events_of result ≡ command_of line.now }
 {
@@ -114,6 +121,8 @@ fn command_of(line: &[u8]) -> Option<Command<'_>>
         byte(after(b"byte ", line))
     } else if line.starts_with(b"switch ") {
         switch(after(b"switch ", line))
+    } else if line.starts_with(b"disk ") {
+        disk(after(b"disk ", line))
     } else {
         None
     }

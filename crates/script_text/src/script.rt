@@ -1,6 +1,6 @@
 //! A script as the list of its events.
-ghost use Rattle.std.specs.Prelude.{◌≡◌, Ok, IfOk, IfErr};
-ghost use Rattle.script_text.specs.Script.{script_of, Refuses};
+ghost use Rattle.std.specs.Prelude.{◌≡◌, ◌≤◌, Ok, IfOk, IfErr, sum_by};
+ghost use Rattle.script_text.specs.Script.{script_of, slots_of, AreRates, Refuses};
 
 use crate::command::{command_of_line, push, slots_asked};
 use crate::lines::first_line;
@@ -29,6 +29,8 @@ pub enum Event {
     Byte(u8),
     /// The switches of the console are set.
     Switch(u16),
+    /// From now on a transfer from the disk takes so many slots. 0 is none.
+    Disk(u32),
 }
 
 /// Why a script isn't read.
@@ -62,6 +64,8 @@ pub struct Script {
 /// `TooManySlots`. `NoMemory`: there was no memory for its events.
 pub fn read(alloc: Global, bytes: &[u8]) -> Result<Script, ScriptFault>
     ensures events { IfOk result (λ script. script_of bytes.now ≡ Ok script.events.items) }
+    ensures slots { IfOk result (λ script. sum_by slots_of script.events.items ≤ MAX_SLOTS) }
+    ensures rates { IfOk result (λ script. AreRates script.events.items) }
     ensures refused { IfErr result (Refuses bytes.now) }
 {
     if bytes.len() > MAX_BYTES {

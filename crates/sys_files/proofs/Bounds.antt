@@ -38,6 +38,10 @@ IsOfFiles Named Keys = Unit {0}
 IsOfFiles Named (channel.Wait slot) = ⊥
 IsOfFiles Named (Read ino) = Named ino
 IsOfFiles Named (channel.Write ino) = Named ino
+IsOfFiles Named channel.Show = ⊥
+IsOfFiles Named (channel.Disk slot) = ⊥
+IsOfFiles Named (channel.KeysOf line) = ⊥
+IsOfFiles Named (channel.ShowOf line) = ⊥
 
 -- A line of a call on files of the process of a slot: somebody is woken, or this process has the signal of a pipe that nobody
 -- reads.

@@ -36,6 +36,9 @@ use Rattle.unix_core.specs.declared.machine.Stage.TheVariants as stage
 use Rattle.abstract_unix.specs.Unix.{no_texts}
 use Rattle.abstract_unix.specs.References.{is_text_of}
 use Rattle.abstract_unix.specs.Runs.{first_process, first_unix, system_with}
+use Rattle.unix_core.specs.Slots.{timing_in, passed_in}
+use Rattle.unix_core.proofs.CountLemmas.{counted_first}
+use Rattle.abstract_unix.specs.Unix.{Timing}
 use Rattle.unix_core.specs.Parts.{unix_of, system_at, first_held, IsGood, IsNew, IsKernel}
 use Rattle.abstract_unix.specs.Whole.{Told, told_of, told_in, names, stands, all_names, all_stand, refer, Owes}
 use Rattle.abstract_unix.proofs.GoingOnLemmas.{none_goes_on}
@@ -239,7 +242,8 @@ module _ (fs : FileSystem) (core : ℕ) (referred : (ino : ℕ) → slice_index 
     (w : World) (nodes : w.files.tree.nodes ≡ fs) (marks : w.files.tree.marks ≡ no_marks) (table : w.files.table ≡ no_files) (pipes : w.files.pipes ≡ []) (line : w.files.line ≡ first_terminal)
     (rows : w.procs.rows ≡ first_processes) (slots : w.procs.table ≡ first_table fs.store.stamp) (good : IsTable w.procs.table)
     (images : w.procs.images.kept ≡ first_images core) (switches : w.procs.switches ≡ 0)
-    (entries : w.tape.entry_room ≡ 64) (bytes : w.tape.byte_room ≡ 524288) (clicks : w.core ≡ core) where
+    (entries : w.tape.entry_room ≡ 64) (bytes : w.tape.byte_room ≡ 524288) (clicks : w.core ≡ core)
+    (timing : timing_in w.slots ≡ record { passed = 0; disk = 0 }) where
   processes_are : (unix_of w).processes ≡ first_slots
   processes_are = (λ i. processes_in (rows i).slots (images i)) ∙ first_processes_are core
 
@@ -258,6 +262,7 @@ module _ (fs : FileSystem) (core : ℕ) (referred : (ino : ℕ) → slice_index 
     switches = switches i;
     last_pid = (rows i).last_pid;
     limit = min (images i).core 2048;
+    timing = timing i;
   }
 
   begun_agree : Agree w.procs.rows w.procs.table w.procs.images.kept
@@ -293,13 +298,16 @@ module _ (fs : FileSystem) (core : ℕ) (referred : (ino : ℕ) → slice_index 
     nobody_out = ap (λ t. candidate t) slots ∙ nobody_out fs.store.stamp;
   }
 
-  pub first_kernel : IsKernel stage.New w
-  first_kernel = record {
+  pub first_kernel : w.slots.left ≤ w.slots.due → 3000000001 < w.slots.due → IsKernel stage.New w
+  first_kernel within far = record {
     new = λ e. first_new;
     stopped = λ e. absurd (cc e);
     finished = λ e. absurd (cc e);
     running = λ s e. absurd (cc e);
     resting = λ e. absurd (cc e);
+    counted = λ goes. counted_first w.slots (unix_of w) within (ap (λ (t : Timing). t.disk) timing)
+        (let none : passed_in w.slots ≡ 0 = ap (λ (t : Timing). t.passed) timing in omega (arith, none, far))
+        (λ s p is. nobody_waits s p (ap (λ (l : List (Option Process)). get_or l s None) (sym processes_are) ∙ is));
   }
 
   pub first_system : system_at w ≡ system_with fs.store core

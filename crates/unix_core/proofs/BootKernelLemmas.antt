@@ -1,5 +1,5 @@
 -- What a kernel is beside its events: the start of its run, the switches, and the end.
-use Rattle.std.proofs.Common.{◌≡◌, ℕ, [], ◌∷◌, refl, ap}
+use Rattle.std.proofs.Common.{◌≡◌, ◌≤◌, ℕ, [], ◌∷◌, refl, ap}
 use Rattle.v6_base.specs.Trace.{Log, Took, Taken}
 use Rattle.v6_base.specs.declared.entry.Entry.TheVariants.{Boot}
 use Rattle.v6_base.proofs.Took.{took_then}
@@ -10,10 +10,11 @@ use Rattle.unix_core.specs.declared.machine.Stage.{Stage}
 use Rattle.unix_core.specs.declared.machine.Stage.TheVariants as stage
 use Rattle.abstract_unix.specs.Unix.{New, Started}
 use Rattle.abstract_unix.specs.Turn.{pass_of, settled_after}
-use Rattle.abstract_unix.specs.Runs.{start_of, event_of, Switch, finished}
+use Rattle.abstract_unix.specs.Runs.{start_of, event_of, Switch, Disk, finished}
 use Rattle.unix_core.specs.Memory.{kept_in}
 use Rattle.unix_core.specs.Parts.{unix_of, board_in, system_at, phase_of, IsGood, IsUser, IsCovered, IsKernel}
 use Rattle.unix_core.proofs.GoingLemmas.{going_same}
+use Rattle.unix_core.proofs.CountLemmas.{counted_same, counted_set}
 
 pub kernel_good : (at : Stage) (w : World) → phase_of at ≡ Started → IsKernel at w → IsGood w
 kernel_good stage.New w started kernel = (kernel.new refl).good
@@ -70,10 +71,56 @@ module _ (w : World) (word : ℕ) where
       idle = was.idle;
       calls = was.calls;
     };
+    counted = λ goes. counted_same w.slots (unix_of w) (unix_of switched) refl refl (kernel.counted goes);
   }
 
   pub switched_system : system_at switched ≡ (event_of (Switch word) (system_at w)).next
   switched_system = refl
+
+-- Nor of how long a transfer takes, but for the count.
+module _ (w : World) (count : ℕ) (most : count ≤ 999999999) where
+  abbrev set : World
+  set = record w { slots = record w.slots { disk = count } }
+
+  set_good : IsGood w → IsGood set
+  set_good good = record {
+    agree = good.agree;
+    owed = good.owed;
+    pending = going_same (unix_of w) (unix_of set) refl refl good.pending;
+    marks = good.marks;
+    running = good.running;
+    rooms = good.rooms;
+    core = good.core;
+  }
+
+  set_user : (s : ℕ) → IsUser s w → IsUser s set
+  set_user s user = record {
+    ready = record { good = set_good user.ready.good; runs = user.ready.runs; user = user.ready.user };
+    user = user.user;
+    settled = user.settled;
+  }
+
+  set_covered : IsCovered w → IsCovered set
+  unfolding kept_in
+  set_covered covered = covered
+
+  pub set_kernel : (at : Stage) → IsKernel at w → IsKernel at set
+  set_kernel at kernel = record {
+    new = λ e. let was = kernel.new e in record { good = set_good was.good; runs = was.runs; nobody_out = was.nobody_out };
+    stopped = λ e. set_covered (kernel.stopped e);
+    finished = λ e. set_covered (kernel.finished e);
+    running = λ f e. let was = kernel.running f e in record { user = set_user f.slot was.user; fixed = was.fixed };
+    resting = λ e. let was = kernel.resting e in record {
+      good = set_good was.good;
+      settled = was.settled;
+      idle = was.idle;
+      calls = was.calls;
+    };
+    counted = λ goes. counted_set w.slots count (unix_of w) (unix_of set) most refl refl (kernel.counted goes);
+  }
+
+  pub set_system : system_at set ≡ (event_of (Disk count) (system_at w)).next
+  set_system = refl
 
 -- All is on the disk: the file system is this one.
 module _ (w : World) (new : FileSystem) (store : new.store ≡ synced w.files.tree.nodes.store w.procs.table.now) where
@@ -97,6 +144,7 @@ stopped_kernel w covered = record {
   finished = λ e. absurd (cc e);
   running = λ f e. absurd (cc e);
   resting = λ e. absurd (cc e);
+  counted = λ goes. absurd (cc goes);
 }
 
 pub finished_kernel : (w : World) → IsCovered w → IsKernel stage.Finished w
@@ -106,6 +154,7 @@ finished_kernel w covered = record {
   finished = λ e. covered;
   running = λ f e. absurd (cc e);
   resting = λ e. absurd (cc e);
+  counted = λ goes. absurd (cc goes);
 }
 
 -- the stage of a run that hasn't been started

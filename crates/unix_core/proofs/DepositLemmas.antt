@@ -29,6 +29,9 @@ use Rattle.unix_core.specs.declared.world.World.{World}
 use Rattle.unix_core.specs.declared.machine.Stage.{Stage}
 use Rattle.unix_core.specs.declared.machine.Stage.TheVariants as stage
 use Rattle.unix_core.specs.Memory.{kept_in}
+use Rattle.unix_core.specs.Slots.{IsCounted}
+use Rattle.abstract_unix.proofs.GoingOnLemmas.{WaitedIn, like_waited, all_waited_put}
+use Rattle.unix_core.proofs.CountLemmas.{counted_waits}
 use Rattle.unix_core.specs.Parts.{unix_of, system_at, phase_of, IsGood, IsRunning, IsPaused, IsKernel}
 use Rattle.unix_core.specs.Deposits.{with_its_byte, with_byte_at, IsPutIn}
 use Rattle.unix_core.proofs.BootKernelLemmas.{kernel_good}
@@ -96,6 +99,16 @@ module _ (w : World) (x : ImagesState) (s : ℕ) (alive : IsAlive w.procs s) (im
     | inr other ↦ starts_others w.procs.images.kept s f.slot f.starts image other fixed
   ]
 
+  -- it waits as it did
+  memory_counted : IsCounted w.slots (unix_of w) → IsCounted now.slots (unix_of now)
+  memory_counted counted =
+      let p : Process = process_of (unix_of w) s in
+      let q : Process = record p { «data» = image.data; stack = image.stack } in
+      subst (λ (u : Unix). IsCounted now.slots u) (sym (memory_unix w x s alive image))
+      (counted_waits w.slots (unix_of w) (with_process (unix_of w) s q) refl
+      (all_waited_put (unix_of w).processes s (Some q) (subst (λ o. WaitedIn o (Some q)) (sym (alive_slot w s alive)) (like_waited p q refl refl refl refl)))
+      counted)
+
   memory_kernel : (at : Stage) → phase_of at ≡ Started → IsKernel at w → IsKernel at now
   memory_kernel stage.New started kernel = absurd (cc started)
   memory_kernel (stage.Running f) started kernel =
@@ -107,7 +120,7 @@ module _ (w : World) (x : ImagesState) (s : ℕ) (alive : IsAlive w.procs s) (im
           settled = was.user.settled;
         };
         fixed = fixed_same f was.fixed;
-      })
+      }) (memory_counted (kernel.counted refl))
   memory_kernel stage.Resting started kernel =
       let was : IsPaused w = kernel.resting refl in
       record {
@@ -121,6 +134,7 @@ module _ (w : World) (x : ImagesState) (s : ℕ) (alive : IsAlive w.procs s) (im
           idle = was.idle;
           calls = λ r runs above. user_same r ∙ was.calls r runs above;
         };
+        counted = λ goes. memory_counted (kernel.counted refl);
       }
   memory_kernel stage.Stopped started kernel = absurd (cc started)
   memory_kernel stage.Finished started kernel = absurd (cc started)

@@ -30,7 +30,8 @@ use Rattle.abstract_unix.specs.declared.ends.Ends.TheVariants.{AtEnd}
 use Rattle.abstract_unix.specs.Unix.{Unix, System, Started}
 use Rattle.unix_core.specs.Passing.{trapped, ended_table}
 use Rattle.abstract_unix.specs.Endings.{is_early}
-use Rattle.abstract_unix.specs.Turn.{Turn, end_effects, ending_of, settled, settled_after, turned_by, turned}
+use Rattle.abstract_unix.proofs.RunsLemmas.{whole_answer}
+use Rattle.abstract_unix.specs.Turn.{after_slot, Turn, end_effects, ending_of, settled, settled_after, turned_by, turned}
 use Rattle.unix_core.specs.Parts.{unix_of, board_in, system_at, turn_end, phase_of, is_over, IsGood, IsCovered, IsKernel, Takes}
 use Rattle.unix_core.proofs.BootKernelLemmas.{stopped_kernel}
 use Rattle.unix_core.proofs.TableLemmas.{RunsImage, with_table, good_table}
@@ -149,9 +150,9 @@ module _ (w : World) (good : IsGood w) (s : ℕ) (above : 0 < s) (low : s < 50) 
 
   -- the run goes on
   module _ (goes : ending_of e ≡ AtEnd) where
-    ended_is : settled_after (record { unix = unix_of w; log = logged (board_in w) (end_effects s e); is_idle = false; ending = AtEnd })
+    ended_is : settled_after (record { unix = unix_of w; log = logged (board_in w) (end_effects s e); is_idle = false; settles = true; ending = AtEnd })
         ≡ turn_end w s e
-    ended_is = ap (λ o. settled_after (record { unix = unix_of w; log = logged (board_in w) (end_effects s e); is_idle = false; ending = o })) (sym goes)
+    ended_is = ap (λ o. settled_after (record { unix = unix_of w; log = logged (board_in w) (end_effects s e); is_idle = false; settles = true; ending = o })) (sym goes)
 
     pub ended_takes : (at : Stage) (v : World) → IsKernel at v → phase_of at ≡ Started
         → board_in (with_table w t) ≡ (logged {W = Unix} (board_in w) (end_effects s e)).board
@@ -186,9 +187,4 @@ module _ (w : World) (s : ℕ) where
 
   -- what is answered of it
   pub end_answer : (e : Ending) → turned_by (ending_of e) false ≡ turned (turn_end w s e)
-  end_answer e = by (ending_of e)
-    where
-      by : (o : Ends) → turned_by o false
-          ≡ turned (settled_after (record { unix = unix_of w; log = logged (board_in w) (end_effects s e); is_idle = false; ending = o }))
-      by AtEnd = refl
-      by (ends.Panic kind) = refl
+  end_answer e = sym (whole_answer (record { unix = unix_of w; log = logged (board_in w) (end_effects s e); is_idle = false; settles = true; ending = ending_of e }))

@@ -20,6 +20,7 @@ use Rattle.sys_procs.proofs.Agreement.{is_there}
 use Rattle.unix_core.specs.declared.world.World.{World}
 use Rattle.abstract_unix.specs.Whole.{Told, told_by, told_in, Owed, CanGoOn}
 use Rattle.abstract_unix.proofs.Owing.{told_at, living}
+use Rattle.unix_core.specs.Slots.{timing_in}
 use Rattle.unix_core.specs.Parts.{unix_of, IsGood}
 
 -- what is told of a slot
@@ -98,6 +99,7 @@ pub record Rests (w now : World) : Type 0 where
   pub line : now.files.line ≡ w.files.line
   pub tape : now.tape ≡ w.tape
   pub core : now.core ≡ w.core
+  pub slots : now.slots ≡ w.slots
 
 module _ (w now : World) (rests : Rests w now) (clicks : (board now.procs).core ≡ (board w.procs).core) where
   pub moved_unix : (x : its.World) (files : List (Option OpenFile)) → handed now.procs now.files.tree.nodes ≡ x → x.switches ≡ w.procs.switches → now.files.table ≡ files
@@ -115,6 +117,7 @@ module _ (w now : World) (rests : Rests w now) (clicks : (board now.procs).core 
         switches = switches i;
         last_pid = (state i).last_pid;
         limit = min (clicks i) 2048;
+        timing = timing_in (rests.slots i);
       }
 
   pub good_then : IsGood w → AreProcs now.procs → ((s : ℕ) → now.procs.table.running ≡ Some s → 0 < s → HasImage now.procs.images.kept s) → Owed now.files.tree.nodes.references (unix_of now)

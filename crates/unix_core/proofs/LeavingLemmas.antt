@@ -67,6 +67,7 @@ pub record Leaves (w w' : World) (s : ℕ) (u : UArea) (row : Row) (image : Imag
   pub table : w'.procs.table ≡ w.procs.table
   pub switches : w'.procs.switches ≡ w.procs.switches
   pub core : w'.core ≡ w.core
+  pub slots : w'.slots ≡ w.slots
 
 module _ (w w' : World) (s : ℕ) (u : UArea) (row : Row) (image : Image) (state : Handed)
     (ready : IsReady w s) (leaves : Leaves w w' s u row image state) where
@@ -100,6 +101,7 @@ module _ (w w' : World) (s : ℕ) (u : UArea) (row : Row) (image : Image) (state
         entry_room = leaves.rooms.0;
         byte_room = leaves.rooms.1;
         world_core = leaves.core;
+        slots = leaves.slots;
       }
 
   pub leaves_unix : unix_of w' ≡ with_handed (unix_of w) s state
@@ -183,6 +185,7 @@ module _ (w : World) (s : ℕ) {u : UArea} {r : Row} {m : Image} (lent : IsLent 
       table = refl;
       switches = refl;
       core = refl;
+      slots = refl;
     }
 
     pub call_done : HasDone w after s a (does (given w s))
@@ -235,6 +238,7 @@ module _ (w : World) (s : ℕ) {u : UArea} {m : Image} (lent : IsLent w s u (row
         table = refl;
         switches = refl;
         core = refl;
+        slots = refl;
       }
 
   pub dumped_unix : unix_of dumped ≡ with_handed (unix_of w) s (core_file (given w s) now).state

@@ -20,6 +20,7 @@ use Rattle.unix_core.specs.declared.machine.Stage.TheVariants as stage
 use Rattle.abstract_unix.specs.Unix.{process_of, with_process}
 use Rattle.abstract_unix.specs.Turn.{is_user}
 use Rattle.abstract_unix.specs.Outside.{mode_by, mode_of, timed_area, timed, charged}
+use Rattle.unix_core.specs.Slots.{IsCounted}
 use Rattle.unix_core.specs.Parts.{unix_of, board_in, system_at, IsGood, IsReady, IsUser, IsRunning, IsKernel, IsKnown}
 use Rattle.unix_core.proofs.LoanLemmas.{area_core}
 use Rattle.unix_core.proofs.PutLemmas.{good_alive, IsLikeArea, with_images, with_kept, unix_put, good_put}
@@ -29,22 +30,24 @@ abbrev pub fixed_or : Fixed → Stage → Fixed
 fixed_or f (stage.Running g) = g
 fixed_or f at = f
 
-pub runs_kernel : (w : World) (f : Fixed) → IsRunning f w → IsKernel (stage.Running f) w
-runs_kernel w f running = record {
+pub runs_kernel : (w : World) (f : Fixed) → IsRunning f w → IsCounted w.slots (unix_of w) → IsKernel (stage.Running f) w
+runs_kernel w f running counted = record {
   new = λ e. absurd (cc e);
   stopped = λ e. absurd (cc e);
   finished = λ e. absurd (cc e);
   running = λ g e. subst (λ x. IsRunning x w) (ap (fixed_or f) e) running;
   resting = λ e. absurd (cc e);
+  counted = λ goes. counted;
 }
 
 -- a process executes instructions, of which it is known what stays fixed
-pub known_kernel : (at : Stage) (w : World) (s : ℕ) → IsKnown at w s → IsReady w s → settle w.procs.table ≡ None → is_user (process_of (unix_of w) s) ≡ true → IsKernel at w
-known_kernel at w s known ready settled user =
+pub known_kernel : (at : Stage) (w : World) (s : ℕ) → IsKnown at w s → IsReady w s → settle w.procs.table ≡ None → is_user (process_of (unix_of w) s) ≡ true
+    → IsCounted w.slots (unix_of w) → IsKernel at w
+known_kernel at w s known ready settled user counted =
     subst (λ (x : Stage). IsKernel x w) (sym known.stage) (runs_kernel w known.fixed (record {
       user = subst (λ t. IsUser t w) (sym known.slot) (record { ready = ready; user = user; settled = settled });
       fixed = known.is;
-    }))
+    }) counted)
 
 pub user_is : (w : World) (s : ℕ) (b : Bool) → IsAlive w.procs s → ((area_of w.procs.images.kept s).pending == NOTHING_PENDING) ≡ b → is_user (process_of (unix_of w) s) ≡ b
 user_is w s b alive is = ap (λ (v : UArea). v.pending == NOTHING_PENDING) (sym (area_here w.procs s alive)) ∙ is
@@ -53,8 +56,9 @@ abbrev one_of : Option ℕ → ℕ
 one_of None = 0
 one_of (Some s) = s
 
-pub calls_kernel : (w : World) (s : ℕ) → IsReady w s → settle w.procs.table ≡ None → is_user (process_of (unix_of w) s) ≡ false → IsKernel stage.Resting w
-calls_kernel w s ready settled calls = record {
+pub calls_kernel : (w : World) (s : ℕ) → IsReady w s → settle w.procs.table ≡ None → is_user (process_of (unix_of w) s) ≡ false
+    → IsCounted w.slots (unix_of w) → IsKernel stage.Resting w
+calls_kernel w s ready settled calls counted = record {
   new = λ e. absurd (cc e);
   stopped = λ e. absurd (cc e);
   finished = λ e. absurd (cc e);
@@ -65,6 +69,7 @@ calls_kernel w s ready settled calls = record {
     idle = λ none. let runs = ready.runs in absurd (cc (none, runs));
     calls = λ r runs above. subst (λ x. is_user (process_of (unix_of w) x) ≡ false) (ap one_of (sym ready.runs ∙ runs)) calls;
   };
+  counted = λ goes. counted;
 }
 
 -- where a tick comes

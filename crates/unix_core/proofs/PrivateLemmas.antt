@@ -1,5 +1,5 @@
 -- Processes are private: what each event leaves of those whose turn it isn't.
-use Rattle.std.proofs.Common.{◌≡◌, ◌≢◌, ◌≤◌, ◌⊎◌, ◌∙◌, ℕ, zero, suc, Bool, true, false, cond, ◌&&◌, ◌+◌, ◌==◌, nat_lt, is_some, if◌then◌else◌, List, [], ◌∷◌, ◌++◌, length, get_or, set, map, Option, Some, None, refl, sym, ap, subst, inl, inr}
+use Rattle.std.proofs.Common.{◌≡◌, ◌≢◌, ◌≤◌, ◌⊎◌, ◌∙◌, ℕ, zero, suc, Bool, true, false, cond, not, ◌&&◌, ◌+◌, ◌==◌, nat_lt, is_some, if◌then◌else◌, List, [], ◌∷◌, ◌++◌, length, get_or, set, map, Option, Some, None, refl, sym, ap, subst, inl, inr}
 use Rattle.std.specs.Prelude.{⊤, MatchOption, unwrap_or}
 use Rattle.std.proofs.lemmas.Bool.{cases_lt}
 use Rattle.std.proofs.lemmas.List.{get_or-set_same, get_or_past, length-set}
@@ -29,6 +29,7 @@ use Rattle.sys_files.specs.Moving.{resumes}
 use Rattle.tty_line.specs.declared.line.Keyed.{Keyed}
 use Rattle.tty_line.specs.declared.line.Keyed.TheVariants.{Nothing, Ready, Flushed, Signal}
 use Rattle.tty_line.specs.Input.{Typed, typed}
+use Rattle.u_area.specs.declared.layout.TheConstants.{DISK_WAIT}
 use Rattle.u_area.specs.declared.area.UArea.{UArea}
 use Rattle.u_area.specs.Pending.{is_on_files}
 use Rattle.sys_procs.specs.Process.{Process, no_process, register, image_of}
@@ -36,7 +37,7 @@ use Rattle.sys_procs.specs.Comes.{Comes}
 use Rattle.sys_procs.specs.Break.{grow, grown_or_not}
 use Rattle.sys_procs.specs.Exit.{exit_status, end_proc}
 use Rattle.sys_procs.specs.Fork.{fork_one}
-use Rattle.sys_procs.specs.Resume.{resume_proc}
+use Rattle.sys_procs.specs.Resume.{awake, resume_proc}
 use Rattle.sys_procs.specs.Signals.{signal_lines, all_signalled, has_line}
 use Rattle.abstract_unix.specs.declared.asked.Asked.{Asked}
 use Rattle.abstract_unix.specs.declared.calls.SystemCall.{SystemCall}
@@ -47,11 +48,12 @@ use Rattle.abstract_unix.specs.declared.ending.Ending.TheVariants as ending
 use Rattle.abstract_unix.specs.Unix.{Unix, System, process_of, with_process}
 use Rattle.abstract_unix.specs.Steps.{Steps, quietly, returns, signals, after_effects}
 use Rattle.abstract_unix.specs.Errors.{error_number}
-use Rattle.abstract_unix.specs.Calls.{in_order, handed_of, with_handed, world_of, with_world, with_area, entered_area, words_passed, asked, given_area, refused_area, refuses, answers, file_row, process_row, did_by, came_by, forks, closes_all, exits_with, grows, grown_by, does_call, sysent_of, does_asked, resumed}
+use Rattle.abstract_unix.specs.Calls.{in_order, handed_of, with_handed, world_of, with_world, with_area, entered_area, words_passed, asked, given_area, refused_area, refuses, answers, file_row, process_row, did_by, came_by, forks, closes_all, exits_with, grows, grown_by, waits_for_disk, takes_time, does_call, sysent_of, does_asked, resumed}
 use Rattle.abstract_unix.specs.Delivery.{heeds, catches, signal_status, dumped, ends_by, delivers_if, delivers_due, ends_by_ending}
-use Rattle.abstract_unix.specs.Turn.{Happened, stays, settles, calls_for_settling, settled_after, machine_of, with_machine, passes_setd, faults, comes_to, instruction, is_user, begins_turn, turn, end_effects, turn_of, pass_of, slot_of}
+use Rattle.abstract_unix.specs.Turn.{Happened, stays, settling, calls_for_settling, settled_after, machine_of, with_machine, passes_setd, faults, comes_to, instruction, is_user, begins_turn, turn, end_effects, turn_of, pass_of, slot_of, whole_slot}
 use Rattle.abstract_unix.specs.Outside.{mode_of, timed, charged, ticked, is_due, is_as_trap, wakes, tick_effects, tick_delivery, delivers_to, tick_of, calls, with_key, key_lines, typed_of}
-use Rattle.abstract_unix.specs.Runs.{Slot, Tick, Byte, Switch, event_of, start_of}
+use Rattle.abstract_unix.proofs.RunsLemmas.{after_keeps}
+use Rattle.abstract_unix.specs.Runs.{Slot, Tick, Byte, Switch, Disk, event_of, start_of}
 use Rattle.abstract_unix.specs.Private.{IsUndisturbed, AllUndisturbed, OthersUndisturbed, TickUndisturbed, UndisturbedIf, is_due_to, tick_delivers}
 use Rattle.sys_procs.proofs.Slots.{fifty_processes}
 use Rattle.unix_core.specs.declared.world.World.{World}
@@ -87,6 +89,12 @@ module _ (ps : List (Option Process)) (r s : ℕ) (other : r ≢ s) where
 
   spared_area : (u : Unix) (rule : UArea → UArea) → Spared ps u.processes r → Spared ps (with_area u s rule).processes r
   spared_area u rule h = spared_put u _ h
+
+  -- it waits for the disk
+  sparing_timed : (has_read : Bool) (steps : Steps) → AreSparing ps r steps → AreSparing ps r (takes_time has_read s steps)
+  sparing_timed has_read steps h =
+      sparing_if (has_read && not (steps.unix.timing.disk == 0)) _ _
+      (record { effects = h.effects; unix = spared_put steps.unix _ h.unix }) h
 
   -- the process is sent a signal
   sparing_signals : (u : Unix) (n : ℕ) → Spared ps u.processes r → AreSparing ps r (signals u s n)
@@ -149,9 +157,9 @@ module _ (ps : List (Option Process)) (r s : ℕ) (other : r ≢ s) where
     sparing_does long Exit args = sparing_exits (exit_status (process_of u s))
     sparing_does long Fork args = sparing_forks
     sparing_does long Unknown args = sparing_refuses u (error_number ENOSYS) h
-    sparing_does long (OnFiles call) args = sparing_did (file_row call (handed_of u (process_of u s)) s args u.clock.time)
+    sparing_does long (OnFiles call) args = sparing_timed _ _ (sparing_did (file_row call (handed_of u (process_of u s)) s args u.clock.time))
     sparing_does long (OnProcesses call) args =
-        sparing_came (process_row call (world_of u) s args) (sparing_row ps r s other call (world_of u) args long h)
+        sparing_timed _ _ (sparing_came (process_row call (world_of u) s args) (sparing_row ps r s other call (world_of u) args long h))
 
   -- A signal is delivered: it is caught,
   module _ (u : Unix) (h : Spared ps u.processes r) where
@@ -226,9 +234,11 @@ module _ (ps : List (Option Process)) (r s : ℕ) (other : r ≢ s) where
 
     sparing_resumed : AreSparing ps r (resumed u s)
     sparing_resumed =
-        sparing_if (is_on_files (process_of u s).u.pending) _ _
+        sparing_if ((process_of u s).u.pending == DISK_WAIT) _ _
+        (sparing_quiet (with_process u s (awake (process_of u s))) ending.Trapped (spared_put u _ h))
+        (sparing_if (is_on_files (process_of u s).u.pending) _ _
         (sparing_did u h (resumes (handed_of u (process_of u s)) s u.clock.time))
-        (sparing_came u h (resume_proc (world_of u) s) (sparing_resume ps r s other (world_of u) h))
+        (sparing_came u h (resume_proc (world_of u) s) (sparing_resume ps r s other (world_of u) h)))
 
 -- The lines with which a turn ends and which wake sleepers carry no state.
 module _ (P : Unix → Type 0) where
@@ -378,7 +388,7 @@ module _ (m : System) (r : ℕ) where
 pub settled_unix : (h : Happened) → (settled_after h).next.unix ≡ h.unix
 settled_unix h = by (calls_for_settling h)
   where
-    by : (b : Bool) → (cond b (settles h) (stays h)).next.unix ≡ h.unix
+    by : (b : Bool) → (cond b (settling h) (stays h)).next.unix ≡ h.unix
     by true = refl
     by false = refl
 
@@ -395,7 +405,9 @@ start_private m r = subst (λ (u : Unix). IsUndisturbed m.unix u r) (sym (settle
 pub slot_private : (m : System) → length m.unix.processes ≡ 50 → OthersUndisturbed m (event_of Slot m).next
 slot_private m long r other =
     let o : Option ℕ = m.board.table.running in
-    subst (λ (u : Unix). IsUndisturbed m.unix u r) (sym (settled_unix (slot_of m o))) (spared_slot m r long o other)
+    subst (λ (u : Unix). IsUndisturbed m.unix u r) (sym (settled_unix (whole_slot m)))
+    (subst (λ ps. Spared m.unix.processes ps r)
+    (sym (after_keeps (List (Option Process)) (λ (u : Unix). u.processes) (λ u. refl) (slot_of m o))) (spared_slot m r long o other))
 
 -- a tick,
 pub tick_private : (m : System) → TickUndisturbed m (event_of Tick m).next
@@ -413,3 +425,6 @@ typed_private m long byte r =
 
 pub switched_private : (m : System) (word : ℕ) → AllUndisturbed m (event_of (Switch word) m).next
 switched_private m word r = spared_same m.unix.processes r
+
+pub disk_private : (m : System) (count : ℕ) → AllUndisturbed m (event_of (Disk count) m).next
+disk_private m count r = spared_same m.unix.processes r

@@ -1,5 +1,5 @@
 -- Texts stay as they were made: what each event leaves of those that are shared.
-use Rattle.std.proofs.Common.{◌≡◌, ◌<◌, ◌∙◌, ◌==◌, ◌+◌, ℕ, zero, suc, Bool, true, false, cond, nat_lt, if◌then◌else◌, List, [], ◌∷◌, ◌++◌, length, set, map, Option, Some, None, refl, sym, subst}
+use Rattle.std.proofs.Common.{◌≡◌, ◌<◌, ◌∙◌, ◌==◌, ◌+◌, ℕ, zero, suc, Bool, true, false, cond, not, ◌&&◌, nat_lt, if◌then◌else◌, List, [], ◌∷◌, ◌++◌, length, set, map, Option, Some, None, refl, sym, subst}
 use Rattle.std.specs.Prelude.{⊤, MatchOption}
 use Rattle.std.specs.List.{list_any}
 use Rattle.std.proofs.lemmas.List.{length-set}
@@ -8,7 +8,7 @@ use Rattle.v6_base.specs.Trace.{Item, sent}
 use Rattle.v6_base.specs.declared.errno.Errno.TheVariants.{ENOSYS}
 use Rattle.v6_base.specs.declared.answer.Answer.{Answer}
 use Rattle.v6_base.specs.declared.answer.Answer.TheVariants.{Ret, Fail, Sleep}
-use Rattle.v6_base.specs.declared.entry.Chan.TheVariants.{Keys}
+use Rattle.v6_base.specs.declared.entry.Chan.TheVariants.{Keys, Disk}
 use Rattle.pdp_step.specs.declared.outcome.Outcome.{Outcome}
 use Rattle.pdp_step.specs.declared.outcome.Outcome.TheVariants.{Next, Call, Fault}
 use Rattle.pdp_step.specs.Instruction.{Stepped, instr}
@@ -17,8 +17,9 @@ use Rattle.pdp_step.specs.declared.outcome.Kind.TheVariants as kind
 use Rattle.pick_rules.specs.declared.row.Mode.{Mode}
 use Rattle.pick_rules.specs.Board.{Board}
 use Rattle.pick_rules.specs.Effects.{Effect, Show}
-use Rattle.pick_rules.specs.Logged.{Stop, left_by}
+use Rattle.pick_rules.specs.Logged.{Stop, logged, left_by}
 use Rattle.swap_sched.specs.Pass.{pass, stop_over}
+use Rattle.u_area.specs.declared.layout.TheConstants.{DISK_WAIT}
 use Rattle.u_area.specs.Pending.{is_on_files}
 use Rattle.sig_core.specs.declared.numbers.TheConstants.{SIGINS, SIGTRC, SIGIOT, SIGEMT, SIGBUS, SIGSEG, SIGSYS}
 use Rattle.sig_core.specs.Signals.{handler_of, due}
@@ -38,7 +39,7 @@ use Rattle.sys_procs.specs.Comes.{Comes}
 use Rattle.sys_procs.specs.Break.{grow, grown_or_not}
 use Rattle.sys_procs.specs.Exit.{exit_status, end_proc}
 use Rattle.sys_procs.specs.Fork.{fork_one}
-use Rattle.sys_procs.specs.Resume.{resume_proc}
+use Rattle.sys_procs.specs.Resume.{awake, resume_proc}
 use Rattle.sys_procs.specs.Signals.{signal_lines}
 use Rattle.abstract_unix.specs.declared.asked.Asked.{Asked}
 use Rattle.abstract_unix.specs.declared.calls.ProcessCall.{ProcessCall}
@@ -51,11 +52,13 @@ use Rattle.abstract_unix.specs.declared.ending.Ending.TheVariants as ending
 use Rattle.abstract_unix.specs.Unix.{Unix, System, Started, process_of, with_process}
 use Rattle.abstract_unix.specs.Steps.{Steps, quietly, returns, signals, after_effects}
 use Rattle.abstract_unix.specs.Errors.{error_number}
-use Rattle.abstract_unix.specs.Calls.{in_order, handed_of, with_handed, world_of, with_world, with_area, entered_area, words_passed, asked, refused_area, refuses, answers, file_row, process_row, did_by, came_by, forks, closes_all, exits_with, grows, grown_by, does_call, sysent_of, does_asked, resumed}
+use Rattle.pick_rules.specs.Priority.{pribio}
+use Rattle.abstract_unix.specs.Calls.{in_order, handed_of, with_handed, world_of, with_world, with_area, entered_area, words_passed, asked, refused_area, refuses, answers, file_row, process_row, did_by, came_by, forks, closes_all, exits_with, grows, grown_by, reads_disk, loads_program, waits_for_disk, takes_time, does_call, sysent_of, does_asked, resumed}
 use Rattle.abstract_unix.specs.Delivery.{heeds, catches, signal_status, dumped, ends_by, delivers_if, delivers_due, ends_by_ending}
-use Rattle.abstract_unix.specs.Turn.{Happened, settled, stays, settles, calls_for_settling, settled_after, machine_of, with_machine, passes_setd, faults, comes_to, instruction, is_user, begins_turn, turn, end_effects, turn_of, pass_of, slot_of}
+use Rattle.abstract_unix.specs.Turn.{Happened, settled, stays, settling, calls_for_settling, settled_after, machine_of, with_machine, passes_setd, faults, comes_to, instruction, is_user, begins_turn, turn, end_effects, turn_of, pass_of, slot_of, whole_slot}
 use Rattle.abstract_unix.specs.Outside.{mode_of, timed, charged, ticked, is_as_trap, wakes, tick_effects, tick_delivery, delivers_to, tick_of, calls, with_key, key_lines, typed_of}
-use Rattle.abstract_unix.specs.Runs.{Slot, Tick, Byte, Switch, event_of, start_of}
+use Rattle.abstract_unix.proofs.RunsLemmas.{after_keeps, after_items_none}
+use Rattle.abstract_unix.specs.Runs.{Slot, Tick, Byte, Switch, Disk, event_of, start_of}
 use Rattle.abstract_unix.specs.Shared.{TextStays, is_made_by, AllTextsStay, OtherTextsStay}
 use Rattle.abstract_unix.proofs.ProcessRows.{plain_row}
 use Rattle.sys_procs.proofs.Slots.{fifty_processes}
@@ -241,14 +244,29 @@ module _ (ts : List (Option Text)) (k s : ℕ) where
           (staying_if (nat_lt n 100) _ _ (staying_quiet (with_area u s (refused_area n)) ending.Trapped is.stays)
           (staying_signals u SIGSYS is.stays))
 
+      after_timed : (has_read : Bool) (steps : Steps) → StaysAfter b steps → StaysAfter b (takes_time has_read s steps)
+      after_timed has_read steps h = by (has_read && not (steps.unix.timing.disk == 0))
+        where
+          left : (o : Option (Stop Unix)) → Stays (left_by o steps.unix) → Stays (left_by o (waits_for_disk steps.unix s))
+          left None h = h
+          left (Some stop) h = h
+
+          by : (x : Bool)
+              → StaysAfter b (if x then record steps { unix = waits_for_disk steps.unix s; ending = ending.Slept pribio (Disk s) } else steps)
+          by true = λ none. left (logged b steps.effects).stop (h none)
+          by false = h
+
       after_call : (call : SystemCall) (args : List ℕ) → StaysAfter b (does_call u s call args)
       after_call Indirect a = after_steps b _ (staying_quiet u ending.Trapped is.stays)
       after_call Exit a = after_steps b _ (staying_exits u is.stays (exit_status (process_of u s)))
       after_call Fork a = after_steps b _ (staying_forks u is.stays)
       after_call Unknown a = after_refused (error_number ENOSYS)
       after_call (OnFiles call) a =
-          after_steps b _ (staying_did u is.stays (file_row call (handed_of u (process_of u s)) s a u.clock.time))
-      after_call (OnProcesses call) a = after_row call a
+          let did : Did = file_row call (handed_of u (process_of u s)) s a u.clock.time in
+          after_timed (reads_disk call (handed_of u (process_of u s)) did.answer) (did_by u s did) (after_steps b _ (staying_did u is.stays did))
+      after_call (OnProcesses call) a =
+          let c : Comes = process_row call (world_of u) s a in
+          after_timed (loads_program call c.answer) (came_by u s c) (after_row call a)
 
     module _ (u : Unix) (is : IsIn u) where
       after_asked : (a : Asked) (entry : Sysent) → StaysAfter b (does_asked u s a entry)
@@ -290,9 +308,11 @@ module _ (ts : List (Option Text)) (k s : ℕ) where
 
       after_resumed : StaysAfter b (resumed u s)
       after_resumed =
-          after_if (is_on_files (process_of u s).u.pending) _ _
+          after_if ((process_of u s).u.pending == DISK_WAIT) _ _
+          (after_steps b _ (staying_quiet (with_process u s (awake (process_of u s))) ending.Trapped is.stays))
+          (after_if (is_on_files (process_of u s).u.pending) _ _
           (after_steps b _ (staying_did u is.stays (resumes (handed_of u (process_of u s)) s u.clock.time)))
-          (after_steps b _ (staying_came u is.stays (resume_proc (world_of u) s) (staying_resume ts k s (world_of u) is.stays)))
+          (after_steps b _ (staying_came u is.stays (resume_proc (world_of u) s) (staying_resume ts k s (world_of u) is.stays))))
 
 -- What happens in an event, before the kernel settles.
 module _ (m : System) (k : ℕ) where
@@ -385,7 +405,7 @@ settled_items : (h : Happened) (test : Item → Bool) → list_any test (settled
     → list_any test h.log.items ≡ false
 settled_items h test = by (calls_for_settling h)
   where
-    by : (b : Bool) → list_any test (cond b (settles h) (stays h)).items ≡ false → list_any test h.log.items ≡ false
+    by : (b : Bool) → list_any test (cond b (settling h) (stays h)).items ≡ false → list_any test h.log.items ≡ false
     by true none = first_false (list_any test h.log.items) (list_any test (settled h.log.board).items)
         (sym (list_any-append test h.log.items (settled h.log.board).items) ∙ none)
     by false none = none
@@ -399,8 +419,10 @@ start_stays m k =
 pub slot_stays : (m : System) → AreTexts m → OtherTextsStay m (event_of Slot m).items (event_of Slot m).next
 slot_stays m are k none =
     let o : Option ℕ = m.board.table.running in
-    subst (λ (u : Unix). TextStays m.unix.texts u.texts k) (sym (settled_unix (slot_of m o)))
-    (stays_slot m k are o refl (settled_items (slot_of m o) (is_made_by k) none))
+    subst (λ (u : Unix). TextStays m.unix.texts u.texts k) (sym (settled_unix (whole_slot m)))
+    (subst (λ ts. TextStays m.unix.texts ts k)
+    (sym (after_keeps (List (Option Text)) (λ (u : Unix). u.texts) (λ u. refl) (slot_of m o)))
+    (stays_slot m k are o refl (after_items_none (is_made_by k) (slot_of m o) (settled_items (whole_slot m) (is_made_by k) none))))
 
 -- a tick, a key and the switches.
 pub tick_stays : (m : System) → AllTextsStay m (event_of Tick m).next
@@ -412,6 +434,9 @@ typed_stays m byte k =
 
 pub switched_stays : (m : System) (word : ℕ) → AllTextsStay m (event_of (Switch word) m).next
 switched_stays m word k = stays_same m.unix.texts k
+
+pub disk_stays : (m : System) (count : ℕ) → AllTextsStay m (event_of (Disk count) m).next
+disk_stays m count k = stays_same m.unix.texts k
 
 -- A kernel that has been started stands so.
 module _ (at : Stage) (w : World) (started : phase_of at ≡ Started) (kernel : IsKernel at w) (holds : IsKept w.procs.images.kept) where

@@ -1,5 +1,6 @@
 -- What a call asks for, and how it goes on.
-use Rattle.std.proofs.Common.{◌≡◌, ◌∙◌, ℕ, true, false, if◌then◌else◌, slice_index, refl, sym, ap, subst}
+use Rattle.std.proofs.Common.{◌≡◌, ◌∙◌, ◌==◌, ℕ, true, false, if◌then◌else◌, slice_index, refl, sym, ap, subst}
+use Rattle.u_area.specs.declared.layout.TheConstants.{DISK_WAIT}
 use Rattle.u_area.specs.declared.area.UArea.{UArea}
 use Rattle.u_area.specs.Pending.{is_on_files}
 use Rattle.image_keep.specs.Kept.{Held, Has, Kept, image_in}
@@ -7,14 +8,14 @@ use Rattle.image_keep.specs.Kept as kept
 use Rattle.image_keep.specs.State.{ImagesState}
 use Rattle.sys_procs.specs.Process.{Process, register, image_of}
 use Rattle.sys_files.specs.Moving.{resumes}
-use Rattle.sys_procs.specs.Resume.{resume_proc}
+use Rattle.sys_procs.specs.Resume.{awake, resume_proc}
 use Rattle.sys_procs.proofs.Alive.{is_here}
 use Rattle.sys_procs.proofs.MemoryLemmas.{image_here}
 use Rattle.unix_core.specs.declared.world.World.{World}
 use Rattle.abstract_unix.specs.declared.asked.Asked.{Asked}
 use Rattle.abstract_unix.specs.declared.calls.Sysent.{Sysent}
-use Rattle.abstract_unix.specs.Unix.{Unix, process_of}
-use Rattle.abstract_unix.specs.Steps.{Steps}
+use Rattle.abstract_unix.specs.Unix.{Unix, process_of, with_process}
+use Rattle.abstract_unix.specs.Steps.{Steps, returns}
 use Rattle.abstract_unix.specs.Turn.{is_user}
 use Rattle.abstract_unix.specs.Calls.{handed_of, world_of, with_area, entered_area, words_passed, asked, did_by, came_by, sysent_of, does_call, does_asked, resumed, system_call}
 use Rattle.unix_core.specs.Parts.{unix_of, board_in, IsReady}
@@ -41,11 +42,21 @@ module _ (u : Unix) (s : ℕ) where
   abbrev pub on_wait : Steps
   on_wait = came_by u s (resume_proc (world_of u) s)
 
-  pub resumes_files : is_on_files (process_of u s).u.pending ≡ true → on_files ≡ resumed u s
-  resumes_files is = ap (λ b. if b then on_files else on_wait) (sym is)
+  abbrev pub rested : Steps
+  rested = returns (with_process u s (awake (process_of u s)))
 
-  pub resumes_wait : is_on_files (process_of u s).u.pending ≡ false → on_wait ≡ resumed u s
-  resumes_wait is = ap (λ b. if b then on_files else on_wait) (sym is)
+  pub resumes_disk : ((process_of u s).u.pending == DISK_WAIT) ≡ true → rested ≡ resumed u s
+  resumes_disk is = ap (λ b. if b then rested else (if is_on_files (process_of u s).u.pending then on_files else on_wait)) (sym is)
+
+  pub resumes_files : ((process_of u s).u.pending == DISK_WAIT) ≡ false → is_on_files (process_of u s).u.pending ≡ true
+      → on_files ≡ resumed u s
+  resumes_files other is = ap (λ b. if b then on_files else on_wait) (sym is)
+      ∙ ap (λ b. if b then rested else (if is_on_files (process_of u s).u.pending then on_files else on_wait)) (sym other)
+
+  pub resumes_wait : ((process_of u s).u.pending == DISK_WAIT) ≡ false → is_on_files (process_of u s).u.pending ≡ false
+      → on_wait ≡ resumed u s
+  resumes_wait other is = ap (λ b. if b then on_files else on_wait) (sym is)
+      ∙ ap (λ b. if b then rested else (if is_on_files (process_of u s).u.pending then on_files else on_wait)) (sym other)
 
 -- A call has been entered, after it has been asked for.
 module _ (w : World) (s : ℕ) (ready : IsReady w s) (a : Asked) (entry : Sysent) (words : ℕ) (k : Kept) (l : ImagesState) (same : k ≡ w.procs.images.kept)

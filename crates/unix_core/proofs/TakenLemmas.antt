@@ -13,7 +13,7 @@ use Rattle.abstract_unix.specs.declared.turned.Turned.{Turned}
 use Rattle.abstract_unix.specs.declared.turned.Turned.TheVariants.{Ran, Idle}
 use Rattle.abstract_unix.specs.Unix.{System, Started}
 use Rattle.abstract_unix.specs.Endings.{phase_after}
-use Rattle.abstract_unix.specs.Turn.{Turn, turn, turn_of, settled_after, turned, NobodyCanRun}
+use Rattle.abstract_unix.specs.Turn.{after_slot, Turn, turn, turn_of, settled_after, turned, NobodyCanRun}
 use Rattle.abstract_unix.specs.Runs.{Slot, event_of}
 use Rattle.abstract_unix.specs.Private.{OthersUndisturbed}
 use Rattle.abstract_unix.specs.Shared.{OtherTextsStay}
@@ -57,7 +57,7 @@ module _ (at : Stage) (w : World) (f : Fixed) (is : at ≡ stage.Running f) (ker
 
     pub next_takes : Takes (turn_at w) at then_
     next_takes = record {
-      kernel = subst (λ (t : Stage). IsKernel t then_) (sym is) (runs_kernel then_ f (record { user = step_user; fixed = fixed }));
+      kernel = subst (λ (t : Stage). IsKernel t then_) (sym is) (runs_kernel then_ f (record { user = step_user; fixed = fixed }) step_counted);
       system = plain_next (system_at w) f.slot run.user.ready.user then_ done quiet;
       phase = ap phase_of is ∙ ap phase_after (sym (plain_goes (system_at w) f.slot run.user.ready.user then_ done quiet));
     }
@@ -141,12 +141,12 @@ module _ (at : Stage) (w : World) (kernel : IsKernel at w) (holds : IsKept w.pro
     did = subst (λ s. HasStepped (system_at w) (with_images w x) s o) (sym slot) (step_done at w f is kernel holds x kept o outcome)
 
     abbrev then_turn : System → Turn
-    then_turn m = settled_after (turn_of m (slot_in at) (turn m (slot_in at)))
+    then_turn m = settled_after (after_slot (turn_of m (slot_in at) (turn m (slot_in at))))
 
     own_turn : then_turn (system_at w) ≡ turn_at w
     own_turn =
         let run : IsRunning f w = kernel.running f is in
-        ap (λ s. settled_after (turn_of (system_at w) s (turn (system_at w) s))) slot
+        ap (λ s. settled_after (after_slot (turn_of (system_at w) s (turn (system_at w) s)))) slot
         ∙ sym (user_slot (system_at w) f.slot run.user.ready.runs run.user.ready.user)
 
     pub far_running : IsFixed x.kept f → (g : Fixed) → at ≡ stage.Running g → IsRunning g (with_images w x)

@@ -1,5 +1,5 @@
 -- The log of a turn of a process: its steps, and the line with which it ends.
-use Rattle.std.proofs.Common.{◌≡◌, ◌∙◌, ℕ, false, if◌then◌else◌, List, [], ◌∷◌, ◌++◌, fold, Option, Some, None, refl, sym, ap, subst, append_assoc}
+use Rattle.std.proofs.Common.{true, ◌≡◌, ◌∙◌, ℕ, false, if◌then◌else◌, List, [], ◌∷◌, ◌++◌, fold, Option, Some, None, refl, sym, ap, subst, append_assoc}
 use Rattle.std.proofs.lemmas.List.{append-nil}
 use Rattle.std.proofs.lemmas.List.Sums.{fold-append}
 use Rattle.v6_base.specs.Trace.{Item, Log, Took, Taken}
@@ -22,7 +22,8 @@ use Rattle.abstract_unix.specs.Unix.{Unix, System}
 use Rattle.abstract_unix.specs.Endings.{phase_after}
 use Rattle.abstract_unix.specs.Steps.{Steps}
 use Rattle.abstract_unix.specs.Calls.{resumed}
-use Rattle.abstract_unix.specs.Turn.{Happened, Turn, comes_to, instruction, begins_turn, end_effects, settled, settled_after, ending_of, ending_by, turn_of}
+use Rattle.abstract_unix.proofs.RunsLemmas.{with_front, after_front, settled_front, after_stop}
+use Rattle.abstract_unix.specs.Turn.{after_slot, Happened, Turn, comes_to, instruction, begins_turn, end_effects, settled, settled_after, ending_of, ending_by, turn_of}
 use Rattle.unix_core.specs.Parts.{unix_of, board_in, turn_end, ended_as, HasCome, HasStepped, Takes}
 use Rattle.unix_core.proofs.BoardLemmas.{logged_line}
 
@@ -98,15 +99,16 @@ module _ (m : System) (s : ℕ) (steps : Steps) (e : Ending) (w : World) (come :
 
   -- what has happened then, by what the turn has left
   abbrev left : Happened
-  left = record { unix = unix_of w; log = ended_log taken s e; is_idle = false; ending = ending_of e }
+  left = record { unix = unix_of w; log = ended_log taken s e; is_idle = false; settles = true; ending = ending_of e }
 
   left_is : turn_of m s steps ≡ left
   left_is =
-      ap (λ (l : Logged Unix). record { unix = left_by l.stop steps.unix; log = l; is_idle = false; ending = ending_by l.stop steps.ending }) whole_is
+      ap (λ (l : Logged Unix). record { unix = left_by l.stop steps.unix; log = l; is_idle = false; settles = true; ending = ending_by l.stop steps.ending }) whole_is
       ∙ (λ i. record {
         unix = sym come.unix i;
         log = ended_log taken s e;
         is_idle = false;
+        settles = true;
         ending = (sym (ending_same taken.stop steps.ending) ∙ ap ending_of (sym come.ending)) i;
       })
 
@@ -119,34 +121,34 @@ module _ (m : System) (s : ℕ) (steps : Steps) (e : Ending) (w : World) (come :
     unix = unix_of w;
     log = record { items = taken.items ++ (last b).items; board = (last b).board; stop = taken.stop };
     is_idle = false;
+    settles = true;
     ending = o;
   }
 
-  ended_is : (o : Ends) → settled_after (with_last o taken.board)
-      ≡ shown_before taken.items (settled_after (record { unix = unix_of w; log = last (board_in w); is_idle = false; ending = o }))
-  ended_is AtEnd =
-      ap (λ b. settled_after (with_last AtEnd b)) (sym come.board)
-      ∙ (λ i. record {
-        items = append_assoc taken.items (last (board_in w)).items (settled (last (board_in w)).board).items i;
-        next = record { unix = unix_of w; board = (settled (last (board_in w)).board).board };
-        is_idle = false;
-        ending = AtEnd;
-      })
-  ended_is (ends.Panic kind) = ap (λ b. settled_after (with_last (ends.Panic kind) b)) (sym come.board)
+  -- what the end comes to by itself
+  abbrev own : Ends → Happened
+  own o = record { unix = unix_of w; log = last (board_in w); is_idle = false; settles = true; ending = o }
 
-  pub turn_is : settled_after (turn_of m s steps) ≡ shown_before taken.items (turn_end w s e)
-  turn_is = ap settled_after left_is ∙ ended_is (ending_of e)
+  ended_is : (o : Ends) → settled_after (after_slot (with_last o taken.board)) ≡ shown_before taken.items (settled_after (after_slot (own o)))
+  ended_is o =
+      ap (λ b. settled_after (after_slot (with_last o b))) (sym come.board)
+      ∙ after_stop taken.stop (with_front taken.items (own o))
+      ∙ ap settled_after (after_front taken.items (own o))
+      ∙ settled_front taken.items (after_slot (own o))
 
-  pub turn_takes : (at : Stage) (now : World) → Takes (turn_end w s e) at now → Takes (settled_after (turn_of m s steps)) at now
+  pub turn_is : settled_after (after_slot (turn_of m s steps)) ≡ shown_before taken.items (turn_end w s e)
+  turn_is = ap (λ h. settled_after (after_slot h)) left_is ∙ ended_is (ending_of e)
+
+  pub turn_takes : (at : Stage) (now : World) → Takes (turn_end w s e) at now → Takes (settled_after (after_slot (turn_of m s steps))) at now
   turn_takes at now takes = record {
     kernel = takes.kernel;
     system = takes.system ∙ ap (λ (t : Turn). t.next) (sym turn_is);
     phase = takes.phase ∙ ap (λ (t : Turn). phase_after t.ending) (sym turn_is);
   }
 
-  pub turn_items : (a b c : Taken) → Took a taken.items b → Took b (turn_end w s e).items c → Took a (settled_after (turn_of m s steps)).items c
+  pub turn_items : (a b c : Taken) → Took a taken.items b → Took b (turn_end w s e).items c → Took a (settled_after (after_slot (turn_of m s steps))).items c
   turn_items a b c one two =
-      took_then a b c taken.items (turn_end w s e).items (settled_after (turn_of m s steps)).items one two (ap (λ (t : Turn). t.items) (sym turn_is))
+      took_then a b c taken.items (turn_end w s e).items (settled_after (after_slot (turn_of m s steps))).items one two (ap (λ (t : Turn). t.items) (sym turn_is))
 
 -- The process that executes instructions has stepped.
 module _ (m : System) (s : ℕ) (o : Outcome) (w : World) (stepped : HasStepped m w s o) where

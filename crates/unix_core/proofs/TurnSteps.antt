@@ -23,7 +23,7 @@ use Rattle.abstract_unix.specs.Unix.{Unix, System, process_of, with_process}
 use Rattle.abstract_unix.specs.Steps.{steps}
 use Rattle.abstract_unix.specs.Calls.{resumed}
 use Rattle.abstract_unix.specs.Delivery.{ends_turn}
-use Rattle.abstract_unix.specs.Turn.{Turn, machine_of, with_machine, is_user, comes_to, instruction, begins_turn, turn, turn_of, slot_by, slot_of, settled_as, settled_after, turned}
+use Rattle.abstract_unix.specs.Turn.{Turn, machine_of, with_machine, is_user, comes_to, instruction, begins_turn, turn, turn_of, slot_by, slot_of, settled_as, after_slot, settled_after, turned}
 use Rattle.abstract_unix.specs.Runs.{Slot, event_of}
 use Rattle.unix_core.specs.Parts.{unix_of, system_at, IsReady, IsUser, HasStepped}
 use Rattle.abstract_unix.proofs.Owing.{some_within}
@@ -106,8 +106,8 @@ module _ (w : World) (s : ℕ) (user : IsUser s w) (holds : IsKept w.procs.image
       })
 
 -- the slot of a process that isn't the swapper
-pub user_slot : (m : System) (s : ℕ) → m.board.table.running ≡ Some s → 0 < s → event_of Slot m ≡ settled_after (turn_of m s (turn m s))
-user_slot m s runs above = ap settled_after (ap (slot_of m) runs ∙ by s above)
+pub user_slot : (m : System) (s : ℕ) → m.board.table.running ≡ Some s → 0 < s → event_of Slot m ≡ settled_after (after_slot (turn_of m s (turn m s)))
+user_slot m s runs above = ap (λ h. settled_after (after_slot h)) (ap (slot_of m) runs ∙ by s above)
   where
     by : (s : ℕ) → 0 < s → slot_by m s ≡ turn_of m s (turn m s)
     by zero above = absurd (omega (arith, above))

@@ -29,6 +29,7 @@ use Rattle.abstract_unix.specs.References.{referrers, references_of}
 use Rattle.sys_procs.specs.TextTable.{marks_of}
 use Rattle.abstract_unix.specs.Calls.{handed_of, with_handed}
 use Rattle.unix_core.specs.Passing.{HaveSlots, all_woken}
+use Rattle.unix_core.specs.Slots.{timing_in}
 use Rattle.unix_core.specs.Parts.{unix_of, IsGood, IsReady, IsReadyToShow}
 use Rattle.unix_core.proofs.PutLemmas.{good_alive, alive_slot, slot_put, agree_put}
 use Rattle.unix_core.proofs.GoodLemmas.{told_of_slot, fifty_told, forty, runs_low, runs_same}
@@ -113,6 +114,7 @@ pub record IsAfter (w w' : World) (s : ℕ) (u : UArea) (row : Row) (image : Ima
   pub entry_room : w'.tape.entry_room ≡ w.tape.entry_room
   pub byte_room : w'.tape.byte_room ≡ w.tape.byte_room
   pub world_core : w'.core ≡ w.core
+  pub slots : w'.slots ≡ w.slots
 
 module _ (w w' : World) (s : ℕ) (ready : IsReady w s) (u : UArea) (row : Row) (image : Image) (after : IsAfter w w' s u row image) where
   abbrev h : Handed
@@ -145,6 +147,7 @@ module _ (w w' : World) (s : ℕ) (ready : IsReady w s) (u : UArea) (row : Row) 
     switches = after.switches i;
     last_pid = after.last_pid i;
     limit = min (after.core i) 2048;
+    timing = timing_in (after.slots i);
   }
 
   agrees : Agree w'.procs.rows w.procs.table w'.procs.images.kept

@@ -1,4 +1,5 @@
 pub mod Boots
+pub mod Slots
 pub mod Parts
 pub mod Passing
 pub mod Memory

@@ -8,7 +8,7 @@ use Rattle.pick_rules.specs.Swapper.{candidate}
 use Rattle.pick_rules.specs.Board.{Board}
 use Rattle.v6_base.specs.Trace.{Item}
 use Rattle.pick_rules.specs.Effects.{Show}
-use Rattle.pick_rules.specs.Logged.{Stop, logged, left_by}
+use Rattle.pick_rules.specs.Logged.{Stop, nothing_logged, logged, left_by}
 use Rattle.v6_base.specs.declared.entry.Place.TheVariants.{Core}
 use Rattle.image_keep.specs.Area.{sized_area}
 use Rattle.image_keep.specs.Places.{cleared}
@@ -32,7 +32,9 @@ use Rattle.abstract_unix.specs.Steps.{Steps, returns}
 use Rattle.abstract_unix.specs.Outside.{delivers_to}
 use Rattle.unix_core.specs.Passing.{HaveSlots, shown_by, all_woken}
 use Rattle.unix_core.specs.Memory.{kept_in}
-use Rattle.abstract_unix.specs.Turn.{Turn, machine_of, with_machine, is_user, end_effects, ending_of, settled_after, slot_of}
+use Rattle.unix_core.specs.Slots.{timing_in, IsCounted}
+use Rattle.abstract_unix.specs.declared.ends.Ends.TheVariants.{AtEnd}
+use Rattle.abstract_unix.specs.Turn.{Happened, Turn, machine_of, with_machine, is_user, end_effects, ending_of, after_slot, settled_after, slot_of}
 
 -- the Unix of a world
 abbrev pub unix_of : parts.World → Unix
@@ -47,6 +49,7 @@ unix_of w = record {
   switches = w.procs.switches;
   last_pid = w.procs.rows.last_pid;
   limit = min w.procs.images.kept.core 2048;
+  timing = timing_in w.slots;
 }
 
 abbrev pub board_in : parts.World → Board
@@ -57,16 +60,21 @@ system_at w = record { unix = unix_of w; board = board_in w }
 
 -- what the next slot comes to
 abbrev pub turn_at : parts.World → Turn
-turn_at w = settled_after (slot_of (system_at w) w.procs.table.running)
+turn_at w = settled_after (after_slot (slot_of (system_at w) w.procs.table.running))
 
 -- what a turn comes to of which this is left, and which ends so
 abbrev pub turn_end : parts.World → ℕ → Ending → Turn
-turn_end w s e = settled_after (record {
+turn_end w s e = settled_after (after_slot (record {
   unix = unix_of w;
   log = logged (board_in w) (end_effects s e);
   is_idle = false;
+  settles = true;
   ending = ending_of e;
-})
+}))
+
+-- what follows a slot, where this was one
+abbrev pub slot_if : Bool → Happened → Happened
+slot_if is_slot h = if is_slot then after_slot h else h
 
 -- where a tick is as a trap, the signal that is due to the process that runs is delivered
 abbrev pub delivers_where : Bool → Unix → Option ℕ → Steps
@@ -155,6 +163,13 @@ phase_of stage.Resting = Started
 phase_of stage.Stopped = Stopped
 phase_of stage.Finished = Finished
 
+-- whether a run that has come so far can go on
+abbrev pub goes_on : Phase → Bool
+goes_on New = true
+goes_on Started = true
+goes_on Stopped = false
+goes_on Finished = false
+
 -- the slot of the process that executes instructions
 abbrev pub slot_in : Stage → ℕ
 slot_in stage.New = 0
@@ -173,6 +188,17 @@ pub record IsNew (w : parts.World) : Type 0 where
 abbrev pub IsCovered : parts.World → Type 0
 IsCovered w = w.procs.images.kept ≡ kept_in (system_at w)
 
+-- Nothing was logged in a slot, and it has left the world so. Where the kernel settles after it, it has nothing to do.
+pub record IsStill (h : Happened) (w : parts.World) : Type 0 where
+  pub unix : h.unix ≡ unix_of w
+  pub log : h.log ≡ nothing_logged (board_in w)
+  pub ending : h.ending ≡ AtEnd
+  pub settled : h.settles ≡ true → settle w.procs.table ≡ None
+
+-- the world before the last slot up to the one that is due was counted
+abbrev pub one_before : parts.World → parts.World
+one_before w = record w { slots = record w.slots { left = 1 } }
+
 -- what is so of every kernel
 pub record IsKernel (at : Stage) (w : parts.World) : Type 0 where
   pub new : at ≡ stage.New → IsNew w
@@ -180,6 +206,7 @@ pub record IsKernel (at : Stage) (w : parts.World) : Type 0 where
   pub finished : at ≡ stage.Finished → IsCovered w
   pub running : (f : Fixed) → at ≡ stage.Running f → IsRunning f w
   pub resting : at ≡ stage.Resting → IsPaused w
+  pub counted : goes_on (phase_of at) ≡ true → IsCounted w.slots (unix_of w)
 
 -- A system whose running process was in user mode, and the world after its instruction.
 pub record HasStepped (m : System) (w : parts.World) (s : ℕ) (o : Outcome) : Type 0 where

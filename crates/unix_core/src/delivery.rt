@@ -50,6 +50,7 @@ fn heed(world: &mut World, s: Slot)
     ensures ready { IsReady world.new s }
     ensures files { world.new.files ≡ world.old.files }
     ensures images { world.new.procs.images.kept ≡ world.old.procs.images.kept }
+    ensures slots { world.new.slots ≡ world.old.slots }
 {
     let mut row = *world.procs.rows.row(s);
     row.sig = 0;
@@ -67,6 +68,7 @@ fn tell(world: &mut World, s: Slot, sig: u8) -> Delivered
         s (delivery (area_of world.old.procs.images.kept s) sig (image_of world.old.procs.images.kept s)).area }
     ensures others { world.new ≡ record world.old { procs = record world.old.procs { images = world.new.procs.images } } }
     ensures holds { IsKept world.old.procs.images.kept }
+    ensures slots { world.new.slots ≡ world.old.slots }
 {
     let mut u = world.procs.images.area(s);
     let told = {
@@ -111,6 +113,7 @@ fn catch<T: Trace>(world: &mut World, s: Slot, sig: u8, trace: &mut T) -> Ending
         (T.taken trace.new) }
     ensures frame { T.leads_to trace.old trace.new }
     ensures rest { SameRest world.old.files.tree.nodes world.new.files.tree.nodes }
+    ensures slots { world.new.slots ≡ world.old.slots }
 {
     world.files.tree.nodes.see();
     see_table(&world.files.table);
@@ -140,6 +143,7 @@ pub(crate) fn end_with<T: Trace>(world: &mut World, s: Slot, status: u16, trace:
         (T.taken trace.new) }
     ensures frame { T.leads_to trace.old trace.new }
     ensures rest { SameRest world.old.files.tree.nodes world.new.files.tree.nodes }
+    ensures slots { world.new.slots ≡ world.old.slots }
 {
     close_files(world, s);
     pass_on(&world.tape, &mut world.procs.table, trace);
@@ -175,6 +179,7 @@ fn end_by<T: Trace>(world: &mut World, s: Slot, sig: u8, trace: &mut T) -> Endin
     ensures runs { result ≢ Ending.Ended → world.new.procs.table.running ≡ Some s }
     ensures frame { T.leads_to trace.old trace.new }
     ensures rest { SameRest world.old.files.tree.nodes world.new.files.tree.nodes }
+    ensures slots { world.new.slots ≡ world.old.slots }
 {
     let r0 = world.procs.images.area(s).r[0];
     let status = 256 * (r0 % 256) + u16::from(sig);
@@ -201,6 +206,7 @@ fn deliver_to<T: Trace>(world: &mut World, s: Slot, sig: u8, trace: &mut T) -> E
         (T.taken trace.new) }
     ensures frame { T.leads_to trace.old trace.new }
     ensures rest { SameRest world.old.files.tree.nodes world.new.files.tree.nodes }
+    ensures slots { world.new.slots ≡ world.old.slots }
 {
     heed(world, s);
     if is_default(&world.procs.images, s, sig) {
@@ -222,6 +228,7 @@ pub(crate) fn deliver_due<T: Trace>(world: &mut World, s: Slot, trace: &mut T) -
         (T.taken trace.new) }
     ensures frame { T.leads_to trace.old trace.new }
     ensures rest { SameRest world.old.files.tree.nodes world.new.files.tree.nodes }
+    ensures slots { world.new.slots ≡ world.old.slots }
 {
     match due_to(&world.procs, s) {
         Some(sig) => deliver_to(world, s, sig, trace),
@@ -251,6 +258,7 @@ pub(crate) fn deliver_after<T: Trace>(
         → Took start (logged b (ends_turn s steps).effects).items (T.taken trace.new) }
     ensures frame { T.leads_to trace.old trace.new }
     ensures rest { SameRest world.old.files.tree.nodes world.new.files.tree.nodes }
+    ensures slots { world.new.slots ≡ world.old.slots }
 {
     match ending {
         Ending::Trapped => deliver_due(world, s, trace),

@@ -18,6 +18,7 @@ ghost use Rattle.unix_core.specs.State.{KeepsRest};
 use crate::files::{ROOT, see_kept, see_procs};
 use crate::init::put_program;
 use crate::machine::{Machine, Stage};
+use crate::slots::Slots;
 use crate::world::World;
 use abstract_unix::Turned;
 use fs_codec::DISK_BLOCKS;
@@ -91,7 +92,7 @@ impl Kernel {
     ghost use Rattle.abstract_unix.specs.Unix.{New, Started, Stopped, Finished};
     ghost use Rattle.abstract_unix.specs.Endings.{phase_after};
     ghost use Rattle.unix_core.specs.Memory.{kept_in};
-    ghost use Rattle.abstract_unix.specs.Runs.{Slot, Tick, Byte, Switch, start_of, event_of, system_with, finished};
+    ghost use Rattle.abstract_unix.specs.Runs.{Slot, Tick, Byte, Switch, Disk, start_of, event_of, system_with, finished};
 
     /// A kernel with a file system, whose process 1 is about to execute `/etc/init`, with images and a tape of which nothing
     /// is used. Inode 1 is referred to as the root and as a directory.
@@ -138,6 +139,7 @@ impl Kernel {
                     procs,
                     tape,
                     core,
+                    slots: Slots::new(),
                 },
             },
             dispatch,
@@ -162,14 +164,15 @@ impl Kernel {
             time: self.machine.world.procs.table.now,
         });
         self.machine.stage = Stage::Resting;
-        let _ran = self.machine.pass(trace);
+        let _ran = self.machine.pass(false, trace);
     }
 
     /// Takes one slot: the turn of the running process, which is one instruction with its call, or the rest of a call in which
     /// it slept. Where it comes to a panic, the run has stopped: no event is taken any more.
     #[inline(always)]
     pub fn turn<T: Trace>(&mut self, trace: &mut T) -> Turned
-        requires { self.old.phase ≡ Started }
+        requires started { self.old.phase ≡ Started }
+        requires fresh { self.old.system.unix.timing.passed ≤ 3000000000 }
         ensures phase { self.new.phase ≡ phase_after (event_of Slot self.old.system).ending }
         ensures answer { result ≡ turned (event_of Slot self.old.system) }
         ensures idle { result ≡ Turned.Idle → NobodyCanRun self.old.system.board.table }
@@ -185,6 +188,7 @@ impl Kernel {
             Stage::Running(fixed) => {
                 let images = &mut self.machine.world.procs.images;
                 if images.execute(fixed, &self.dispatch, &mut self.machine.came) {
+                    self.machine.count_slot(trace);
                     // left at once: joined with the other answers it is looked at anew each time
                     return Turned::Ran;
                 }
@@ -239,6 +243,28 @@ impl Kernel {
         ensures blocks { self.new.blocks ≡ self.old.blocks }
     {
         self.machine.world.procs.switches = w;
+    }
+
+    /// From now on a transfer from the disk takes so many slots: a process whose call has read it waits until they have passed.
+    /// 0 is none, as at the start.
+    pub fn set_disk(&mut self, n: u32)
+        requires started { self.old.phase ≡ Started }
+        requires most { n ≤ 999999999 }
+        ensures phase { self.new.phase ≡ Started }
+        ensures next { self.new.system ≡ (event_of (Disk n) self.old.system).next }
+        ensures private { AllUndisturbed self.old.system self.new.system }
+        ensures texts { AllTextsStay self.old.system self.new.system }
+        ensures blocks { self.new.blocks ≡ self.old.blocks }
+    {
+        self.machine.world.slots.disk = n;
+    }
+
+    /// How many slots have been taken.
+    pub fn passed(&self) -> u32
+        requires { self.now.phase ≡ Started }
+        ensures { result ≡ self.now.system.unix.timing.passed }
+    {
+        self.machine.world.slots.passed()
     }
 
     /// Puts a byte to a place of core, or with `swap` to one of the swap area: true exactly where it is a byte of the data or

@@ -13,6 +13,7 @@ mod passing;
 mod process;
 mod readers;
 mod settling;
+mod slots;
 mod world;
 
 pub use abstract_unix::{Ends, Turned};

@@ -1,5 +1,5 @@
 //! The parts of a kernel, and what each event does to them.
-ghost use Rattle.std.specs.Prelude.{◌≡◌, ◌≢◌, ◌<◌, ℕ, Bool, IsTrue, true, false, None, Some, map};
+ghost use Rattle.std.specs.Prelude.{◌≡◌, ◌≢◌, ◌<◌, ◌≤◌, ℕ, Bool, IsTrue, if◌then◌else◌, true, false, None, Some, map};
 ghost use Rattle.v6_base.specs.Trace.{Took};
 ghost use Rattle.fs_nodes.specs.FileSystem.{SameRest};
 ghost use Rattle.pick_rules.specs.Choice.{chosen, settle};
@@ -9,14 +9,16 @@ ghost use Rattle.image_keep.specs.Kept.{HasImage};
 ghost use Rattle.abstract_unix.specs.declared.ends.Ends.TheVariants.{AtEnd};
 ghost use Rattle.abstract_unix.specs.Unix.{Unix, System, Started, process_of};
 ghost use Rattle.abstract_unix.specs.Endings.{is_early};
-ghost use Rattle.abstract_unix.specs.Turn.{turned, ticked_by, turned_by, ending_of, turn, turn_of, settled, settled_after, pass_of};
+ghost use Rattle.abstract_unix.specs.Turn.{Happened, after_slot, turned, ticked_by, turned_by, ending_of, turn, turn_of, settled, settled_after, pass_of};
 ghost use Rattle.abstract_unix.specs.Outside.{calls, charged, mode_of, tick_entry, timed_area, is_user_mode, tick_of, with_key, key_lines, typed_of};
-ghost use Rattle.unix_core.specs.Parts.{unix_of, board_in, system_at, turn_at, turn_end, phase_of, slot_in, is_over, IsGood, IsReady, IsUser, IsRunning, IsCovered, IsKernel, IsKnown, HasCome, HasStepped, Takes, delivers_where};
+ghost use Rattle.unix_core.specs.Slots.{IsCounted, HasWaited};
+ghost use Rattle.unix_core.specs.Parts.{unix_of, board_in, system_at, turn_at, turn_end, phase_of, slot_in, slot_if, one_before, is_over, IsGood, IsReady, IsUser, IsRunning, IsCovered, IsKernel, IsKnown, IsStill, HasCome, HasStepped, Takes, delivers_where};
 
 use crate::delivery::{deliver_after, deliver_due};
 use crate::files::see_procs;
 use crate::process::{come_to, resume};
 use crate::settling::{end_turn, settle, wake};
+use crate::slots::{count, reach};
 use crate::world::World;
 use abstract_unix::{Ending, Turned};
 use image_keep::Fixed;
@@ -131,6 +133,7 @@ impl Machine {
     #[inline(always)]
     fn refresh(&mut self)
         requires good { IsGood self.old.world }
+        requires counted { IsCounted self.old.world.slots (unix_of self.old.world) }
         requires settled { (s : ℕ) → self.old.world.procs.table.running ≡ Some s → settle self.old.world.procs.table ≡ None }
         requires idle { self.old.world.procs.table.running ≡ None → chosen self.old.world.procs.table ≡ None }
         ensures kernel { IsKernel self.new.stage self.new.world }
@@ -160,6 +163,7 @@ impl Machine {
     fn enter_user(&mut self, s: Slot)
         requires ready { IsReady self.old.world s }
         requires settled { settle self.old.world.procs.table ≡ None }
+        requires counted { IsCounted self.old.world.slots (unix_of self.old.world) }
         ensures kernel { IsKernel self.new.stage self.new.world }
         ensures started { phase_of self.new.stage ≡ Started }
         ensures world { self.new.world ≡ self.old.world }
@@ -197,7 +201,8 @@ impl Machine {
     /// Settles, after an event.
     #[inline(always)]
     fn settle<T: Trace>(&mut self, trace: &mut T)
-        requires { IsGood self.old.world }
+        requires good { IsGood self.old.world }
+        requires counted { IsCounted self.old.world.slots (unix_of self.old.world) }
         ensures kernel { IsKernel self.new.stage self.new.world }
         ensures started { phase_of self.new.stage ≡ Started }
         ensures system { system_at self.new.world ≡ record (system_at self.old.world) { board = (settled (board_in self.old.world)).board } }
@@ -209,15 +214,56 @@ impl Machine {
         self.refresh();
     }
 
-    /// Takes a pass of the swapper: the kernel settles, unless it ends with a panic.
-    pub(crate) fn pass<T: Trace>(&mut self, trace: &mut T) -> Turned
+    /// Counts a slot in which nothing was logged: an instruction was just done, or nobody ran. Where somebody is woken with its end,
+    /// the kernel settles.
+    #[inline(always)]
+    pub(crate) fn count_slot<T: Trace>(&mut self, trace: &mut T)
+        requires kernel { IsKernel self.old.stage self.old.world }
+        requires started { phase_of self.old.stage ≡ Started }
+        requires fresh { (unix_of self.old.world).timing.passed ≤ 3000000000 }
+        ensures takes { (h : Happened) → IsStill h self.old.world → Takes (settled_after (after_slot h)) self.new.stage self.new.world }
+        ensures files { self.new.world.files ≡ self.old.world.files }
+        ensures items { (h : Happened) → IsStill h self.old.world
+            → Took (T.taken trace.old) (settled_after (after_slot h)).items (T.taken trace.new) }
+        ensures frame { T.leads_to trace.old trace.new }
+    {
+        self.world.slots.left -= 1;
+        if self.world.slots.left == 0 {
+            self.reach(trace);
+        }
+    }
+
+    /// The slot that was due has been taken, and nothing was logged in it. It stands out of line: a run has few such slots.
+    #[cold]
+    #[inline(never)]
+    fn reach<T: Trace>(&mut self, trace: &mut T)
+        requires left { self.old.world.slots.left ≡ 0 }
+        requires kernel { IsKernel self.old.stage (one_before self.old.world) }
+        requires started { phase_of self.old.stage ≡ Started }
+        requires fresh { self.old.world.slots.due ≤ 3000000001 }
+        ensures takes { (h : Happened) → IsStill h (one_before self.old.world)
+            → Takes (settled_after (after_slot h)) self.new.stage self.new.world }
+        ensures files { self.new.world.files ≡ self.old.world.files }
+        ensures items { (h : Happened) → IsStill h (one_before self.old.world)
+            → Took (T.taken trace.old) (settled_after (after_slot h)).items (T.taken trace.new) }
+        ensures frame { T.leads_to trace.old trace.new }
+    {
+        if reach(&mut self.world, trace) {
+            self.settle(trace);
+        }
+    }
+
+    /// Takes a pass of the swapper, which is a slot but for the first of a run: the kernel settles, unless it ends with a panic.
+    pub(crate) fn pass<T: Trace>(&mut self, is_slot: bool, trace: &mut T) -> Turned
         requires good { IsGood self.old.world }
+        requires counted { IsCounted self.old.world.slots (unix_of self.old.world) }
+        requires fresh { (unix_of self.old.world).timing.passed ≤ 3000000000 }
         requires runs { self.old.world.procs.table.running ≡ Some 0 }
         ensures answer { result ≡ turned (settled_after (pass_of (system_at self.old.world))) }
-        ensures takes { Takes (settled_after (pass_of (system_at self.old.world))) self.new.stage self.new.world }
+        ensures takes { Takes (settled_after (slot_if is_slot (pass_of (system_at self.old.world)))) self.new.stage self.new.world }
         ensures rest { SameRest self.old.world.files.tree.nodes self.new.world.files.tree.nodes }
         ensures items { Took (T.taken trace.old)
-            (settled_after (pass_of (system_at self.old.world))).items (T.taken trace.new) }
+            (settled_after (slot_if is_slot (pass_of (system_at self.old.world)))).items (T.taken trace.new) }
         ensures frame { T.leads_to trace.old trace.new }
     {
         let passed = pass(
@@ -228,6 +274,9 @@ impl Machine {
         see_procs(&self.world.procs);
         match passed {
             Ok(()) => {
+                if is_slot {
+                    count(&mut self.world, trace);
+                }
                 self.settle(trace);
                 Turned::Ran
             }
@@ -244,6 +293,7 @@ impl Machine {
         requires runs { self.old.world.procs.table.running ≡ Some s }
         requires user { 0 < s }
         requires resting { self.old.stage ≡ Stage.Resting }
+        ensures slots { self.new.world.slots ≡ self.old.world.slots }
         ensures come { HasCome (board_in self.old.world)
             (turn (system_at self.old.world) s) result self.new.world }
         ensures good { is_over result ≡ false → IsGood self.new.world }
@@ -266,6 +316,8 @@ impl Machine {
         requires user { 0 < s }
         requires slot { s < 50 }
         requires runs { is_over ending ≡ false → ending ≢ Ending.Ended → self.old.world.procs.table.running ≡ Some s }
+        requires counted { is_over ending ≡ false → IsCounted self.old.world.slots (unix_of self.old.world) }
+        requires fresh { (unix_of self.old.world).timing.passed ≤ 3000000000 }
         ensures answer { result ≡ turned (turn_end self.old.world s ending) }
         ensures takes { Takes (turn_end self.old.world s ending) self.new.stage self.new.world }
         ensures blocks { self.new.world.files.tree.nodes.blocks ≡ self.old.world.files.tree.nodes.blocks }
@@ -275,6 +327,7 @@ impl Machine {
         match turned(ending) {
             Turned::Ran => {
                 end_turn(&mut self.world.procs.table, s, ending, trace);
+                count(&mut self.world, trace);
                 self.settle(trace);
                 Turned::Ran
             }
@@ -291,14 +344,16 @@ impl Machine {
     pub(crate) fn after_step<T: Trace>(&mut self, trace: &mut T) -> Turned
         requires running { (f : Fixed) × (self.old.stage ≡ Stage.Running f) }
         requires user { (f : Fixed) → self.old.stage ≡ Stage.Running f → IsRunning f self.old.world }
+        requires counted { IsCounted self.old.world.slots (unix_of self.old.world) }
+        requires fresh { (unix_of self.old.world).timing.passed ≤ 3000000000 }
         ensures answer { (m : System) → HasStepped m self.old.world (slot_in self.old.stage) self.old.came
-            → result ≡ turned (settled_after (turn_of m (slot_in self.old.stage) (turn m (slot_in self.old.stage)))) }
+            → result ≡ turned (settled_after (after_slot (turn_of m (slot_in self.old.stage) (turn m (slot_in self.old.stage))))) }
         ensures takes { (m : System) → HasStepped m self.old.world (slot_in self.old.stage) self.old.came
-            → Takes (settled_after (turn_of m (slot_in self.old.stage) (turn m (slot_in self.old.stage)))) self.new.stage self.new.world }
+            → Takes (settled_after (after_slot (turn_of m (slot_in self.old.stage) (turn m (slot_in self.old.stage))))) self.new.stage self.new.world }
         ensures kernel { IsKernel self.new.stage self.new.world }
         ensures rest { SameRest self.old.world.files.tree.nodes self.new.world.files.tree.nodes }
         ensures items { (m : System) → HasStepped m self.old.world (slot_in self.old.stage) self.old.came → Took (T.taken trace.old)
-            (settled_after (turn_of m (slot_in self.old.stage) (turn m (slot_in self.old.stage)))).items (T.taken trace.new) }
+            (settled_after (after_slot (turn_of m (slot_in self.old.stage) (turn m (slot_in self.old.stage))))).items (T.taken trace.new) }
         ensures frame { T.leads_to trace.old trace.new }
     {
         match &self.stage {
@@ -320,6 +375,7 @@ impl Machine {
         requires resting { self.old.stage ≡ Stage.Resting }
         requires runs { self.old.world.procs.table.running ≡ Some s }
         requires user { 0 < s }
+        requires fresh { (unix_of self.old.world).timing.passed ≤ 3000000000 }
         ensures answer { result ≡ turned (turn_at self.old.world) }
         ensures takes { Takes (turn_at self.old.world) self.new.stage self.new.world }
         ensures rest { SameRest self.old.world.files.tree.nodes self.new.world.files.tree.nodes }
@@ -338,6 +394,7 @@ impl Machine {
     pub(crate) fn other_slot<T: Trace>(&mut self, trace: &mut T) -> Turned
         requires kernel { IsKernel self.old.stage self.old.world }
         requires resting { self.old.stage ≡ Stage.Resting }
+        requires fresh { (unix_of self.old.world).timing.passed ≤ 3000000000 }
         ensures answer { result ≡ turned (turn_at self.old.world) }
         ensures takes { Takes (turn_at self.old.world) self.new.stage self.new.world }
         ensures rest { SameRest self.old.world.files.tree.nodes self.new.world.files.tree.nodes }
@@ -346,8 +403,11 @@ impl Machine {
         ensures frame { T.leads_to trace.old trace.new }
     {
         match self.world.procs.table.running {
-            None => Turned::Idle,
-            Some(0) => self.pass(trace),
+            None => {
+                self.count_slot(trace);
+                Turned::Idle
+            }
+            Some(0) => self.pass(true, trace),
             Some(s) => self.going_slot(s, trace),
         }
     }
@@ -378,6 +438,7 @@ impl Machine {
         ensures unix { unix_of self.new.world ≡ charged (unix_of self.old.world) mode self.old.world.procs.table.running }
         ensures table { self.new.world.procs.table ≡ self.old.world.procs.table }
         ensures board { board_in self.new.world ≡ board_in self.old.world }
+        ensures slots { self.new.world.slots ≡ self.old.world.slots }
         ensures blocks { self.new.world.files.tree.nodes.blocks ≡ self.old.world.files.tree.nodes.blocks }
     {
         let Some(s) = self.world.procs.table.running else {
@@ -399,6 +460,7 @@ impl Machine {
         ensures good { is_over result ≡ false → IsGood self.new.world }
         ensures covered { is_over result ≡ true → IsCovered self.new.world }
         ensures stage { self.new.stage ≡ self.old.stage }
+        ensures slots { self.new.world.slots ≡ self.old.world.slots }
         ensures items { Took (T.taken trace.old) (logged (board_in self.old.world)
             (delivers_where as_trap (unix_of self.old.world) self.old.world.procs.table.running).effects).items
             (T.taken trace.new) }
@@ -458,6 +520,7 @@ impl Machine {
         ensures items { Took (T.taken trace.old) (key_lines 0 keyed (unix_of self.old.world)) (T.taken trace.new) }
         ensures frame { T.leads_to trace.old trace.new }
         ensures files { self.new.world.files ≡ self.old.world.files }
+        ensures slots { self.new.world.slots ≡ self.old.world.slots }
     {
         if let Keyed::Signal(sig) = keyed {
             signal_line(&mut self.world.procs, 0, sig, trace);

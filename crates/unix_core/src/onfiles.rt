@@ -38,6 +38,7 @@ pub(crate) fn do_on_files(
     ensures shown { IsReadyToShow world.old world.new fixed.now.slot (file_row call
         (handed_of (unix_of world.old) (process_of (unix_of world.old) fixed.now.slot)) fixed.now.slot args world.old.procs.table.now).items }
     ensures rest { SameRest world.old.files.tree.nodes world.new.files.tree.nodes }
+    ensures slots { world.new.slots ≡ world.old.slots }
 {
     see_count(&args);
     world.files.tree.nodes.see();
@@ -109,6 +110,7 @@ pub(crate) fn resume_on_files(world: &mut World, s: Slot) -> Answer
     ensures shown { IsReadyToShow world.old world.new s
         (resumes (handed_of (unix_of world.old) (process_of (unix_of world.old) s)) s world.old.procs.table.now).items }
     ensures rest { SameRest world.old.files.tree.nodes world.new.files.tree.nodes }
+    ensures slots { world.new.slots ≡ world.old.slots }
 {
     world.files.tree.nodes.see();
     see_table(&world.files.table);
@@ -146,6 +148,7 @@ pub(crate) fn put_core(world: &mut World, s: Slot) -> bool
     ensures user { is_user (process_of (unix_of world.new) s) ≡ true }
     ensures procs { world.new.procs ≡ world.old.procs }
     ensures rest { SameRest world.old.files.tree.nodes world.new.files.tree.nodes }
+    ensures slots { world.new.slots ≡ world.old.slots }
 {
     world.files.tree.nodes.see();
     see_table(&world.files.table);
@@ -164,6 +167,7 @@ pub(crate) fn close_files(world: &mut World, s: Slot)
     ensures shown { IsReadyToShow world.old world.new s
         (close_all (handed_of (unix_of world.old) (process_of (unix_of world.old) s))).items }
     ensures rest { SameRest world.old.files.tree.nodes world.new.files.tree.nodes }
+    ensures slots { world.new.slots ≡ world.old.slots }
 {
     world.files.tree.nodes.see();
     see_table(&world.files.table);

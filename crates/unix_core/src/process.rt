@@ -1,5 +1,5 @@
 //! Turns and calls of a process: what an instruction comes to, and how a call goes on. `trap` in Lions' Commentary, `trap.c`.
-ghost use Rattle.std.specs.Prelude.{◌≡◌, ◌≢◌, Some, true, false};
+ghost use Rattle.std.specs.Prelude.{◌≡◌, ◌≢◌, ◌<◌, ◌≤◌, Some, true, false};
 ghost use Rattle.v6_base.specs.Trace.{Took};
 ghost use Rattle.fs_nodes.specs.FileSystem.{SameRest};
 ghost use Rattle.pick_rules.specs.Logged.{logged};
@@ -10,10 +10,11 @@ ghost use Rattle.sys_procs.specs.Resume.{resume_proc};
 ghost use Rattle.image_keep.specs.Running.{IsFixed};
 ghost use Rattle.abstract_unix.specs.Unix.{Unix, process_of};
 ghost use Rattle.abstract_unix.specs.Steps.{signals};
-ghost use Rattle.abstract_unix.specs.Calls.{world_of, words_passed, entered_area, given_area, refused_area, refuses, system_call, does_call, did_by, came_by, shares, forks, exits, grows_to, resumed, answers, handed_of, file_row, process_row};
+ghost use Rattle.abstract_unix.specs.Calls.{world_of, words_passed, entered_area, given_area, refused_area, refuses, reads_disk, loads_program, system_call, does_call, did_by, came_by, shares, forks, exits, grows_to, resumed, answers, handed_of};
 ghost use Rattle.u_area.specs.Pending.{is_on_files};
 ghost use Rattle.abstract_unix.specs.Errors.{error_number};
 ghost use Rattle.abstract_unix.specs.Turn.{faults, comes_to, passes_setd, is_user};
+ghost use Rattle.unix_core.specs.Slots.{passed_in, HasWaited};
 ghost use Rattle.unix_core.specs.Parts.{unix_of, board_in, IsGood, IsReady, HasCome, IsCovered, is_over};
 
 use crate::asked::ask;
@@ -21,14 +22,16 @@ use crate::delivery::end_with;
 use crate::files::{see_covered, see_kept, see_procs, see_table};
 use crate::onfiles::{do_on_files, resume_on_files};
 use crate::passing::pass_on;
+use crate::slots::{end_wait, wait_for_disk};
 use crate::world::World;
 use abstract_unix::{Asked, Ending, FileCall, ProcessCall, SystemCall, do_process_call, sysent_of};
+use fs_codec::is_device;
 use image_keep::{Fixed, Images};
 use open_files::OpenTable;
 use pdp_step::{Kind, Outcome};
 use sig_core::{SIGBUS, SIGEMT, SIGINS, SIGIOT, SIGSEG, SIGSYS, SIGTRC};
 use sys_procs::{fork_one, grow, resume_proc, send_signal};
-use u_area::is_on_files;
+use u_area::{DISK_WAIT, is_on_files};
 use v6_base::{Answer, Errno, PanicKind, Slot, Trace};
 
 /// The first number of an error that makes a signal.
@@ -86,6 +89,7 @@ fn signal<T: Trace>(world: &mut World, s: Slot, sig: u8, trace: &mut T) -> Endin
         (T.taken trace.new) }
     ensures frame { T.leads_to trace.old trace.new }
     ensures blocks { world.new.files.tree.nodes.blocks ≡ world.old.files.tree.nodes.blocks }
+    ensures slots { world.new.slots ≡ world.old.slots }
 {
     send_signal(&mut world.procs, s, u16::from(sig), trace);
     Ending::Trapped
@@ -103,6 +107,7 @@ fn fail<T: Trace>(world: &mut World, s: Slot, error: Errno, trace: &mut T) -> En
         (logged (board_in world.old) (refuses (unix_of world.old) s (error_number error)).effects).items (T.taken trace.new) }
     ensures frame { T.leads_to trace.old trace.new }
     ensures blocks { world.new.files.tree.nodes.blocks ≡ world.old.files.tree.nodes.blocks }
+    ensures slots { world.new.slots ≡ world.old.slots }
 {
     let number = error_number(error);
     if number >= FIRST_SIGNAL {
@@ -123,6 +128,7 @@ fn conclude<T: Trace>(world: &mut World, s: Slot, answer: Answer, trace: &mut T)
         (T.taken trace.new) }
     ensures frame { T.leads_to trace.old trace.new }
     ensures blocks { world.new.files.tree.nodes.blocks ≡ world.old.files.tree.nodes.blocks }
+    ensures slots { world.new.slots ≡ world.old.slots }
 {
     match answer {
         Answer::Ret { r0, r1 } => {
@@ -146,19 +152,54 @@ fn call_files<T: Trace>(
     requires fixed { IsFixed world.old.procs.images.kept fixed.now }
     requires ready { IsReady world.old fixed.now.slot }
     requires user { is_user (process_of (unix_of world.old) fixed.now.slot) ≡ true }
-    ensures come { HasCome (board_in world.old) (did_by (unix_of world.old) fixed.now.slot (file_row call
-        (handed_of (unix_of world.old) (process_of (unix_of world.old) fixed.now.slot)) fixed.now.slot args world.old.procs.table.now)) result world.new }
+    requires fresh { (unix_of world.old).timing.passed ≤ 3000000000 }
+    requires rate { world.old.slots.disk ≤ 999999999 }
+    requires ahead { passed_in world.old.slots < world.old.slots.due }
+    ensures come { HasCome (board_in world.old) (does_call (unix_of world.old) fixed.now.slot
+        (SystemCall.OnFiles call) args) result world.new }
     ensures ready { IsReady world.new fixed.now.slot }
     ensures covered { is_over result ≡ true → IsCovered world.new }
-    ensures items { Took (T.taken trace.old) (logged (board_in world.old) (did_by (unix_of world.old) fixed.now.slot (file_row call
-        (handed_of (unix_of world.old) (process_of (unix_of world.old) fixed.now.slot)) fixed.now.slot args world.old.procs.table.now)).effects).items
-        (T.taken trace.new) }
+    ensures items { Took (T.taken trace.old) (logged (board_in world.old) (does_call (unix_of world.old) fixed.now.slot
+        (SystemCall.OnFiles call) args).effects).items (T.taken trace.new) }
     ensures frame { T.leads_to trace.old trace.new }
     ensures rest { SameRest world.old.files.tree.nodes world.new.files.tree.nodes }
+    ensures slots { HasWaited result fixed.now.slot world.old.slots world.new.slots }
 {
     let answer = do_on_files(world, fixed, call, args);
     pass_on(&world.tape, &mut world.procs.table, trace);
-    conclude(world, fixed.slot, answer, trace)
+    // asked before R0 takes the answer: it has the number of the file
+    let waits = world.slots.disk != 0 && reads_disk(world, fixed.slot, call, answer);
+    let ending = conclude(world, fixed.slot, answer, trace);
+    if waits {
+        return wait_for_disk(world, fixed.slot);
+    }
+    ending
+}
+
+/// Whether a call on files that answers so has taken bytes from the disk: those of a plain file or a directory, and of no pipe.
+#[cold]
+#[inline(never)]
+fn reads_disk(world: &World, s: Slot, call: FileCall, answer: Answer) -> bool
+    requires { IsReady world.now s }
+    ensures { result ≡ reads_disk call (handed_of (unix_of world.now) (process_of (unix_of world.now) s)) answer }
+{
+    match (call, answer) {
+        (FileCall::Read, Answer::Ret { r0, .. }) if r0 != 0 => {}
+        _ => return false,
+    }
+    let u = world.procs.images.area(s);
+    let Ok(entry) = world.files.table.get(&u.files, u.r[0]) else {
+        return false;
+    };
+    let file = world.files.table.file(entry);
+    !file.kind.pipe && !is_device(world.files.tree.nodes.node(file.ino).mode)
+}
+
+/// Whether a call on processes that answers so has loaded a program: exec(II).
+fn loads_program(call: ProcessCall, answer: Answer) -> bool
+    ensures { result ≡ loads_program call answer }
+{
+    matches!((call, answer), (ProcessCall::Exec, Answer::Ret { .. }))
 }
 
 /// A call on processes, which has been entered.
@@ -172,14 +213,17 @@ fn call_processes<T: Trace>(
 ) -> Ending
     requires ready { IsReady world.old s }
     requires user { is_user (process_of (unix_of world.old) s) ≡ true }
-    ensures come { HasCome (board_in world.old) (came_by (unix_of world.old) s
-        (process_row call (world_of (unix_of world.old)) s args)) result world.new }
+    requires fresh { (unix_of world.old).timing.passed ≤ 3000000000 }
+    requires rate { world.old.slots.disk ≤ 999999999 }
+    requires ahead { passed_in world.old.slots < world.old.slots.due }
+    ensures come { HasCome (board_in world.old) (does_call (unix_of world.old) s (SystemCall.OnProcesses call) args) result world.new }
     ensures ready { is_over result ≡ false → IsReady world.new s }
     ensures covered { is_over result ≡ true → IsCovered world.new }
-    ensures items { Took (T.taken trace.old) (logged (board_in world.old) (came_by (unix_of world.old) s
-        (process_row call (world_of (unix_of world.old)) s args)).effects).items (T.taken trace.new) }
+    ensures items { Took (T.taken trace.old) (logged (board_in world.old)
+        (does_call (unix_of world.old) s (SystemCall.OnProcesses call) args).effects).items (T.taken trace.new) }
     ensures frame { T.leads_to trace.old trace.new }
     ensures rest { SameRest world.old.files.tree.nodes world.new.files.tree.nodes }
+    ensures slots { HasWaited result s world.old.slots world.new.slots }
 {
     world.files.tree.nodes.see();
     see_table(&world.files.table);
@@ -192,7 +236,13 @@ fn call_processes<T: Trace>(
         args,
         trace,
     ) {
-        Ok(answer) => conclude(world, s, answer, trace),
+        Ok(answer) => {
+            let ending = conclude(world, s, answer, trace);
+            if world.slots.disk != 0 && loads_program(call, answer) {
+                return wait_for_disk(world, s);
+            }
+            ending
+        }
         Err(kind) => {
             see_procs(&world.procs);
             Ending::Panic(kind)
@@ -223,6 +273,7 @@ fn fork<T: Trace>(world: &mut World, s: Slot, trace: &mut T) -> Ending
         (T.taken trace.new) }
     ensures frame { T.leads_to trace.old trace.new }
     ensures rest { SameRest world.old.files.tree.nodes world.new.files.tree.nodes }
+    ensures slots { world.new.slots ≡ world.old.slots }
 {
     let u = world.procs.images.area(s);
     world.files.tree.nodes.see();
@@ -252,6 +303,7 @@ fn exit<T: Trace>(world: &mut World, s: Slot, trace: &mut T) -> Ending
         (T.taken trace.new) }
     ensures frame { T.leads_to trace.old trace.new }
     ensures rest { SameRest world.old.files.tree.nodes world.new.files.tree.nodes }
+    ensures slots { world.new.slots ≡ world.old.slots }
 {
     let r0 = world.procs.images.area(s).r[0];
     end_with(world, s, 256 * (r0 % 256), trace)
@@ -268,6 +320,7 @@ fn grow_stack<T: Trace>(world: &mut World, s: Slot, sp: u16, trace: &mut T) -> E
         (T.taken trace.new) }
     ensures frame { T.leads_to trace.old trace.new }
     ensures rest { SameRest world.old.files.tree.nodes world.new.files.tree.nodes }
+    ensures slots { world.new.slots ≡ world.old.slots }
 {
     world.files.tree.nodes.see();
     see_table(&world.files.table);
@@ -295,6 +348,9 @@ fn does_call<T: Trace>(
     requires fixed { IsFixed world.old.procs.images.kept fixed.now }
     requires ready { IsReady world.old fixed.now.slot }
     requires user { is_user (process_of (unix_of world.old) fixed.now.slot) ≡ true }
+    requires fresh { (unix_of world.old).timing.passed ≤ 3000000000 }
+    requires rate { world.old.slots.disk ≤ 999999999 }
+    requires ahead { passed_in world.old.slots < world.old.slots.due }
     ensures come { HasCome (board_in world.old) (does_call (unix_of world.old) fixed.now.slot call args) result world.new }
     ensures good { is_over result ≡ false → IsGood world.new }
     ensures covered { is_over result ≡ true → IsCovered world.new }
@@ -304,6 +360,7 @@ fn does_call<T: Trace>(
         (does_call (unix_of world.old) fixed.now.slot call args).effects).items (T.taken trace.new) }
     ensures frame { T.leads_to trace.old trace.new }
     ensures rest { SameRest world.old.files.tree.nodes world.new.files.tree.nodes }
+    ensures slots { HasWaited result fixed.now.slot world.old.slots world.new.slots }
 {
     let s = fixed.slot;
     match call {
@@ -331,6 +388,9 @@ fn call<T: Trace>(world: &mut World, fixed: &Fixed, number: u8, trace: &mut T) -
     requires fixed { IsFixed world.old.procs.images.kept fixed.now }
     requires ready { IsReady world.old fixed.now.slot }
     requires user { is_user (process_of (unix_of world.old) fixed.now.slot) ≡ true }
+    requires fresh { (unix_of world.old).timing.passed ≤ 3000000000 }
+    requires rate { world.old.slots.disk ≤ 999999999 }
+    requires ahead { passed_in world.old.slots < world.old.slots.due }
     ensures come { HasCome (board_in world.old) (system_call number (unix_of world.old) fixed.now.slot) result world.new }
     ensures good { is_over result ≡ false → IsGood world.new }
     ensures covered { is_over result ≡ true → IsCovered world.new }
@@ -340,6 +400,7 @@ fn call<T: Trace>(world: &mut World, fixed: &Fixed, number: u8, trace: &mut T) -
         (system_call number (unix_of world.old) fixed.now.slot).effects).items (T.taken trace.new) }
     ensures frame { T.leads_to trace.old trace.new }
     ensures rest { SameRest world.old.files.tree.nodes world.new.files.tree.nodes }
+    ensures slots { HasWaited result fixed.now.slot world.old.slots world.new.slots }
 {
     let asked = ask(&world.procs.images, fixed, number);
     let entry = sysent_of(asked.number);
@@ -371,6 +432,7 @@ fn fault<T: Trace>(world: &mut World, s: Slot, kind: Kind, trace: &mut T) -> End
         (faults (unix_of world.old) s kind).effects).items (T.taken trace.new) }
     ensures frame { T.leads_to trace.old trace.new }
     ensures rest { SameRest world.old.files.tree.nodes world.new.files.tree.nodes }
+    ensures slots { world.new.slots ≡ world.old.slots }
 {
     match kind {
         Kind::Odd => signal(world, s, SIGBUS, trace),
@@ -398,6 +460,9 @@ pub(crate) fn come_to<T: Trace>(
     requires fixed { IsFixed world.old.procs.images.kept fixed.now }
     requires ready { IsReady world.old fixed.now.slot }
     requires user { is_user (process_of (unix_of world.old) fixed.now.slot) ≡ true }
+    requires fresh { (unix_of world.old).timing.passed ≤ 3000000000 }
+    requires rate { world.old.slots.disk ≤ 999999999 }
+    requires ahead { passed_in world.old.slots < world.old.slots.due }
     ensures come { HasCome (board_in world.old) (comes_to (unix_of world.old) fixed.now.slot outcome) result world.new }
     ensures good { is_over result ≡ false → IsGood world.new }
     ensures covered { is_over result ≡ true → IsCovered world.new }
@@ -406,6 +471,7 @@ pub(crate) fn come_to<T: Trace>(
         (comes_to (unix_of world.old) fixed.now.slot outcome).effects).items (T.taken trace.new) }
     ensures frame { T.leads_to trace.old trace.new }
     ensures rest { SameRest world.old.files.tree.nodes world.new.files.tree.nodes }
+    ensures slots { HasWaited result fixed.now.slot world.old.slots world.new.slots }
 {
     match outcome {
         Outcome::Next => Ending::Next,
@@ -435,6 +501,7 @@ fn go_on_files<T: Trace>(world: &mut World, s: Slot, trace: &mut T) -> Ending
         (T.taken trace.new) }
     ensures frame { T.leads_to trace.old trace.new }
     ensures rest { SameRest world.old.files.tree.nodes world.new.files.tree.nodes }
+    ensures slots { world.new.slots ≡ world.old.slots }
 {
     let answer = resume_on_files(world, s);
     pass_on(&world.tape, &mut world.procs.table, trace);
@@ -452,6 +519,7 @@ fn go_on_waiting<T: Trace>(world: &mut World, s: Slot, trace: &mut T) -> Ending
         (resume_proc (world_of (unix_of world.old)) s)).effects).items (T.taken trace.new) }
     ensures frame { T.leads_to trace.old trace.new }
     ensures rest { SameRest world.old.files.tree.nodes world.new.files.tree.nodes }
+    ensures slots { world.new.slots ≡ world.old.slots }
 {
     world.files.tree.nodes.see();
     see_table(&world.files.table);
@@ -475,8 +543,12 @@ pub(crate) fn resume<T: Trace>(world: &mut World, s: Slot, trace: &mut T) -> End
         (T.taken trace.new) }
     ensures frame { T.leads_to trace.old trace.new }
     ensures rest { SameRest world.old.files.tree.nodes world.new.files.tree.nodes }
+    ensures slots { world.new.slots ≡ world.old.slots }
 {
     let pending = pending_of(&world.procs.images, s);
+    if pending == DISK_WAIT {
+        return end_wait(world, s);
+    }
     if is_on_files(pending) {
         return go_on_files(world, s, trace);
     }

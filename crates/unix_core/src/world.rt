@@ -1,5 +1,6 @@
 //! What a kernel has beside how far its run has come.
 
+use crate::slots::Slots;
 use sys_files::Files;
 use sys_procs::Procs;
 use v6_base::Tape;
@@ -12,4 +13,6 @@ pub(crate) struct World {
     pub(crate) tape: Tape,
     /// The clicks of core.
     pub(crate) core: u16,
+    /// The slots that have been taken, and how long a transfer from the disk takes.
+    pub(crate) slots: Slots,
 }

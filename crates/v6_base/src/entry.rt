@@ -17,12 +17,20 @@ pub enum Chan {
     Tout,
     /// Bytes typed at the console.
     Keys,
+    /// Room in what waits to go out on the console.
+    Show,
     /// The end of a child of the process in this slot: wait(II).
     Wait(Slot),
     /// Bytes in the pipe of this inode.
     Read(u16),
     /// Room in the pipe of this inode.
     Write(u16),
+    /// The end of a transfer from the disk, by the process in this slot.
+    Disk(Slot),
+    /// Bytes typed at this terminal line, from 1 to 7.
+    KeysOf(u8),
+    /// Room in what waits to go out on this terminal line, from 1 to 7.
+    ShowOf(u8),
 }
 
 /// Why the system stops: Lions' Commentary, `panic`.

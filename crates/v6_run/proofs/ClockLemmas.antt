@@ -43,6 +43,7 @@ module _ (c d : Clock) (alike : TicksAlike c d) where
   happens_alike ask.Tick = refl
   happens_alike (ask.Byte byte) = refl
   happens_alike (ask.Switch word) = refl
+  happens_alike (ask.Disk count) = refl
 
   after_alike : (event : asked.Event) → TicksAlike (clock_after c event) (clock_after d event)
   after_alike (ask.Clock every) = record { every = refl; slots = λ _. refl }
@@ -50,6 +51,7 @@ module _ (c d : Clock) (alike : TicksAlike c d) where
   after_alike ask.Tick = alike
   after_alike (ask.Byte byte) = alike
   after_alike (ask.Switch word) = alike
+  after_alike (ask.Disk count) = alike
 
 events_alike : (c d : Clock) (events : List asked.Event) → TicksAlike c d → events_from c events ≡ events_from d events
 events_alike c d [] alike = refl

@@ -7,7 +7,7 @@ use Rattle.std.specs.Char.{is_ascii_digit}
 use Rattle.std.specs.Str.{bytes_eq}
 use Rattle.std.specs.Str.Parse.{digits_value, starts_with_minus}
 use Rattle.v6_base.specs.declared.entry.Chan.{Chan}
-use Rattle.v6_base.specs.declared.entry.Chan.TheVariants.{RunIn, RunOut, Tout, Keys, Wait, Read, Write}
+use Rattle.v6_base.specs.declared.entry.Chan.TheVariants.{RunIn, RunOut, Tout, Keys, Show, Wait, Read, Write, Disk, KeysOf, ShowOf}
 use Rattle.v6_base.specs.declared.entry.PanicKind.TheVariants as panic
 use Rattle.v6_base.specs.declared.entry.Place.{Place}
 use Rattle.v6_base.specs.declared.entry.Place.TheVariants as place
@@ -58,9 +58,13 @@ channel_of word =
     if is_word word (codes "runout") then Some RunOut else (
     if is_word word (codes "tout") then Some Tout else (
     if is_word word (codes "keys") then Some Keys else (
+    if is_word word (codes "show") then Some Show else (
     if begins word (codes "wait.") then option_map Wait (number_of 8 (drop 5 word)) else (
     if begins word (codes "read.") then option_map Read (number_of 16 (drop 5 word)) else (
-    if begins word (codes "write.") then option_map Write (number_of 16 (drop 6 word)) else None))))))
+    if begins word (codes "write.") then option_map Write (number_of 16 (drop 6 word)) else (
+    if begins word (codes "disk.") then option_map Disk (number_of 8 (drop 5 word)) else (
+    if begins word (codes "keys.") then option_map KeysOf (number_of 8 (drop 5 word)) else (
+    if begins word (codes "show.") then option_map ShowOf (number_of 8 (drop 5 word)) else None))))))))))
 
 -- the slot that stands second in most lines
 abbrev pub slot_of : List (List ℕ) → Option ℕ

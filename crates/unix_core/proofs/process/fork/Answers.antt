@@ -56,7 +56,7 @@ conclude-requires g c =
     fork_ready w (after w c.fork_one.new.tree c.fork_one.new.p) c.args.s c.requires.ready c.see.ensures
     (beside w c.fork_one.new.tree c.fork_one.new.p) e.does
     c.in-Ok.answer c.in-Ok.is (shared w c.fork_one.new.tree c.share_files.new.table c.fork_one.new.p) refl refl
-    (its_table w c.args.s c.area-u.result _ c.in-Ok.answer c.requires.ready c.area-u.ensures.u c.share_files.ensures) refl refl refl refl
+    (its_table w c.args.s c.area-u.result _ c.in-Ok.answer c.requires.ready c.area-u.ensures.u c.share_files.ensures) refl refl refl refl refl
     e.agree c.requires.user e.marks
 
 pub returns-in-Ok-clause-come : goal.returns-in-Ok-clause-come
@@ -66,7 +66,7 @@ returns-in-Ok-clause-come g c =
     fork_come w (after w c.fork_one.new.tree c.fork_one.new.p) c.args.s c.requires.ready c.see.ensures
     (beside w c.fork_one.new.tree c.fork_one.new.p) e.does
     c.in-Ok.answer c.in-Ok.is (shared w c.fork_one.new.tree c.share_files.new.table c.fork_one.new.p) refl refl
-    (its_table w c.args.s c.area-u.result _ c.in-Ok.answer c.requires.ready c.area-u.ensures.u c.share_files.ensures) refl refl refl refl
+    (its_table w c.args.s c.area-u.result _ c.in-Ok.answer c.requires.ready c.area-u.ensures.u c.share_files.ensures) refl refl refl refl refl
     e.agree
     c.conclude.result c.conclude.new.world c.conclude.ensures.come
 
@@ -77,7 +77,7 @@ returns-in-Ok-clause-items g c =
     fork_took w (after w c.fork_one.new.tree c.fork_one.new.p) c.args.s c.requires.ready c.see.ensures
     (beside w c.fork_one.new.tree c.fork_one.new.p) e.does
     c.in-Ok.answer c.in-Ok.is (shared w c.fork_one.new.tree c.share_files.new.table c.fork_one.new.p) refl refl
-    (its_table w c.args.s c.area-u.result _ c.in-Ok.answer c.requires.ready c.area-u.ensures.u c.share_files.ensures) refl refl refl refl
+    (its_table w c.args.s c.area-u.result _ c.in-Ok.answer c.requires.ready c.area-u.ensures.u c.share_files.ensures) refl refl refl refl refl
     e.agree _ c.conclude.ensures.items
 
 pub returns-in-Ok-clause-covered : goal.returns-in-Ok-clause-covered

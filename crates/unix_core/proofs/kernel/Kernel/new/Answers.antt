@@ -15,6 +15,7 @@ returns-clause-system c =
       procs = c.make_first.new.procs;
       tape = c.args.tape;
       core = c.args.core;
+      slots = c.new-6.result;
     } in
     let made = c.make_first.ensures in
     first_system c.args.nodes c.args.core c.requires.referred
@@ -23,6 +24,8 @@ returns-clause-system c =
     (subst (λ (p : Procs). IsTable p.table) (sym made.others) c.new-5.ensures.good)
     (made.kept ∙ ap (λ (k : Kept). with_keeping k 1 (Alive first_held)) c.requires.images) (ap (λ (p : Procs). p.switches) made.others)
     (ap (λ t. t.entry_room) c.requires.tape) (ap (λ t. t.byte_room) c.requires.tape) refl
+    (λ i. record { passed = c.new-6.ensures.passed i; disk = c.new-6.ensures.disk i }) c.new-6.ensures.within c.new-6.ensures.due
+    (λ i. record { passed = c.new-6.ensures.passed i; disk = c.new-6.ensures.disk i })
 
 pub returns-clause-blocks : goal.returns-clause-blocks
 returns-clause-blocks c = ap (λ (f : FileSystem). f.blocks) c.new-tree.ensures.nodes
@@ -37,6 +40,7 @@ invariant_of-result c =
       procs = c.make_first.new.procs;
       tape = c.args.tape;
       core = c.args.core;
+      slots = c.new-6.result;
     } in
     let made = c.make_first.ensures in
     first_kernel c.args.nodes c.args.core c.requires.referred

@@ -25,7 +25,7 @@ returns-then-area-ne-NOTHING_PENDING-clause-kernel c =
     subst (λ (x : Stage). IsKernel x c.rest.new.self.world) (sym c.rest.ensures.stage)
     (subst (IsKernel stage.Resting) (sym c.rest.ensures.world)
     (calls_kernel w s c.requires.ready c.requires.settled
-    (user_is w s _ (ready_alive w s c.requires.ready) (ne_eqb _ 0 (λ e. c.if-area-ne-NOTHING_PENDING.true (ap (λ (u : UArea). u.pending) c.area.ensures.u ∙ e))))))
+    (user_is w s _ (ready_alive w s c.requires.ready) (ne_eqb _ 0 (λ e. c.if-area-ne-NOTHING_PENDING.true (ap (λ (u : UArea). u.pending) c.area.ensures.u ∙ e)))) c.requires.counted))
 
 pub returns-then-not-stays-clause-kernel : goal.returns-then-not-stays-clause-kernel
 returns-then-not-stays-clause-kernel c =
@@ -33,11 +33,11 @@ returns-then-not-stays-clause-kernel c =
     let s = c.args.s in
     subst (IsKernel c.begin.new.self.stage) (sym c.begin.ensures.world)
     (known_kernel c.begin.new.self.stage w s c.begin.ensures.known c.requires.ready c.requires.settled
-    (user_is w s _ (ready_alive w s c.requires.ready) (eq-eqb _ 0 (ap (λ (u : UArea). u.pending) (sym c.area.ensures.u) ∙ c.if-area-ne-NOTHING_PENDING.false))))
+    (user_is w s _ (ready_alive w s c.requires.ready) (eq-eqb _ 0 (ap (λ (u : UArea). u.pending) (sym c.area.ensures.u) ∙ c.if-area-ne-NOTHING_PENDING.false))) c.requires.counted)
 
 pub returns-else-not-stays-clause-kernel : goal.returns-else-not-stays-clause-kernel
 returns-else-not-stays-clause-kernel c =
     let w : World = c.args.self.now.world in
     let s = c.args.s in
     known_kernel c.args.self.now.stage w s (c.stays.ensures c.if-not-stays.false) c.requires.ready c.requires.settled
-    (user_is w s _ (ready_alive w s c.requires.ready) (eq-eqb _ 0 (ap (λ (u : UArea). u.pending) (sym c.area.ensures.u) ∙ c.if-area-ne-NOTHING_PENDING.false)))
+    (user_is w s _ (ready_alive w s c.requires.ready) (eq-eqb _ 0 (ap (λ (u : UArea). u.pending) (sym c.area.ensures.u) ∙ c.if-area-ne-NOTHING_PENDING.false))) c.requires.counted

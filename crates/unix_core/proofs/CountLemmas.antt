@@ -1,0 +1,96 @@
+-- The count of slots through what a kernel does: who waits for the disk is woken when the slot has come.
+use Rattle.std.proofs.Common.{◌≡◌, ◌≢◌, ◌∙◌, ◌⊎◌, ◌<◌, ◌≤◌, ◌+◌, ◌*◌, ◌-◌, ℕ, true, false, List, get_or, Option, Some, None, slice_index, refl, sym, ap, subst, inl, inr, arith}
+use Rattle.u_area.specs.declared.layout.TheConstants.{NOTHING_PENDING, DISK_WAIT}
+use Rattle.sys_procs.specs.Process.{Process}
+use Rattle.v6_base.specs.declared.entry.Chan.TheVariants.{Disk}
+use Rattle.pick_rules.specs.Priority.{pribio}
+use Rattle.abstract_unix.specs.declared.ending.Ending.{Ending}
+use Rattle.abstract_unix.specs.declared.ending.Ending.TheVariants as ending
+use Rattle.abstract_unix.specs.Unix.{Timing, Unix, System, process_at, process_of}
+use Rattle.abstract_unix.specs.Calls.{disk_end}
+use Rattle.abstract_unix.specs.Turn.{begins_turn, turn, with_slot, disk_end_of}
+use Rattle.abstract_unix.specs.Whole.{AreDue, NoGraveWaits}
+use Rattle.abstract_unix.proofs.Tidy.{IsTidy}
+use Rattle.abstract_unix.proofs.GoingOnLemmas.{AllWaited}
+use Rattle.abstract_unix.proofs.Stretches.{due_after}
+use Rattle.abstract_unix.proofs.Dues.{turn_due}
+use Rattle.unix_core.specs.declared.slots.Slots.{Slots}
+use Rattle.unix_core.specs.Slots.{passed_in, timing_in, IsCounted, HasWaited}
+
+-- The count speaks of the processes and of the slots that have passed alone.
+pub counted_same : (slots : Slots) (u v : Unix) → v.processes ≡ u.processes → v.timing.passed ≡ u.timing.passed → IsCounted slots u
+    → IsCounted slots v
+counted_same slots u v processes passed counted = record {
+  within = counted.within;
+  disk = counted.disk;
+  due = record {
+    next = subst (λ n. n < slots.due) (sym passed) counted.due.next;
+    each = λ s p is waits. subst (λ n. (_ ≤ n) ⊎ (slots.due ≤ _)) (sym passed)
+        (counted.due.each s p (ap (λ (l : List (Option Process)). get_or l s None) (sym processes) ∙ is) waits);
+  };
+  graves = λ s p is. counted.graves s p (ap (λ (l : List (Option Process)). get_or l s None) (sym processes) ∙ is);
+}
+
+-- Processes change, and who waits waited before.
+pub counted_waits : (slots : Slots) (u v : Unix) → v.timing.passed ≡ u.timing.passed → AllWaited u.processes v.processes
+    → IsCounted slots u → IsCounted slots v
+counted_waits slots u v passed waited counted = record {
+  within = counted.within;
+  disk = counted.disk;
+  due = record {
+    next = subst (λ n. n < slots.due) (sym passed) counted.due.next;
+    each = λ s q is waits.
+        let was = waited s q is (inr waits) in
+        let ends : disk_end_of was.before ≡ disk_end_of q = ap (λ l. 65536 * slice_index l 4 + slice_index l 5) was.call in
+        elim (counted.due.each s was.before was.there (was.pending ∙ waits)) [
+          | inl low ↦ inl (omega (arith, low, ends, passed))
+          | inr high ↦ inr (omega (arith, high, ends))
+        ];
+  };
+  graves = λ s q is dead waits.
+      let was = waited s q is (inr waits) in counted.graves s was.before was.there (was.dead ∙ dead) (was.pending ∙ waits);
+}
+
+-- how long a transfer takes is another number
+pub counted_set : (slots : Slots) (n : ℕ) (u v : Unix) → n ≤ 999999999 → v.processes ≡ u.processes → v.timing.passed ≡ u.timing.passed
+    → IsCounted slots u → IsCounted (record slots { disk = n }) v
+counted_set slots n u v most processes passed counted =
+    let same : IsCounted slots v = counted_same slots u v processes passed counted in
+    record { within = same.within; disk = most; due = same.due; graves = same.graves }
+
+-- a slot is counted which isn't the one that is due
+pub counted_one : (slots : Slots) (u : Unix) → u.timing.passed ≡ passed_in slots → 1 < slots.left → IsCounted slots u
+    → IsCounted (record slots { left = slots.left - 1 }) (with_slot u)
+counted_one slots u is more counted = record {
+  within = omega (arith, counted.within, more);
+  disk = counted.disk;
+  due = due_after slots.due u counted.due (omega (arith, counted.within, more, is));
+  graves = counted.graves;
+}
+
+-- nobody waits, as at the start of a run
+pub counted_first : (slots : Slots) (u : Unix) → slots.left ≤ slots.due → slots.disk ≡ 0 → u.timing.passed < slots.due
+    → ((s : ℕ) (p : Process) → process_at u s ≡ Some p → p.u.pending ≡ NOTHING_PENDING) → IsCounted slots u
+counted_first slots u within none next nobody = record {
+  within = within;
+  disk = omega (arith, none);
+  due = record { next = next; each = λ s p is waits. let free = nobody s p is in absurd (omega (arith, free, waits)) };
+  graves = λ s p is dead waits. let free = nobody s p is in absurd (omega (arith, free, waits));
+}
+
+-- A turn leaves it, before its slot is counted.
+pub counted_turn : (m : System) (s : ℕ) (e : Ending) (old new : Slots) → IsTidy m.unix
+    → get_or m.unix.processes s None ≡ Some (process_of m.unix s) → (process_of m.unix s).is_zombie ≡ false
+    → m.unix.timing ≡ timing_in old → ((begins_turn m s).ending ≡ ending.Slept pribio (Disk s) → e ≡ ending.Slept pribio (Disk s))
+    → NoGraveWaits (turn m s).unix → IsCounted old m.unix → HasWaited e s old new → IsCounted new (turn m s).unix
+counted_turn m s e old new tidy there lives timing same graves counted waited =
+    let passed : m.unix.timing.passed ≡ passed_in old = ap (λ (t : Timing). t.passed) timing in
+    let disk : m.unix.timing.disk ≡ old.disk = ap (λ (t : Timing). t.disk) timing in
+    let kept : new.disk ≡ old.disk = ap (λ (t : Timing). t.disk) waited.timing in
+    record {
+      within = waited.within;
+      disk = subst (λ n. n ≤ 999999999) (sym kept) counted.disk;
+      due = turn_due m s old.due new.due tidy there lives counted.due waited.sooner (subst (λ n. n < new.due) (sym passed) waited.ahead)
+          (λ slept. let ends = waited.ends (same slept) in omega (arith, ends, passed, disk));
+      graves = graves;
+    }

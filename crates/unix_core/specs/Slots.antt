@@ -1,0 +1,38 @@
+-- How a kernel counts the slots that have been taken, and who waits for the disk.
+use Rattle.std.specs.Prelude.{◌≡◌, ◌<◌, ◌≤◌, ℕ, ◌+◌, ◌-◌}
+use Rattle.v6_base.specs.declared.entry.Chan.TheVariants.{Disk}
+use Rattle.pick_rules.specs.Priority.{pribio}
+use Rattle.abstract_unix.specs.declared.ending.Ending.{Ending}
+use Rattle.abstract_unix.specs.declared.ending.Ending.TheVariants.{Slept}
+use Rattle.abstract_unix.specs.Unix.{Timing, Unix}
+use Rattle.abstract_unix.specs.Whole.{AreDue, NoGraveWaits}
+use Rattle.sys_procs.specs.declared.procs.Procs.{Procs}
+use Rattle.sys_procs.specs.World.{processes_in}
+use Rattle.unix_core.specs.declared.slots.Slots.{Slots}
+
+-- the slots that have been taken: those up to the one that is due, without those that are left
+abbrev pub passed_in : Slots → ℕ
+passed_in slots = slots.due - slots.left
+
+abbrev pub timing_in : Slots → Timing
+timing_in slots = record { passed = passed_in slots; disk = slots.disk }
+
+-- What is so of the count between two events.
+pub record IsCounted (slots : Slots) (u : Unix) : Type 0 where
+  pub within : slots.left ≤ slots.due
+  pub disk : slots.disk ≤ 999999999
+  pub due : AreDue slots.due u
+  pub graves : NoGraveWaits u
+
+-- A turn that ends so leaves the count as it was, but that a wait for the disk that begins in it ends with the slot that is due,
+-- or later.
+pub record HasWaited (e : Ending) (s : ℕ) (old new : Slots) : Type 0 where
+  pub timing : timing_in new ≡ timing_in old
+  pub within : new.left ≤ new.due
+  pub sooner : new.due ≤ old.due
+  pub ahead : passed_in old < new.due
+  pub ends : e ≡ Slept pribio (Disk s) → new.due ≤ passed_in old + 1 + old.disk
+
+-- these are the processes of a Unix
+abbrev pub IsOf : Unix → Procs → Type 0
+IsOf u p = u.processes ≡ processes_in p.rows.slots p.images.kept
