@@ -11,15 +11,7 @@ pub(crate) struct Clock {
     ghost counted: { every ≢ 0 → since < every },
 }
 
-/// How many slots have been taken since the last tick, or the clock was set, when one more is taken.
-pub(crate) fn since_next(every: u32, since: u32) -> u32
-    requires { since < every }
-    ensures { result ≡ (since + 1) % every }
-{
-    if since + 1 == every { 0 } else { since + 1 }
-}
-
-/// How many have been when so many more are taken.
+/// How many slots have been taken since the last tick, or the clock was set, when so many more are taken.
 pub(crate) fn since_after(every: u32, since: u32, count: u32) -> u32
     requires { every ≢ 0 }
     ensures { result ≡ (since + count) % every }

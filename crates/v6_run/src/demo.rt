@@ -12,6 +12,8 @@ ghost use Rattle.abstract_unix.specs.Unix.{New, Started, Finished};
 ghost use Rattle.abstract_unix.specs.Endings.{phase_after};
 ghost use Rattle.abstract_unix.specs.Runs.{started, course, shown_by, finished};
 ghost use Rattle.unix_core.specs.State.{KeepsRest};
+ghost use Rattle.script_text.specs.Script.{slots_of, AreRates};
+ghost use Rattle.v6_run.specs.Courses.{CanTake};
 ghost use Rattle.v6_run.specs.Events.{events_of};
 ghost use Rattle.v6_run.specs.Words.{Demo};
 ghost use Rattle.v6_run.specs.Final.{disk_text};
@@ -58,6 +60,7 @@ struct Played {
 /// terminal had no room.
 fn play_counted<H: Host>(kernel: &mut Kernel, events: &[Event], host: &mut H) -> Option<Played>
     requires new { kernel.old.phase ≡ New }
+    requires can { CanTake kernel.old.system events.now }
     ensures outside { H.outside host.new ≡ H.outside host.old }
     ensures phase { IfSome result (λ played. kernel.new.phase ≡ phase_after played.ends) }
     ensures ending { IfSome result (λ played.
@@ -121,6 +124,7 @@ fn run_counted<H: Host>(
     requires new { kernel.old.phase ≡ New }
     requires root { (head (block_at kernel.old.blocks)).f_size ≤ SWAP_START }
     requires long { length image.old ≡ 512 * SWAP_START }
+    requires can { CanTake kernel.old.system events.now }
     ensures outside { H.outside host.new ≡ H.outside host.old }
     ensures outcome { MatchResult result
         (EndsCourse number (course (started kernel.old.system) (events_of events.now)))
@@ -158,6 +162,8 @@ fn demo_disk(alloc: Global, number: u32) -> Result<Vec<u8>, RunError>
 /// The events of the script of the demo, which has no fault.
 fn demo_events(alloc: Global) -> Result<Script, RunError>
     ensures events { IfOk result (λ script. script_of demo_text ≡ Ok script.events.items) }
+    ensures slots { IfOk result (λ script. sum_by slots_of script.events.items ≤ MAX_SLOTS) }
+    ensures rates { IfOk result (λ script. AreRates script.events.items) }
     ensures memory { IfErr result (λ error. run_status error ≡ Status.NoMemory) }
 {
     let Ok(text) = demo_script(alloc) else {

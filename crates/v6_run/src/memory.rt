@@ -9,6 +9,7 @@ ghost use Rattle.unix_core.specs.Memory.{kept_in};
 ghost use Rattle.abstract_unix.specs.Unix.{New, Started};
 ghost use Rattle.abstract_unix.specs.Endings.{phase_after};
 ghost use Rattle.abstract_unix.specs.Runs.{started, course};
+ghost use Rattle.v6_run.specs.Courses.{CanTake};
 ghost use Rattle.v6_run.specs.Events.{events_of};
 ghost use Rattle.v6_run.specs.Words.{ToMemory};
 ghost use Rattle.v6_run.specs.Ports.{final_of};
@@ -25,6 +26,7 @@ use v6_port::{Failed, Host, OutPort};
 /// Runs the kernel over the events of a script, and tells how the run ends. What it shows is written nowhere.
 fn play_unshown<H: Host>(kernel: &mut Kernel, events: &[Event], host: &mut H) -> Ends
     requires new { kernel.old.phase ≡ New }
+    requires can { CanTake kernel.old.system events.now }
     ensures phase { kernel.new.phase ≡ phase_after result }
     ensures outside { H.outside host.new ≡ H.outside host.old }
     ensures ending { result ≡ (course (started kernel.old.system) (events_of events.now)).ending }
@@ -127,6 +129,7 @@ pub(crate) fn run_to_memory<H: Host>(
 ) -> Result<Ends, OutPort>
     requires closed { ((H.outside host.old).port (Out out_port.Final)).is_open ≡ false }
     requires new { kernel.old.phase ≡ New }
+    requires can { CanTake kernel.old.system events.now }
     ensures only { OnlyAt (same (Out out_port.Final)) (H.outside host.old) (H.outside host.new) }
     ensures outcome { MatchResult result
         (λ ends. EndsRun (ToMemory name.now)

@@ -12,6 +12,7 @@ ghost use Rattle.abstract_unix.specs.Unix.{New};
 ghost use Rattle.abstract_unix.specs.Endings.{phase_after};
 ghost use Rattle.abstract_unix.specs.Runs.{boots, started, course, shown_by};
 ghost use Rattle.unix_core.specs.State.{KeepsRest};
+ghost use Rattle.v6_run.specs.Courses.{CanTake};
 ghost use Rattle.v6_run.specs.Words.{Run, ToDisk, disk_files_value, run_words_value};
 ghost use Rattle.v6_run.specs.Events.{events_of};
 ghost use Rattle.v6_run.specs.Ports.{HasShown, HasShownFronts};
@@ -118,6 +119,7 @@ fn play<H: Host>(kernel: &mut Kernel, events: &[Event], host: &mut H) -> Result<
     requires term { IsOpen (H.outside host.old) (Out Term) }
     requires log { IsOpen (H.outside host.old) (Out Log) }
     requires new { kernel.old.phase ≡ New }
+    requires can { CanTake kernel.old.system events.now }
     ensures phase { IfOk result (λ ends. kernel.new.phase ≡ phase_after ends) }
     ensures only { OnlyAt is_shown (H.outside host.old) (H.outside host.new) }
     ensures term { IsOpen (H.outside host.new) (Out Term) }
@@ -156,6 +158,7 @@ fn run_to_disk<H: Host>(
     requires root { (head (block_at kernel.old.blocks)).f_size ≤ SWAP_START }
     requires new { kernel.old.phase ≡ New }
     requires lawful { HasLawfulLogs kernel.old.system }
+    requires can { CanTake kernel.old.system events.now }
     ensures only { OnlyAt is_disk_output (H.outside host.old) (H.outside host.new) }
     ensures outcome { MatchResult result
         (λ ends. EndsRun (ToDisk (disk_files_value files.now))
@@ -186,6 +189,7 @@ fn run_with_outputs<H: Host>(
     requires root { (head (block_at kernel.old.blocks)).f_size ≤ SWAP_START }
     requires new { kernel.old.phase ≡ New }
     requires lawful { HasLawfulLogs kernel.old.system }
+    requires can { CanTake kernel.old.system events.now }
     ensures only { OnlyAt (is_output (run_words_value words.now).outputs) (H.outside host.old) (H.outside host.new) }
     ensures outcome { MatchResult result
         (λ ends. EndsRun (run_words_value words.now).outputs

@@ -1,17 +1,18 @@
 //! A run over the events of a script.
-ghost use Rattle.std.specs.Prelude.{◌≡◌, ◌<◌, ◌+◌, Ok, Err, replicate, flat_map};
+ghost use Rattle.std.specs.Prelude.{◌≡◌, ◌<◌, ◌≤◌, ◌+◌, [], ◌∷◌, Ok, Err, replicate, flat_map};
 ghost use Rattle.std.specs.List.{range_with_len};
 ghost use Rattle.abstract_unix.specs.Unix.{New, Started};
 ghost use Rattle.abstract_unix.specs.declared.ends.Ends.TheVariants.{AtEnd};
 ghost use Rattle.abstract_unix.specs.Endings.{phase_after, last_line};
 ghost use Rattle.abstract_unix.specs.Runs.{Slot, begun, started, course, shown_by};
 ghost use Rattle.v6_run.specs.Events.{slot_with, slot_numbered, happens, clock_after, events_of};
+ghost use Rattle.script_text.specs.Script.{slots_of};
 ghost use Rattle.v6_run.specs.Clocks.{clock_value, TicksAlike};
 ghost use Rattle.v6_base.specs.Trace.{Took};
 ghost use Rattle.unix_core.specs.State.{KeepsRest};
-ghost use Rattle.v6_run.specs.Courses.{HasRun};
+ghost use Rattle.v6_run.specs.Courses.{CanTake, HasRun};
 
-use crate::clock::{Clock, since_after, since_next};
+use crate::clock::{Clock, since_after};
 use script_text::Event;
 use unix_core::{Ends, Kernel, Turned};
 use v6_base::{Entry, PanicKind, Trace};
@@ -21,9 +22,11 @@ use v6_base::{Entry, PanicKind, Trace};
 #[inline(never)]
 fn run_slots<T: Trace>(kernel: &mut Kernel, count: u32, trace: &mut T) -> Ends
     requires started { kernel.old.phase ≡ Started }
+    requires fresh { kernel.old.system.unix.timing.passed + count ≤ 3000000001 }
     ensures phase { kernel.new.phase ≡ phase_after result }
     ensures run { HasRun (begun kernel.old.system) (replicate count Slot) result kernel.new.system
         (T.taken trace.old) (T.taken trace.new) }
+    ensures passed { result ≡ AtEnd → kernel.new.system.unix.timing.passed ≡ kernel.old.system.unix.timing.passed + count }
     ensures rest { KeepsRest kernel.old kernel.new }
     ensures frame { T.leads_to trace.old trace.new }
 {
@@ -47,28 +50,9 @@ fn ends_by(ticked: Result<(), PanicKind>) -> Ends
     }
 }
 
-/// Takes one slot, and a tick after it where there is one. The turn is that of `run_slots`: with a second place where a turn
-/// is taken it would stand out of line in both.
-fn take_slot<T: Trace>(kernel: &mut Kernel, ticks: bool, trace: &mut T) -> Ends
-    requires started { kernel.old.phase ≡ Started }
-    ensures phase { kernel.new.phase ≡ phase_after result }
-    ensures run { HasRun (begun kernel.old.system) (slot_with ticks) result kernel.new.system
-        (T.taken trace.old) (T.taken trace.new) }
-    ensures rest { KeepsRest kernel.old kernel.new }
-    ensures frame { T.leads_to trace.old trace.new }
-{
-    match run_slots(kernel, 1, trace) {
-        Ends::AtEnd => {}
-        ends => return ends,
-    }
-    if ticks {
-        ends_by(kernel.tick(trace))
-    } else {
-        Ends::AtEnd
-    }
-}
-
-/// Takes so many slots, with a tick after every so manyth, where some have been taken since the last.
+/// Takes so many slots, with a tick after every so manyth, where some have been taken since the last: the slots up to the next
+/// tick by the one loop over turns, then that tick. A loop of its own would be a second place where a turn is taken, and then it
+/// would stand out of line in both.
 #[inline(never)]
 fn run_clocked<T: Trace>(
     kernel: &mut Kernel,
@@ -79,19 +63,30 @@ fn run_clocked<T: Trace>(
 ) -> Ends
     requires within { since < every }
     requires started { kernel.old.phase ≡ Started }
+    requires fresh { kernel.old.system.unix.timing.passed + count ≤ 3000000001 }
     ensures phase { kernel.new.phase ≡ phase_after result }
     ensures run { HasRun (begun kernel.old.system) (flat_map (slot_numbered every) (range_with_len (since + 1) count))
         result kernel.new.system (T.taken trace.old) (T.taken trace.new) }
+    ensures passed { result ≡ AtEnd → kernel.new.system.unix.timing.passed ≡ kernel.old.system.unix.timing.passed + count }
     ensures rest { KeepsRest kernel.old kernel.new }
     ensures frame { T.leads_to trace.old trace.new }
 {
-    let mut gone = since;
-    'slots: for _ in 0..count {
-        gone = since_next(every, gone);
-        match take_slot(kernel, gone == 0, trace) {
+    let mut left = count;
+    let mut upto = every - since;
+    'ticks: while left > 0 {
+        let slots = left.min(upto);
+        match run_slots(kernel, slots, trace) {
             Ends::AtEnd => {}
             ends => return ends,
         }
+        if slots == upto {
+            match ends_by(kernel.tick(trace)) {
+                Ends::AtEnd => {}
+                ends => return ends,
+            }
+        }
+        upto = every;
+        left -= slots;
     }
     Ends::AtEnd
 }
@@ -99,9 +94,11 @@ fn run_clocked<T: Trace>(
 /// Takes the slots of a line `run N`, with the ticks of the clock.
 fn run_line<T: Trace>(kernel: &mut Kernel, clock: &mut Clock, count: u32, trace: &mut T) -> Ends
     requires started { kernel.old.phase ≡ Started }
+    requires fresh { kernel.old.system.unix.timing.passed + count ≤ 3000000001 }
     ensures phase { kernel.new.phase ≡ phase_after result }
     ensures run { HasRun (begun kernel.old.system) (happens (clock_value clock.old) (Event.Run count)) result kernel.new.system
         (T.taken trace.old) (T.taken trace.new) }
+    ensures passed { result ≡ AtEnd → kernel.new.system.unix.timing.passed ≡ kernel.old.system.unix.timing.passed + count }
     ensures rest { KeepsRest kernel.old kernel.new }
     ensures frame { T.leads_to trace.old trace.new }
     ensures clock { TicksAlike (clock_after (clock_value clock.old) (Event.Run count)) (clock_value clock.new) }
@@ -120,9 +117,11 @@ fn run_line<T: Trace>(kernel: &mut Kernel, clock: &mut Clock, count: u32, trace:
 /// Takes one event of a script.
 fn take_event<T: Trace>(kernel: &mut Kernel, clock: &mut Clock, event: Event, trace: &mut T) -> Ends
     requires started { kernel.old.phase ≡ Started }
+    requires can { CanTake kernel.old.system (event ∷ []) }
     ensures phase { kernel.new.phase ≡ phase_after result }
     ensures run { HasRun (begun kernel.old.system) (happens (clock_value clock.old) event) result kernel.new.system
         (T.taken trace.old) (T.taken trace.new) }
+    ensures passed { result ≡ AtEnd → kernel.new.system.unix.timing.passed ≡ kernel.old.system.unix.timing.passed + slots_of event }
     ensures rest { KeepsRest kernel.old kernel.new }
     ensures frame { T.leads_to trace.old trace.new }
     ensures clock { TicksAlike (clock_after (clock_value clock.old) event) (clock_value clock.new) }
@@ -142,12 +141,17 @@ fn take_event<T: Trace>(kernel: &mut Kernel, clock: &mut Clock, event: Event, tr
             kernel.set_switches(word);
             Ends::AtEnd
         }
+        Event::Disk(count) => {
+            kernel.set_disk(count);
+            Ends::AtEnd
+        }
     }
 }
 
 /// Takes the events of a script in turn, up to the first that ends the run.
 fn run_events<T: Trace>(kernel: &mut Kernel, events: &[Event], trace: &mut T) -> Ends
     requires started { kernel.old.phase ≡ Started }
+    requires can { CanTake kernel.old.system events.now }
     ensures phase { kernel.new.phase ≡ phase_after result }
     ensures run { HasRun (begun kernel.old.system) (events_of events.now) result kernel.new.system
         (T.taken trace.old) (T.taken trace.new) }
@@ -167,6 +171,7 @@ fn run_events<T: Trace>(kernel: &mut Kernel, events: &[Event], trace: &mut T) ->
 /// Starts the kernel, and takes the events of a script in turn.
 fn run_script<T: Trace>(kernel: &mut Kernel, events: &[Event], trace: &mut T) -> Ends
     requires new { kernel.old.phase ≡ New }
+    requires can { CanTake kernel.old.system events.now }
     ensures phase { kernel.new.phase ≡ phase_after result }
     ensures run { HasRun (started kernel.old.system) (events_of events.now) result kernel.new.system
         (T.taken trace.old) (T.taken trace.new) }
@@ -191,6 +196,7 @@ fn last_line<T: Trace>(ends: Ends, trace: &mut T)
 /// Takes a whole run, with the last line of its log.
 pub(crate) fn show_run<T: Trace>(kernel: &mut Kernel, events: &[Event], trace: &mut T) -> Ends
     requires new { kernel.old.phase ≡ New }
+    requires can { CanTake kernel.old.system events.now }
     ensures phase { kernel.new.phase ≡ phase_after result }
     ensures ends { result ≡ (course (started kernel.old.system) (events_of events.now)).ending }
     ensures system { kernel.new.system ≡ (course (started kernel.old.system) (events_of events.now)).system }
