@@ -243,6 +243,8 @@ def count(want, counts):
     counts["most processes of a run"] = max(counts["most processes of a run"], most_processes(log))
     for name, text in (("forks", r"^fork"), ("exits", r"^exit"), ("waits that give a child", r"^reap"),
                        ("sleeps for a child", r"^sleep \d+ 40"), ("sleeps for a time", r"^sleep \d+ 90"),
+                       ("sleeps for the disk", r"^sleep .* disk"),
+                       ("wakes by the disk while somebody runs", r"^trap .*\nwake disk"),
                        ("sleeps for keys", r"^sleep \d+ 10"), ("sleeps for bytes of a pipe", r"^sleep \d+ 1 read"),
                        ("sleeps for room in a pipe", r"^sleep \d+ 1 write"), ("wakes of a pipe", r"^wake (?:read|write)"), ("times set", r"^time"), ("priorities set", r"^nice"),
                        ("execs", r"^bare"), ("texts made", r"^text"), ("texts shared", r"^share"),

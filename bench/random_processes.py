@@ -466,7 +466,7 @@ class Operator(Typist):
 
     def line(self):
         kinds = ((self.runs, 10), (self.types_and_runs, 5), (self.types, 2), (self.bytes, 1), (self.ends_file, 2),
-                 (self.ticks, 3), (self.ticks_and_runs, 3), (self.clock, 4), (self.switch, 1), (self.remark, 1))
+                 (self.ticks, 3), (self.ticks_and_runs, 3), (self.clock, 4), (self.disk, 3), (self.switch, 1), (self.remark, 1))
         self.rng.choices([kind for kind, _ in kinds], [weight for _, weight in kinds])[0]()
 
 
@@ -474,6 +474,8 @@ def random_script(rng, *slots):
     operator = Operator(rng, *slots)
     if rng.random() < 0.8:
         operator.clock()
+    if rng.random() < 0.4:
+        operator.disk()
     while operator.slots < operator.most:
         operator.line()
     return Script(operator.lines, [b"\n"] * len(operator.lines))

@@ -12,7 +12,7 @@ NO_LINES = (
     b"walk", b"run", b"run ", b"run 1234567890", b"run  5", b" run 5", b"run 5 ", b"run -1", b"Run 5", b"run 5\r",
     b"run\t5", b"run 5;", b"tick ", b"tick 1", b"ticks", b"clock", b"clock ", b"clock 1x", b"byte 08", b"byte 400",
     b"byte 7", b"byte 0101", b"byte 018", b"switch 1", b"switch 200000", b"switch 17777", b"switch 1777777", b"typed",
-    b"type a\tb", b"type \x7f", b"type \x80", b"type a\r", b"\t", b" ", b"\r", b"\0", b"hangup", b"disk", b"line",
+    b"type a\tb", b"type \x7f", b"type \x80", b"type a\r", b"\t", b" ", b"\r", b"\0", b"hangup", b"disk", b"disk ", b"disk 1234567890", b"disk 3 ", b"line",
     b"; " + b"x" * 299, b"type " + b"x" * 296)
 
 
@@ -104,6 +104,9 @@ class Typist:
     def clock(self):
         self.put(b"clock %d" % self.rng.choice((0, 0, 1, 1, 2, 3, 7, 10, 60, 100, 999999999)))
 
+    def disk(self):
+        self.put(b"disk %d" % self.rng.choice((0, 0, 1, 1, 2, 3, 4, 7, 20, 60, 500)))
+
     def switch(self):
         self.put(b"switch %06o" % self.rng.getrandbits(16))
 
@@ -114,7 +117,7 @@ class Typist:
     def line(self):
         kinds = ((self.runs, 8), (self.types_and_runs, 14), (self.types, 6), (self.types_nothing, 2), (self.bytes, 5),
                  (self.ends_file, 3), (self.escapes, 3), (self.fills, 1), (self.types_much, 1), (self.ticks, 2),
-                 (self.clock, 3), (self.switch, 1), (self.remark, 2))
+                 (self.clock, 3), (self.disk, 2), (self.switch, 1), (self.remark, 2))
         self.rng.choices([kind for kind, _ in kinds], [weight for _, weight in kinds])[0]()
 
     def fault(self):

@@ -210,6 +210,8 @@ def random_signal_script(rng, slots):
     operator = SignalOperator(rng, slots)
     if rng.random() < 0.85:
         operator.clock()
+    if rng.random() < 0.4:
+        operator.disk()
     while operator.slots < operator.most:
         operator.line()
     return Script(operator.lines, [b"\n"] * len(operator.lines))

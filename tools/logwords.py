@@ -38,6 +38,9 @@ class Teller:
         if kind == "wait":
             row = self.table.rows.get(int(number))
             return f"for a child of {self.who(int(number))}" if row else f"for a child in slot {number}"
+        if kind == "disk":
+            row = self.table.rows.get(int(number))
+            return f"for the disk, as {self.who(int(number))} does" if row else f"for the disk, in slot {number}"
         return f"for {'bytes' if kind == 'read' else 'room'} in the pipe of inode {number}"
 
     def place(self, entry):
@@ -65,7 +68,7 @@ class Teller:
 
     def tell_sleep(self, entry):
         own = entry["W"] == f"wait.{entry['S']}"
-        what = "for a child" if own else self.channel(entry["W"])
+        what = "for a child" if own else "for the disk" if entry["W"].startswith("disk.") else self.channel(entry["W"])
         return f"{self.who(entry['S'])} waits {what}, at priority {entry['P']}"
 
     def tell_wake(self, entry):

@@ -145,7 +145,7 @@ class Views:
             return f"{letter}: {STATES[letter]}"
         does = "waits" if letter in "wW" else "sleeps"
         own = row.channel == f"wait.{slot}"
-        what = "for a child" if own else Teller(moment.table, self.sizes).channel(row.channel)
+        what = "for a child" if own else "for the disk" if row.channel == f"disk.{slot}" else Teller(moment.table, self.sizes).channel(row.channel)
         return f"{letter}: {does} {what}, at priority {row.priority}" + (", out of core" if letter.isupper() else "")
 
     def registers(self, process):

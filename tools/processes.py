@@ -120,7 +120,7 @@ class Processes:
         """What each process does, in words, and the programs whose image and text are as large as its own: see programs_of."""
         lines = []
         for _, one in sorted(self.slots.items()):
-            does = DOES.get(one.does) or "waits for a child"
+            does = DOES.get(one.does) or ("waits for the disk" if one.does.startswith("disk.") else "waits for a child")
             if one.program in (programs or {}) and one.does != "ended":
                 does += f" ({' or '.join(programs[one.program])})"
             lines.append(f"process {one.number}, a child of {one.parent}, {does}" if one.parent else

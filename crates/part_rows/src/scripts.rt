@@ -1,5 +1,5 @@
 //! What scripts ask for, and which lines are none: docs/manual/scripts.md, line by line.
-use script_text::Event::{Byte, Clock, Run, Switch, Tick};
+use script_text::Event::{Byte, Clock, Disk, Run, Switch, Tick};
 use script_text::ScriptFault::{BadLine, TooLong, TooManySlots};
 use script_text::{Event, ScriptFault, read};
 use std::alloc::{AllocError, Global};
@@ -7,7 +7,7 @@ use std::process::Abort;
 use std::test::Fail;
 
 /// A script and its events.
-static EVENTS: [(&[u8], &[Event]); 38] = [
+static EVENTS: [(&[u8], &[Event]); 41] = [
     // The last line may lack its line feed, and a carriage return right before one is dropped.
     (b"", &[]),
     (b"tick", &[Tick]),
@@ -36,6 +36,9 @@ static EVENTS: [(&[u8], &[Event]); 38] = [
     (b"run 0", &[Run(0)]),
     (b"run 000000005", &[Run(5)]),
     (b"run 123456789\n", &[Run(123_456_789)]),
+    (b"disk 0", &[Disk(0)]),
+    (b"disk 000000003\r\n", &[Disk(3)]),
+    (b"disk 999999999", &[Disk(999_999_999)]),
     // Octal numbers have all their digits.
     (b"byte 000", &[Byte(0)]),
     (b"byte 101\n", &[Byte(65)]),
@@ -104,6 +107,8 @@ byte
 byte\x20
 switch
 switch\x20
+disk
+disk\x20
 # Words are parted by one space, and no space follows the last.
 clock  1
 clock 1\x20
@@ -116,6 +121,9 @@ byte 12\x20
 byte 012\x20
 switch  12345
 switch 12345\x20
+disk  3
+disk 3\x20
+disk 3 3
 # No sign, no other byte than a digit, and at most nine of those.
 clock +1
 clock -1
@@ -129,6 +137,10 @@ run 5\0
 run 5;
 run 0000000005
 run 1000000000
+disk +3
+disk 3x
+disk 0000000003
+disk 1000000000
 # Octal digits alone, in their number, and no more than fits.
 byte 12
 byte 0012

@@ -35,6 +35,9 @@ const FORKS: [Piece<'static>; 1] = [(
 /// The word at the address 0 of the first and of the last of these.
 const FIRST_WORD: &[u8] = b"\x08\x89";
 
+/// The most slots that may have been taken before one more.
+const MOST_PASSED: u32 = 3_000_000_000;
+
 /// The kernel of a made disk with these pieces and so many clicks of core, before its start.
 fn kernel_of(alloc: Global, pieces: &[Piece<'_>], core: u16) -> Result<Option<Kernel>, AllocError>
     requires least { 64 ≤ core }
@@ -55,6 +58,9 @@ fn runs(kernel: &mut Kernel, count: u32, tape: &mut Tape) -> bool
     ensures { result ≡ true → kernel.new.phase ≡ Started }
 {
     'slots: for _ in 0..count {
+        if kernel.passed() > MOST_PASSED {
+            return false;
+        }
         match kernel.turn(tape) {
             Turned::Ran | Turned::Idle => {}
             Turned::Panic(_) => return false,
@@ -69,6 +75,9 @@ fn runs_with_ticks(kernel: &mut Kernel, count: u32, tape: &mut Tape) -> bool
     ensures { result ≡ true → kernel.new.phase ≡ Started }
 {
     'slots: for _ in 0..count {
+        if kernel.passed() > MOST_PASSED {
+            return false;
+        }
         match kernel.turn(tape) {
             Turned::Ran | Turned::Idle => {}
             Turned::Panic(_) => return false,
@@ -123,6 +132,9 @@ fn executes_what_was_put(alloc: Global) -> Result<bool, AllocError> {
     tape.clear();
     let refused = !deposit(&mut kernel, 0, 1);
     let put = deposit(&mut kernel, 1037, 120);
+    if kernel.passed() > MOST_PASSED {
+        return Ok(false);
+    }
     let ran = kernel.turn(&mut tape) == Turned::Ran;
     let logged = tape.entries() == [Entry::Trap(1), Entry::Go(1)].as_slice();
     Ok(refused && put && ran && logged && byte_at(&kernel, 0) == Some(2))

@@ -17,4 +17,4 @@ pub mod CheckLemmas
 pub mod CommandLemmas
 pub mod MemoryLemmas
 pub mod DemoLemmas
-mod TickLemmas
+pub mod TickLemmas

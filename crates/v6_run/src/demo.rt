@@ -1,18 +1,17 @@
 //! The command `demo`: a run that needs no file.
-ghost use Rattle.std.specs.Prelude.{◌≡◌, ◌*◌, ◌+◌, ◌≤◌, None, Ok, length, vec_len, IfOk, IfErr, IfSome, MatchResult, is_some, count_by};
+ghost use Rattle.std.specs.Prelude.{◌≡◌, ◌*◌, ◌+◌, ◌≤◌, None, Ok, length, vec_len, IfOk, IfErr, IfSome, MatchResult, is_some, count_by, sum_by};
 ghost use Rattle.v6_base.specs.Trace.{line_bytes};
 ghost use Rattle.fs_codec.specs.Faults.{image_fault};
 ghost use Rattle.fs_codec.specs.Disk.{head};
 ghost use Rattle.buf_cache.specs.Blocks.{block_at, IsDisk};
 ghost use Rattle.core_mem.specs.Bytes.{over};
-ghost use Rattle.script_text.specs.Script.{script_of};
+ghost use Rattle.script_text.specs.Script.{script_of, slots_of, AreRates};
 ghost use Rattle.make_image.specs.Image.{build_of};
 ghost use Rattle.make_image.specs.Demo.{demo_text};
 ghost use Rattle.abstract_unix.specs.Unix.{New, Started, Finished};
 ghost use Rattle.abstract_unix.specs.Endings.{phase_after};
 ghost use Rattle.abstract_unix.specs.Runs.{started, course, shown_by, finished};
 ghost use Rattle.unix_core.specs.State.{KeepsRest};
-ghost use Rattle.script_text.specs.Script.{slots_of, AreRates};
 ghost use Rattle.v6_run.specs.Courses.{CanTake};
 ghost use Rattle.v6_run.specs.Events.{events_of};
 ghost use Rattle.v6_run.specs.Words.{Demo};
@@ -162,7 +161,7 @@ fn demo_disk(alloc: Global, number: u32) -> Result<Vec<u8>, RunError>
 /// The events of the script of the demo, which has no fault.
 fn demo_events(alloc: Global) -> Result<Script, RunError>
     ensures events { IfOk result (λ script. script_of demo_text ≡ Ok script.events.items) }
-    ensures slots { IfOk result (λ script. sum_by slots_of script.events.items ≤ MAX_SLOTS) }
+    ensures slots { IfOk result (λ script. sum_by slots_of script.events.items ≤ 200000000) }
     ensures rates { IfOk result (λ script. AreRates script.events.items) }
     ensures memory { IfErr result (λ error. run_status error ≡ Status.NoMemory) }
 {

@@ -1,6 +1,6 @@
 //! Each line, and its entry.
 use log_text::{line, parse};
-use v6_base::Chan::{Keys, Read, RunIn, RunOut, Tout, Wait, Write};
+use v6_base::Chan::{Disk, Keys, KeysOf, Read, RunIn, RunOut, Show, ShowOf, Tout, Wait, Write};
 use v6_base::Entry::{
     Bare, Boot, End, Exit, Fork, Go, Idle, Image, Leave, Nice, Panic, Reap, Share, Signal, Size,
     SizeKeep, Sleep, SwapIn, SwapOut, TickIdle, TickKernel, TickUser, Time, Trap, Wake,
@@ -10,7 +10,7 @@ use v6_base::Place::Core;
 use v6_base::{Entry, PanicKind, Place};
 
 /// A line and its entry.
-static LINES: [(&[u8], Entry); 75] = [
+static LINES: [(&[u8], Entry); 83] = [
     // The system begins, with clicks of core and a time in seconds.
     (
         b"boot 1200 0",
@@ -110,6 +110,21 @@ static LINES: [(&[u8], Entry); 75] = [
     (b"wake keys", Wake(Keys)),
     (b"wake wait.0", Wake(Wait(0))),
     (b"wake wait.49", Wake(Wait(49))),
+    (b"wake show", Wake(Show)),
+    (b"wake keys.1", Wake(KeysOf(1))),
+    (b"wake keys.7", Wake(KeysOf(7))),
+    (b"wake show.1", Wake(ShowOf(1))),
+    (b"wake show.7", Wake(ShowOf(7))),
+    (b"wake disk.0", Wake(Disk(0))),
+    (b"wake disk.49", Wake(Disk(49))),
+    (
+        b"sleep 2 -50 disk.2",
+        Sleep {
+            slot: 2,
+            pri: -50,
+            chan: Disk(2),
+        },
+    ),
     (b"wake read.1", Wake(Read(1))),
     (b"wake read.65535", Wake(Read(65_535))),
     (b"wake write.1", Wake(Write(1))),

@@ -1,6 +1,6 @@
 //! Numbers outside their ranges.
 use log_text::{line, parse};
-use v6_base::Chan::{Keys, Read, Wait, Write};
+use v6_base::Chan::{Disk, Keys, KeysOf, Read, ShowOf, Wait, Write};
 use v6_base::Entry::{
     Bare, Exit, Fork, Go, Image, Leave, Nice, Reap, Share, Signal, Size, SizeKeep, Sleep, SwapIn,
     SwapOut, Trap, Wake,
@@ -9,7 +9,7 @@ use v6_base::Place::Core;
 use v6_base::{Entry, Place};
 
 /// What is written of an entry with a number outside its range. It is no line.
-static OUTSIDE: [(&[u8], Entry); 42] = [
+static OUTSIDE: [(&[u8], Entry); 47] = [
     // A slot is at most 49.
     (b"go 50", Go(50)),
     (b"go 255", Go(255)),
@@ -99,6 +99,12 @@ static OUTSIDE: [(&[u8], Entry); 42] = [
     ),
     (b"reap 50", Reap(50)),
     (b"wake wait.50", Wake(Wait(50))),
+    (b"wake disk.50", Wake(Disk(50))),
+    // A terminal line beside the console is 1 to 7.
+    (b"wake keys.0", Wake(KeysOf(0))),
+    (b"wake keys.8", Wake(KeysOf(8))),
+    (b"wake show.0", Wake(ShowOf(0))),
+    (b"wake show.8", Wake(ShowOf(8))),
     (
         b"sleep 1 40 wait.255",
         Sleep {

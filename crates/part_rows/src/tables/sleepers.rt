@@ -113,7 +113,7 @@ fn slots_fall_asleep(rt: HostRuntime) {
 }
 
 /// What slot 2 sleeps for, what is woken, and whether the slot then is.
-static CHANNELS: [(Chan, Chan, bool); 18] = [
+static CHANNELS: [(Chan, Chan, bool); 22] = [
     (Chan::RunIn, Chan::RunIn, true),
     (Chan::RunIn, Chan::RunOut, false),
     (Chan::RunOut, Chan::RunIn, false),
@@ -132,6 +132,10 @@ static CHANNELS: [(Chan, Chan, bool); 18] = [
     (Chan::Write(5), Chan::Read(5), false),
     (Chan::Write(5), Chan::Write(5), true),
     (Chan::Write(5), Chan::Write(6), false),
+    (Chan::Disk(5), Chan::Disk(5), true),
+    (Chan::Disk(5), Chan::Disk(6), false),
+    (Chan::Disk(5), Chan::Wait(5), false),
+    (Chan::Wait(5), Chan::Disk(5), false),
 ];
 
 fn channel_holds(row: (Chan, Chan, bool)) -> bool {
