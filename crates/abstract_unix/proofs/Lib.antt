@@ -37,3 +37,4 @@ pub mod Stretches
 pub mod DiskRows
 pub mod DiskSteps
 pub mod Dues
+pub mod Passed

@@ -15,7 +15,7 @@ use Rattle.abstract_unix.proofs.GoingOnLemmas.{AllWaited}
 use Rattle.abstract_unix.proofs.Stretches.{due_after}
 use Rattle.abstract_unix.proofs.Dues.{turn_due}
 use Rattle.unix_core.specs.declared.slots.Slots.{Slots}
-use Rattle.unix_core.specs.Slots.{passed_in, timing_in, IsCounted, HasWaited}
+use Rattle.unix_core.specs.Slots.{passed_in, timing_in, CanWait, IsCounted, HasWaited}
 
 -- The count speaks of the processes and of the slots that have passed alone.
 pub counted_same : (slots : Slots) (u v : Unix) → v.processes ≡ u.processes → v.timing.passed ≡ u.timing.passed → IsCounted slots u
@@ -94,3 +94,25 @@ counted_turn m s e old new tidy there lives timing same graves counted waited =
           (λ slept. let ends = waited.ends (same slept) in omega (arith, ends, passed, disk));
       graves = graves;
     }
+
+-- Where a turn has room for its slot, a wait can begin in it.
+pub counted_waits_can : (slots : Slots) (u : Unix) → u.timing.passed ≡ passed_in slots → u.timing.passed ≤ 3000000000 → IsCounted slots u
+    → CanWait slots
+counted_waits_can slots u is fresh counted = record {
+  within = counted.within;
+  ahead = subst (λ n. n < slots.due) is counted.due.next;
+  disk = counted.disk;
+  fresh = subst (λ n. n ≤ 3000000000) is fresh;
+}
+
+-- a call that doesn't wait leaves the count as it is
+pub has_not_waited : (e : Ending) (s : ℕ) (old new : Slots) → new ≡ old → CanWait old → (e ≡ ending.Slept pribio (Disk s) → ⊥)
+    → HasWaited e s old new
+has_not_waited e s old new same can never =
+    subst (λ (x : Slots). HasWaited e s old x) (sym same) (record {
+      timing = refl;
+      within = can.within;
+      sooner = omega arith;
+      ahead = can.ahead;
+      ends = λ slept. absurd (never slept);
+    })

@@ -24,6 +24,13 @@ pub record IsCounted (slots : Slots) (u : Unix) : Type 0 where
   pub due : AreDue slots.due u
   pub graves : NoGraveWaits u
 
+-- A wait for the disk can begin: the number of the slot that ends it is below 2^32.
+pub record CanWait (slots : Slots) : Type 0 where
+  pub within : slots.left ≤ slots.due
+  pub ahead : passed_in slots < slots.due
+  pub disk : slots.disk ≤ 999999999
+  pub fresh : passed_in slots ≤ 3000000000
+
 -- A turn that ends so leaves the count as it was, but that a wait for the disk that begins in it ends with the slot that is due,
 -- or later.
 pub record HasWaited (e : Ending) (s : ℕ) (old new : Slots) : Type 0 where

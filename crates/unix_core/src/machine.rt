@@ -11,7 +11,7 @@ ghost use Rattle.abstract_unix.specs.Unix.{Unix, System, Started, process_of};
 ghost use Rattle.abstract_unix.specs.Endings.{is_early};
 ghost use Rattle.abstract_unix.specs.Turn.{Happened, after_slot, turned, ticked_by, turned_by, ending_of, turn, turn_of, settled, settled_after, pass_of};
 ghost use Rattle.abstract_unix.specs.Outside.{calls, charged, mode_of, tick_entry, timed_area, is_user_mode, tick_of, with_key, key_lines, typed_of};
-ghost use Rattle.unix_core.specs.Slots.{IsCounted, HasWaited};
+ghost use Rattle.unix_core.specs.Slots.{IsCounted};
 ghost use Rattle.unix_core.specs.Parts.{unix_of, board_in, system_at, turn_at, turn_end, phase_of, slot_in, slot_if, one_before, is_over, IsGood, IsReady, IsUser, IsRunning, IsCovered, IsKernel, IsKnown, IsStill, HasCome, HasStepped, Takes, delivers_where};
 
 use crate::delivery::{deliver_after, deliver_due};
@@ -257,7 +257,7 @@ impl Machine {
     pub(crate) fn pass<T: Trace>(&mut self, is_slot: bool, trace: &mut T) -> Turned
         requires good { IsGood self.old.world }
         requires counted { IsCounted self.old.world.slots (unix_of self.old.world) }
-        requires fresh { (unix_of self.old.world).timing.passed ≤ 3000000000 }
+        requires fresh { is_slot ≡ true → (unix_of self.old.world).timing.passed ≤ 3000000000 }
         requires runs { self.old.world.procs.table.running ≡ Some 0 }
         ensures answer { result ≡ turned (settled_after (pass_of (system_at self.old.world))) }
         ensures takes { Takes (settled_after (slot_if is_slot (pass_of (system_at self.old.world)))) self.new.stage self.new.world }

@@ -1,5 +1,5 @@
 //! Turns and calls of a process: what an instruction comes to, and how a call goes on. `trap` in Lions' Commentary, `trap.c`.
-ghost use Rattle.std.specs.Prelude.{◌≡◌, ◌≢◌, ◌<◌, ◌≤◌, Some, true, false};
+ghost use Rattle.std.specs.Prelude.{◌≡◌, ◌≢◌, Some, true, false};
 ghost use Rattle.v6_base.specs.Trace.{Took};
 ghost use Rattle.fs_nodes.specs.FileSystem.{SameRest};
 ghost use Rattle.pick_rules.specs.Logged.{logged};
@@ -14,7 +14,7 @@ ghost use Rattle.abstract_unix.specs.Calls.{world_of, words_passed, entered_area
 ghost use Rattle.u_area.specs.Pending.{is_on_files};
 ghost use Rattle.abstract_unix.specs.Errors.{error_number};
 ghost use Rattle.abstract_unix.specs.Turn.{faults, comes_to, passes_setd, is_user};
-ghost use Rattle.unix_core.specs.Slots.{passed_in, HasWaited};
+ghost use Rattle.unix_core.specs.Slots.{CanWait, HasWaited};
 ghost use Rattle.unix_core.specs.Parts.{unix_of, board_in, IsGood, IsReady, HasCome, IsCovered, is_over};
 
 use crate::asked::ask;
@@ -152,9 +152,7 @@ fn call_files<T: Trace>(
     requires fixed { IsFixed world.old.procs.images.kept fixed.now }
     requires ready { IsReady world.old fixed.now.slot }
     requires user { is_user (process_of (unix_of world.old) fixed.now.slot) ≡ true }
-    requires fresh { (unix_of world.old).timing.passed ≤ 3000000000 }
-    requires rate { world.old.slots.disk ≤ 999999999 }
-    requires ahead { passed_in world.old.slots < world.old.slots.due }
+    requires waits { CanWait world.old.slots }
     ensures come { HasCome (board_in world.old) (does_call (unix_of world.old) fixed.now.slot
         (SystemCall.OnFiles call) args) result world.new }
     ensures ready { IsReady world.new fixed.now.slot }
@@ -213,9 +211,7 @@ fn call_processes<T: Trace>(
 ) -> Ending
     requires ready { IsReady world.old s }
     requires user { is_user (process_of (unix_of world.old) s) ≡ true }
-    requires fresh { (unix_of world.old).timing.passed ≤ 3000000000 }
-    requires rate { world.old.slots.disk ≤ 999999999 }
-    requires ahead { passed_in world.old.slots < world.old.slots.due }
+    requires waits { CanWait world.old.slots }
     ensures come { HasCome (board_in world.old) (does_call (unix_of world.old) s (SystemCall.OnProcesses call) args) result world.new }
     ensures ready { is_over result ≡ false → IsReady world.new s }
     ensures covered { is_over result ≡ true → IsCovered world.new }
@@ -348,9 +344,7 @@ fn does_call<T: Trace>(
     requires fixed { IsFixed world.old.procs.images.kept fixed.now }
     requires ready { IsReady world.old fixed.now.slot }
     requires user { is_user (process_of (unix_of world.old) fixed.now.slot) ≡ true }
-    requires fresh { (unix_of world.old).timing.passed ≤ 3000000000 }
-    requires rate { world.old.slots.disk ≤ 999999999 }
-    requires ahead { passed_in world.old.slots < world.old.slots.due }
+    requires waits { CanWait world.old.slots }
     ensures come { HasCome (board_in world.old) (does_call (unix_of world.old) fixed.now.slot call args) result world.new }
     ensures good { is_over result ≡ false → IsGood world.new }
     ensures covered { is_over result ≡ true → IsCovered world.new }
@@ -388,9 +382,7 @@ fn call<T: Trace>(world: &mut World, fixed: &Fixed, number: u8, trace: &mut T) -
     requires fixed { IsFixed world.old.procs.images.kept fixed.now }
     requires ready { IsReady world.old fixed.now.slot }
     requires user { is_user (process_of (unix_of world.old) fixed.now.slot) ≡ true }
-    requires fresh { (unix_of world.old).timing.passed ≤ 3000000000 }
-    requires rate { world.old.slots.disk ≤ 999999999 }
-    requires ahead { passed_in world.old.slots < world.old.slots.due }
+    requires waits { CanWait world.old.slots }
     ensures come { HasCome (board_in world.old) (system_call number (unix_of world.old) fixed.now.slot) result world.new }
     ensures good { is_over result ≡ false → IsGood world.new }
     ensures covered { is_over result ≡ true → IsCovered world.new }
@@ -460,9 +452,7 @@ pub(crate) fn come_to<T: Trace>(
     requires fixed { IsFixed world.old.procs.images.kept fixed.now }
     requires ready { IsReady world.old fixed.now.slot }
     requires user { is_user (process_of (unix_of world.old) fixed.now.slot) ≡ true }
-    requires fresh { (unix_of world.old).timing.passed ≤ 3000000000 }
-    requires rate { world.old.slots.disk ≤ 999999999 }
-    requires ahead { passed_in world.old.slots < world.old.slots.due }
+    requires waits { CanWait world.old.slots }
     ensures come { HasCome (board_in world.old) (comes_to (unix_of world.old) fixed.now.slot outcome) result world.new }
     ensures good { is_over result ≡ false → IsGood world.new }
     ensures covered { is_over result ≡ true → IsCovered world.new }

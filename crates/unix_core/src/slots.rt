@@ -15,7 +15,7 @@ ghost use Rattle.sys_procs.specs.Agree.{board_of};
 ghost use Rattle.sys_procs.specs.Handed.{AreProcs};
 ghost use Rattle.sys_procs.specs.Signals.{is_meant};
 ghost use Rattle.unix_core.specs.Parts.{unix_of, board_in, one_before, IsGood, IsReady, HasCome};
-ghost use Rattle.unix_core.specs.Slots.{passed_in, IsCounted, HasWaited, IsOf};
+ghost use Rattle.unix_core.specs.Slots.{passed_in, CanWait, IsCounted, HasWaited, IsOf};
 
 use crate::world::World;
 use abstract_unix::Ending;
@@ -105,10 +105,8 @@ fn waiting(u: UArea, end: u32) -> UArea
 #[inline(never)]
 pub(crate) fn wait_for_disk(world: &mut World, s: Slot) -> Ending
     requires ready { IsReady world.old s }
-    requires fresh { (unix_of world.old).timing.passed ≤ 3000000000 }
-    requires rate { world.old.slots.disk ≤ 999999999 }
-    requires within { world.old.slots.left ≤ world.old.slots.due }
-    requires waits { world.old.slots.disk ≢ 0 }
+    requires waits { CanWait world.old.slots }
+    requires some { world.old.slots.disk ≢ 0 }
     ensures unix { unix_of world.new ≡ waits_for_disk (unix_of world.old) s }
     ensures board { board_in world.new ≡ board_in world.old }
     ensures ending { result ≡ Ending.Slept pribio (Chan.Disk s) }
