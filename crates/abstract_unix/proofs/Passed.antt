@@ -2,12 +2,13 @@
 use Rattle.std.proofs.Common.{◌≡◌, ◌∙◌, ◌+◌, ◌<◌, ℕ, zero, suc, Bool, true, false, cond, List, [], ◌∷◌, map, Option, Some, None, refl, sym, ap, subst}
 use Rattle.pick_rules.specs.Effects.{Effect, Show}
 use Rattle.pick_rules.specs.Logged.{Stop, Logged, logged, left_by}
+use Rattle.swap_sched.specs.Pass.{pass, over}
 use Rattle.abstract_unix.specs.declared.ends.Ends.{Ends}
 use Rattle.abstract_unix.specs.declared.ends.Ends.TheVariants.{AtEnd}
 use Rattle.abstract_unix.specs.declared.ending.Ending.{Ending}
 use Rattle.abstract_unix.specs.Unix.{Timing, Unix, System}
 use Rattle.abstract_unix.specs.Endings.{is_early}
-use Rattle.abstract_unix.specs.Turn.{Happened, stays, settling, calls_for_settling, settled_after, ending_by, turn, turn_of, pass_of, slot_by, slot_of, with_slot, counted, followed, disk_lines, wakes_disks, after_slot}
+use Rattle.abstract_unix.specs.Turn.{Happened, stays, settling, calls_for_settling, settled_after, ending_by, ending_of_pass, turn, turn_of, pass_of, slot_by, slot_of, with_slot, counted, followed, disk_lines, wakes_disks, after_slot}
 use Rattle.abstract_unix.specs.Runs.{Slot, event_of}
 use Rattle.abstract_unix.proofs.RunsLemmas.{settled_ending, after_ending}
 use Rattle.abstract_unix.proofs.Dues.{times_turn}
@@ -37,9 +38,16 @@ turn_timing m s goes = by (logged m.board (turn m s).effects).stop goes ∙ time
     by None e = refl
     by (Some stop) e = absurd (cc e)
 
+pass_timing : (m : System) → (pass_of m).ending ≡ AtEnd → (pass_of m).unix.timing ≡ m.unix.timing
+pass_timing m goes = by (logged m.board (over m.unix (pass m.board))).stop goes
+  where
+    by : (o : Option (Stop Unix)) → ending_of_pass o ≡ AtEnd → (left_by o m.unix).timing ≡ m.unix.timing
+    by None e = refl
+    by (Some stop) e = absurd (cc e)
+
 slot_timing : (m : System) (running : Option ℕ) → (slot_of m running).ending ≡ AtEnd → (slot_of m running).unix.timing ≡ m.unix.timing
 slot_timing m None goes = refl
-slot_timing m (Some zero) goes = refl
+slot_timing m (Some zero) goes = pass_timing m goes
 slot_timing m (Some (suc s)) goes = turn_timing m (suc s) goes
 
 pub slot_passed : (m : System) → (event_of Slot m).ending ≡ AtEnd → (event_of Slot m).next.unix.timing.passed ≡ m.unix.timing.passed + 1
