@@ -13,7 +13,7 @@ use Rattle.abstract_unix.specs.declared.turned.Turned.{Turned}
 use Rattle.abstract_unix.specs.declared.turned.Turned.TheVariants.{Ran, Idle}
 use Rattle.abstract_unix.specs.Unix.{System, Started}
 use Rattle.abstract_unix.specs.Endings.{phase_after}
-use Rattle.abstract_unix.specs.Turn.{after_slot, Turn, turn, turn_of, settled_after, turned, NobodyCanRun}
+use Rattle.abstract_unix.specs.Turn.{Happened, after_slot, Turn, machine_of, with_machine, turn, turn_of, settled_after, turned_by, turned, NobodyCanRun}
 use Rattle.abstract_unix.specs.Runs.{Slot, event_of}
 use Rattle.abstract_unix.specs.Private.{OthersUndisturbed}
 use Rattle.abstract_unix.specs.Shared.{OtherTextsStay}
@@ -24,7 +24,13 @@ use Rattle.unix_core.specs.State.{KernelState}
 use Rattle.unix_core.specs.Parts.{system_at, turn_at, phase_of, slot_in, HasStepped, IsKernel, IsRunning, IsUser, Takes}
 use Rattle.unix_core.proofs.PutLemmas.{with_images}
 use Rattle.unix_core.proofs.MachineLemmas.{fixed_or, runs_kernel}
-use Rattle.unix_core.proofs.TurnSteps.{user_slot, has_stepped, stepped_user, quiet_system, plain_answer, plain_goes, plain_next, plain_items}
+use Rattle.unix_core.proofs.TurnSteps.{user_slot, has_stepped, stepped_user, quiet_system, plain_still}
+use Rattle.unix_core.proofs.CountLemmas.{counted_waits}
+use Rattle.unix_core.proofs.WorldLemmas.{slot_is}
+use Rattle.unix_core.specs.Slots.{IsCounted}
+use Rattle.abstract_unix.proofs.GoingOnLemmas.{WaitedIn, like_waited, all_waited_put}
+use Rattle.abstract_unix.proofs.RunsLemmas.{whole_answer}
+use Rattle.sys_procs.specs.Process.{Process}
 use Rattle.unix_core.proofs.PrivateLemmas.{fifty_slots, slot_private}
 use Rattle.unix_core.proofs.StayingLemmas.{turned_stays}
 use Rattle.unix_core.proofs.IdleLemmas.{idle_nobody}
@@ -44,26 +50,41 @@ module _ (at : Stage) (w : World) (f : Fixed) (is : at ≡ stage.Running f) (ker
   pub step_done : (o : Outcome) → o ≡ (instr (machine_in w.procs.images.kept f.slot)).outcome → HasStepped (system_at w) then_ f.slot o
   step_done o outcome = has_stepped w f.slot run.user holds x kept o outcome
 
+  -- it waits as it did
+  step_counted : IsCounted w.slots (unix_of then_)
+  step_counted =
+      let p : Process = process_of (unix_of w) f.slot in
+      let q : Process = with_machine p (instr (machine_of (unix_of w).texts p)).machine in
+      subst (λ (u : Unix). IsCounted w.slots u) (sym (step_done _ refl).unix)
+      (counted_waits w.slots (unix_of w) (with_process (unix_of w) f.slot q) refl
+      (all_waited_put (unix_of w).processes f.slot (Some q)
+      (subst (λ o. WaitedIn o (Some q)) (sym (slot_is w f.slot run.user.ready)) (like_waited p q refl refl refl refl)))
+      (kernel.counted (ap (λ t. goes_on (phase_of t)) is)))
+
   -- and just goes on
   module _ (next : Next ≡ (instr (machine_in w.procs.images.kept f.slot)).outcome) (fixed : IsFixed x.kept f) where
-    done : HasStepped (system_at w) then_ f.slot Next
-    done = step_done Next next
+    abbrev slot_so : Happened
+    slot_so = turn_of (system_at w) f.slot (turn (system_at w) f.slot)
 
-    quiet : settle (system_at w).board.table ≡ None
-    quiet = quiet_system w f.slot run.user
+    still : IsStill slot_so then_
+    still = plain_still (system_at w) f.slot run.user.ready.user then_ (step_done Next next) (quiet_system w f.slot run.user)
+
+    own_slot : settled_after (after_slot slot_so) ≡ turn_at w
+    own_slot = sym (user_slot (system_at w) f.slot run.user.ready.runs run.user.ready.user)
+
+    pub next_kernel : IsKernel at then_
+    next_kernel = subst (λ (t : Stage). IsKernel t then_) (sym is) (runs_kernel then_ f (record { user = step_user; fixed = fixed }) step_counted)
 
     pub next_answer : Ran ≡ turned (turn_at w)
-    next_answer = plain_answer (system_at w) f.slot run.user.ready.user then_ done quiet
+    next_answer = ap (λ e. turned_by e false) (sym still.ending) ∙ sym (whole_answer slot_so) ∙ ap turned own_slot
 
-    pub next_takes : Takes (turn_at w) at then_
-    next_takes = record {
-      kernel = subst (λ (t : Stage). IsKernel t then_) (sym is) (runs_kernel then_ f (record { user = step_user; fixed = fixed }) step_counted);
-      system = plain_next (system_at w) f.slot run.user.ready.user then_ done quiet;
-      phase = ap phase_of is ∙ ap phase_after (sym (plain_goes (system_at w) f.slot run.user.ready.user then_ done quiet));
-    }
+    pub next_takes : (at' : Stage) (w' : World) → ((h : Happened) → IsStill h then_ → Takes (settled_after (after_slot h)) at' w')
+        → Takes (turn_at w) at' w'
+    next_takes at' w' each = subst (λ (t : Turn). Takes t at' w') own_slot (each slot_so still)
 
-    pub next_items : (turn_at w).items ≡ []
-    next_items = plain_items (system_at w) f.slot run.user.ready.user then_ done quiet
+    pub next_items : (a b : Taken) → ((h : Happened) → IsStill h then_ → Took a (settled_after (after_slot h)).items b)
+        → Took a (turn_at w).items b
+    next_items a b each = subst (λ (t : Turn). Took a t.items b) own_slot (each slot_so still)
 
 -- what a kernel is to its caller
 abbrev pub state_of : Stage → World → KernelState
@@ -107,29 +128,20 @@ module _ (at : Stage) (w : World) (kernel : IsKernel at w) (holds : IsKept w.pro
   -- an instruction that just goes on
   module _ (f : Fixed) (is : at ≡ stage.Running f) (x : ImagesState) (kept : x.kept ≡ with_machine_in w.procs.images.kept f.slot (instr (machine_in w.procs.images.kept f.slot)).machine)
       (next : Next ≡ (instr (machine_in w.procs.images.kept f.slot)).outcome) (fixed : IsFixed x.kept f) where
-    near_takes : Takes (turn_at w) at (with_images w x)
-    near_takes = next_takes at w f is kernel holds x kept next fixed
-
     pub near_kernel : IsKernel at (with_images w x)
-    near_kernel = near_takes.kernel
+    near_kernel = next_kernel at w f is kernel holds x kept next fixed
 
     pub near_answer : Ran ≡ turned (event_of Slot v.system)
     near_answer = taken_answer Ran (next_answer at w f is kernel holds x kept next fixed)
 
-    pub near_items : (event_of Slot v.system).items ≡ []
-    near_items = ap (λ (m : System). (event_of Slot m).items) (sym same) ∙ next_items at w f is kernel holds x kept next fixed
+    pub near_takes : (at' : Stage) (w' : World) → ((h : Happened) → IsStill h (with_images w x) → Takes (settled_after (after_slot h)) at' w')
+        → Takes (turn_at w) at' w'
+    near_takes = next_takes at w f is kernel holds x kept next fixed
 
-    pub near_next : system_at (with_images w x) ≡ (event_of Slot v.system).next
-    near_next = taken_next at (with_images w x) near_takes
-
-    pub near_phase : phase_of at ≡ phase_after (event_of Slot v.system).ending
-    near_phase = taken_phase at (with_images w x) near_takes
-
-    pub near_private : OthersUndisturbed v.system (system_at (with_images w x))
-    near_private = taken_private at (with_images w x) near_takes
-
-    pub near_texts : OtherTextsStay v.system (event_of Slot v.system).items (system_at (with_images w x))
-    near_texts = taken_texts at (with_images w x) near_takes
+    pub near_items : (a b : Taken) → ((h : Happened) → IsStill h (with_images w x) → Took a (settled_after (after_slot h)).items b)
+        → Took a (event_of Slot v.system).items b
+    near_items a b each =
+        subst (λ (m : System). Took a (event_of Slot m).items b) same (next_items at w f is kernel holds x kept next fixed a b each)
 
   -- an instruction that comes to something else, with which the turn ends
   module _ (f : Fixed) (is : at ≡ stage.Running f) (x : ImagesState) (kept : x.kept ≡ with_machine_in w.procs.images.kept f.slot (instr (machine_in w.procs.images.kept f.slot)).machine)

@@ -10,22 +10,22 @@ use Rattle.pdp_step.specs.declared.outcome.Outcome.TheVariants as came
 use Rattle.pdp_step.specs.Machine.{Machine}
 use Rattle.pdp_step.specs.Instruction.{instr}
 use Rattle.pick_rules.specs.Choice.{settle}
+use Rattle.pick_rules.specs.Board.{Board}
+use Rattle.pick_rules.specs.Logged.{nothing_logged}
 use Rattle.image_keep.specs.Kept.{Kept, IsKept, area_of}
 use Rattle.image_keep.specs.State.{ImagesState}
 use Rattle.image_keep.specs.Running.{machine_in, with_machine_in, with_state}
 use Rattle.sys_procs.specs.Process.{Process}
 use Rattle.sys_procs.proofs.Alive.{put_here}
 use Rattle.sys_procs.proofs.MemoryLemmas.{image_here}
-use Rattle.abstract_unix.specs.declared.turned.Turned.TheVariants.{Ran}
 use Rattle.unix_core.specs.declared.world.World.{World}
-use Rattle.abstract_unix.specs.declared.ends.Ends.TheVariants.{AtEnd}
 use Rattle.abstract_unix.specs.Unix.{Unix, System, process_of, with_process}
-use Rattle.abstract_unix.specs.Steps.{steps}
+use Rattle.abstract_unix.specs.Steps.{Steps, steps}
 use Rattle.abstract_unix.specs.Calls.{resumed}
 use Rattle.abstract_unix.specs.Delivery.{ends_turn}
-use Rattle.abstract_unix.specs.Turn.{Turn, machine_of, with_machine, is_user, comes_to, instruction, begins_turn, turn, turn_of, slot_by, slot_of, settled_as, after_slot, settled_after, turned}
+use Rattle.abstract_unix.specs.Turn.{machine_of, with_machine, is_user, comes_to, instruction, begins_turn, turn, turn_of, slot_by, slot_of, after_slot, settled_after}
 use Rattle.abstract_unix.specs.Runs.{Slot, event_of}
-use Rattle.unix_core.specs.Parts.{unix_of, system_at, IsReady, IsUser, HasStepped}
+use Rattle.unix_core.specs.Parts.{unix_of, system_at, IsReady, IsUser, IsStill, HasStepped}
 use Rattle.abstract_unix.proofs.Owing.{some_within}
 use Rattle.unix_core.proofs.WorldLemmas.{ready_alive, slot_is}
 use Rattle.unix_core.proofs.PutLemmas.{IsLikeArea, with_images, with_kept}
@@ -127,33 +127,14 @@ module _ (m : System) (s : ℕ) (above : 0 < s) (w' : World) (done : HasStepped 
   turn_is : turn m s ≡ steps u
   turn_is = ap (ends_turn s) begun_is
 
-  abbrev plain : Turn
-  plain = record { items = []; next = record m { unix = u }; is_idle = false; ending = AtEnd }
-
-  plain_is : event_of Slot m ≡ plain
-  plain_is =
-      user_slot m s done.runs above
-      ∙ ap (λ x. settled_after (turn_of m s x)) turn_is
-      ∙ ap (λ o. record {
-        items = (settled_as o m.board).items;
-        next = record m { unix = u; board = (settled_as o m.board).board };
-        is_idle = false;
-        ending = AtEnd;
-      }) quiet
-
-  pub plain_answer : Ran ≡ turned (event_of Slot m)
-  plain_answer = ap turned (sym plain_is)
-
-  pub plain_goes : (event_of Slot m).ending ≡ AtEnd
-  plain_goes = ap (λ (t : Turn). t.ending) plain_is
-
-  pub plain_next : system_at w' ≡ (event_of Slot m).next
-  plain_next =
-      (λ i. record { unix = done.unix i; board = done.board i })
-      ∙ ap (λ (t : Turn). t.next) (sym plain_is)
-
-  pub plain_items : (event_of Slot m).items ≡ []
-  plain_items = ap (λ (t : Turn). t.items) plain_is
+  -- and nothing is logged in its slot
+  pub plain_still : IsStill (turn_of m s (turn m s)) w'
+  plain_still = subst (λ (t : Steps). IsStill (turn_of m s t) w') (sym turn_is) (record {
+    unix = sym done.unix;
+    log = ap nothing_logged (sym done.board);
+    ending = refl;
+    settled = λ _. sym (settle_same w'.procs.table) ∙ ap (λ (b : Board). settle b.table) done.board ∙ quiet;
+  })
 
 -- the kernel has settled, also by the board of its log
 pub quiet_system : (w : World) (s : ℕ) → IsUser s w → settle (system_at w).board.table ≡ None

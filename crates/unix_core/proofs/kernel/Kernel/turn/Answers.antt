@@ -1,54 +1,69 @@
 use Rattle.std.proofs.Common.{sym}
-use Rattle.v6_base.proofs.Took.{took_nothing}
 use Rattle.unix_core.proofs.TakenLemmas.{taken_answer, taken_next, taken_phase, taken_idle, taken_private, taken_texts}
-use Rattle.unix_core.proofs.TakenLemmas.{near_kernel, near_phase, near_answer, near_next, near_private, near_texts, near_items, far_running, far_answer, far_takes, far_items}
+use Rattle.unix_core.proofs.TakenLemmas.{near_kernel, near_answer, near_takes, near_items, far_running, far_answer, far_takes, far_items}
 use Rattle.unix_core.proofs.kernel.Kernel.turn.Goals as goal
 
 pub execute-requires : goal.execute-requires
 execute-requires g c = (c.self.invariant.running c.in-Running.fixed c.in-Running.is).fixed
 
--- The instruction just goes on.
+-- The instruction just goes on: its slot is counted.
+pub count_slot-requires-clause-kernel : goal.count_slot-requires-clause-kernel
+count_slot-requires-clause-kernel g c =
+    let m = c.self.inside.machine in
+    near_kernel m.stage m.world c.self.invariant c.see_kept.ensures c.args.self.now c.self.view_is c.requires.started c.in-Running.fixed c.in-Running.is c.execute.new.self c.execute.ensures.kept
+    (sym (c.execute.ensures.next.0 c.if-execute.true)) c.execute.ensures.fixed
+
 pub invariant_of-self : goal.invariant_of-self
 invariant_of-self g c =
     let m = c.self.inside.machine in
-    near_kernel m.stage m.world c.self.invariant c.see_kept.ensures c.args.self.now c.self.view_is c.requires c.in-Running.fixed c.in-Running.is c.execute.new.self c.execute.ensures.kept
+    (near_takes m.stage m.world c.self.invariant c.see_kept.ensures c.args.self.now c.self.view_is c.requires.started c.in-Running.fixed c.in-Running.is c.execute.new.self c.execute.ensures.kept
+    (sym (c.execute.ensures.next.0 c.if-execute.true)) c.execute.ensures.fixed
+    c.count_slot.new.self.stage c.count_slot.new.self.world c.count_slot.ensures.takes).kernel
+
+pub returns-then-execute-clause-answer : goal.returns-then-execute-clause-answer
+returns-then-execute-clause-answer g c =
+    let m = c.self.inside.machine in
+    near_answer m.stage m.world c.self.invariant c.see_kept.ensures c.args.self.now c.self.view_is c.requires.started c.in-Running.fixed c.in-Running.is c.execute.new.self c.execute.ensures.kept
     (sym (c.execute.ensures.next.0 c.if-execute.true)) c.execute.ensures.fixed
 
 pub returns-then-execute-clause-phase : goal.returns-then-execute-clause-phase
 returns-then-execute-clause-phase g c =
     let m = c.self.inside.machine in
-    near_phase m.stage m.world c.self.invariant c.see_kept.ensures c.args.self.now c.self.view_is c.requires c.in-Running.fixed c.in-Running.is c.execute.new.self c.execute.ensures.kept
+    taken_phase m.stage m.world c.self.invariant c.see_kept.ensures c.args.self.now c.self.view_is c.requires.started
+    c.count_slot.new.self.stage c.count_slot.new.self.world (near_takes m.stage m.world c.self.invariant c.see_kept.ensures c.args.self.now c.self.view_is c.requires.started c.in-Running.fixed c.in-Running.is c.execute.new.self c.execute.ensures.kept
     (sym (c.execute.ensures.next.0 c.if-execute.true)) c.execute.ensures.fixed
-
-pub returns-then-execute-clause-answer : goal.returns-then-execute-clause-answer
-returns-then-execute-clause-answer g c =
-    let m = c.self.inside.machine in
-    near_answer m.stage m.world c.self.invariant c.see_kept.ensures c.args.self.now c.self.view_is c.requires c.in-Running.fixed c.in-Running.is c.execute.new.self c.execute.ensures.kept
-    (sym (c.execute.ensures.next.0 c.if-execute.true)) c.execute.ensures.fixed
+    c.count_slot.new.self.stage c.count_slot.new.self.world c.count_slot.ensures.takes)
 
 pub returns-then-execute-clause-next : goal.returns-then-execute-clause-next
 returns-then-execute-clause-next g c =
     let m = c.self.inside.machine in
-    near_next m.stage m.world c.self.invariant c.see_kept.ensures c.args.self.now c.self.view_is c.requires c.in-Running.fixed c.in-Running.is c.execute.new.self c.execute.ensures.kept
+    taken_next m.stage m.world c.self.invariant c.see_kept.ensures c.args.self.now c.self.view_is c.requires.started
+    c.count_slot.new.self.stage c.count_slot.new.self.world (near_takes m.stage m.world c.self.invariant c.see_kept.ensures c.args.self.now c.self.view_is c.requires.started c.in-Running.fixed c.in-Running.is c.execute.new.self c.execute.ensures.kept
     (sym (c.execute.ensures.next.0 c.if-execute.true)) c.execute.ensures.fixed
+    c.count_slot.new.self.stage c.count_slot.new.self.world c.count_slot.ensures.takes)
 
 pub returns-then-execute-clause-private : goal.returns-then-execute-clause-private
 returns-then-execute-clause-private g c =
     let m = c.self.inside.machine in
-    near_private m.stage m.world c.self.invariant c.see_kept.ensures c.args.self.now c.self.view_is c.requires c.in-Running.fixed c.in-Running.is c.execute.new.self c.execute.ensures.kept
+    taken_private m.stage m.world c.self.invariant c.see_kept.ensures c.args.self.now c.self.view_is c.requires.started
+    c.count_slot.new.self.stage c.count_slot.new.self.world (near_takes m.stage m.world c.self.invariant c.see_kept.ensures c.args.self.now c.self.view_is c.requires.started c.in-Running.fixed c.in-Running.is c.execute.new.self c.execute.ensures.kept
     (sym (c.execute.ensures.next.0 c.if-execute.true)) c.execute.ensures.fixed
+    c.count_slot.new.self.stage c.count_slot.new.self.world c.count_slot.ensures.takes)
 
 pub returns-then-execute-clause-texts : goal.returns-then-execute-clause-texts
 returns-then-execute-clause-texts g c =
     let m = c.self.inside.machine in
-    near_texts m.stage m.world c.self.invariant c.see_kept.ensures c.args.self.now c.self.view_is c.requires c.in-Running.fixed c.in-Running.is c.execute.new.self c.execute.ensures.kept
+    taken_texts m.stage m.world c.self.invariant c.see_kept.ensures c.args.self.now c.self.view_is c.requires.started
+    c.count_slot.new.self.stage c.count_slot.new.self.world (near_takes m.stage m.world c.self.invariant c.see_kept.ensures c.args.self.now c.self.view_is c.requires.started c.in-Running.fixed c.in-Running.is c.execute.new.self c.execute.ensures.kept
     (sym (c.execute.ensures.next.0 c.if-execute.true)) c.execute.ensures.fixed
+    c.count_slot.new.self.stage c.count_slot.new.self.world c.count_slot.ensures.takes)
 
 pub returns-then-execute-clause-items : goal.returns-then-execute-clause-items
 returns-then-execute-clause-items g c =
     let m = c.self.inside.machine in
-    took_nothing _ _ (near_items m.stage m.world c.self.invariant c.see_kept.ensures c.args.self.now c.self.view_is c.requires c.in-Running.fixed c.in-Running.is c.execute.new.self c.execute.ensures.kept
-    (sym (c.execute.ensures.next.0 c.if-execute.true)) c.execute.ensures.fixed)
+    near_items m.stage m.world c.self.invariant c.see_kept.ensures c.args.self.now c.self.view_is c.requires.started c.in-Running.fixed c.in-Running.is c.execute.new.self c.execute.ensures.kept
+    (sym (c.execute.ensures.next.0 c.if-execute.true)) c.execute.ensures.fixed
+    _ _ c.count_slot.ensures.items
 
 -- It comes to something else.
 pub after_step-requires-clause-running : goal.after_step-requires-clause-running
@@ -57,61 +72,61 @@ after_step-requires-clause-running g c = (c.in-Running.fixed, c.in-Running.is)
 pub after_step-requires-clause-user : goal.after_step-requires-clause-user
 after_step-requires-clause-user g c =
     let m = c.self.inside.machine in
-    far_running m.stage m.world c.self.invariant c.see_kept.ensures c.args.self.now c.self.view_is c.requires c.in-Running.fixed c.in-Running.is c.execute.new.self c.execute.ensures.kept
+    far_running m.stage m.world c.self.invariant c.see_kept.ensures c.args.self.now c.self.view_is c.requires.started c.in-Running.fixed c.in-Running.is c.execute.new.self c.execute.ensures.kept
     c.execute.new.outcome (c.execute.ensures.outcome c.if-execute.false) c.execute.ensures.fixed
 
 pub returns-else-execute-clause-answer : goal.returns-else-execute-clause-answer
 returns-else-execute-clause-answer g c =
     let m = c.self.inside.machine in
-    taken_answer m.stage m.world c.self.invariant c.see_kept.ensures c.args.self.now c.self.view_is c.requires
-    c.after_step.result (far_answer m.stage m.world c.self.invariant c.see_kept.ensures c.args.self.now c.self.view_is c.requires c.in-Running.fixed c.in-Running.is c.execute.new.self c.execute.ensures.kept
+    taken_answer m.stage m.world c.self.invariant c.see_kept.ensures c.args.self.now c.self.view_is c.requires.started
+    c.after_step.result (far_answer m.stage m.world c.self.invariant c.see_kept.ensures c.args.self.now c.self.view_is c.requires.started c.in-Running.fixed c.in-Running.is c.execute.new.self c.execute.ensures.kept
     c.execute.new.outcome (c.execute.ensures.outcome c.if-execute.false)
     c.after_step.result c.after_step.ensures.answer)
 
 pub returns-else-execute-clause-idle : goal.returns-else-execute-clause-idle
 returns-else-execute-clause-idle g c =
     let m = c.self.inside.machine in
-    taken_idle m.stage m.world c.self.invariant c.see_kept.ensures c.args.self.now c.self.view_is c.requires
-    c.after_step.result (far_answer m.stage m.world c.self.invariant c.see_kept.ensures c.args.self.now c.self.view_is c.requires c.in-Running.fixed c.in-Running.is c.execute.new.self c.execute.ensures.kept
+    taken_idle m.stage m.world c.self.invariant c.see_kept.ensures c.args.self.now c.self.view_is c.requires.started
+    c.after_step.result (far_answer m.stage m.world c.self.invariant c.see_kept.ensures c.args.self.now c.self.view_is c.requires.started c.in-Running.fixed c.in-Running.is c.execute.new.self c.execute.ensures.kept
     c.execute.new.outcome (c.execute.ensures.outcome c.if-execute.false)
     c.after_step.result c.after_step.ensures.answer)
 
 pub returns-else-execute-clause-phase : goal.returns-else-execute-clause-phase
 returns-else-execute-clause-phase g c =
     let m = c.self.inside.machine in
-    taken_phase m.stage m.world c.self.invariant c.see_kept.ensures c.args.self.now c.self.view_is c.requires
-    c.after_step.new.self.stage c.after_step.new.self.world (far_takes m.stage m.world c.self.invariant c.see_kept.ensures c.args.self.now c.self.view_is c.requires c.in-Running.fixed c.in-Running.is c.execute.new.self c.execute.ensures.kept
+    taken_phase m.stage m.world c.self.invariant c.see_kept.ensures c.args.self.now c.self.view_is c.requires.started
+    c.after_step.new.self.stage c.after_step.new.self.world (far_takes m.stage m.world c.self.invariant c.see_kept.ensures c.args.self.now c.self.view_is c.requires.started c.in-Running.fixed c.in-Running.is c.execute.new.self c.execute.ensures.kept
     c.execute.new.outcome (c.execute.ensures.outcome c.if-execute.false)
     c.after_step.new.self.stage c.after_step.new.self.world c.after_step.ensures.takes)
 
 pub returns-else-execute-clause-next : goal.returns-else-execute-clause-next
 returns-else-execute-clause-next g c =
     let m = c.self.inside.machine in
-    taken_next m.stage m.world c.self.invariant c.see_kept.ensures c.args.self.now c.self.view_is c.requires
-    c.after_step.new.self.stage c.after_step.new.self.world (far_takes m.stage m.world c.self.invariant c.see_kept.ensures c.args.self.now c.self.view_is c.requires c.in-Running.fixed c.in-Running.is c.execute.new.self c.execute.ensures.kept
+    taken_next m.stage m.world c.self.invariant c.see_kept.ensures c.args.self.now c.self.view_is c.requires.started
+    c.after_step.new.self.stage c.after_step.new.self.world (far_takes m.stage m.world c.self.invariant c.see_kept.ensures c.args.self.now c.self.view_is c.requires.started c.in-Running.fixed c.in-Running.is c.execute.new.self c.execute.ensures.kept
     c.execute.new.outcome (c.execute.ensures.outcome c.if-execute.false)
     c.after_step.new.self.stage c.after_step.new.self.world c.after_step.ensures.takes)
 
 pub returns-else-execute-clause-private : goal.returns-else-execute-clause-private
 returns-else-execute-clause-private g c =
     let m = c.self.inside.machine in
-    taken_private m.stage m.world c.self.invariant c.see_kept.ensures c.args.self.now c.self.view_is c.requires
-    c.after_step.new.self.stage c.after_step.new.self.world (far_takes m.stage m.world c.self.invariant c.see_kept.ensures c.args.self.now c.self.view_is c.requires c.in-Running.fixed c.in-Running.is c.execute.new.self c.execute.ensures.kept
+    taken_private m.stage m.world c.self.invariant c.see_kept.ensures c.args.self.now c.self.view_is c.requires.started
+    c.after_step.new.self.stage c.after_step.new.self.world (far_takes m.stage m.world c.self.invariant c.see_kept.ensures c.args.self.now c.self.view_is c.requires.started c.in-Running.fixed c.in-Running.is c.execute.new.self c.execute.ensures.kept
     c.execute.new.outcome (c.execute.ensures.outcome c.if-execute.false)
     c.after_step.new.self.stage c.after_step.new.self.world c.after_step.ensures.takes)
 
 pub returns-else-execute-clause-texts : goal.returns-else-execute-clause-texts
 returns-else-execute-clause-texts g c =
     let m = c.self.inside.machine in
-    taken_texts m.stage m.world c.self.invariant c.see_kept.ensures c.args.self.now c.self.view_is c.requires
-    c.after_step.new.self.stage c.after_step.new.self.world (far_takes m.stage m.world c.self.invariant c.see_kept.ensures c.args.self.now c.self.view_is c.requires c.in-Running.fixed c.in-Running.is c.execute.new.self c.execute.ensures.kept
+    taken_texts m.stage m.world c.self.invariant c.see_kept.ensures c.args.self.now c.self.view_is c.requires.started
+    c.after_step.new.self.stage c.after_step.new.self.world (far_takes m.stage m.world c.self.invariant c.see_kept.ensures c.args.self.now c.self.view_is c.requires.started c.in-Running.fixed c.in-Running.is c.execute.new.self c.execute.ensures.kept
     c.execute.new.outcome (c.execute.ensures.outcome c.if-execute.false)
     c.after_step.new.self.stage c.after_step.new.self.world c.after_step.ensures.takes)
 
 pub returns-else-execute-clause-items : goal.returns-else-execute-clause-items
 returns-else-execute-clause-items g c =
     let m = c.self.inside.machine in
-    far_items m.stage m.world c.self.invariant c.see_kept.ensures c.args.self.now c.self.view_is c.requires c.in-Running.fixed c.in-Running.is c.execute.new.self c.execute.ensures.kept
+    far_items m.stage m.world c.self.invariant c.see_kept.ensures c.args.self.now c.self.view_is c.requires.started c.in-Running.fixed c.in-Running.is c.execute.new.self c.execute.ensures.kept
     c.execute.new.outcome (c.execute.ensures.outcome c.if-execute.false)
     _ _ c.after_step.ensures.items
 
@@ -119,16 +134,16 @@ returns-else-execute-clause-items g c =
 pub returns-in_default-clause-idle : goal.returns-in_default-clause-idle
 returns-in_default-clause-idle g c =
     let m = c.self.inside.machine in
-    taken_idle m.stage m.world c.self.invariant c.see_kept.ensures c.args.self.now c.self.view_is c.requires c.other_slot.result c.other_slot.ensures.answer
+    taken_idle m.stage m.world c.self.invariant c.see_kept.ensures c.args.self.now c.self.view_is c.requires.started c.other_slot.result c.other_slot.ensures.answer
 
 pub returns-in_default-clause-private : goal.returns-in_default-clause-private
 returns-in_default-clause-private g c =
     let m = c.self.inside.machine in
-    taken_private m.stage m.world c.self.invariant c.see_kept.ensures c.args.self.now c.self.view_is c.requires
+    taken_private m.stage m.world c.self.invariant c.see_kept.ensures c.args.self.now c.self.view_is c.requires.started
     c.other_slot.new.self.stage c.other_slot.new.self.world c.other_slot.ensures.takes
 
 pub returns-in_default-clause-texts : goal.returns-in_default-clause-texts
 returns-in_default-clause-texts g c =
     let m = c.self.inside.machine in
-    taken_texts m.stage m.world c.self.invariant c.see_kept.ensures c.args.self.now c.self.view_is c.requires
+    taken_texts m.stage m.world c.self.invariant c.see_kept.ensures c.args.self.now c.self.view_is c.requires.started
     c.other_slot.new.self.stage c.other_slot.new.self.world c.other_slot.ensures.takes
