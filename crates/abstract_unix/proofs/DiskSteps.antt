@@ -27,7 +27,7 @@ use Rattle.abstract_unix.specs.declared.calls.ProcessCall.{ProcessCall}
 use Rattle.abstract_unix.specs.declared.calls.SystemCall.{SystemCall}
 use Rattle.abstract_unix.specs.declared.calls.SystemCall.TheVariants.{Indirect, Exit, Fork, Unknown, OnFiles, OnProcesses}
 use Rattle.abstract_unix.specs.declared.ending.Ending.TheVariants.{Slept}
-use Rattle.abstract_unix.specs.Unix.{Text, Unix, System, process_of, with_process}
+use Rattle.abstract_unix.specs.Unix.{Text, Timing, Unix, System, process_of, with_process}
 use Rattle.abstract_unix.specs.Errors.{error_number}
 use Rattle.abstract_unix.specs.Steps.{Steps, returns, signals}
 use Rattle.abstract_unix.specs.Calls.{handed_of, with_handed, world_of, with_world, with_area, given_area, refused_area, refuses, answers, file_row, process_row, did_by, came_by, forks, waiting_until, disk_end, waits_for_disk, takes_time, reads_disk, loads_program, entered_area, words_passed, asked, does_call, does_asked, sysent_of, grows, grown_by, grows_to, exits_with, resumed}

@@ -30,7 +30,7 @@ use Rattle.abstract_unix.specs.declared.calls.SystemCall.{SystemCall}
 use Rattle.abstract_unix.specs.declared.calls.SystemCall.TheVariants.{Indirect, Exit, Fork, Unknown, OnFiles, OnProcesses}
 use Rattle.abstract_unix.specs.declared.ending.Ending.{Ending}
 use Rattle.abstract_unix.specs.declared.ending.Ending.TheVariants as ending
-use Rattle.abstract_unix.specs.Unix.{Unix, System, process_of, with_process}
+use Rattle.abstract_unix.specs.Unix.{Timing, Unix, System, process_of, with_process}
 use Rattle.abstract_unix.specs.Errors.{error_number}
 use Rattle.abstract_unix.specs.Steps.{Steps, returns, signals}
 use Rattle.abstract_unix.specs.Calls.{handed_of, with_handed, world_of, with_world, with_area, refused_area, entered_area, words_passed, asked, file_row, process_row, refuses, answers, did_by, came_by, forks, grown_by, grows_to, exits_with, disk_end, waits_for_disk, takes_time, reads_disk, loads_program, does_call, does_asked, sysent_of, resumed}

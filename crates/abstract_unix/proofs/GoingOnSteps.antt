@@ -52,6 +52,12 @@ pub record SameWait (p q : Process) : Type 0 where
   pub call : q.u.call ≡ p.u.call
   pub files : q.u.files ≡ p.u.files
 
+-- A process changes by a rule that leaves its call and its numbers: nobody needs to know that it is there.
+pub changed_waited : (o : Option Process) (rule : Process → Process) → ((p : Process) → SameWait p (rule p))
+    → WaitedIn o (Some (rule (unwrap_or o no_process)))
+changed_waited None rule same = user_waited None (rule no_process) (same no_process).pending
+changed_waited (Some p) rule same = let keeps = same p in like_waited p (rule p) keeps.dead keeps.pending keeps.call keeps.files
+
 -- what is in a slot waits for nothing, also where nobody is in it
 abbrev pub IsUserIn : Unix → ℕ → Type 0
 IsUserIn u s = (process_of u s).u.pending ≡ NOTHING_PENDING

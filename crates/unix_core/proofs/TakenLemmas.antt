@@ -1,5 +1,5 @@
 -- A slot has been taken, and what it came to is the event of the system.
-use Rattle.std.proofs.Common.{◌≡◌, ◌∙◌, [], None, sym, ap, subst}
+use Rattle.std.proofs.Common.{◌≡◌, ◌∙◌, false, true, Some, None, refl, sym, ap, subst}
 use Rattle.pdp_step.specs.declared.outcome.Outcome.{Outcome}
 use Rattle.pdp_step.specs.declared.outcome.Outcome.TheVariants.{Next}
 use Rattle.pdp_step.specs.Instruction.{instr}
@@ -11,7 +11,7 @@ use Rattle.image_keep.specs.State.{ImagesState}
 use Rattle.image_keep.specs.Running.{IsFixed, machine_in, with_machine_in}
 use Rattle.abstract_unix.specs.declared.turned.Turned.{Turned}
 use Rattle.abstract_unix.specs.declared.turned.Turned.TheVariants.{Ran, Idle}
-use Rattle.abstract_unix.specs.Unix.{System, Started}
+use Rattle.abstract_unix.specs.Unix.{Unix, System, Started, process_of, with_process}
 use Rattle.abstract_unix.specs.Endings.{phase_after}
 use Rattle.abstract_unix.specs.Turn.{Happened, after_slot, Turn, machine_of, with_machine, turn, turn_of, settled_after, turned_by, turned, NobodyCanRun}
 use Rattle.abstract_unix.specs.Runs.{Slot, event_of}
@@ -21,7 +21,7 @@ use Rattle.unix_core.specs.declared.world.World.{World}
 use Rattle.unix_core.specs.declared.machine.Stage.{Stage}
 use Rattle.unix_core.specs.declared.machine.Stage.TheVariants as stage
 use Rattle.unix_core.specs.State.{KernelState}
-use Rattle.unix_core.specs.Parts.{system_at, turn_at, phase_of, slot_in, HasStepped, IsKernel, IsRunning, IsUser, Takes}
+use Rattle.unix_core.specs.Parts.{unix_of, system_at, turn_at, phase_of, goes_on, slot_in, HasStepped, IsStill, IsKernel, IsRunning, IsUser, Takes}
 use Rattle.unix_core.proofs.PutLemmas.{with_images}
 use Rattle.unix_core.proofs.MachineLemmas.{fixed_or, runs_kernel}
 use Rattle.unix_core.proofs.TurnSteps.{user_slot, has_stepped, stepped_user, quiet_system, plain_still}
