@@ -19,7 +19,7 @@ use Rattle.pick_rules.specs.Lawful.{Over, Seen, FitAll, seen_after}
 use Rattle.log_laws.proofs.Fitting.{fit_item, fit_items, seen_append, seen_items, Apt, Ends, Fitted, apt_fits, wake_apt}
 use Rattle.log_laws.proofs.Seats.{Seats, RunnerAt, InTurn, Paused, Holds}
 use Rattle.log_laws.proofs.Lines.{wake_paused}
-use Rattle.log_laws.proofs.Settles.{Settled, IsSettled, settling}
+use Rattle.log_laws.proofs.Settles.{Settled, IsSettled, settling as settling_holds}
 use Rattle.swap_sched.specs.Pass.{pass, stop_over}
 use Rattle.abstract_unix.specs.declared.ending.Ending.{Ending}
 use Rattle.abstract_unix.specs.declared.ending.Ending.TheVariants as ending
@@ -84,7 +84,7 @@ module _ (u : Unix) (first : Seen) (l : Logged Unix) (fit : FitAll first (entrie
 
   settled_fine : Fine first (l.items ++ (settled l.board).items) (next (settled l.board).board) AtEnd
   settled_fine = subst (λ b. Fine first (l.items ++ (settled_as (settle b.table) l.board).items) (next (settled_as (settle b.table) l.board).board) AtEnd) board
-      (by (settle now.board.table) refl (settling (seats_of u) now p))
+      (by (settle now.board.table) refl (settling_holds (seats_of u) now p))
     where
       by : (o : Option Entry) → settle now.board.table ≡ o → IsSettled (seats_of u) now o
           → Fine first (l.items ++ (settled_as o l.board).items) (next (settled_as o l.board).board) AtEnd

@@ -1,5 +1,5 @@
 -- How many slots have been taken: each slot counts once, and nothing else does.
-use Rattle.std.proofs.Common.{◌≡◌, ◌∙◌, ◌+◌, ◌<◌, ℕ, zero, suc, Bool, true, false, cond, List, [], ◌∷◌, map, Option, Some, None, refl, sym, ap, subst}
+use Rattle.std.proofs.Common.{◌≡◌, ◌∙◌, ◌+◌, ◌<◌, ℕ, zero, suc, Bool, true, false, cond, List, [], ◌∷◌, ◌++◌, map, Option, Some, None, refl, sym, ap, subst}
 use Rattle.pick_rules.specs.Effects.{Effect, Show}
 use Rattle.pick_rules.specs.Logged.{Stop, Logged, logged, left_by}
 use Rattle.swap_sched.specs.Pass.{pass, over}
@@ -8,7 +8,7 @@ use Rattle.abstract_unix.specs.declared.ends.Ends.TheVariants.{AtEnd}
 use Rattle.abstract_unix.specs.declared.ending.Ending.{Ending}
 use Rattle.abstract_unix.specs.Unix.{Timing, Unix, System}
 use Rattle.abstract_unix.specs.Endings.{is_early}
-use Rattle.abstract_unix.specs.Turn.{Happened, stays, settling, calls_for_settling, settled_after, ending_by, ending_of_pass, turn, turn_of, pass_of, slot_by, slot_of, with_slot, counted, followed, disk_lines, wakes_disks, after_slot}
+use Rattle.abstract_unix.specs.Turn.{Happened, stays, settling, calls_for_settling, settled_after, ending_by, ending_of_pass, end_effects, turn, turn_of, pass_of, slot_by, slot_of, with_slot, counted, followed, disk_lines, wakes_disks, after_slot}
 use Rattle.abstract_unix.specs.Runs.{Slot, event_of}
 use Rattle.abstract_unix.proofs.RunsLemmas.{settled_ending, after_ending}
 use Rattle.abstract_unix.proofs.Dues.{times_turn}
@@ -32,14 +32,14 @@ after_unix h goes =
 
 -- where a turn goes on, nothing was found wanting
 turn_timing : (m : System) (s : ℕ) → (turn_of m s (turn m s)).ending ≡ AtEnd → (turn_of m s (turn m s)).unix.timing ≡ m.unix.timing
-turn_timing m s goes = by (logged m.board (turn m s).effects).stop goes ∙ times_turn s m
+turn_timing m s goes = by (logged m.board ((turn m s).effects ++ end_effects s (turn m s).ending)).stop goes ∙ times_turn s m
   where
     by : (o : Option (Stop Unix)) → ending_by o (turn m s).ending ≡ AtEnd → (left_by o (turn m s).unix).timing ≡ (turn m s).unix.timing
     by None e = refl
     by (Some stop) e = absurd (cc e)
 
 pass_timing : (m : System) → (pass_of m).ending ≡ AtEnd → (pass_of m).unix.timing ≡ m.unix.timing
-pass_timing m goes = by (logged m.board (over m.unix (pass m.board))).stop goes
+pass_timing m goes = by (over m.unix (pass m.board)).stop goes
   where
     by : (o : Option (Stop Unix)) → ending_of_pass o ≡ AtEnd → (left_by o m.unix).timing ≡ m.unix.timing
     by None e = refl
