@@ -1,5 +1,5 @@
 -- Who waits for the disk after a turn waited for it before, or the turn's own call has read the disk.
-use Rattle.std.proofs.Common.{◌≡◌, ◌≢◌, ◌∙◌, ◌⊎◌, ◌<◌, ◌+◌, ◌*◌, ◌/◌, ◌%◌, ◌==◌, ◌&&◌, not, ℕ, Bool, true, false, cond, nat_lt, List, length, get_or, set, Option, Some, None, option_map, unwrap_or, slice_index, refl, sym, ap, subst, inl, inr, arith}
+use Rattle.std.proofs.Common.{◌≡◌, ◌≢◌, ◌∙◌, ◌×◌, ◌⊎◌, ◌<◌, ◌+◌, ◌*◌, ◌/◌, ◌%◌, ◌==◌, ◌&&◌, not, ℕ, Bool, true, false, cond, nat_lt, List, length, get_or, set, Option, Some, None, option_map, unwrap_or, slice_index, refl, sym, ap, subst, inl, inr, arith}
 use Rattle.std.proofs.lemmas.Bool.{cases_eq, eqb-true, eqb-false}
 use Rattle.std.proofs.lemmas.List.{get_or-set_same, get_or-set_other, length-set}
 use Rattle.v6_base.specs.declared.answer.Answer.{Answer}
@@ -51,13 +51,17 @@ use Rattle.abstract_unix.proofs.WaitingRows.{set_either, row_waited, fork_waited
 use Rattle.abstract_unix.proofs.DiskRows.{row_no_disk, resume_no_disk}
 use Rattle.abstract_unix.proofs.PendingRows.{Pends, close_user, core_user}
 use Rattle.abstract_unix.proofs.Tidy.{IsTidy}
-use Rattle.abstract_unix.proofs.TidySteps.{delivered_held}
+use Rattle.abstract_unix.proofs.TidyTurns.{Runs, runs_put}
+use Rattle.abstract_unix.proofs.TidySteps.{runs_file_call, runs_process_call, delivered_held}
 
 module _ (P : ℕ → Type 0) (a : List (Option Process)) where
-  -- P holds of the end of each new wait
+  -- who waits anew lives, and P holds of the end of that wait
+  abbrev pub IsNewWait : Process → Type 0
+  IsNewWait q = (q.is_zombie ≡ false) × P (disk_end_of q)
+
   abbrev pub Disked : List (Option Process) → Type 0
   Disked b = (r : ℕ) (q : Process) → get_or b r None ≡ Some q → q.u.pending ≡ DISK_WAIT
-      → Waited (get_or a r None) q ⊎ P (disk_end_of q)
+      → Waited (get_or a r None) q ⊎ IsNewWait q
 
   pub disk_then : (b c : List (Option Process)) → Disked b → AllWaited b c → Disked c
   disk_then b c first later r q is waits =
@@ -71,17 +75,17 @@ module _ (P : ℕ → Type 0) (a : List (Option Process)) where
           call = sooner.call ∙ w.call;
           files = sooner.files ∙ w.files;
         })
-        | inr ends ↦ inr (subst P (ap (λ l. 65536 * slice_index l 4 + slice_index l 5) w.call) ends)
+        | inr new ↦ inr (sym w.dead ∙ new.0, subst P (ap (λ l. 65536 * slice_index l 4 + slice_index l 5) w.call) new.1)
       ]
 
   -- one slot is put
-  pub disk_put : (b : List (Option Process)) (s : ℕ) (q : Process) → Disked b → (q.u.pending ≡ DISK_WAIT → P (disk_end_of q))
+  pub disk_put : (b : List (Option Process)) (s : ℕ) (q : Process) → Disked b → (q.u.pending ≡ DISK_WAIT → IsNewWait q)
       → Disked (set b s (Some q))
   disk_put b s q first own r x is waits = elim (cases_eq r s) [
     | inl here ↦
         let low : s < length b = let l = some_within (set b s (Some q)) r x is in let same = length-set b s (Some q) in omega (arith, l, same, here) in
         let there : q ≡ x = let e : Some q ≡ Some x = sym (get_or-set_same b s (Some q) None low) ∙ ap (λ n. get_or (set b s (Some q)) n None) (sym here) ∙ is in cc e in
-        inr (subst (λ (y : Process). P (disk_end_of y)) there (own (ap (λ (y : Process). y.u.pending) there ∙ waits)))
+        inr (subst (λ (y : Process). IsNewWait y) there (own (ap (λ (y : Process). y.u.pending) there ∙ waits)))
     | inr other ↦ first r x (sym (get_or-set_other b s r (Some q) None other) ∙ is) waits
   ]
 
@@ -131,37 +135,37 @@ module _ (P : ℕ → Type 0) (a : List (Option Process)) (s : ℕ) where
   two_words : (n : ℕ) → 65536 * (n / 65536) + n % 65536 ≡ n
   two_words n = omega arith
 
-  pub disk_timed : (has_read : Bool) (steps : Steps)
+  pub disk_timed : (has_read : Bool) (steps : Steps) → (process_of steps.unix s).is_zombie ≡ false
       → ((takes_time has_read s steps).ending ≡ Slept pribio (Disk s) → P (disk_end steps.unix.timing)) → D steps.unix
       → D (takes_time has_read s steps).unix
-  disk_timed has_read steps own d = by (has_read && not (steps.unix.timing.disk == 0)) own
+  disk_timed has_read steps lives own d = by (has_read && not (steps.unix.timing.disk == 0)) own
     where
       waited : Steps
       waited = record steps { unix = waits_for_disk steps.unix s; ending = Slept pribio (Disk s) }
 
       by : (b : Bool) → ((cond b waited steps).ending ≡ Slept pribio (Disk s) → P (disk_end steps.unix.timing)) → D (cond b waited steps).unix
-      by true has = disk_put P a steps.unix.processes s _ d (λ e. subst P (sym (two_words (disk_end steps.unix.timing))) (has refl))
+      by true has = disk_put P a steps.unix.processes s _ d (λ e. (lives, subst P (sym (two_words (disk_end steps.unix.timing))) (has refl)))
       by false has = d
 
   -- A call that has been entered and leaves its process alive.
-  pub disk_file_call : (u : Unix) (call : FileCall) (args : List ℕ) → (process_of u s).u.pending ≡ NOTHING_PENDING
+  pub disk_file_call : (u : Unix) (call : FileCall) (args : List ℕ) → (process_of u s).u.pending ≡ NOTHING_PENDING → Runs s u
       → let h : Handed = handed_of u (process_of u s) in let did : Did = file_row call h s args u.clock.time in
       ((takes_time (reads_disk call h did.answer) s (did_by u s did)).ending ≡ Slept pribio (Disk s) → P (disk_end u.timing)) → D u
       → D (takes_time (reads_disk call h did.answer) s (did_by u s did)).unix
-  disk_file_call u call args free own d =
+  disk_file_call u call args free runs own d =
       let h : Handed = handed_of u (process_of u s) in
       let did : Did = file_row call h s args u.clock.time in
-      disk_timed (reads_disk call h did.answer) (did_by u s did)
+      disk_timed (reads_disk call h did.answer) (did_by u s did) (runs_file_call s u call args free runs).lives
       (λ slept. subst (λ (t : Timing). P (disk_end t)) (sym (answers_timing (with_handed u s did.state) did.answer)) (own slept))
       (disk_did u did (row_no_disk call h s args u.clock.time free) d)
 
-  pub disk_process_call : (u : Unix) (call : ProcessCall) (args : List ℕ) → (process_of u s).u.pending ≡ NOTHING_PENDING
+  pub disk_process_call : (u : Unix) (call : ProcessCall) (args : List ℕ) → (process_of u s).u.pending ≡ NOTHING_PENDING → Runs s u
       → let c : Comes = process_row call (world_of u) s args in
       ((takes_time (loads_program call c.answer) s (came_by u s c)).ending ≡ Slept pribio (Disk s) → P (disk_end u.timing)) → D u
       → D (takes_time (loads_program call c.answer) s (came_by u s c)).unix
-  disk_process_call u call args free own d =
+  disk_process_call u call args free runs own d =
       let c : Comes = process_row call (world_of u) s args in
-      disk_timed (loads_program call c.answer) (came_by u s c)
+      disk_timed (loads_program call c.answer) (came_by u s c) (runs_process_call s u call args free runs).lives
       (λ slept. subst (λ (t : Timing). P (disk_end t)) (sym (answers_timing (with_world u c.state) c.answer)) (own slept))
       (disk_came u c (row_waited (world_of u) s free call args) d)
 
@@ -218,38 +222,40 @@ module _ (P : ℕ → Type 0) (a : List (Option Process)) (s : ℕ) where
   disk_faults u kind.Iot d = disk_signals P a s u SIGIOT d
   disk_faults u kind.Emt d = disk_signals P a s u SIGEMT d
 
-  disk_call : (u : Unix) (call : SystemCall) (args : List ℕ) → (process_of u s).u.pending ≡ NOTHING_PENDING
+  disk_call : (u : Unix) (call : SystemCall) (args : List ℕ) → (process_of u s).u.pending ≡ NOTHING_PENDING → Runs s u
       → ((does_call u s call args).ending ≡ Slept pribio (Disk s) → P (disk_end u.timing)) → D P a s u
       → D P a s (does_call u s call args).unix
-  disk_call u Indirect args free own d = d
-  disk_call u Exit args free own d = disk_exits u (exit_status (process_of u s)) free d
-  disk_call u Fork args free own d = disk_fork P a s u free d
-  disk_call u Unknown args free own d = disk_refuses P a s u (error_number ENOSYS) d
-  disk_call u (OnFiles call) args free own d = disk_file_call P a s u call args free own d
-  disk_call u (OnProcesses call) args free own d = disk_process_call P a s u call args free own d
+  disk_call u Indirect args free runs own d = d
+  disk_call u Exit args free runs own d = disk_exits u (exit_status (process_of u s)) free d
+  disk_call u Fork args free runs own d = disk_fork P a s u free d
+  disk_call u Unknown args free runs own d = disk_refuses P a s u (error_number ENOSYS) d
+  disk_call u (OnFiles call) args free runs own d = disk_file_call P a s u call args free runs own d
+  disk_call u (OnProcesses call) args free runs own d = disk_process_call P a s u call args free runs own d
 
-  disk_asked : (u : Unix) (x : Asked) (entry : Sysent) → (process_of u s).u.pending ≡ NOTHING_PENDING
+  disk_asked : (u : Unix) (x : Asked) (entry : Sysent) → (process_of u s).u.pending ≡ NOTHING_PENDING → Runs s u
       → ((does_asked u s x entry).ending ≡ Slept pribio (Disk s) → P (disk_end u.timing)) → D P a s u
       → D P a s (does_asked u s x entry).unix
-  disk_asked u x entry free own d =
+  disk_asked u x entry free runs own d =
       let rule : Process → Process = λ p. record p { u = entered_area (words_passed x entry.count) p.u } in
-      disk_call (with_process u s (rule (process_of u s))) entry.call x.args (free_put u.processes (rule (process_of u s)) free free) own
+      disk_call (with_process u s (rule (process_of u s))) entry.call x.args (free_put u.processes (rule (process_of u s)) free free)
+      (runs_put s u (rule (process_of u s)) (record { files = refl; dir = refl; dead = refl; pending = refl; call = refl }) runs) own
       (disk_rule P a u.processes s rule (λ p. record { dead = refl; pending = refl; call = refl; files = refl }) d)
 
-  disk_outcome : (u : Unix) (o : Outcome) → (process_of u s).u.pending ≡ NOTHING_PENDING
+  disk_outcome : (u : Unix) (o : Outcome) → (process_of u s).u.pending ≡ NOTHING_PENDING → Runs s u
       → ((comes_to u s o).ending ≡ Slept pribio (Disk s) → P (disk_end u.timing)) → D P a s u → D P a s (comes_to u s o).unix
-  disk_outcome u outcome.Next free own d = d
-  disk_outcome u (outcome.Call number) free own d =
+  disk_outcome u outcome.Next free runs own d = d
+  disk_outcome u (outcome.Call number) free runs own d =
       let x : Asked = asked (image_of u.texts (process_of u s)) (register (process_of u s) 7) number in
-      disk_asked u x (sysent_of x.number) free own d
-  disk_outcome u (outcome.Fault k) free own d = disk_faults u k d
+      disk_asked u x (sysent_of x.number) free runs own d
+  disk_outcome u (outcome.Fault k) free runs own d = disk_faults u k d
 
-  disk_instruction : (u : Unix) → (process_of u s).u.pending ≡ NOTHING_PENDING
+  disk_instruction : (u : Unix) → (process_of u s).u.pending ≡ NOTHING_PENDING → Runs s u
       → ((instruction u s).ending ≡ Slept pribio (Disk s) → P (disk_end u.timing)) → D P a s u → D P a s (instruction u s).unix
-  disk_instruction u free own d =
+  disk_instruction u free runs own d =
       let step : Stepped = instr (machine_of u.texts (process_of u s)) in
       let rule : Process → Process = λ p. with_machine p step.machine in
-      disk_outcome (with_process u s (rule (process_of u s))) step.outcome (free_put u.processes (rule (process_of u s)) free free) own
+      disk_outcome (with_process u s (rule (process_of u s))) step.outcome (free_put u.processes (rule (process_of u s)) free free)
+      (runs_put s u (rule (process_of u s)) (record { files = refl; dir = refl; dead = refl; pending = refl; call = refl }) runs) own
       (disk_rule P a u.processes s rule (λ p. record { dead = refl; pending = refl; call = refl; files = refl }) d)
 
   disk_resumed : (u : Unix) → Pends (handed_of u (process_of u s)) → D P a s u → D P a s (resumed u s).unix
@@ -319,6 +325,7 @@ module _ (P : ℕ → Type 0) (a : List (Option Process)) (s : ℕ) where
         where
           either : (b : Bool) → is_user (process_of m.unix s) ≡ b → D P a s (cond b (instruction m.unix s) (resumed m.unix s)).unix
           either true user = disk_instruction m.unix (eqb-true (process_of m.unix s).u.pending NOTHING_PENDING user)
+              (record { tidy = tidy; there = there; lives = lives })
               (λ slept. own (ap (λ (c : Bool). (cond c (instruction m.unix s) (resumed m.unix s)).ending) user ∙ slept)) d
           either false user = disk_resumed m.unix (handed_pends m.unix s tidy.waits there lives) d
 

@@ -36,10 +36,10 @@ use Rattle.abstract_unix.specs.Steps.{Steps, returns, signals}
 use Rattle.abstract_unix.specs.Calls.{handed_of, with_handed, world_of, with_world, with_area, refused_area, entered_area, words_passed, asked, file_row, process_row, refuses, answers, did_by, came_by, forks, grown_by, grows_to, exits_with, disk_end, waits_for_disk, takes_time, reads_disk, loads_program, does_call, does_asked, sysent_of, resumed}
 use Rattle.abstract_unix.specs.Delivery.{heeds, catches, signal_status, ends_after, ends_by, delivers_if, delivers_due, ends_by_ending}
 use Rattle.abstract_unix.specs.Turn.{machine_of, with_machine, faults, comes_to, instruction, is_user, passes_setd, begins_turn, turn, disk_end_of}
-use Rattle.abstract_unix.specs.Whole.{AreDue}
+use Rattle.abstract_unix.specs.Whole.{AreDue, NoGraveWaits}
 use Rattle.abstract_unix.proofs.GoingOnLemmas.{Waited, waited_same}
 use Rattle.abstract_unix.proofs.Tidy.{IsTidy}
-use Rattle.abstract_unix.proofs.DiskSteps.{Disked, disk_turn}
+use Rattle.abstract_unix.proofs.DiskSteps.{IsNewWait, disk_turn}
 
 -- No step of a turn counts slots, or changes how long a transfer takes.
 module _ (s : ℕ) where
@@ -150,11 +150,25 @@ turn_due m s first next tidy there lives d least more rate = record {
     P : ℕ → Type 0
     P n = (n ≤ m.unix.timing.passed) ⊎ (next ≤ n)
 
-    by : (r : ℕ) (q : Process) → (Waited (get_or m.unix.processes r None) q ⊎ P (disk_end_of q)) → q.u.pending ≡ DISK_WAIT → P (disk_end_of q)
+    by : (r : ℕ) (q : Process) → (Waited (get_or m.unix.processes r None) q ⊎ IsNewWait P m.unix.processes q) → q.u.pending ≡ DISK_WAIT
+        → P (disk_end_of q)
     by r q (inl w) waits =
         let ends : disk_end_of w.before ≡ disk_end_of q = ap (λ l. 65536 * slice_index l 4 + slice_index l 5) w.call in
         elim (d.each r w.before w.there (w.pending ∙ waits)) [
           | inl low ↦ inl (omega (arith, low, ends))
           | inr high ↦ inr (omega (arith, high, ends, least))
         ]
-    by r q (inr p) waits = p
+    by r q (inr new) waits = new.1
+
+-- Who has ended waits for nothing after a turn either.
+pub turn_graves : (m : System) (s : ℕ) → IsTidy m.unix → get_or m.unix.processes s None ≡ Some (process_of m.unix s)
+    → (process_of m.unix s).is_zombie ≡ false → NoGraveWaits m.unix → NoGraveWaits (turn m s).unix
+turn_graves m s tidy there lives graves r q is dead waits =
+    elim (disk_turn Any m.unix.processes s m tidy there lives (λ slept. tt)
+    (λ k p e w. inl (waited_same (get_or m.unix.processes k None) p e (inr w))) r q is waits) [
+      | inl w ↦ graves r w.before w.there (w.dead ∙ dead) (w.pending ∙ waits)
+      | inr new ↦ absurd (let lives = new.0 in cc (lives, dead))
+    ]
+  where
+    Any : ℕ → Type 0
+    Any n = Unit {0}

@@ -25,7 +25,7 @@ counted_same slots u v processes passed counted = record {
   disk = counted.disk;
   due = record {
     next = subst (λ n. n < slots.due) (sym passed) counted.due.next;
-    each = λ s p is waits. subst (λ n. (_ ≤ n) ⊎ (slots.due ≤ _)) (sym passed)
+    each = λ s p is waits. subst (λ n. (disk_end_of p ≤ n) ⊎ (slots.due ≤ disk_end_of p)) (sym passed)
         (counted.due.each s p (ap (λ (l : List (Option Process)). get_or l s None) (sym processes) ∙ is) waits);
   };
   graves = λ s p is. counted.graves s p (ap (λ (l : List (Option Process)). get_or l s None) (sym processes) ∙ is);
