@@ -164,7 +164,7 @@ module _ (who : ℕ → Process → Bool) (n : ℕ) where
       ∙ (ap (λ o. set l k (cond b (Some (signalled n (unwrap_or o no_process))) o)) (still k ps low)
       ∙ (ap (set l k) (one_sent k (get_or ps k None) b means) ∙ one_set k ps low))
 
-  next_meant : (k : ℕ) (ps : List (Option Process)) (b : Bool) → 1 ≤ k → b ≡ is_meant who k (get_or ps k None)
+  pub next_meant : (k : ℕ) (ps : List (Option Process)) (b : Bool) → 1 ≤ k → b ≡ is_meant who k (get_or ps k None)
       → meant_below (k + 1) ps ≡ meant_below k ps ++ cond b (k ∷ []) []
   next_meant k ps b above means =
       let test : ℕ → Bool = λ s. is_meant who s (get_or ps s None) in

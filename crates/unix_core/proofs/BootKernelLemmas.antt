@@ -13,6 +13,7 @@ use Rattle.abstract_unix.specs.Turn.{pass_of, settled_after}
 use Rattle.abstract_unix.specs.Runs.{start_of, event_of, Switch, Disk, finished}
 use Rattle.unix_core.specs.Memory.{kept_in}
 use Rattle.unix_core.specs.Parts.{unix_of, board_in, system_at, phase_of, IsGood, IsUser, IsCovered, IsKernel}
+use Rattle.unix_core.proofs.SlotWorlds.{kernel_slots}
 use Rattle.unix_core.proofs.GoingLemmas.{going_same}
 use Rattle.unix_core.proofs.CountLemmas.{counted_same, counted_set}
 
@@ -82,42 +83,9 @@ module _ (w : World) (count : ℕ) (most : count ≤ 999999999) where
   abbrev set : World
   set = record w { slots = record w.slots { disk = count } }
 
-  set_good : IsGood w → IsGood set
-  set_good good = record {
-    agree = good.agree;
-    owed = good.owed;
-    pending = going_same (unix_of w) (unix_of set) refl refl good.pending;
-    marks = good.marks;
-    running = good.running;
-    rooms = good.rooms;
-    core = good.core;
-  }
-
-  set_user : (s : ℕ) → IsUser s w → IsUser s set
-  set_user s user = record {
-    ready = record { good = set_good user.ready.good; runs = user.ready.runs; user = user.ready.user };
-    user = user.user;
-    settled = user.settled;
-  }
-
-  set_covered : IsCovered w → IsCovered set
-  unfolding kept_in
-  set_covered covered = covered
-
   pub set_kernel : (at : Stage) → IsKernel at w → IsKernel at set
-  set_kernel at kernel = record {
-    new = λ e. let was = kernel.new e in record { good = set_good was.good; runs = was.runs; nobody_out = was.nobody_out };
-    stopped = λ e. set_covered (kernel.stopped e);
-    finished = λ e. set_covered (kernel.finished e);
-    running = λ f e. let was = kernel.running f e in record { user = set_user f.slot was.user; fixed = was.fixed };
-    resting = λ e. let was = kernel.resting e in record {
-      good = set_good was.good;
-      settled = was.settled;
-      idle = was.idle;
-      calls = was.calls;
-    };
-    counted = λ goes. counted_set w.slots count (unix_of w) (unix_of set) most refl refl (kernel.counted goes);
-  }
+  set_kernel at kernel = kernel_slots w (record w.slots { disk = count }) at
+      (λ goes. counted_set w.slots count (unix_of w) (unix_of set) most refl refl (kernel.counted goes)) kernel
 
   pub set_system : system_at set ≡ (event_of (Disk count) (system_at w)).next
   set_system = refl

@@ -9,11 +9,11 @@ use Rattle.abstract_unix.specs.declared.ending.Ending.TheVariants as ending
 use Rattle.abstract_unix.specs.Unix.{Timing, Unix, System, process_at, process_of}
 use Rattle.abstract_unix.specs.Calls.{disk_end}
 use Rattle.abstract_unix.specs.Turn.{begins_turn, turn, with_slot, disk_end_of}
-use Rattle.abstract_unix.specs.Whole.{AreDue, NoGraveWaits}
+use Rattle.abstract_unix.specs.Whole.{AreDue}
 use Rattle.abstract_unix.proofs.Tidy.{IsTidy}
-use Rattle.abstract_unix.proofs.GoingOnLemmas.{AllWaited}
+use Rattle.abstract_unix.proofs.GoingOnLemmas.{Waited, AllWaited}
 use Rattle.abstract_unix.proofs.Stretches.{due_after}
-use Rattle.abstract_unix.proofs.Dues.{turn_due}
+use Rattle.abstract_unix.proofs.Dues.{turn_due, turn_graves}
 use Rattle.unix_core.specs.declared.slots.Slots.{Slots}
 use Rattle.unix_core.specs.Slots.{passed_in, timing_in, CanWait, IsCounted, HasWaited}
 
@@ -31,16 +31,19 @@ counted_same slots u v processes passed counted = record {
   graves = λ s p is. counted.graves s p (ap (λ (l : List (Option Process)). get_or l s None) (sym processes) ∙ is);
 }
 
--- Processes change, and who waits waited before.
-pub counted_waits : (slots : Slots) (u v : Unix) → v.timing.passed ≡ u.timing.passed → AllWaited u.processes v.processes
+-- Who waits for the disk waited for it before.
+abbrev pub NoNewWaits : List (Option Process) → List (Option Process) → Type 0
+NoNewWaits old new = (s : ℕ) (q : Process) → get_or new s None ≡ Some q → q.u.pending ≡ DISK_WAIT → Waited (get_or old s None) q
+
+pub counted_no_new : (slots : Slots) (u v : Unix) → v.timing.passed ≡ u.timing.passed → NoNewWaits u.processes v.processes
     → IsCounted slots u → IsCounted slots v
-counted_waits slots u v passed waited counted = record {
+counted_no_new slots u v passed waited counted = record {
   within = counted.within;
   disk = counted.disk;
   due = record {
     next = subst (λ n. n < slots.due) (sym passed) counted.due.next;
     each = λ s q is waits.
-        let was = waited s q is (inr waits) in
+        let was = waited s q is waits in
         let ends : disk_end_of was.before ≡ disk_end_of q = ap (λ l. 65536 * slice_index l 4 + slice_index l 5) was.call in
         elim (counted.due.each s was.before was.there (was.pending ∙ waits)) [
           | inl low ↦ inl (omega (arith, low, ends, passed))
@@ -48,8 +51,13 @@ counted_waits slots u v passed waited counted = record {
         ];
   };
   graves = λ s q is dead waits.
-      let was = waited s q is (inr waits) in counted.graves s was.before was.there (was.dead ∙ dead) (was.pending ∙ waits);
+      let was = waited s q is waits in counted.graves s was.before was.there (was.dead ∙ dead) (was.pending ∙ waits);
 }
+
+-- Processes change, and who waits waited before.
+pub counted_waits : (slots : Slots) (u v : Unix) → v.timing.passed ≡ u.timing.passed → AllWaited u.processes v.processes
+    → IsCounted slots u → IsCounted slots v
+counted_waits slots u v passed waited = counted_no_new slots u v passed (λ s q is waits. waited s q is (inr waits))
 
 -- how long a transfer takes is another number
 pub counted_set : (slots : Slots) (n : ℕ) (u v : Unix) → n ≤ 999999999 → v.processes ≡ u.processes → v.timing.passed ≡ u.timing.passed
@@ -82,8 +90,8 @@ counted_first slots u within none next nobody = record {
 pub counted_turn : (m : System) (s : ℕ) (e : Ending) (old new : Slots) → IsTidy m.unix
     → get_or m.unix.processes s None ≡ Some (process_of m.unix s) → (process_of m.unix s).is_zombie ≡ false
     → m.unix.timing ≡ timing_in old → ((begins_turn m s).ending ≡ ending.Slept pribio (Disk s) → e ≡ ending.Slept pribio (Disk s))
-    → NoGraveWaits (turn m s).unix → IsCounted old m.unix → HasWaited e s old new → IsCounted new (turn m s).unix
-counted_turn m s e old new tidy there lives timing same graves counted waited =
+    → IsCounted old m.unix → HasWaited e s old new → IsCounted new (turn m s).unix
+counted_turn m s e old new tidy there lives timing same counted waited =
     let passed : m.unix.timing.passed ≡ passed_in old = ap (λ (t : Timing). t.passed) timing in
     let disk : m.unix.timing.disk ≡ old.disk = ap (λ (t : Timing). t.disk) timing in
     let kept : new.disk ≡ old.disk = ap (λ (t : Timing). t.disk) waited.timing in
@@ -92,7 +100,7 @@ counted_turn m s e old new tidy there lives timing same graves counted waited =
       disk = subst (λ n. n ≤ 999999999) (sym kept) counted.disk;
       due = turn_due m s old.due new.due tidy there lives counted.due waited.sooner (subst (λ n. n < new.due) (sym passed) waited.ahead)
           (λ slept. let ends = waited.ends (same slept) in omega (arith, ends, passed, disk));
-      graves = graves;
+      graves = turn_graves m s tidy there lives counted.graves;
     }
 
 -- Where a turn has room for its slot, a wait can begin in it.

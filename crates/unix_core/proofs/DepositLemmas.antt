@@ -36,7 +36,7 @@ use Rattle.unix_core.specs.Parts.{unix_of, system_at, phase_of, IsGood, IsRunnin
 use Rattle.unix_core.specs.Deposits.{with_its_byte, with_byte_at, IsPutIn}
 use Rattle.unix_core.proofs.BootKernelLemmas.{kernel_good}
 use Rattle.unix_core.proofs.MachineLemmas.{runs_kernel}
-use Rattle.unix_core.proofs.PutLemmas.{with_images, with_kept}
+use Rattle.unix_core.proofs.PutLemmas.{alive_slot, with_images, with_kept}
 use Rattle.unix_core.proofs.MemoryPut.{with_memory, memory_unix, memory_board, memory_process, memory_good}
 
 -- Where another slot's image stands stays.

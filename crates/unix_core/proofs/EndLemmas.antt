@@ -1,8 +1,7 @@
 -- A turn ends: what belongs together still does, whether the process goes on, sleeps or has exited.
-use Rattle.std.proofs.Common.{◌≡◌, ◌≢◌, ◌<◌, ◌==◌, ◌++◌, cond, ℕ, Bool, true, false, ℤ, int_lt, pos, [], Some, refl, sym, ap, ◌∙◌, subst, arith}
+use Rattle.std.proofs.Common.{◌≡◌, ◌≢◌, ◌<◌, ◌==◌, ◌++◌, cond, ℕ, Bool, true, false, ℤ, int_lt, pos, [], map, Some, refl, sym, ap, ◌∙◌, subst, arith}
 use Rattle.std.proofs.lemmas.List.{get_or-set_same, get_or-set_other, length-set}
 use Rattle.v6_base.specs.Trace.{Took, Taken}
-use Rattle.v6_base.proofs.Took.{took_then}
 use Rattle.v6_base.specs.declared.entry.Chan.{Chan}
 use Rattle.v6_base.specs.declared.entry.Chan.TheVariants.{RunIn}
 use Rattle.pick_rules.specs.declared.row.Stat.TheVariants.{Sleeping, Waiting}
@@ -12,6 +11,7 @@ use Rattle.pick_rules.specs.Table.{empty_row, row_at, same_chan, IsTable}
 use Rattle.pick_rules.specs.Priority.{setpri}
 use Rattle.pick_rules.specs.Sleepers.{sleep_stat, runin_told, asleep, flagged, fall_asleep}
 use Rattle.pick_rules.specs.Board.{Board}
+use Rattle.pick_rules.specs.Effects.{Show}
 use Rattle.pick_rules.specs.Logged.{logged}
 use Rattle.pick_rules.proofs.Laws.{sleep_now, sleep_ticks, sleep_tout, sleep_running}
 use Rattle.image_keep.specs.Kept.{Kept, HasImage, keeping}
@@ -31,9 +31,10 @@ use Rattle.abstract_unix.specs.Unix.{Unix, System, Started}
 use Rattle.unix_core.specs.Passing.{trapped, ended_table}
 use Rattle.abstract_unix.specs.Endings.{is_early}
 use Rattle.abstract_unix.proofs.RunsLemmas.{whole_answer}
-use Rattle.abstract_unix.specs.Turn.{after_slot, Turn, end_effects, ending_of, settled, settled_after, turned_by, turned}
+use Rattle.abstract_unix.specs.Turn.{Happened, with_slot, disk_lines, end_effects, ending_of, settled, turned_by, turned}
 use Rattle.unix_core.specs.Parts.{unix_of, board_in, system_at, turn_end, phase_of, is_over, IsGood, IsCovered, IsKernel, Takes}
 use Rattle.unix_core.proofs.BootKernelLemmas.{stopped_kernel}
+use Rattle.unix_core.proofs.SlotEnds.{woken_log, settled_takes, settled_items}
 use Rattle.unix_core.proofs.TableLemmas.{RunsImage, with_table, good_table}
 use Rattle.unix_core.proofs.TickLemmas.{trapped_like, runin_like}
 
@@ -141,33 +142,33 @@ module _ (w : World) (good : IsGood w) (s : ℕ) (above : 0 < s) (low : s < 50) 
       (ended_agree w.procs.rows w.procs.images.kept w.procs.table s good.agree above low t e is table (λ alive. good.running s (runs alive) above))
       (ended_image w.procs.images.kept w.procs.table t s e is good.running) good
 
-  pub ended_system : (b : Board) → board_in (with_table w t) ≡ b → (now : System)
-      → now ≡ record (system_at (with_table w t)) { board = (settled (board_in (with_table w t))).board }
-      → now ≡ record { unix = unix_of w; board = (settled b).board }
-  ended_system b board now final =
-      let clock : clock_of t ≡ clock_of w.procs.table = ap clock_of is ∙ ended_clock w.procs.table s e in
-      final ∙ (λ i. record { unix = record (unix_of w) { clock = clock i }; board = (settled (board i)).board })
+  -- the clock goes on as it did
+  pub ended_unix : unix_of (with_table w t) ≡ unix_of w
+  ended_unix = let clock : clock_of t ≡ clock_of w.procs.table = ap clock_of is ∙ ended_clock w.procs.table s e in
+      λ i. record (unix_of w) { clock = clock i }
 
-  -- the run goes on
-  module _ (goes : ending_of e ≡ AtEnd) where
-    ended_is : settled_after (record { unix = unix_of w; log = logged (board_in w) (end_effects s e); is_idle = false; settles = true; ending = AtEnd })
-        ≡ turn_end w s e
-    ended_is = ap (λ o. settled_after (record { unix = unix_of w; log = logged (board_in w) (end_effects s e); is_idle = false; settles = true; ending = o })) (sym goes)
+  -- The run goes on: the slot has been counted in this world.
+  module _ (goes : ending_of e ≡ AtEnd) (v : World) (unix : unix_of v ≡ with_slot (unix_of (with_table w t)))
+      (woken : board_in v ≡ (logged {W = Unix} (board_in (with_table w t)) (map Show (disk_lines (with_slot (unix_of (with_table w t)))))).board)
+      (board : board_in (with_table w t) ≡ (logged {W = Unix} (board_in w) (end_effects s e)).board) where
+    abbrev done : Happened
+    done = record { unix = unix_of w; log = logged (board_in w) (end_effects s e); is_idle = false; settles = true; ending = ending_of e }
 
-    pub ended_takes : (at : Stage) (v : World) → IsKernel at v → phase_of at ≡ Started
-        → board_in (with_table w t) ≡ (logged {W = Unix} (board_in w) (end_effects s e)).board
-        → system_at v ≡ record (system_at (with_table w t)) { board = (settled (board_in (with_table w t))).board }
-        → Takes (turn_end w s e) at v
-    ended_takes at v kernel started board final =
-        subst (λ (x : Turn). Takes x at v) ended_is
-        (record { kernel = kernel; system = ended_system _ board (system_at v) final; phase = started })
+    unix_then : unix_of v ≡ with_slot (unix_of w)
+    unix_then = unix ∙ ap with_slot ended_unix
 
-    pub ended_items : (a b c : Taken) → board_in (with_table w t) ≡ (logged {W = Unix} (board_in w) (end_effects s e)).board
-        → Took a (logged {W = Unix} (board_in w) (end_effects s e)).items b → Took b (settled (board_in (with_table w t))).items c
-        → Took a (turn_end w s e).items c
-    ended_items a b c board one two =
-        subst (λ (x : Turn). Took a x.items c) ended_is
-        (took_then a b c _ _ _ one two (ap (λ (x : Board). (logged {W = Unix} (board_in w) (end_effects s e)).items ++ (settled x).items) board))
+    board_then : board_in v ≡ (woken_log (unix_of w) (logged {W = Unix} (board_in w) (end_effects s e)).board).board
+    board_then = woken ∙ (λ i. (woken_log (ended_unix i) (board i)).board)
+
+    pub ended_takes : (at : Stage) (x : World) → IsKernel at x → phase_of at ≡ Started
+        → system_at x ≡ record (system_at v) { board = (settled (board_in v)).board } → Takes (turn_end w s e) at x
+    ended_takes = settled_takes done goes (λ none. refl) v unix_then board_then
+
+    pub ended_items : (a b c d : Taken) → Took a (logged {W = Unix} (board_in w) (end_effects s e)).items b
+        → Took b (disk_lines (with_slot (unix_of (with_table w t)))) c → Took c (settled (board_in v)).items d → Took a (turn_end w s e).items d
+    ended_items a b c d first second third =
+        settled_items done goes (λ none. refl) v unix_then board_then a b c d first
+        (subst (λ (u : Unix). Took b (disk_lines (with_slot u)) c) ended_unix second) third
 
 -- The run ends.
 module _ (w : World) (s : ℕ) where

@@ -137,28 +137,34 @@ module _ (w : World) (x : ImagesState) (s : ℕ) (u : UArea) (alive : IsAlive w.
   pub board_put : board_in w' ≡ board_in w
   board_put = λ i. record (board_in w) { texts = map text_place ((with_area_texts k s u).texts i); core = area_core k s u i }
 
-  module _ (like : IsLikeArea u p.u) where
+  -- the same image, files and directory
+  module _ (clicks : clicks_of u ≡ clicks_of p.u) (files : u.files ≡ p.u.files) (dir : u.dir ≡ p.u.dir) where
     told_put : told_in (unix_of w').processes ≡ told_in (unix_of w).processes
     told_put =
         ap told_in processes_put
-        ∙ told_change (unix_of w).processes s p q (alive_slot w s alive) (λ i. cond p.is_zombie None (Some (record { files = like.files i; dir = like.dir i })))
+        ∙ told_change (unix_of w).processes s p q (alive_slot w s alive) (λ i. cond p.is_zombie None (Some (record { files = files i; dir = dir i })))
 
     agree_area : AreProcs w'.procs
     agree_area =
-        agree_put w s alive w.procs.rows (with_area k s u) (λ m. m.row) (λ held. record held { u = u }) (λ held own. like.clicks ∙ ap clicks_of own) (λ held. refl)
+        agree_put w s alive w.procs.rows (with_area k s u) (λ m. m.row) (λ held. record held { u = u }) (λ held own. clicks ∙ ap clicks_of own) (λ held. refl)
         (λ m is. is) (λ r other. refl) (area_now k s u) (area_other k s u) (with_area_texts k s u)
 
-    pub good_put : IsGood w → IsGood w'
-    good_put good = record {
+    pub good_but : CanGoOn (with_process (unix_of w) s q) → IsGood w → IsGood w'
+    good_but going good = record {
       agree = agree_area;
       running = runs_same w w' good agree_area refl;
       owed =
           let refs : List ℕ = w.files.tree.nodes.references in
           subst (λ texts. Owes refs w.files.table w.files.pipes texts (told_in (unix_of w').processes)) (ap (λ texts. map text_in texts) (sym (with_area_texts k s u).texts))
           (subst (Owes refs w.files.table w.files.pipes (unix_of w).texts) (sym told_put) good.owed);
-      pending = subst CanGoOn (sym unix_put)
-          (going_put (unix_of w) s p q (alive_slot w s alive) (record { pending = like.pending; call = like.call; files = like.files; lives = refl }) good.pending);
+      pending = subst CanGoOn (sym unix_put) going;
       marks = good.marks ∙ ap (λ texts. marks_of (map text_in texts)) (sym (with_area_texts k s u).texts);
       rooms = good.rooms;
       core = good.core ∙ sym (area_core k s u);
     }
+
+  pub good_put : IsLikeArea u p.u → IsGood w → IsGood w'
+  good_put like good =
+      good_but like.clicks like.files like.dir
+      (going_put (unix_of w) s p q (alive_slot w s alive) (record { pending = like.pending; call = like.call; files = like.files; lives = refl }) good.pending)
+      good

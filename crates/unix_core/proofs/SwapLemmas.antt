@@ -20,8 +20,8 @@ use Rattle.pick_rules.specs.Table.{row_at, with_row, is_empty, is_zombie, same_c
 use Rattle.pick_rules.specs.Sleepers.{made_ready, sleeps_on, sleep_stat, runout_told, asleep, fall_asleep}
 use Rattle.pick_rules.specs.Board.{Board, blocks, swap_fit}
 use Rattle.pick_rules.specs.Apply.{applied}
-use Rattle.pick_rules.specs.Effects.{at_fit}
-use Rattle.pick_rules.specs.Logged.{Logged, Stop, nothing_logged, with_what_came}
+use Rattle.pick_rules.specs.Effects.{Show, at_fit}
+use Rattle.pick_rules.specs.Logged.{Logged, Stop, nothing_logged, logged, with_what_came}
 use Rattle.pick_rules.specs.Swapper.{SwapMove, In, Out, Waits, swap_move}
 use Rattle.pick_rules.proofs.Laws.{set_each}
 use Rattle.pick_rules.proofs.Movers.{Lives, IsMover, mover}
@@ -44,18 +44,22 @@ use Rattle.sys_procs.specs.TextTable.{marks_of}
 use Rattle.sys_procs.specs.Agree as kind
 use Rattle.sys_procs.specs.Agree.{Kind, kind_of_stat, kind_of_keeping, Agree, board_of}
 use Rattle.sys_procs.proofs.Places.{is_free, has_died, free_stat, died_stat, free_keeping, died_keeping}
-use Rattle.abstract_unix.specs.Unix.{System, Started}
+use Rattle.abstract_unix.specs.Unix.{Unix, System, Started}
 use Rattle.abstract_unix.specs.declared.ends.Ends.TheVariants as ends
 use Rattle.abstract_unix.specs.declared.ends.Ends.TheVariants.{AtEnd}
 use Rattle.abstract_unix.specs.Whole.{Owed, CanGoOn}
-use Rattle.abstract_unix.specs.Turn.{Turn, settled, settled_after, passes, pass_of}
+use Rattle.abstract_unix.specs.declared.turned.Turned.TheVariants.{Ran}
+use Rattle.abstract_unix.specs.Turn.{Happened, Turn, settled, settled_after, turned, passes, pass_of, with_slot, disk_lines, after_slot}
+use Rattle.abstract_unix.proofs.RunsLemmas.{whole_answer}
 use Rattle.abstract_unix.proofs.Passing.{pass_sleeps}
 use Rattle.unix_core.specs.declared.world.World.{World}
 use Rattle.unix_core.specs.declared.machine.Stage.{Stage}
 use Rattle.unix_core.specs.declared.machine.Stage.TheVariants as stage
+use Rattle.unix_core.specs.Slots.{IsCounted}
 use Rattle.unix_core.specs.Parts.{unix_of, board_in, system_at, phase_of, IsGood, IsNew, IsKernel, Takes}
 use Rattle.unix_core.proofs.BootKernelLemmas.{stopped_kernel}
 use Rattle.unix_core.proofs.CoverLemmas.{agree_covered}
+use Rattle.unix_core.proofs.SlotEnds.{woken_log, settled_takes, settled_items}
 
 -- What moves leave of the table: the clock, and who of the processes sleeps for nothing.
 pub record Rested (t u : Table) : Type 0 where
@@ -271,6 +275,12 @@ module _ (m : System) where
   pub pass_goes : own.stop ≡ None → settled_after (pass_of m) ≡ gone
   pass_goes none = ap (λ o. settled_after (passes m.unix (over m.unix (record own { stop = o })))) none
 
+  abbrev moves : Happened
+  moves = record { unix = m.unix; log = record { items = own.items; board = own.board; stop = None }; is_idle = false; settles = true; ending = AtEnd }
+
+  pub pass_happens : own.stop ≡ None → pass_of m ≡ moves
+  pass_happens none = ap (λ o. passes m.unix (over m.unix (record own { stop = o }))) none
+
   abbrev broken : PanicKind → Turn
   broken kind = record { items = own.items; next = record { unix = m.unix; board = own.board }; is_idle = false; ending = ends.Panic kind }
 
@@ -314,6 +324,9 @@ module _ (w : World) (u : Table) (x : ImagesState) (a z : Taken) (good : IsGood 
     core = good.core ∙ sym same.core;
   }
 
+  pub after_counted : IsCounted w.slots (unix_of w) → IsCounted now.slots (unix_of now)
+  after_counted = subst (IsCounted w.slots) (sym after_unix)
+
   -- the swapper sleeps, and the kernel settles
   module _ (goes : Ok tt ≡ answered (pass (board_in w)).stop) where
     done : settled_after (pass_of (system_at w)) ≡ gone (system_at w)
@@ -330,6 +343,34 @@ module _ (w : World) (u : Table) (x : ImagesState) (a z : Taken) (good : IsGood 
         took_then a b c (pass (board_in w)).items (settled (board_in now)).items _ first second
         ((λ i. (pass (board_in w)).items ++ (settled (moved.board i)).items) ∙ ap (λ (o : Turn). o.items) (sym done))
 
+    -- where the pass was a slot, it has been counted in this world
+    module _ (v : World) (unix : unix_of v ≡ with_slot (unix_of now))
+        (woken : board_in v ≡ (logged {W = Unix} (board_in now) (map Show (disk_lines (with_slot (unix_of now))))).board) where
+      happens : pass_of (system_at w) ≡ moves (system_at w)
+      happens = pass_happens (system_at w) (none_stopped _ goes)
+
+      unix_then : unix_of v ≡ with_slot (unix_of w)
+      unix_then = unix ∙ ap with_slot after_unix
+
+      board_then : board_in v ≡ (woken_log (unix_of w) (pass (board_in w)).board).board
+      board_then = woken ∙ (λ i. (woken_log (after_unix i) (moved.board i)).board)
+
+      pub slot_takes : (at : Stage) (last : World) → IsKernel at last → phase_of at ≡ Started
+          → system_at last ≡ record (system_at v) { board = (settled (board_in v)).board } → Takes (settled_after (after_slot (pass_of (system_at w)))) at last
+      slot_takes at last kernel started final =
+          subst (λ (h : Happened). Takes (settled_after (after_slot h)) at last) (sym happens)
+          (settled_takes (moves (system_at w)) refl (λ none. refl) v unix_then board_then at last kernel started final)
+
+      pub slot_items : (b c d : Taken) → Took a (pass (board_in w)).items b → Took b (disk_lines (with_slot (unix_of now))) c
+          → Took c (settled (board_in v)).items d → Took a (settled_after (after_slot (pass_of (system_at w)))).items d
+      slot_items b c d first second third =
+          subst (λ (h : Happened). Took a (settled_after (after_slot h)).items d) (sym happens)
+          (settled_items (moves (system_at w)) refl (λ none. refl) v unix_then board_then a b c d first
+          (subst (λ (u : Unix). Took b (disk_lines (with_slot u)) c) after_unix second) third)
+
+      pub slot_answer : Ran ≡ turned (settled_after (after_slot (pass_of (system_at w))))
+      slot_answer = sym (ap (λ (h : Happened). turned (settled_after (after_slot h))) happens ∙ whole_answer (moves (system_at w)))
+
   -- it has panicked
   module _ (kind : PanicKind) (stops : Err kind ≡ answered (pass (board_in w)).stop) where
     why : (stop : Stop (Unit {0})) × ((pass (board_in w)).stop ≡ Some stop)
@@ -340,6 +381,12 @@ module _ (w : World) (u : Table) (x : ImagesState) (a z : Taken) (good : IsGood 
 
     over_with : settled_after (pass_of (system_at w)) ≡ broken (system_at w) kind
     over_with = pass_stops (system_at w) why.0 why.1 ∙ ap (broken (system_at w)) (sym same_kind)
+
+    -- the slot of a panic isn't counted
+    pub not_counted : settled_after (after_slot (pass_of (system_at w))) ≡ settled_after (pass_of (system_at w))
+    not_counted =
+        ap (λ o. settled_after (after_slot (passes (unix_of w) (over (unix_of w) (record (pass (board_in w)) { stop = o }))))) why.1
+        ∙ sym (ap (λ o. settled_after (passes (unix_of w) (over (unix_of w) (record (pass (board_in w)) { stop = o })))) why.1)
 
     pub panic_takes : AreProcesses w.procs.rows → Takes (settled_after (pass_of (system_at w))) stage.Stopped now
     panic_takes processes = subst (λ (o : Turn). Takes o stage.Stopped now) (sym over_with) (record {

@@ -72,10 +72,6 @@ turn_end w s e = settled_after (after_slot (record {
   ending = ending_of e;
 }))
 
--- what follows a slot, where this was one
-abbrev pub slot_if : Bool → Happened → Happened
-slot_if is_slot h = if is_slot then after_slot h else h
-
 -- where a tick is as a trap, the signal that is due to the process that runs is delivered
 abbrev pub delivers_where : Bool → Unix → Option ℕ → Steps
 delivers_where as_trap u running = if as_trap then delivers_to u running else returns u

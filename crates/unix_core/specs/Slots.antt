@@ -1,11 +1,17 @@
 -- How a kernel counts the slots that have been taken, and who waits for the disk.
-use Rattle.std.specs.Prelude.{◌≡◌, ◌<◌, ◌≤◌, ℕ, ◌+◌, ◌-◌}
+use Rattle.std.specs.Prelude.{◌≡◌, ◌≢◌, ◌<◌, ◌≤◌, ◌⊎◌, ℕ, ◌+◌, ◌-◌, true, List, map, Option, Some, None, slice_index_or}
+use Rattle.v6_base.specs.Trace.{Item, Log}
 use Rattle.v6_base.specs.declared.entry.Chan.TheVariants.{Disk}
+use Rattle.v6_base.specs.declared.entry.Entry.TheVariants as entry
 use Rattle.pick_rules.specs.Priority.{pribio}
 use Rattle.abstract_unix.specs.declared.ending.Ending.{Ending}
 use Rattle.abstract_unix.specs.declared.ending.Ending.TheVariants.{Slept}
 use Rattle.abstract_unix.specs.Unix.{Timing, Unix}
+use Rattle.abstract_unix.specs.Turn.{disk_end_of, waits_until}
 use Rattle.abstract_unix.specs.Whole.{AreDue, NoGraveWaits}
+use Rattle.u_area.specs.declared.layout.TheConstants.{DISK_WAIT}
+use Rattle.sys_procs.specs.Process.{Process}
+use Rattle.sys_procs.specs.Signals.{meant_in}
 use Rattle.sys_procs.specs.declared.procs.Procs.{Procs}
 use Rattle.sys_procs.specs.World.{processes_in}
 use Rattle.unix_core.specs.declared.slots.Slots.{Slots}
@@ -40,6 +46,20 @@ pub record HasWaited (e : Ending) (s : ℕ) (old new : Slots) : Type 0 where
   pub ahead : passed_in old < new.due
   pub ends : e ≡ Slept pribio (Disk s) → new.due ≤ passed_in old + 1 + old.disk
 
--- these are the processes of a Unix
-abbrev pub IsOf : Unix → Procs → Type 0
-IsOf u p = u.processes ≡ processes_in p.rows.slots p.images.kept
+-- the processes of the parts
+abbrev pub processes_of : Procs → List (Option Process)
+processes_of p = processes_in p.rows.slots p.images.kept
+
+-- the lines of the log for those whose wait for the disk ends with the slot of this number
+abbrev pub woken_with : ℕ → List (Option Process) → List Item
+woken_with n processes = map (λ s. Log (entry.Wake (Disk s))) (meant_in (waits_until n) processes)
+
+-- Who waits for the disk when the slot of number `n` has been taken waits for the end of one that has passed, or of one from
+-- number `next` on.
+abbrev pub AreDueFrom : ℕ → ℕ → List (Option Process) → Type 0
+AreDueFrom next n processes = (s : ℕ) (p : Process) → slice_index_or processes s None ≡ Some p → p.u.pending ≡ DISK_WAIT
+    → (disk_end_of p ≤ n) ⊎ (next ≤ disk_end_of p)
+
+-- who has ended waits for nothing
+abbrev pub NoneInGraves : List (Option Process) → Type 0
+NoneInGraves processes = (s : ℕ) (p : Process) → slice_index_or processes s None ≡ Some p → p.is_zombie ≡ true → p.u.pending ≢ DISK_WAIT

@@ -164,7 +164,7 @@ impl Kernel {
             time: self.machine.world.procs.table.now,
         });
         self.machine.stage = Stage::Resting;
-        let _ran = self.machine.pass(false, trace);
+        let _ran = self.machine.first_pass(trace);
     }
 
     /// Takes one slot: the turn of the running process, which is one instruction with its call, or the rest of a call in which

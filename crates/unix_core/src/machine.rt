@@ -1,5 +1,5 @@
 //! The parts of a kernel, and what each event does to them.
-ghost use Rattle.std.specs.Prelude.{◌≡◌, ◌≢◌, ◌<◌, ◌≤◌, ℕ, Bool, IsTrue, if◌then◌else◌, true, false, None, Some, map};
+ghost use Rattle.std.specs.Prelude.{◌≡◌, ◌≢◌, ◌<◌, ◌≤◌, ℕ, Bool, IsTrue, true, false, None, Some, map};
 ghost use Rattle.v6_base.specs.Trace.{Took};
 ghost use Rattle.fs_nodes.specs.FileSystem.{SameRest};
 ghost use Rattle.pick_rules.specs.Choice.{chosen, settle};
@@ -12,7 +12,7 @@ ghost use Rattle.abstract_unix.specs.Endings.{is_early};
 ghost use Rattle.abstract_unix.specs.Turn.{Happened, after_slot, turned, ticked_by, turned_by, ending_of, turn, turn_of, settled, settled_after, pass_of};
 ghost use Rattle.abstract_unix.specs.Outside.{calls, charged, mode_of, tick_entry, timed_area, is_user_mode, tick_of, with_key, key_lines, typed_of};
 ghost use Rattle.unix_core.specs.Slots.{IsCounted};
-ghost use Rattle.unix_core.specs.Parts.{unix_of, board_in, system_at, turn_at, turn_end, phase_of, slot_in, slot_if, one_before, is_over, IsGood, IsReady, IsUser, IsRunning, IsCovered, IsKernel, IsKnown, IsStill, HasCome, HasStepped, Takes, delivers_where};
+ghost use Rattle.unix_core.specs.Parts.{unix_of, board_in, system_at, turn_at, turn_end, phase_of, slot_in, one_before, is_over, IsGood, IsReady, IsUser, IsRunning, IsCovered, IsKernel, IsKnown, IsStill, HasCome, HasStepped, Takes, delivers_where};
 
 use crate::delivery::{deliver_after, deliver_due};
 use crate::files::see_procs;
@@ -253,17 +253,16 @@ impl Machine {
         }
     }
 
-    /// Takes a pass of the swapper, which is a slot but for the first of a run: the kernel settles, unless it ends with a panic.
-    pub(crate) fn pass<T: Trace>(&mut self, is_slot: bool, trace: &mut T) -> Turned
+    /// Takes the first pass of the swapper, which is no slot: the kernel settles, unless it ends with a panic.
+    pub(crate) fn first_pass<T: Trace>(&mut self, trace: &mut T) -> Turned
         requires good { IsGood self.old.world }
         requires counted { IsCounted self.old.world.slots (unix_of self.old.world) }
-        requires fresh { is_slot ≡ true → (unix_of self.old.world).timing.passed ≤ 3000000000 }
         requires runs { self.old.world.procs.table.running ≡ Some 0 }
         ensures answer { result ≡ turned (settled_after (pass_of (system_at self.old.world))) }
-        ensures takes { Takes (settled_after (slot_if is_slot (pass_of (system_at self.old.world)))) self.new.stage self.new.world }
+        ensures takes { Takes (settled_after (pass_of (system_at self.old.world))) self.new.stage self.new.world }
         ensures rest { SameRest self.old.world.files.tree.nodes self.new.world.files.tree.nodes }
         ensures items { Took (T.taken trace.old)
-            (settled_after (slot_if is_slot (pass_of (system_at self.old.world)))).items (T.taken trace.new) }
+            (settled_after (pass_of (system_at self.old.world))).items (T.taken trace.new) }
         ensures frame { T.leads_to trace.old trace.new }
     {
         let passed = pass(
@@ -274,9 +273,38 @@ impl Machine {
         see_procs(&self.world.procs);
         match passed {
             Ok(()) => {
-                if is_slot {
-                    count(&mut self.world, trace);
-                }
+                self.settle(trace);
+                Turned::Ran
+            }
+            Err(kind) => {
+                self.stage = Stage::Stopped;
+                Turned::Panic(kind)
+            }
+        }
+    }
+
+    /// Takes a slot of the swapper: its pass, and the kernel settles, unless it ends with a panic.
+    fn swap_slot<T: Trace>(&mut self, trace: &mut T) -> Turned
+        requires good { IsGood self.old.world }
+        requires counted { IsCounted self.old.world.slots (unix_of self.old.world) }
+        requires fresh { (unix_of self.old.world).timing.passed ≤ 3000000000 }
+        requires runs { self.old.world.procs.table.running ≡ Some 0 }
+        ensures answer { result ≡ turned (settled_after (after_slot (pass_of (system_at self.old.world)))) }
+        ensures takes { Takes (settled_after (after_slot (pass_of (system_at self.old.world)))) self.new.stage self.new.world }
+        ensures rest { SameRest self.old.world.files.tree.nodes self.new.world.files.tree.nodes }
+        ensures items { Took (T.taken trace.old)
+            (settled_after (after_slot (pass_of (system_at self.old.world)))).items (T.taken trace.new) }
+        ensures frame { T.leads_to trace.old trace.new }
+    {
+        let passed = pass(
+            &mut self.world.procs.table,
+            &mut self.world.procs.images,
+            trace,
+        );
+        see_procs(&self.world.procs);
+        match passed {
+            Ok(()) => {
+                count(&mut self.world, trace);
                 self.settle(trace);
                 Turned::Ran
             }
@@ -407,7 +435,7 @@ impl Machine {
                 self.count_slot(trace);
                 Turned::Idle
             }
-            Some(0) => self.pass(true, trace),
+            Some(0) => self.swap_slot(trace),
             Some(s) => self.going_slot(s, trace),
         }
     }

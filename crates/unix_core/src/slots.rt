@@ -1,22 +1,24 @@
 //! The slots that have been taken, and who waits for the disk up to one of them: `iowait` and `iodone` in Lions' Commentary,
 //! `bio.c`.
-ghost use Rattle.std.specs.Prelude.{◌≡◌, ◌≢◌, ◌<◌, ◌≤◌, ◌==◌, ℕ, true, false, not, length, map, min};
+ghost use Rattle.std.specs.Prelude.{◌≡◌, ◌≢◌, ◌<◌, ◌≤◌, ◌==◌, ◌||◌, ℕ, true, false, not, length, map, min, None, slice_index_or};
 ghost use Rattle.v6_base.specs.Trace.{Took};
 ghost use Rattle.pick_rules.specs.Effects.{Show};
 ghost use Rattle.pick_rules.specs.Logged.{logged};
 ghost use Rattle.pick_rules.specs.Priority.{pribio};
 ghost use Rattle.sys_procs.specs.Resume.{awake};
-ghost use Rattle.abstract_unix.specs.Unix.{Unix, process_at, process_of, with_process};
+ghost use Rattle.sys_procs.specs.World.{clock_of};
+ghost use Rattle.abstract_unix.specs.Unix.{Unix, process_of, with_process};
 ghost use Rattle.abstract_unix.specs.Steps.{returns};
 ghost use Rattle.abstract_unix.specs.Calls.{waiting_area, waits_for_disk};
 ghost use Rattle.abstract_unix.specs.Turn.{with_slot, waits_until, disk_lines};
-ghost use Rattle.abstract_unix.specs.Whole.{AreDue, NoGraveWaits};
 ghost use Rattle.sys_procs.specs.Agree.{board_of};
 ghost use Rattle.sys_procs.specs.Handed.{AreProcs};
 ghost use Rattle.sys_procs.specs.Signals.{is_meant};
 ghost use Rattle.unix_core.specs.Parts.{unix_of, board_in, one_before, IsGood, IsReady, HasCome};
-ghost use Rattle.unix_core.specs.Slots.{passed_in, CanWait, IsCounted, HasWaited, IsOf};
+ghost use Rattle.unix_core.specs.Slots.{passed_in, CanWait, IsCounted, HasWaited, processes_of, woken_with, AreDueFrom, NoneInGraves};
+ghost use Rattle.unix_core.specs.declared.slots.TheConstants.{NEVER};
 
+use crate::settling::wake;
 use crate::world::World;
 use abstract_unix::Ending;
 use pick_rules::Stat;
@@ -145,19 +147,23 @@ pub(crate) fn end_wait(world: &mut World, s: Slot) -> Ending
 /// waits for nothing.
 fn disk_end(procs: &Procs, s: Slot) -> u32
     requires agree { AreProcs procs.now }
+    requires above { 0 < s }
     requires slot { s < 50 }
-    ensures waits { (u : Unix) → IsOf u procs.now → NoGraveWaits u → (n : ℕ) → n < NEVER
-        → is_meant (waits_until n) s (process_at u s) ≡ (result == n) }
+    requires graves { NoneInGraves (processes_of procs.now) }
+    ensures { (n : ℕ) → n < NEVER
+        → is_meant (waits_until n) s (slice_index_or (processes_of procs.now) s None) ≡ (result == n) }
 {
     match procs.table.rows[s as usize].stat {
-        Stat::Empty | Stat::Zombie => return NEVER,
-        Stat::Sleeping | Stat::Waiting | Stat::Ready => {}
+        Stat::Empty | Stat::Zombie => NEVER,
+        Stat::Sleeping | Stat::Waiting | Stat::Ready => {
+            let u = procs.images.area(s);
+            if u.pending == DISK_WAIT {
+                65536 * u32::from(u.call[4]) + u32::from(u.call[5])
+            } else {
+                NEVER
+            }
+        }
     }
-    let u = procs.images.area(s);
-    if u.pending != DISK_WAIT {
-        return NEVER;
-    }
-    65536 * u32::from(u.call[4]) + u32::from(u.call[5])
 }
 
 /// Who was woken by the disk with the end of a slot, and with which slot that comes again.
@@ -167,20 +173,42 @@ struct Woken {
     next: u32,
 }
 
+impl Woken {
+    /// The same with one wait more, which ends with the slot of number `end`, where that of number `passed` has been taken.
+    fn with(self, end: u32, passed: u32) -> Woken
+        requires { passed < self.next }
+        ensures any { result.any ≡ (self.any || (end == passed)) }
+        ensures next { passed < result.next }
+        ensures sooner { result.next ≤ self.next }
+        ensures due { passed < end → result.next ≤ end }
+    {
+        Woken {
+            any: self.any || end == passed,
+            next: if passed < end && end < self.next {
+                end
+            } else {
+                self.next
+            },
+        }
+    }
+}
+
 /// Wakes those who wait for the disk up to the end of the slot of this number, the lowest first, and finds the next with which a
 /// wait ends.
 fn wake_disks<T: Trace>(procs: &mut Procs, passed: u32, trace: &mut T) -> Woken
     requires agree { AreProcs procs.old }
-    requires graves { (u : Unix) → IsOf u procs.old → NoGraveWaits u }
+    requires graves { NoneInGraves (processes_of procs.old) }
     requires fresh { passed < NEVER }
     ensures agree { AreProcs procs.new }
     ensures others { procs.new ≡ record procs.old { table = procs.new.table } }
     ensures running { procs.new.table.running ≡ procs.old.table.running }
-    ensures board { (u : Unix) → IsOf u procs.old → u.timing.passed ≡ passed → board_of procs.new.table procs.new.images.kept
-        ≡ (logged {W = Unix} (board_of procs.old.table procs.old.images.kept) (map Show (disk_lines u))).board }
-    ensures any { (u : Unix) → IsOf u procs.old → u.timing.passed ≡ passed → result.any ≡ not (length (disk_lines u) == 0) }
-    ensures due { (u : Unix) → IsOf u procs.old → u.timing.passed ≡ passed → AreDue result.next u }
-    ensures items { (u : Unix) → IsOf u procs.old → u.timing.passed ≡ passed → Took (T.taken trace.old) (disk_lines u) (T.taken trace.new) }
+    ensures clock { clock_of procs.new.table ≡ clock_of procs.old.table }
+    ensures board { board_of procs.new.table procs.new.images.kept ≡ (logged {W = Unix}
+        (board_of procs.old.table procs.old.images.kept) (map Show (woken_with passed (processes_of procs.old)))).board }
+    ensures any { result.any ≡ not (length (woken_with passed (processes_of procs.old)) == 0) }
+    ensures next { passed < result.next }
+    ensures due { AreDueFrom result.next passed (processes_of procs.old) }
+    ensures items { Took (T.taken trace.old) (woken_with passed (processes_of procs.old)) (T.taken trace.new) }
     ensures frame { T.leads_to trace.old trace.new }
 {
     let mut woken = Woken {
@@ -189,12 +217,8 @@ fn wake_disks<T: Trace>(procs: &mut Procs, passed: u32, trace: &mut T) -> Woken
     };
     for s in 1..50 {
         let end = disk_end(procs, s);
-        if end == passed {
-            procs.table.wake(Chan::Disk(s), trace);
-            woken.any = true;
-        } else if passed < end && end < woken.next {
-            woken.next = end;
-        }
+        wake(&mut procs.table, end == passed, Chan::Disk(s), trace);
+        woken = woken.with(end, passed);
     }
     woken
 }

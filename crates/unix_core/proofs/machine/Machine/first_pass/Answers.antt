@@ -1,18 +1,25 @@
 use Rattle.unix_core.specs.declared.world.World.{World}
 use Rattle.sys_procs.proofs.Places.{agree_matches}
-use Rattle.unix_core.proofs.SwapLemmas.{after_good, after_takes, after_items, panic_takes}
-use Rattle.unix_core.proofs.machine.Machine.pass.Goals as goal
+use Rattle.unix_core.proofs.SwapLemmas.{after_good, after_counted, after_takes, after_items, panic_takes}
+use Rattle.unix_core.proofs.machine.Machine.first_pass.Goals as goal
 
 pub pass-passed-requires-clause-matches : goal.pass-passed-requires-clause-matches
 pass-passed-requires-clause-matches g c =
     let w : World = c.args.self.now.world in agree_matches w.procs.rows w.procs.table w.procs.images.kept c.requires.good.agree
 
-pub settle-requires : goal.settle-requires
-settle-requires g c =
+pub settle-requires-clause-good : goal.settle-requires-clause-good
+settle-requires-clause-good g c =
     let w : World = c.args.self.now.world in
     let passed = c.pass-passed in
     after_good w passed.new.table passed.new.images _ _ c.requires.good passed.ensures.does passed.ensures.same c.see_procs.ensures.images
     (c.in-Ok.ensures.sleeps)
+
+pub settle-requires-clause-counted : goal.settle-requires-clause-counted
+settle-requires-clause-counted g c =
+    let w : World = c.args.self.now.world in
+    let passed = c.pass-passed in
+    after_counted w passed.new.table passed.new.images _ _ c.requires.good passed.ensures.does passed.ensures.same c.see_procs.ensures.images
+    c.requires.counted
 
 pub returns-in-Ok-clause-takes : goal.returns-in-Ok-clause-takes
 returns-in-Ok-clause-takes g c =

@@ -1,0 +1,155 @@
+-- A world whose slots are counted otherwise: what is so of it still is.
+use Rattle.std.proofs.Common.{◌≡◌, ◌≢◌, ◌∙◌, ◌<◌, ◌≤◌, ◌+◌, ◌-◌, ◌==◌, not, ℕ, true, false, List, [], length, map, Option, Some, None, refl, sym, ap, subst, inl, inr, arith}
+use Rattle.pick_rules.specs.declared.table.Table.{Table}
+use Rattle.pick_rules.specs.Effects.{Show}
+use Rattle.pick_rules.specs.Logged.{logged}
+use Rattle.image_keep.specs.State.{ImagesState}
+use Rattle.image_keep.specs.Kept.{with_area, area_of}
+use Rattle.u_area.specs.declared.area.UArea.{UArea}
+use Rattle.sys_procs.specs.declared.procs.Procs.{Procs}
+use Rattle.sys_procs.specs.World.{clock_of}
+use Rattle.sys_procs.specs.Agree.{Agree, board_of}
+use Rattle.sys_procs.specs.Handed.{AreProcs}
+use Rattle.abstract_unix.specs.Unix.{Timing, Unix}
+use Rattle.abstract_unix.specs.Turn.{with_slot, disk_lines}
+use Rattle.abstract_unix.proofs.Stretches.{nobody_due}
+use Rattle.unix_core.specs.declared.world.World.{World}
+use Rattle.unix_core.specs.declared.slots.Slots.{Slots}
+use Rattle.unix_core.specs.declared.machine.Stage.{Stage}
+use Rattle.unix_core.specs.Memory.{kept_in}
+use Rattle.unix_core.specs.Slots.{passed_in, timing_in, IsCounted, processes_of, woken_with, AreDueFrom}
+use Rattle.unix_core.specs.Parts.{unix_of, board_in, phase_of, goes_on, one_before, IsGood, IsReady, IsUser, IsCovered, IsKernel}
+use Rattle.unix_core.proofs.GoingLemmas.{going_same}
+use Rattle.unix_core.proofs.CountLemmas.{counted_one}
+use Rattle.unix_core.proofs.TableLemmas.{RunsImage, with_table, good_table}
+
+abbrev pub with_slots : World → Slots → World
+with_slots w slots = record w { slots = slots }
+
+module _ (w : World) (slots : Slots) where
+  pub good_slots : IsGood w → IsGood (with_slots w slots)
+  good_slots good = record {
+    agree = good.agree;
+    owed = good.owed;
+    pending = going_same (unix_of w) (unix_of (with_slots w slots)) refl refl good.pending;
+    marks = good.marks;
+    running = good.running;
+    rooms = good.rooms;
+    core = good.core;
+  }
+
+  pub ready_slots : (s : ℕ) → IsReady w s → IsReady (with_slots w slots) s
+  ready_slots s ready = record { good = good_slots ready.good; runs = ready.runs; user = ready.user }
+
+  user_slots : (s : ℕ) → IsUser s w → IsUser s (with_slots w slots)
+  user_slots s user = record { ready = ready_slots s user.ready; user = user.user; settled = user.settled }
+
+  -- and nothing that is kept tells of slots
+  covered_slots : IsCovered w → IsCovered (with_slots w slots)
+  unfolding kept_in
+  covered_slots covered = covered
+
+  pub kernel_slots : (at : Stage) → (goes_on (phase_of at) ≡ true → IsCounted slots (unix_of (with_slots w slots))) → IsKernel at w
+      → IsKernel at (with_slots w slots)
+  kernel_slots at counted kernel = record {
+    new = λ e. let was = kernel.new e in record { good = good_slots was.good; runs = was.runs; nobody_out = was.nobody_out };
+    stopped = λ e. covered_slots (kernel.stopped e);
+    finished = λ e. covered_slots (kernel.finished e);
+    running = λ f e. let was = kernel.running f e in record { user = user_slots f.slot was.user; fixed = was.fixed };
+    resting = λ e. let was = kernel.resting e in record {
+      good = good_slots was.good;
+      settled = was.settled;
+      idle = was.idle;
+      calls = was.calls;
+    };
+    counted = counted;
+  }
+
+-- 1. A slot is counted.
+module _ (w : World) (counted : IsCounted w.slots (unix_of w)) where
+  pub some_left : 0 < w.slots.left
+  some_left = let within = counted.within in let next = counted.due.next in omega (arith, within, next)
+
+  abbrev pub less : World
+  less = with_slots w (record w.slots { left = w.slots.left - 1 })
+
+  pub less_unix : unix_of less ≡ with_slot (unix_of w)
+  less_unix =
+      let within = counted.within in
+      let e : w.slots.due - (w.slots.left - 1) ≡ w.slots.due - w.slots.left + 1 = omega (arith, within, some_left) in
+      λ i. record (unix_of w) { timing = record { passed = e i; disk = w.slots.disk } }
+
+  -- the one that is due
+  module _ (none : w.slots.left - 1 ≡ 0) where
+    one : w.slots.left ≡ 1
+    one = omega (arith, none, some_left)
+
+    pub before_is : one_before less ≡ w
+    before_is = λ i. record w { slots = record w.slots { left = sym one i } }
+
+    pub due_fresh : (unix_of w).timing.passed ≤ 3000000000 → w.slots.due ≤ 3000000001
+    due_fresh fresh = omega (arith, fresh, one)
+
+  -- one before it: nobody is woken
+  module _ (some : w.slots.left - 1 ≢ 0) where
+    more : 1 < w.slots.left
+    more = omega (arith, some)
+
+    pub none_due : disk_lines (with_slot (unix_of w)) ≡ []
+    none_due = nobody_due w.slots.due (unix_of w) counted.due (let within = counted.within in omega (arith, within, more))
+
+    pub less_board : board_in less ≡ (logged {W = Unix} (board_in w) (map Show (disk_lines (with_slot (unix_of w))))).board
+    less_board = ap (λ lines. (logged {W = Unix} (board_in w) (map Show lines)).board) (sym none_due)
+
+    pub less_any : false ≡ not (length (disk_lines (with_slot (unix_of w))) == 0)
+    less_any = ap (λ lines. not (length lines == 0)) (sym none_due)
+
+    pub less_counted : IsCounted less.slots (unix_of less)
+    less_counted = subst (IsCounted less.slots) (sym less_unix) (counted_one w.slots (unix_of w) refl more counted)
+
+-- 2. The slot that is due has been taken, and the table has woken who waited up to its end.
+module _ (w : World) (left : w.slots.left ≡ 0) (good : IsGood (one_before w)) (counted : IsCounted (one_before w).slots (unix_of (one_before w)))
+    (p : Procs) (others : p ≡ record w.procs { table = p.table }) (agree : AreProcs p) (running : p.table.running ≡ w.procs.table.running)
+    (clock : clock_of p.table ≡ clock_of w.procs.table) (next : ℕ) (late : w.slots.due < next) where
+  abbrev pub anew : Slots
+  anew = record w.slots { left = next - w.slots.due; due = next }
+
+  abbrev pub reached : World
+  reached = record w { procs = p; slots = anew }
+
+  same : reached ≡ with_slots (with_table w p.table) anew
+  same = ap (λ (x : Procs). record w { procs = x; slots = anew }) others
+
+  good_before : IsGood w
+  good_before = good_slots (one_before w) w.slots good
+
+  its : Agree w.procs.rows p.table w.procs.images.kept
+  its = subst (λ (x : Procs). Agree x.rows p.table x.images.kept) others agree
+
+  runs : RunsImage p.table w.procs.images.kept
+  runs s e above = good.running s (sym running ∙ e) above
+
+  pub reach_good : IsGood reached
+  reach_good = subst IsGood (sym same) (good_slots (with_table w p.table) anew (good_table w p.table its runs good_before))
+
+  pub reach_unix : unix_of reached ≡ unix_of w
+  reach_unix =
+      let e : next - (next - w.slots.due) ≡ w.slots.due - w.slots.left = omega (arith, late, left) in
+      ap unix_of same ∙ (λ i. record (unix_of w) { clock = clock i; timing = record { passed = e i; disk = w.slots.disk } })
+
+  pub lines_are : woken_with w.slots.due (processes_of w.procs) ≡ disk_lines (unix_of w)
+  lines_are = let e : w.slots.due ≡ w.slots.due - w.slots.left = omega (arith, left) in ap (λ n. woken_with n (processes_of w.procs)) e
+
+  pub reach_counted : AreDueFrom next w.slots.due (processes_of w.procs) → IsCounted anew (unix_of reached)
+  reach_counted due = subst (IsCounted anew) (sym reach_unix) (record {
+    within = omega arith;
+    disk = counted.disk;
+    due = record {
+      next = omega (arith, late);
+      each = λ s q is waits. elim (due s q is waits) [
+        | inl low ↦ inl (omega (arith, low, left))
+        | inr high ↦ inr high
+      ];
+    };
+    graves = counted.graves;
+  })
