@@ -11,7 +11,6 @@ use Rattle.pdp_step.specs.declared.outcome.Kind.{Kind}
 use Rattle.pdp_step.specs.declared.outcome.Kind.TheVariants as kind
 use Rattle.pdp_step.specs.declared.outcome.Outcome.{Outcome}
 use Rattle.pdp_step.specs.declared.outcome.Outcome.TheVariants as outcome
-use Rattle.pdp_step.specs.Instruction.{Stepped, instr}
 use Rattle.u_area.specs.declared.layout.TheConstants.{NOTHING_PENDING, DISK_WAIT}
 use Rattle.u_area.specs.Pending.{is_on_files}
 use Rattle.sig_core.specs.declared.numbers.TheConstants.{SIGINS, SIGTRC, SIGIOT, SIGEMT, SIGBUS, SIGSEG, SIGSYS}
@@ -27,15 +26,16 @@ use Rattle.abstract_unix.specs.declared.calls.ProcessCall.{ProcessCall}
 use Rattle.abstract_unix.specs.declared.calls.SystemCall.{SystemCall}
 use Rattle.abstract_unix.specs.declared.calls.SystemCall.TheVariants.{Indirect, Exit, Fork, Unknown, OnFiles, OnProcesses}
 use Rattle.abstract_unix.specs.declared.ending.Ending.TheVariants.{Slept}
-use Rattle.abstract_unix.specs.Unix.{Text, Timing, Unix, System, process_of, with_process}
+use Rattle.abstract_unix.specs.Unix.{Text, Timing, Unix, process_of, with_process}
 use Rattle.abstract_unix.specs.Errors.{error_number}
 use Rattle.abstract_unix.specs.Steps.{Steps, returns, signals}
-use Rattle.abstract_unix.specs.Calls.{handed_of, with_handed, world_of, with_world, with_area, given_area, refused_area, refuses, answers, file_row, process_row, did_by, came_by, forks, waiting_until, disk_end, waits_for_disk, takes_time, reads_disk, loads_program, entered_area, words_passed, asked, does_call, does_asked, sysent_of, grows, grown_by, grows_to, exits_with, resumed}
+use Rattle.abstract_unix.specs.Calls.{handed_of, with_handed, world_of, with_world, with_area, given_area, refused_area, refuses, answers, file_row, process_row, did_by, came_by, forks, waiting_until, disk_end, waits_for_disk, takes_time, waits_in_call, reads_disk, loads_program, entered_area, words_passed, asked, does_call, does_asked, sysent_of, grows, grown_by, grows_to, exits_with, resumed}
 use Rattle.abstract_unix.specs.declared.calls.Sysent.{Sysent}
 use Rattle.abstract_unix.specs.declared.ending.Ending.{Ending}
 use Rattle.abstract_unix.specs.declared.ending.Ending.TheVariants as ending
-use Rattle.abstract_unix.specs.Delivery.{heeding, heeds, catches, signal_status, dumped, ends_after, ends_by, delivers_if, delivers_due, ends_by_ending}
-use Rattle.abstract_unix.specs.Turn.{machine_of, with_machine, faults, comes_to, instruction, is_user, passes_setd, begins_turn, turn, disk_end_of}
+use Rattle.abstract_unix.specs.Delivery.{heeding, heeds, catches, signal_status, dumped, ends_after, ends_by, delivers_if, delivers_due, ends_by_ending, ends_turn}
+use Rattle.abstract_unix.specs.Whole.{CanGoOn}
+use Rattle.abstract_unix.specs.Turn.{faults, comes_to, waits_in, passes_setd, disk_end_of}
 use Rattle.sig_core.specs.Signals.{handler_of, due}
 use Rattle.sig_core.specs.Delivery.{Delivery, makes_core, signal_stack, delivery}
 use Rattle.sys_files.specs.Core.{core_file, is_written}
@@ -46,13 +46,52 @@ use Rattle.sys_procs.specs.Exit.{exit_status, end_proc}
 use Rattle.sys_procs.specs.Resume.{awake, resume_proc}
 use Rattle.abstract_unix.proofs.Owing.{some_within}
 use Rattle.abstract_unix.proofs.GoingOnLemmas.{Waited, AllWaited, handed_pends, all_waited_put}
-use Rattle.abstract_unix.proofs.GoingOnSteps.{SameWait, changed_waited, trapped_user}
+use Rattle.abstract_unix.proofs.GoingOnSteps.{SameWait, changed_waited, TrapsUser, comes_trap, resumed_trap}
 use Rattle.abstract_unix.proofs.WaitingRows.{set_either, row_waited, fork_waited, end_waited, resume_waited}
 use Rattle.abstract_unix.proofs.DiskRows.{row_no_disk, resume_no_disk}
 use Rattle.abstract_unix.proofs.PendingRows.{Pends, close_user, core_user}
-use Rattle.abstract_unix.proofs.Tidy.{IsTidy}
-use Rattle.abstract_unix.proofs.TidyTurns.{Runs, runs_put}
-use Rattle.abstract_unix.proofs.TidySteps.{runs_file_call, runs_process_call, delivered_held}
+use Rattle.abstract_unix.proofs.StillWorlds.{IsStill, still_row}
+use Rattle.abstract_unix.proofs.TidySteps.{delivered_held}
+
+-- A process is in its slot, and lives.
+pub record LivesIn (s : ℕ) (u : Unix) : Type 0 where
+  pub there : get_or u.processes s None ≡ Some (process_of u s)
+  pub lives : (process_of u s).is_zombie ≡ false
+  pub fifty : length u.processes ≡ 50
+
+module _ (s : ℕ) where
+  pub lives_put : (u : Unix) (q : Process) → q.is_zombie ≡ (process_of u s).is_zombie → LivesIn s u → LivesIn s (with_process u s q)
+  lives_put u q dead here =
+      let at : get_or (set u.processes s (Some q)) s None ≡ Some q =
+      get_or-set_same u.processes s (Some q) None (some_within u.processes s (process_of u s) here.there) in
+      let is : process_of (with_process u s q) s ≡ q = ap (λ o. unwrap_or o no_process) at in
+      record {
+        there = at ∙ ap Some (sym is);
+        lives = ap (λ (p : Process). p.is_zombie) is ∙ dead ∙ here.lives;
+        fifty = length-set u.processes s (Some q) ∙ here.fifty;
+      }
+
+  still_here : (u : Unix) → LivesIn s u → IsStill (world_of u) s (world_of u)
+  still_here u here = record { count = refl; told = refl; there = here.there; lives = here.lives; fifty = here.fifty }
+
+  lives_if : (b : Bool) (x y : Steps) → LivesIn s x.unix → LivesIn s y.unix → LivesIn s (cond b x y).unix
+  lives_if true x y p q = p
+  lives_if false x y p q = q
+
+  lives_answers : (u : Unix) (x : Answer) → LivesIn s u → LivesIn s (answers u s x).unix
+  lives_answers u (Ret r0 r1) here = lives_put u (record (process_of u s) { u = given_area r0 r1 (process_of u s).u }) refl here
+  lives_answers u (Fail e) here =
+      lives_if (nat_lt (error_number e) 100) (returns (with_area u s (refused_area (error_number e)))) (signals u s SIGSYS)
+      (lives_put u (record (process_of u s) { u = refused_area (error_number e) (process_of u s).u }) refl here)
+      (lives_put u (signalled SIGSYS (process_of u s)) refl here)
+  lives_answers u (Sleep pri chan) here = here
+
+  lives_did : (u : Unix) (did : Did) → LivesIn s u → LivesIn s (did_by u s did).unix
+  lives_did u did here = lives_answers (with_handed u s did.state) did.answer
+      (lives_put u (record (process_of u s) { u = did.state.u; row = did.state.row; «data» = did.state.image.data; stack = did.state.image.stack }) refl here)
+
+  lives_came : (u : Unix) (c : Comes) → IsStill (world_of u) s c.state → LivesIn s (came_by u s c).unix
+  lives_came u c k = lives_answers (with_world u c.state) c.answer (record { there = k.there; lives = k.lives; fifty = k.fifty })
 
 module _ (P : ℕ → Type 0) (a : List (Option Process)) where
   -- who waits anew lives, and P holds of the end of that wait
@@ -136,37 +175,41 @@ module _ (P : ℕ → Type 0) (a : List (Option Process)) (s : ℕ) where
   two_words n = omega arith
 
   pub disk_timed : (has_read : Bool) (steps : Steps) → (process_of steps.unix s).is_zombie ≡ false
-      → ((takes_time has_read s steps).ending ≡ Slept pribio (Disk s) → P (disk_end steps.unix.timing)) → D steps.unix
+      → ((has_read && not (steps.unix.timing.disk == 0)) ≡ true → P (disk_end steps.unix.timing)) → D steps.unix
       → D (takes_time has_read s steps).unix
   disk_timed has_read steps lives own d = by (has_read && not (steps.unix.timing.disk == 0)) own
     where
       waited : Steps
       waited = record steps { unix = waits_for_disk steps.unix s; ending = Slept pribio (Disk s) }
 
-      by : (b : Bool) → ((cond b waited steps).ending ≡ Slept pribio (Disk s) → P (disk_end steps.unix.timing)) → D (cond b waited steps).unix
+      by : (b : Bool) → (b ≡ true → P (disk_end steps.unix.timing)) → D (cond b waited steps).unix
       by true has = disk_put P a steps.unix.processes s _ d (λ e. (lives, subst P (sym (two_words (disk_end steps.unix.timing))) (has refl)))
       by false has = d
 
   -- A call that has been entered and leaves its process alive.
-  pub disk_file_call : (u : Unix) (call : FileCall) (args : List ℕ) → (process_of u s).u.pending ≡ NOTHING_PENDING → Runs s u
+  pub disk_file_call : (u : Unix) (call : FileCall) (args : List ℕ) → (process_of u s).u.pending ≡ NOTHING_PENDING → LivesIn s u
       → let h : Handed = handed_of u (process_of u s) in let did : Did = file_row call h s args u.clock.time in
-      ((takes_time (reads_disk call h did.answer) s (did_by u s did)).ending ≡ Slept pribio (Disk s) → P (disk_end u.timing)) → D u
+      (waits_in_call u s (OnFiles call) args ≡ true → P (disk_end u.timing)) → D u
       → D (takes_time (reads_disk call h did.answer) s (did_by u s did)).unix
-  disk_file_call u call args free runs own d =
+  disk_file_call u call args free here own d =
       let h : Handed = handed_of u (process_of u s) in
       let did : Did = file_row call h s args u.clock.time in
-      disk_timed (reads_disk call h did.answer) (did_by u s did) (runs_file_call s u call args free runs).lives
-      (λ slept. subst (λ (t : Timing). P (disk_end t)) (sym (answers_timing (with_handed u s did.state) did.answer)) (own slept))
+      disk_timed (reads_disk call h did.answer) (did_by u s did) (lives_did s u did here).lives
+      (λ waits. let same : (did_by u s did).unix.timing ≡ u.timing = answers_timing (with_handed u s did.state) did.answer in
+      subst (λ (t : Timing). P (disk_end t)) (sym same)
+      (own (ap (λ (t : Timing). reads_disk call h did.answer && not (t.disk == 0)) (sym same) ∙ waits)))
       (disk_did u did (row_no_disk call h s args u.clock.time free) d)
 
-  pub disk_process_call : (u : Unix) (call : ProcessCall) (args : List ℕ) → (process_of u s).u.pending ≡ NOTHING_PENDING → Runs s u
+  pub disk_process_call : (u : Unix) (call : ProcessCall) (args : List ℕ) → (process_of u s).u.pending ≡ NOTHING_PENDING → LivesIn s u
       → let c : Comes = process_row call (world_of u) s args in
-      ((takes_time (loads_program call c.answer) s (came_by u s c)).ending ≡ Slept pribio (Disk s) → P (disk_end u.timing)) → D u
+      (waits_in_call u s (OnProcesses call) args ≡ true → P (disk_end u.timing)) → D u
       → D (takes_time (loads_program call c.answer) s (came_by u s c)).unix
-  disk_process_call u call args free runs own d =
+  disk_process_call u call args free here own d =
       let c : Comes = process_row call (world_of u) s args in
-      disk_timed (loads_program call c.answer) (came_by u s c) (runs_process_call s u call args free runs).lives
-      (λ slept. subst (λ (t : Timing). P (disk_end t)) (sym (answers_timing (with_world u c.state) c.answer)) (own slept))
+      disk_timed (loads_program call c.answer) (came_by u s c) (lives_came s u c (still_row (world_of u) s call (world_of u) args (still_here s u here))).lives
+      (λ waits. let same : (came_by u s c).unix.timing ≡ u.timing = answers_timing (with_world u c.state) c.answer in
+      subst (λ (t : Timing). P (disk_end t)) (sym same)
+      (own (ap (λ (t : Timing). loads_program call c.answer && not (t.disk == 0)) (sym same) ∙ waits)))
       (disk_came u c (row_waited (world_of u) s free call args) d)
 
   pub disk_fork : (u : Unix) → (process_of u s).u.pending ≡ NOTHING_PENDING → D u → D (forks u s).unix
@@ -222,41 +265,32 @@ module _ (P : ℕ → Type 0) (a : List (Option Process)) (s : ℕ) where
   disk_faults u kind.Iot d = disk_signals P a s u SIGIOT d
   disk_faults u kind.Emt d = disk_signals P a s u SIGEMT d
 
-  disk_call : (u : Unix) (call : SystemCall) (args : List ℕ) → (process_of u s).u.pending ≡ NOTHING_PENDING → Runs s u
-      → ((does_call u s call args).ending ≡ Slept pribio (Disk s) → P (disk_end u.timing)) → D P a s u
+  disk_call : (u : Unix) (call : SystemCall) (args : List ℕ) → (process_of u s).u.pending ≡ NOTHING_PENDING → LivesIn s u
+      → (waits_in_call u s call args ≡ true → P (disk_end u.timing)) → D P a s u
       → D P a s (does_call u s call args).unix
-  disk_call u Indirect args free runs own d = d
-  disk_call u Exit args free runs own d = disk_exits u (exit_status (process_of u s)) free d
-  disk_call u Fork args free runs own d = disk_fork P a s u free d
-  disk_call u Unknown args free runs own d = disk_refuses P a s u (error_number ENOSYS) d
-  disk_call u (OnFiles call) args free runs own d = disk_file_call P a s u call args free runs own d
-  disk_call u (OnProcesses call) args free runs own d = disk_process_call P a s u call args free runs own d
+  disk_call u Indirect args free here own d = d
+  disk_call u Exit args free here own d = disk_exits u (exit_status (process_of u s)) free d
+  disk_call u Fork args free here own d = disk_fork P a s u free d
+  disk_call u Unknown args free here own d = disk_refuses P a s u (error_number ENOSYS) d
+  disk_call u (OnFiles call) args free here own d = disk_file_call P a s u call args free here own d
+  disk_call u (OnProcesses call) args free here own d = disk_process_call P a s u call args free here own d
 
-  disk_asked : (u : Unix) (x : Asked) (entry : Sysent) → (process_of u s).u.pending ≡ NOTHING_PENDING → Runs s u
-      → ((does_asked u s x entry).ending ≡ Slept pribio (Disk s) → P (disk_end u.timing)) → D P a s u
+  disk_asked : (u : Unix) (x : Asked) (entry : Sysent) → (process_of u s).u.pending ≡ NOTHING_PENDING → LivesIn s u
+      → (waits_in_call (with_area u s (entered_area (words_passed x entry.count))) s entry.call x.args ≡ true → P (disk_end u.timing)) → D P a s u
       → D P a s (does_asked u s x entry).unix
-  disk_asked u x entry free runs own d =
+  disk_asked u x entry free here own d =
       let rule : Process → Process = λ p. record p { u = entered_area (words_passed x entry.count) p.u } in
       disk_call (with_process u s (rule (process_of u s))) entry.call x.args (free_put u.processes (rule (process_of u s)) free free)
-      (runs_put s u (rule (process_of u s)) (record { files = refl; dir = refl; dead = refl; pending = refl; call = refl }) runs) own
+      (lives_put s u (rule (process_of u s)) refl here) own
       (disk_rule P a u.processes s rule (λ p. record { dead = refl; pending = refl; call = refl; files = refl }) d)
 
-  disk_outcome : (u : Unix) (o : Outcome) → (process_of u s).u.pending ≡ NOTHING_PENDING → Runs s u
-      → ((comes_to u s o).ending ≡ Slept pribio (Disk s) → P (disk_end u.timing)) → D P a s u → D P a s (comes_to u s o).unix
-  disk_outcome u outcome.Next free runs own d = d
-  disk_outcome u (outcome.Call number) free runs own d =
+  disk_outcome : (u : Unix) (o : Outcome) → (process_of u s).u.pending ≡ NOTHING_PENDING → LivesIn s u
+      → (waits_in u s o ≡ true → P (disk_end u.timing)) → D P a s u → D P a s (comes_to u s o).unix
+  disk_outcome u outcome.Next free here own d = d
+  disk_outcome u (outcome.Call number) free here own d =
       let x : Asked = asked (image_of u.texts (process_of u s)) (register (process_of u s) 7) number in
-      disk_asked u x (sysent_of x.number) free runs own d
-  disk_outcome u (outcome.Fault k) free runs own d = disk_faults u k d
-
-  disk_instruction : (u : Unix) → (process_of u s).u.pending ≡ NOTHING_PENDING → Runs s u
-      → ((instruction u s).ending ≡ Slept pribio (Disk s) → P (disk_end u.timing)) → D P a s u → D P a s (instruction u s).unix
-  disk_instruction u free runs own d =
-      let step : Stepped = instr (machine_of u.texts (process_of u s)) in
-      let rule : Process → Process = λ p. with_machine p step.machine in
-      disk_outcome (with_process u s (rule (process_of u s))) step.outcome (free_put u.processes (rule (process_of u s)) free free)
-      (runs_put s u (rule (process_of u s)) (record { files = refl; dir = refl; dead = refl; pending = refl; call = refl }) runs) own
-      (disk_rule P a u.processes s rule (λ p. record { dead = refl; pending = refl; call = refl; files = refl }) d)
+      disk_asked u x (sysent_of x.number) free here own d
+  disk_outcome u (outcome.Fault k) free here own d = disk_faults u k d
 
   disk_resumed : (u : Unix) → Pends (handed_of u (process_of u s)) → D P a s u → D P a s (resumed u s).unix
   disk_resumed u pends d = first ((process_of u s).u.pending == DISK_WAIT)
@@ -311,28 +345,24 @@ module _ (P : ℕ → Type 0) (a : List (Option Process)) (s : ℕ) where
           disk_if P a s (handler_of (process_of u s).u sig == 0) (ends_by (heeds u s) s sig) (catches (heeds u s) s sig)
           (disk_ends_by (heeds u s) sig (free_put u.processes (heeding (process_of u s)) free free) now) (disk_catches (heeds u s) sig now)
 
-  -- The turn whole.
-  pub disk_turn : (m : System) → IsTidy m.unix → get_or m.unix.processes s None ≡ Some (process_of m.unix s)
-      → (process_of m.unix s).is_zombie ≡ false → ((begins_turn m s).ending ≡ Slept pribio (Disk s) → P (disk_end m.unix.timing))
-      → D P a s m.unix → D P a s (turn m s).unix
-  disk_turn m tidy there lives own d = by steps.ending refl
+  -- The turn's end.
+  disk_ends : (steps : Steps) → D P a s steps.unix → TrapsUser s steps → D P a s (ends_turn s steps).unix
+  disk_ends steps begun traps = by steps.ending refl
     where
-      steps : Steps
-      steps = begins_turn m s
-
-      begun : D P a s steps.unix
-      begun = either (is_user (process_of m.unix s)) refl
-        where
-          either : (b : Bool) → is_user (process_of m.unix s) ≡ b → D P a s (cond b (instruction m.unix s) (resumed m.unix s)).unix
-          either true user = disk_instruction m.unix (eqb-true (process_of m.unix s).u.pending NOTHING_PENDING user)
-              (record { tidy = tidy; there = there; lives = lives })
-              (λ slept. own (ap (λ (c : Bool). (cond c (instruction m.unix s) (resumed m.unix s)).ending) user ∙ slept)) d
-          either false user = disk_resumed m.unix (handed_pends m.unix s tidy.waits there lives) d
-
       by : (e : Ending) → steps.ending ≡ e → D P a s (ends_by_ending s steps e).unix
       by ending.Next is = begun
-      by ending.Trapped is =
-          disk_due steps.unix (eqb-true (process_of steps.unix s).u.pending NOTHING_PENDING (trapped_user m s tidy.waits there lives is)) begun
+      by ending.Trapped is = disk_due steps.unix (traps is) begun
       by (ending.Slept pri chan) is = begun
       by ending.Ended is = begun
       by (ending.Panic kind) is = begun
+
+  -- A turn in which an instruction has come to this, and one that goes on with a call.
+  pub disk_comes : (u : Unix) (o : Outcome) → (process_of u s).u.pending ≡ NOTHING_PENDING → LivesIn s u
+      → (waits_in u s o ≡ true → P (disk_end u.timing)) → D P a s u → D P a s (ends_turn s (comes_to u s o)).unix
+  disk_comes u o free here own d =
+      disk_ends (comes_to u s o) (disk_outcome u o free here own d)
+      (comes_trap s u o (some_within u.processes s (process_of u s) here.there) free)
+
+  pub disk_goes_on : (u : Unix) → CanGoOn u → LivesIn s u → D P a s u → D P a s (ends_turn s (resumed u s)).unix
+  disk_goes_on u can here d =
+      disk_ends (resumed u s) (disk_resumed u (handed_pends u s can here.there here.lives) d) (resumed_trap s u can here.there here.lives)

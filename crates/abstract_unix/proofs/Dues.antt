@@ -11,7 +11,7 @@ use Rattle.pdp_step.specs.declared.outcome.Kind.TheVariants as kind
 use Rattle.pdp_step.specs.declared.outcome.Outcome.{Outcome}
 use Rattle.pdp_step.specs.declared.outcome.Outcome.TheVariants as outcome
 use Rattle.pdp_step.specs.Instruction.{Stepped, instr}
-use Rattle.u_area.specs.declared.layout.TheConstants.{DISK_WAIT}
+use Rattle.u_area.specs.declared.layout.TheConstants.{NOTHING_PENDING, DISK_WAIT}
 use Rattle.u_area.specs.Pending.{is_on_files}
 use Rattle.sig_core.specs.declared.numbers.TheConstants.{SIGINS, SIGSYS}
 use Rattle.sig_core.specs.Signals.{handler_of, due}
@@ -34,12 +34,11 @@ use Rattle.abstract_unix.specs.Unix.{Timing, Unix, System, process_of, with_proc
 use Rattle.abstract_unix.specs.Errors.{error_number}
 use Rattle.abstract_unix.specs.Steps.{Steps, returns, signals}
 use Rattle.abstract_unix.specs.Calls.{handed_of, with_handed, world_of, with_world, with_area, refused_area, entered_area, words_passed, asked, file_row, process_row, refuses, answers, did_by, came_by, forks, grown_by, grows_to, exits_with, disk_end, waits_for_disk, takes_time, reads_disk, loads_program, does_call, does_asked, sysent_of, resumed}
-use Rattle.abstract_unix.specs.Delivery.{heeds, catches, signal_status, ends_after, ends_by, delivers_if, delivers_due, ends_by_ending}
-use Rattle.abstract_unix.specs.Turn.{machine_of, with_machine, faults, comes_to, instruction, is_user, passes_setd, begins_turn, turn, disk_end_of}
-use Rattle.abstract_unix.specs.Whole.{AreDue, NoGraveWaits}
-use Rattle.abstract_unix.proofs.GoingOnLemmas.{Waited, waited_same}
-use Rattle.abstract_unix.proofs.Tidy.{IsTidy}
-use Rattle.abstract_unix.proofs.DiskSteps.{IsNewWait, disk_turn}
+use Rattle.abstract_unix.specs.Delivery.{heeds, catches, signal_status, ends_after, ends_by, delivers_if, delivers_due, ends_by_ending, ends_turn}
+use Rattle.abstract_unix.specs.Turn.{machine_of, with_machine, faults, comes_to, waits_in, instruction, is_user, passes_setd, begins_turn, turn, disk_end_of}
+use Rattle.abstract_unix.specs.Whole.{AreDue, NoGraveWaits, CanGoOn}
+use Rattle.abstract_unix.proofs.GoingOnLemmas.{waited_same}
+use Rattle.abstract_unix.proofs.DiskSteps.{LivesIn, Disked, disk_comes, disk_goes_on}
 
 -- No step of a turn counts slots, or changes how long a transfer takes.
 module _ (s : ℕ) where
@@ -102,12 +101,15 @@ module _ (s : ℕ) where
       times_call (with_area u s (entered_area (words_passed x (sysent_of x.number).count))) (sysent_of x.number).call x.args
   times_outcome u (outcome.Fault k) = times_faults u k
 
+  times_resumed : (u : Unix) → Times u.timing (resumed u s)
+  times_resumed u =
+      times_if u.timing ((process_of u s).u.pending == DISK_WAIT) (returns (with_process u s (awake (process_of u s)))) _ refl
+      (times_if u.timing (is_on_files (process_of u s).u.pending) (did_by u s (resumes (handed_of u (process_of u s)) s u.clock.time))
+      (came_by u s (resume_proc (world_of u) s)) (times_did u (resumes (handed_of u (process_of u s)) s u.clock.time)) (times_came u (resume_proc (world_of u) s)))
+
   times_begun : (m : System) → Times m.unix.timing (begins_turn m s)
   times_begun m = times_if u.timing (is_user (process_of u s)) (instruction u s) (resumed u s)
-      (times_outcome (with_process u s (with_machine (process_of u s) step.machine)) step.outcome)
-      (times_if u.timing ((process_of u s).u.pending == DISK_WAIT) (returns (with_process u s (awake (process_of u s)))) _ refl
-      (times_if u.timing (is_on_files (process_of u s).u.pending) (did_by u s (resumes (handed_of u (process_of u s)) s u.clock.time))
-      (came_by u s (resume_proc (world_of u) s)) (times_did u (resumes (handed_of u (process_of u s)) s u.clock.time)) (times_came u (resume_proc (world_of u) s))))
+      (times_outcome (with_process u s (with_machine (process_of u s) step.machine)) step.outcome) (times_resumed u)
     where
       u : Unix
       u = m.unix
@@ -115,7 +117,7 @@ module _ (s : ℕ) where
       step : Stepped
       step = instr (machine_of u.texts (process_of u s))
 
-  times_due : (u : Unix) → Times u.timing (delivers_due u s)
+  pub times_due : (u : Unix) → Times u.timing (delivers_due u s)
   unfolding delivers_due
   times_due u = by (due (process_of u s).row (process_of u s).u)
     where
@@ -126,49 +128,73 @@ module _ (s : ℕ) where
           (times_if u.timing (makes_core sig) (ends_after (heeds u s) s sig (core_file (handed_of (heeds u s) (process_of (heeds u s) s)) u.clock.time))
           (exits_with (heeds u s) s (signal_status (heeds u s) s sig)) refl refl) refl
 
-  pub times_turn : (m : System) → Times m.unix.timing (turn m s)
-  times_turn m = by (begins_turn m s).ending
+  times_ends : (t : Timing) (steps : Steps) → Times t steps → Times t (ends_turn s steps)
+  times_ends t steps is = by steps.ending
     where
-      by : (e : Ending) → Times m.unix.timing (ends_by_ending s (begins_turn m s) e)
-      by ending.Next = times_begun m
-      by ending.Trapped = times_due (begins_turn m s).unix ∙ times_begun m
-      by (ending.Slept pri chan) = times_begun m
-      by ending.Ended = times_begun m
-      by (ending.Panic kind) = times_begun m
+      by : (e : Ending) → Times t (ends_by_ending s steps e)
+      by ending.Next = is
+      by ending.Trapped = times_due steps.unix ∙ is
+      by (ending.Slept pri chan) = is
+      by ending.Ended = is
+      by (ending.Panic kind) = is
 
--- After a turn, before its slot is counted, nobody waits for the end of a slot to come before the next that is due.
-pub turn_due : (m : System) (s first next : ℕ) → IsTidy m.unix → get_or m.unix.processes s None ≡ Some (process_of m.unix s)
-    → (process_of m.unix s).is_zombie ≡ false → AreDue first m.unix → next ≤ first → m.unix.timing.passed < next
-    → ((begins_turn m s).ending ≡ ending.Slept pribio (Disk s) → next ≤ disk_end m.unix.timing) → AreDue next (turn m s).unix
-turn_due m s first next tidy there lives d least more rate = record {
-  next = subst (λ (t : Timing). t.passed < next) (sym (times_turn s m)) more;
-  each = λ r q is waits. subst (λ (t : Timing). (disk_end_of q ≤ t.passed) ⊎ (next ≤ disk_end_of q)) (sym (times_turn s m))
-      (by r q (disk_turn P m.unix.processes s m tidy there lives (λ slept. inr (rate slept))
-      (λ k p e w. inl (waited_same (get_or m.unix.processes k None) p e (inr w))) r q is waits) waits);
-}
-  where
-    P : ℕ → Type 0
-    P n = (n ≤ m.unix.timing.passed) ⊎ (next ≤ n)
+  pub times_turn : (m : System) → Times m.unix.timing (turn m s)
+  times_turn m = times_ends m.unix.timing (begins_turn m s) (times_begun m)
 
-    by : (r : ℕ) (q : Process) → (Waited (get_or m.unix.processes r None) q ⊎ IsNewWait P m.unix.processes q) → q.u.pending ≡ DISK_WAIT
-        → P (disk_end_of q)
-    by r q (inl w) waits =
-        let ends : disk_end_of w.before ≡ disk_end_of q = ap (λ l. 65536 * slice_index l 4 + slice_index l 5) w.call in
-        elim (d.each r w.before w.there (w.pending ∙ waits)) [
-          | inl low ↦ inl (omega (arith, low, ends))
-          | inr high ↦ inr (omega (arith, high, ends, least))
-        ]
-    by r q (inr new) waits = new.1
+-- Who waits for the disk in another Unix waited in this one, or is new, and waits up to one of these slots.
+module _ (u v : Unix) (same : v.timing ≡ u.timing) where
+  disked_due : (first next : ℕ) → AreDue first u → next ≤ first → u.timing.passed < next
+      → Disked (λ n. (n ≤ u.timing.passed) ⊎ (next ≤ n)) u.processes v.processes → AreDue next v
+  disked_due first next d least more disked = record {
+    next = subst (λ (t : Timing). t.passed < next) (sym same) more;
+    each = λ r q is waits. subst (λ (t : Timing). (disk_end_of q ≤ t.passed) ⊎ (next ≤ disk_end_of q)) (sym same) (elim (disked r q is waits) [
+      | inl w ↦
+          let ends : disk_end_of w.before ≡ disk_end_of q = ap (λ l. 65536 * slice_index l 4 + slice_index l 5) w.call in
+          elim (d.each r w.before w.there (w.pending ∙ waits)) [
+            | inl low ↦ inl (omega (arith, low, ends))
+            | inr high ↦ inr (omega (arith, high, ends, least))
+          ]
+      | inr new ↦ new.1
+    ]);
+  }
 
--- Who has ended waits for nothing after a turn either.
-pub turn_graves : (m : System) (s : ℕ) → IsTidy m.unix → get_or m.unix.processes s None ≡ Some (process_of m.unix s)
-    → (process_of m.unix s).is_zombie ≡ false → NoGraveWaits m.unix → NoGraveWaits (turn m s).unix
-turn_graves m s tidy there lives graves r q is dead waits =
-    elim (disk_turn Any m.unix.processes s m tidy there lives (λ slept. tt)
-    (λ k p e w. inl (waited_same (get_or m.unix.processes k None) p e (inr w))) r q is waits) [
-      | inl w ↦ graves r w.before w.there (w.dead ∙ dead) (w.pending ∙ waits)
-      | inr new ↦ absurd (let lives = new.0 in cc (lives, dead))
-    ]
-  where
-    Any : ℕ → Type 0
-    Any n = Unit {0}
+  -- and who has ended waits for nothing
+  disked_graves : (P : ℕ → Type 0) → NoGraveWaits u → Disked P u.processes v.processes → NoGraveWaits v
+  disked_graves P graves disked r q is dead waits = elim (disked r q is waits) [
+    | inl w ↦ graves r w.before w.there (w.dead ∙ dead) (w.pending ∙ waits)
+    | inr new ↦ absurd (let lives = new.0 in cc (lives, dead))
+  ]
+
+-- who waits in the beginning
+pub disked_same : (P : ℕ → Type 0) (a : List (Option Process)) → Disked P a a
+disked_same P a r q is waits = inl (waited_same (get_or a r None) q is (inr waits))
+
+-- A turn is over in which an instruction has come to this, before its slot is counted: nobody waits for the end of a slot to come
+-- before the next that is due.
+module _ (u : Unix) (s : ℕ) (o : Outcome) (free : (process_of u s).u.pending ≡ NOTHING_PENDING) (here : LivesIn s u) where
+  pub comes_due : (first next : ℕ) → AreDue first u → next ≤ first → u.timing.passed < next
+      → (waits_in u s o ≡ true → next ≤ disk_end u.timing) → AreDue next (ends_turn s (comes_to u s o)).unix
+  comes_due first next d least more rate =
+      let P : ℕ → Type 0 = λ n. (n ≤ u.timing.passed) ⊎ (next ≤ n) in
+      disked_due u (ends_turn s (comes_to u s o)).unix (times_ends s u.timing (comes_to u s o) (times_outcome s u o)) first next d least more
+      (disk_comes P u.processes s u o free here (λ waits. inr (rate waits)) (disked_same P u.processes))
+
+  pub comes_graves : NoGraveWaits u → NoGraveWaits (ends_turn s (comes_to u s o)).unix
+  comes_graves graves =
+      let P : ℕ → Type 0 = λ n. Unit {0} in
+      disked_graves u (ends_turn s (comes_to u s o)).unix (times_ends s u.timing (comes_to u s o) (times_outcome s u o)) P graves
+      (disk_comes P u.processes s u o free here (λ waits. tt) (disked_same P u.processes))
+
+-- A turn in which a call goes on.
+module _ (u : Unix) (s : ℕ) (can : CanGoOn u) (here : LivesIn s u) where
+  pub resumed_due : (first : ℕ) → AreDue first u → AreDue first (ends_turn s (resumed u s)).unix
+  resumed_due first d =
+      let P : ℕ → Type 0 = λ n. (n ≤ u.timing.passed) ⊎ (first ≤ n) in
+      disked_due u (ends_turn s (resumed u s)).unix (times_ends s u.timing (resumed u s) (times_resumed s u)) first first d (omega arith) d.next
+      (disk_goes_on P u.processes s u can here (disked_same P u.processes))
+
+  pub resumed_graves : NoGraveWaits u → NoGraveWaits (ends_turn s (resumed u s)).unix
+  resumed_graves graves =
+      let P : ℕ → Type 0 = λ n. Unit {0} in
+      disked_graves u (ends_turn s (resumed u s)).unix (times_ends s u.timing (resumed u s) (times_resumed s u)) P graves
+      (disk_goes_on P u.processes s u can here (disked_same P u.processes))

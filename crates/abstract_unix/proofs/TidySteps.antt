@@ -43,8 +43,6 @@ use Rattle.sys_procs.specs.Fork.{copied, past_word, next_pid, with_child, fork_i
 use Rattle.sys_procs.specs.Exit.{exit_status, end_proc}
 use Rattle.sys_procs.specs.Resume.{awake, resume_proc}
 use Rattle.abstract_unix.specs.declared.asked.Asked.{Asked}
-use Rattle.abstract_unix.specs.declared.calls.FileCall.{FileCall}
-use Rattle.abstract_unix.specs.declared.calls.ProcessCall.{ProcessCall}
 use Rattle.abstract_unix.specs.declared.calls.SystemCall.{SystemCall}
 use Rattle.abstract_unix.specs.declared.calls.SystemCall.TheVariants.{Indirect, Exit, Fork, Unknown, OnFiles, OnProcesses}
 use Rattle.abstract_unix.specs.declared.calls.Sysent.{Sysent}
@@ -326,23 +324,6 @@ module _ (s : ℕ) where
           (not_disk DISK_WAIT refl) r
       by false = r
 
-  -- calls whose process lives on
-  pub runs_file_call : (u : Unix) (call : FileCall) (args : List ℕ) → (process_of u s).u.pending ≡ NOTHING_PENDING → Runs s u
-      → Runs s (did_by u s (file_row call (handed_of u (process_of u s)) s args u.clock.time)).unix
-  runs_file_call u call args free r =
-      let h : Handed = handed_of u (process_of u s) in
-      let did : Did = file_row call h s args u.clock.time in
-      let calm : Calm h.u s did = walk_row (calm_walks h.u s) call h args u.clock.time tt (λ moves. tt)
-      (record { same = same_call h.u; numbers = tidy_numbers u s r.tidy }) in
-      runs_did s u did (walk_row (counted_walks h s) call h args u.clock.time tt (λ moves. tt) (runs_counted s u r)) calm.numbers
-      (row_pends call h s args u.clock.time free) r
-
-  pub runs_process_call : (u : Unix) (call : ProcessCall) (args : List ℕ) → (process_of u s).u.pending ≡ NOTHING_PENDING → Runs s u
-      → Runs s (came_by u s (process_row call (world_of u) s args)).unix
-  runs_process_call u call args free r =
-      runs_came s u (process_row call (world_of u) s args) (still_row (world_of u) s call (world_of u) args (runs_still s u r))
-      (row_waited (world_of u) s free call args) r
-
   leaves_call : (u : Unix) (call : SystemCall) (args : List ℕ) → (process_of u s).u.pending ≡ NOTHING_PENDING → Runs s u
       → Leaves s (does_call u s call args)
   leaves_call u Indirect args free r = leaves_runs (returns u) r
@@ -355,12 +336,18 @@ module _ (s : ℕ) where
   leaves_call u (OnFiles call) args free r =
       let h : Handed = handed_of u (process_of u s) in
       let did : Did = file_row call h s args u.clock.time in
+      let calm : Calm h.u s did = walk_row (calm_walks h.u s) call h args u.clock.time tt (λ moves. tt)
+      (record { same = same_call h.u; numbers = tidy_numbers u s r.tidy }) in
       leaves_runs (takes_time (reads_disk call h did.answer) s (did_by u s did))
-      (runs_timed (reads_disk call h did.answer) (did_by u s did) (runs_file_call u call args free r))
+      (runs_timed (reads_disk call h did.answer) (did_by u s did)
+      (runs_did s u did (walk_row (counted_walks h s) call h args u.clock.time tt (λ moves. tt) (runs_counted s u r)) calm.numbers
+      (row_pends call h s args u.clock.time free) r))
   leaves_call u (OnProcesses call) args free r =
       let c : Comes = process_row call (world_of u) s args in
       leaves_runs (takes_time (loads_program call c.answer) s (came_by u s c))
-      (runs_timed (loads_program call c.answer) (came_by u s c) (runs_process_call u call args free r))
+      (runs_timed (loads_program call c.answer) (came_by u s c)
+      (runs_came s u c (still_row (world_of u) s call (world_of u) args (runs_still s u r))
+      (row_waited (world_of u) s free call args) r))
 
   leaves_asked : (u : Unix) (a : Asked) (entry : Sysent) → (process_of u s).u.pending ≡ NOTHING_PENDING → Runs s u
       → Leaves s (does_asked u s a entry)

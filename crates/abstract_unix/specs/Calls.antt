@@ -316,6 +316,15 @@ takes_time has_read slot s =
     if has_read && not (s.unix.timing.disk == 0)
     then record s { unix = waits_for_disk s.unix slot; ending = Slept pribio (Disk slot) } else s
 
+-- Whether a call that has been entered ends with a wait for the disk.
+abbrev pub waits_in_call : Unix → ℕ → SystemCall → List ℕ → Bool
+waits_in_call u slot (OnFiles call) args =
+    let h : Handed = handed_of u (process_of u slot) in
+    reads_disk call h (file_row call h slot args u.clock.time).answer && not (u.timing.disk == 0)
+waits_in_call u slot (OnProcesses call) args =
+    loads_program call (process_row call (world_of u) slot args).answer && not (u.timing.disk == 0)
+waits_in_call u slot call args = false
+
 -- A call that has been entered. An indirect call that leads to another does nothing.
 abbrev pub does_call : Unix → ℕ → SystemCall → List ℕ → Steps
 does_call u slot Indirect args = returns u

@@ -21,7 +21,7 @@ use Rattle.pick_rules.specs.Logged.{Logged, Stop, nothing_logged, logged, left_b
 use Rattle.swap_sched.specs.Pass.{pass, over}
 use Rattle.u_area.specs.declared.layout.TheConstants.{NOTHING_PENDING}
 use Rattle.image_keep.specs.Running.{with_state}
-use Rattle.sys_procs.specs.Process.{Process, image_of}
+use Rattle.sys_procs.specs.Process.{Process, register, image_of}
 use Rattle.abstract_unix.specs.declared.ending.Ending.{Ending}
 use Rattle.abstract_unix.specs.declared.ending.Ending.TheVariants as ending
 use Rattle.abstract_unix.specs.declared.ends.Ends.{Ends}
@@ -37,7 +37,8 @@ use Rattle.sig_core.specs.declared.numbers.TheConstants.{SIGINS, SIGTRC, SIGIOT,
 use Rattle.sig_core.specs.Signals.{handler_of}
 use Rattle.sys_procs.specs.Signals.{meant_in}
 use Rattle.u_area.specs.declared.layout.TheConstants.{DISK_WAIT}
-use Rattle.abstract_unix.specs.Calls.{system_call, grows_to, resumed}
+use Rattle.abstract_unix.specs.declared.asked.Asked.{Asked}
+use Rattle.abstract_unix.specs.Calls.{with_area, entered_area, words_passed, asked, sysent_of, waits_in_call, system_call, grows_to, resumed}
 use Rattle.abstract_unix.specs.Delivery.{ends_turn}
 
 -- what an instruction of a process works on, and the process after it
@@ -68,6 +69,15 @@ abbrev pub comes_to : Unix → ℕ → Outcome → Steps
 comes_to u slot Next = to.steps u
 comes_to u slot (Call number) = system_call number u slot
 comes_to u slot (Fault kind) = faults u slot kind
+
+-- whether what an instruction has come to ends with a wait for the disk
+abbrev pub waits_in : Unix → ℕ → Outcome → Bool
+waits_in u slot Next = false
+waits_in u slot (Call number) =
+    let p : Process = process_of u slot in
+    let a : Asked = asked (image_of u.texts p) (register p 7) number in
+    waits_in_call (with_area u slot (entered_area (words_passed a (sysent_of a.number).count))) slot (sysent_of a.number).call a.args
+waits_in u slot (Fault kind) = false
 
 abbrev pub instruction : Unix → ℕ → Steps
 instruction u slot =

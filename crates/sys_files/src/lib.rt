@@ -28,7 +28,7 @@ pub use crate::files::Files;
 pub use crate::linking::{link_file, unlink_file};
 pub use crate::making::mknod_at;
 pub use crate::modes::{gtty_get, stty_set};
-pub use crate::moving::{read_file, resume_file, seek_to, write_file};
+pub use crate::moving::{is_device_at, read_file, resume_file, seek_to, write_file};
 pub use crate::names::{chdir_to, chmod_to, chown_to, sync_all};
 pub use crate::opening::open_file;
 pub use crate::pipes::Pipes;

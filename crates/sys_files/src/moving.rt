@@ -251,7 +251,7 @@ pub fn resume_file<S: Space, T: Trace>(
 }
 
 /// Whether the inode of a number, which is referred to, is a device's.
-fn is_device_at(nodes: &Nodes, ino: u16) -> bool
+pub fn is_device_at(nodes: &Nodes, ino: u16) -> bool
     requires referenced { 0 < slice_index nodes.now.references ino }
     ensures { result ≡ is_device (node_in nodes.now.store ino).mode }
 {

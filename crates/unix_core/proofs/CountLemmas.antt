@@ -1,19 +1,17 @@
 -- The count of slots through what a kernel does: who waits for the disk is woken when the slot has come.
-use Rattle.std.proofs.Common.{◌≡◌, ◌≢◌, ◌∙◌, ◌⊎◌, ◌<◌, ◌≤◌, ◌+◌, ◌*◌, ◌-◌, ℕ, true, false, List, get_or, Option, Some, None, slice_index, refl, sym, ap, subst, inl, inr, arith}
+use Rattle.std.proofs.Common.{◌≡◌, ◌≢◌, ◌∙◌, ◌⊎◌, ◌<◌, ◌≤◌, ◌+◌, ◌*◌, ◌-◌, ℕ, Bool, true, false, List, get_or, Option, Some, None, slice_index, refl, sym, ap, subst, inl, inr, arith}
 use Rattle.u_area.specs.declared.layout.TheConstants.{NOTHING_PENDING, DISK_WAIT}
 use Rattle.sys_procs.specs.Process.{Process}
-use Rattle.v6_base.specs.declared.entry.Chan.TheVariants.{Disk}
-use Rattle.pick_rules.specs.Priority.{pribio}
-use Rattle.abstract_unix.specs.declared.ending.Ending.{Ending}
-use Rattle.abstract_unix.specs.declared.ending.Ending.TheVariants as ending
-use Rattle.abstract_unix.specs.Unix.{Timing, Unix, System, process_at, process_of}
-use Rattle.abstract_unix.specs.Calls.{disk_end}
-use Rattle.abstract_unix.specs.Turn.{begins_turn, turn, with_slot, disk_end_of}
-use Rattle.abstract_unix.specs.Whole.{AreDue}
-use Rattle.abstract_unix.proofs.Tidy.{IsTidy}
+use Rattle.abstract_unix.specs.Unix.{Timing, Unix, process_at, process_of}
+use Rattle.pdp_step.specs.declared.outcome.Outcome.{Outcome}
+use Rattle.abstract_unix.specs.Calls.{disk_end, resumed}
+use Rattle.abstract_unix.specs.Delivery.{ends_turn}
+use Rattle.abstract_unix.specs.Turn.{comes_to, waits_in, with_slot, disk_end_of}
+use Rattle.abstract_unix.specs.Whole.{AreDue, CanGoOn}
 use Rattle.abstract_unix.proofs.GoingOnLemmas.{Waited, AllWaited}
 use Rattle.abstract_unix.proofs.Stretches.{due_after}
-use Rattle.abstract_unix.proofs.Dues.{turn_due, turn_graves}
+use Rattle.abstract_unix.proofs.DiskSteps.{LivesIn}
+use Rattle.abstract_unix.proofs.Dues.{comes_due, comes_graves, resumed_due, resumed_graves}
 use Rattle.unix_core.specs.declared.slots.Slots.{Slots}
 use Rattle.unix_core.specs.Slots.{passed_in, timing_in, CanWait, IsCounted, HasWaited}
 
@@ -86,22 +84,31 @@ counted_first slots u within none next nobody = record {
   graves = λ s p is dead waits. let free = nobody s p is in absurd (omega (arith, free, waits));
 }
 
--- A turn leaves it, before its slot is counted.
-pub counted_turn : (m : System) (s : ℕ) (e : Ending) (old new : Slots) → IsTidy m.unix
-    → get_or m.unix.processes s None ≡ Some (process_of m.unix s) → (process_of m.unix s).is_zombie ≡ false
-    → m.unix.timing ≡ timing_in old → ((begins_turn m s).ending ≡ ending.Slept pribio (Disk s) → e ≡ ending.Slept pribio (Disk s))
-    → IsCounted old m.unix → HasWaited e s old new → IsCounted new (turn m s).unix
-counted_turn m s e old new tidy there lives timing same counted waited =
-    let passed : m.unix.timing.passed ≡ passed_in old = ap (λ (t : Timing). t.passed) timing in
-    let disk : m.unix.timing.disk ≡ old.disk = ap (λ (t : Timing). t.disk) timing in
+-- A turn in which an instruction has come to this leaves it, before its slot is counted.
+pub counted_comes : (u : Unix) (s : ℕ) (o : Outcome) (old new : Slots) → (process_of u s).u.pending ≡ NOTHING_PENDING
+    → LivesIn s u → u.timing ≡ timing_in old → IsCounted old u → HasWaited (waits_in u s o) old new
+    → IsCounted new (ends_turn s (comes_to u s o)).unix
+counted_comes u s o old new free here timing counted waited =
+    let passed : u.timing.passed ≡ passed_in old = ap (λ (t : Timing). t.passed) timing in
+    let disk : u.timing.disk ≡ old.disk = ap (λ (t : Timing). t.disk) timing in
     let kept : new.disk ≡ old.disk = ap (λ (t : Timing). t.disk) waited.timing in
     record {
       within = waited.within;
       disk = subst (λ n. n ≤ 999999999) (sym kept) counted.disk;
-      due = turn_due m s old.due new.due tidy there lives counted.due waited.sooner (subst (λ n. n < new.due) (sym passed) waited.ahead)
-          (λ slept. let ends = waited.ends (same slept) in omega (arith, ends, passed, disk));
-      graves = turn_graves m s tidy there lives counted.graves;
+      due = comes_due u s o free here old.due new.due counted.due waited.sooner (subst (λ n. n < new.due) (sym passed) waited.ahead)
+          (λ waits. let ends = waited.ends waits in omega (arith, ends, passed, disk));
+      graves = comes_graves u s o free here counted.graves;
     }
+
+-- and one in which a call goes on
+pub counted_resumed : (u : Unix) (s : ℕ) (slots : Slots) → CanGoOn u → LivesIn s u → IsCounted slots u
+    → IsCounted slots (ends_turn s (resumed u s)).unix
+counted_resumed u s slots can here counted = record {
+  within = counted.within;
+  disk = counted.disk;
+  due = resumed_due u s can here slots.due counted.due;
+  graves = resumed_graves u s can here counted.graves;
+}
 
 -- Where a turn has room for its slot, a wait can begin in it.
 pub counted_waits_can : (slots : Slots) (u : Unix) → u.timing.passed ≡ passed_in slots → u.timing.passed ≤ 3000000000 → IsCounted slots u
@@ -114,13 +121,12 @@ counted_waits_can slots u is fresh counted = record {
 }
 
 -- a call that doesn't wait leaves the count as it is
-pub has_not_waited : (e : Ending) (s : ℕ) (old new : Slots) → new ≡ old → CanWait old → (e ≡ ending.Slept pribio (Disk s) → ⊥)
-    → HasWaited e s old new
-has_not_waited e s old new same can never =
-    subst (λ (x : Slots). HasWaited e s old x) (sym same) (record {
+pub has_not_waited : (waits : Bool) (old new : Slots) → new ≡ old → CanWait old → waits ≡ false → HasWaited waits old new
+has_not_waited waits old new same can never =
+    subst (λ (x : Slots). HasWaited waits old x) (sym same) (record {
       timing = refl;
       within = can.within;
       sooner = omega arith;
       ahead = can.ahead;
-      ends = λ slept. absurd (never slept);
+      ends = λ is. absurd (let no = sym never ∙ is in cc no);
     })

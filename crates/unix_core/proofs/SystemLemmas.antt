@@ -3,6 +3,7 @@ use Rattle.std.proofs.Common.{◌≡◌, ◌∙◌, ◌==◌, ℕ, true, false, 
 use Rattle.u_area.specs.declared.layout.TheConstants.{DISK_WAIT}
 use Rattle.u_area.specs.declared.area.UArea.{UArea}
 use Rattle.u_area.specs.Pending.{is_on_files}
+use Rattle.pdp_step.specs.declared.outcome.Outcome.TheVariants.{Call}
 use Rattle.image_keep.specs.Kept.{Held, Has, Kept, image_in}
 use Rattle.image_keep.specs.Kept as kept
 use Rattle.image_keep.specs.State.{ImagesState}
@@ -16,8 +17,8 @@ use Rattle.abstract_unix.specs.declared.asked.Asked.{Asked}
 use Rattle.abstract_unix.specs.declared.calls.Sysent.{Sysent}
 use Rattle.abstract_unix.specs.Unix.{Unix, process_of, with_process}
 use Rattle.abstract_unix.specs.Steps.{Steps, returns}
-use Rattle.abstract_unix.specs.Turn.{is_user}
-use Rattle.abstract_unix.specs.Calls.{handed_of, world_of, with_area, entered_area, words_passed, asked, did_by, came_by, sysent_of, does_call, does_asked, resumed, system_call}
+use Rattle.abstract_unix.specs.Turn.{is_user, waits_in}
+use Rattle.abstract_unix.specs.Calls.{handed_of, world_of, with_area, entered_area, words_passed, asked, did_by, came_by, sysent_of, waits_in_call, does_call, does_asked, resumed, system_call}
 use Rattle.unix_core.specs.Parts.{unix_of, board_in, IsReady}
 use Rattle.unix_core.proofs.WorldLemmas.{ready_alive}
 use Rattle.unix_core.proofs.AreaLemmas.{own_area, area_unix, area_board, area_ready, ruled_user}
@@ -96,3 +97,11 @@ module _ (w : World) (s : ℕ) (ready : IsReady w s) (a : Asked) (entry : Sysent
       ap (λ u. does_call u s entry.call a.args) entered_unix
       ∙ ap (does_asked (unix_of w) s a) here
       ∙ ap (λ (x : Asked). does_asked (unix_of w) s x (sysent_of x.number)) is
+
+  pub entered_waits : (number : ℕ) → a ≡ asked (image_of (unix_of w).texts (process_of (unix_of w) s)) (register (process_of (unix_of w) s) 7) number
+      → entry ≡ sysent_of a.number → waits_in_call (unix_of done) s entry.call a.args ≡ waits_in (unix_of w) s (Call number)
+  entered_waits number is here =
+      ap (λ u. waits_in_call u s entry.call a.args) entered_unix
+      ∙ ap (λ (e : Sysent). waits_in_call (with_area (unix_of w) s (entered_area (words_passed a e.count))) s e.call a.args) here
+      ∙ ap (λ (x : Asked). waits_in_call (with_area (unix_of w) s (entered_area (words_passed x (sysent_of x.number).count))) s
+      (sysent_of x.number).call x.args) is

@@ -1,11 +1,8 @@
 -- How a kernel counts the slots that have been taken, and who waits for the disk.
-use Rattle.std.specs.Prelude.{◌≡◌, ◌≢◌, ◌<◌, ◌≤◌, ◌⊎◌, ℕ, ◌+◌, ◌-◌, true, List, map, Option, Some, None, slice_index_or}
+use Rattle.std.specs.Prelude.{◌≡◌, ◌≢◌, ◌<◌, ◌≤◌, ◌⊎◌, ℕ, ◌+◌, ◌-◌, Bool, true, List, map, Option, Some, None, slice_index_or}
 use Rattle.v6_base.specs.Trace.{Item, Log}
 use Rattle.v6_base.specs.declared.entry.Chan.TheVariants.{Disk}
 use Rattle.v6_base.specs.declared.entry.Entry.TheVariants as entry
-use Rattle.pick_rules.specs.Priority.{pribio}
-use Rattle.abstract_unix.specs.declared.ending.Ending.{Ending}
-use Rattle.abstract_unix.specs.declared.ending.Ending.TheVariants.{Slept}
 use Rattle.abstract_unix.specs.Unix.{Timing, Unix}
 use Rattle.abstract_unix.specs.Turn.{disk_end_of, waits_until}
 use Rattle.abstract_unix.specs.Whole.{AreDue, NoGraveWaits}
@@ -37,14 +34,13 @@ pub record CanWait (slots : Slots) : Type 0 where
   pub disk : slots.disk ≤ 999999999
   pub fresh : passed_in slots ≤ 3000000000
 
--- A turn that ends so leaves the count as it was, but that a wait for the disk that begins in it ends with the slot that is due,
--- or later.
-pub record HasWaited (e : Ending) (s : ℕ) (old new : Slots) : Type 0 where
+-- A turn leaves the count as it was, but that a wait for the disk that begins in it ends with the slot that is due, or later.
+pub record HasWaited (waits : Bool) (old new : Slots) : Type 0 where
   pub timing : timing_in new ≡ timing_in old
   pub within : new.left ≤ new.due
   pub sooner : new.due ≤ old.due
   pub ahead : passed_in old < new.due
-  pub ends : e ≡ Slept pribio (Disk s) → new.due ≤ passed_in old + 1 + old.disk
+  pub ends : waits ≡ true → new.due ≤ passed_in old + 1 + old.disk
 
 -- the processes of the parts
 abbrev pub processes_of : Procs → List (Option Process)

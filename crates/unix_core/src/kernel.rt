@@ -188,9 +188,8 @@ impl Kernel {
             Stage::Running(fixed) => {
                 let images = &mut self.machine.world.procs.images;
                 if images.execute(fixed, &self.dispatch, &mut self.machine.came) {
-                    self.machine.count_slot(trace);
                     // left at once: joined with the other answers it is looked at anew each time
-                    return Turned::Ran;
+                    return self.machine.count_slot(Turned::Ran, trace);
                 }
                 self.machine.after_step(trace)
             }

@@ -214,13 +214,14 @@ impl Machine {
         self.refresh();
     }
 
-    /// Counts a slot in which nothing was logged: an instruction was just done, or nobody ran. Where somebody is woken with its end,
-    /// the kernel settles.
+    /// Counts a slot in which nothing was logged, and which answers this: an instruction was just done, or nobody ran. Where somebody
+    /// is woken with its end, the kernel settles.
     #[inline(always)]
-    pub(crate) fn count_slot<T: Trace>(&mut self, trace: &mut T)
+    pub(crate) fn count_slot<T: Trace>(&mut self, answer: Turned, trace: &mut T) -> Turned
         requires kernel { IsKernel self.old.stage self.old.world }
         requires started { phase_of self.old.stage ≡ Started }
         requires fresh { (unix_of self.old.world).timing.passed ≤ 3000000000 }
+        ensures answer { result ≡ answer }
         ensures takes { (h : Happened) → IsStill h self.old.world → Takes (settled_after (after_slot h)) self.new.stage self.new.world }
         ensures files { self.new.world.files ≡ self.old.world.files }
         ensures items { (h : Happened) → IsStill h self.old.world
@@ -229,18 +230,21 @@ impl Machine {
     {
         self.world.slots.left -= 1;
         if self.world.slots.left == 0 {
-            self.reach(trace);
+            return self.reach(answer, trace);
         }
+        answer
     }
 
-    /// The slot that was due has been taken, and nothing was logged in it. It stands out of line: a run has few such slots.
+    /// The slot that was due has been taken, and nothing was logged in it. It stands out of line: a run has few such slots. It hands
+    /// the answer back, so that who calls it last needs no frame.
     #[cold]
     #[inline(never)]
-    fn reach<T: Trace>(&mut self, trace: &mut T)
+    fn reach<T: Trace>(&mut self, answer: Turned, trace: &mut T) -> Turned
         requires left { self.old.world.slots.left ≡ 0 }
         requires kernel { IsKernel self.old.stage (one_before self.old.world) }
         requires started { phase_of self.old.stage ≡ Started }
         requires fresh { self.old.world.slots.due ≤ 3000000001 }
+        ensures answer { result ≡ answer }
         ensures takes { (h : Happened) → IsStill h (one_before self.old.world)
             → Takes (settled_after (after_slot h)) self.new.stage self.new.world }
         ensures files { self.new.world.files ≡ self.old.world.files }
@@ -251,6 +255,7 @@ impl Machine {
         if reach(&mut self.world, trace) {
             self.settle(trace);
         }
+        answer
     }
 
     /// Takes the first pass of the swapper, which is no slot: the kernel settles, unless it ends with a panic.
@@ -431,10 +436,7 @@ impl Machine {
         ensures frame { T.leads_to trace.old trace.new }
     {
         match self.world.procs.table.running {
-            None => {
-                self.count_slot(trace);
-                Turned::Idle
-            }
+            None => self.count_slot(Turned::Idle, trace),
             Some(0) => self.swap_slot(trace),
             Some(s) => self.going_slot(s, trace),
         }

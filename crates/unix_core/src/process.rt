@@ -1,19 +1,21 @@
 //! Turns and calls of a process: what an instruction comes to, and how a call goes on. `trap` in Lions' Commentary, `trap.c`.
-ghost use Rattle.std.specs.Prelude.{◌≡◌, ◌≢◌, Some, true, false};
+ghost use Rattle.std.specs.Prelude.{◌≡◌, ◌≢◌, ◌&&◌, ◌==◌, not, Some, true, false};
 ghost use Rattle.v6_base.specs.Trace.{Took};
 ghost use Rattle.fs_nodes.specs.FileSystem.{SameRest};
 ghost use Rattle.pick_rules.specs.Logged.{logged};
 ghost use Rattle.image_keep.specs.Kept.{HasImage, area_of, with_area};
 ghost use Rattle.open_files.specs.Files.{AreOpen, HaveRoom};
+ghost use Rattle.sys_files.specs.Handed.{Handed, r0};
+ghost use Rattle.sys_files.specs.Descriptors.{open_entry};
 ghost use Rattle.sys_files.specs.Moving.{resumes};
 ghost use Rattle.sys_procs.specs.Resume.{resume_proc};
 ghost use Rattle.image_keep.specs.Running.{IsFixed};
 ghost use Rattle.abstract_unix.specs.Unix.{Unix, process_of};
 ghost use Rattle.abstract_unix.specs.Steps.{signals};
-ghost use Rattle.abstract_unix.specs.Calls.{world_of, words_passed, entered_area, given_area, refused_area, refuses, reads_disk, loads_program, system_call, does_call, did_by, came_by, shares, forks, exits, grows_to, resumed, answers, handed_of};
+ghost use Rattle.abstract_unix.specs.Calls.{world_of, words_passed, entered_area, given_area, refused_area, refuses, is_read, is_of_disk, has_bytes, loads_program, waits_in_call, system_call, does_call, did_by, came_by, shares, forks, exits, grows_to, resumed, answers, handed_of};
 ghost use Rattle.u_area.specs.Pending.{is_on_files};
 ghost use Rattle.abstract_unix.specs.Errors.{error_number};
-ghost use Rattle.abstract_unix.specs.Turn.{faults, comes_to, passes_setd, is_user};
+ghost use Rattle.abstract_unix.specs.Turn.{faults, comes_to, waits_in, passes_setd, is_user};
 ghost use Rattle.unix_core.specs.Slots.{CanWait, HasWaited};
 ghost use Rattle.unix_core.specs.Parts.{unix_of, board_in, IsGood, IsReady, HasCome, IsCovered, is_over};
 
@@ -25,11 +27,11 @@ use crate::passing::pass_on;
 use crate::slots::{end_wait, wait_for_disk};
 use crate::world::World;
 use abstract_unix::{Asked, Ending, FileCall, ProcessCall, SystemCall, do_process_call, sysent_of};
-use fs_codec::is_device;
 use image_keep::{Fixed, Images};
 use open_files::OpenTable;
 use pdp_step::{Kind, Outcome};
 use sig_core::{SIGBUS, SIGEMT, SIGINS, SIGIOT, SIGSEG, SIGSYS, SIGTRC};
+use sys_files::is_device_at;
 use sys_procs::{fork_one, grow, resume_proc, send_signal};
 use u_area::{DISK_WAIT, is_on_files};
 use v6_base::{Answer, Errno, PanicKind, Slot, Trace};
@@ -161,43 +163,86 @@ fn call_files<T: Trace>(
         (SystemCall.OnFiles call) args).effects).items (T.taken trace.new) }
     ensures frame { T.leads_to trace.old trace.new }
     ensures rest { SameRest world.old.files.tree.nodes world.new.files.tree.nodes }
-    ensures slots { HasWaited result fixed.now.slot world.old.slots world.new.slots }
+    ensures slots { HasWaited (waits_in_call (unix_of world.old) fixed.now.slot (SystemCall.OnFiles call) args)
+        world.old.slots world.new.slots }
 {
+    // asked before the call: R0 has the number of the file until the answer comes
+    let may = may_wait(world, fixed.slot, call);
     let answer = do_on_files(world, fixed, call, args);
     pass_on(&world.tape, &mut world.procs.table, trace);
-    // asked before R0 takes the answer: it has the number of the file
-    let waits = world.slots.disk != 0 && reads_disk(world, fixed.slot, call, answer);
     let ending = conclude(world, fixed.slot, answer, trace);
-    if waits {
+    if waits(may, answer) {
         return wait_for_disk(world, fixed.slot);
     }
     ending
 }
 
-/// Whether a call on files that answers so has taken bytes from the disk: those of a plain file or a directory, and of no pipe.
-#[cold]
-#[inline(never)]
-fn reads_disk(world: &World, s: Slot, call: FileCall, answer: Answer) -> bool
+/// Whether a call on files waits for the disk, where it answers with some bytes: a transfer takes time, and it is a read of the disk.
+#[inline(always)]
+fn may_wait(world: &World, s: Slot, call: FileCall) -> bool
     requires { IsReady world.now s }
-    ensures { result ≡ reads_disk call (handed_of (unix_of world.now) (process_of (unix_of world.now) s)) answer }
+    ensures { (h : Handed) → h ≡ handed_of (unix_of world.now) (process_of (unix_of world.now) s)
+        → result ≡ ((is_read call && is_of_disk h (open_entry h (r0 h))) && not (world.now.slots.disk == 0)) }
 {
-    match (call, answer) {
-        (FileCall::Read, Answer::Ret { r0, .. }) if r0 != 0 => {}
-        _ => return false,
-    }
-    let u = world.procs.images.area(s);
-    let Ok(entry) = world.files.table.get(&u.files, u.r[0]) else {
+    if world.slots.disk == 0 {
         return false;
-    };
-    let file = world.files.table.file(entry);
-    !file.kind.pipe && !is_device(world.files.tree.nodes.node(file.ino).mode)
+    }
+    asks_disk(world, s, call)
 }
 
-/// Whether a call on processes that answers so has loaded a program: exec(II).
-fn loads_program(call: ProcessCall, answer: Answer) -> bool
-    ensures { result ≡ loads_program call answer }
+/// Whether a call that may wait for the disk does so, by what it answers: R0 takes a number that isn't 0.
+#[inline(always)]
+fn waits(may: bool, answer: Answer) -> bool
+    ensures { result ≡ (may && has_bytes answer) }
 {
-    matches!((call, answer), (ProcessCall::Exec, Answer::Ret { .. }))
+    may && matches!(answer, Answer::Ret { r0, .. } if r0 != 0)
+}
+
+/// Whether a call on files is a read of the disk: of a plain file or a directory, and of no pipe.
+#[cold]
+#[inline(never)]
+fn asks_disk(world: &World, s: Slot, call: FileCall) -> bool
+    requires { IsReady world.now s }
+    ensures { (h : Handed) → h ≡ handed_of (unix_of world.now) (process_of (unix_of world.now) s)
+        → result ≡ (is_read call && is_of_disk h (open_entry h (r0 h))) }
+{
+    match call {
+        FileCall::Read => names_disk(world, s),
+        _ => false,
+    }
+}
+
+/// Whether R0 has the number of an open file that is a plain file or a directory, and no pipe.
+fn names_disk(world: &World, s: Slot) -> bool
+    requires { IsReady world.now s }
+    ensures { (h : Handed) → h ≡ handed_of (unix_of world.now) (process_of (unix_of world.now) s)
+        → result ≡ is_of_disk h (open_entry h (r0 h)) }
+{
+    see_kept(&world.procs.images);
+    see_table(&world.files.table);
+    world.files.tree.nodes.see();
+    let u = world.procs.images.area(s);
+    match world.files.table.get(&u.files, u.r[0]) {
+        Ok(entry) => {
+            let file = world.files.table.file(entry);
+            !file.kind.pipe && !is_device_at(&world.files.tree.nodes, file.ino)
+        }
+        Err(_) => false,
+    }
+}
+
+/// Whether a call on processes that answers so waits for the disk: a transfer takes time, and it has loaded a program. exec(II).
+#[inline(always)]
+fn has_loaded(world: &World, call: ProcessCall, answer: Answer) -> bool
+    ensures { result ≡ (loads_program call answer && not (world.now.slots.disk == 0)) }
+{
+    if world.slots.disk == 0 {
+        return false;
+    }
+    match (call, answer) {
+        (ProcessCall::Exec, Answer::Ret { .. }) => true,
+        _ => false,
+    }
 }
 
 /// A call on processes, which has been entered.
@@ -219,7 +264,7 @@ fn call_processes<T: Trace>(
         (does_call (unix_of world.old) s (SystemCall.OnProcesses call) args).effects).items (T.taken trace.new) }
     ensures frame { T.leads_to trace.old trace.new }
     ensures rest { SameRest world.old.files.tree.nodes world.new.files.tree.nodes }
-    ensures slots { HasWaited result s world.old.slots world.new.slots }
+    ensures slots { HasWaited (waits_in_call (unix_of world.old) s (SystemCall.OnProcesses call) args) world.old.slots world.new.slots }
 {
     world.files.tree.nodes.see();
     see_table(&world.files.table);
@@ -234,7 +279,7 @@ fn call_processes<T: Trace>(
     ) {
         Ok(answer) => {
             let ending = conclude(world, s, answer, trace);
-            if world.slots.disk != 0 && loads_program(call, answer) {
+            if has_loaded(world, call, answer) {
                 return wait_for_disk(world, s);
             }
             ending
@@ -354,7 +399,7 @@ fn does_call<T: Trace>(
         (does_call (unix_of world.old) fixed.now.slot call args).effects).items (T.taken trace.new) }
     ensures frame { T.leads_to trace.old trace.new }
     ensures rest { SameRest world.old.files.tree.nodes world.new.files.tree.nodes }
-    ensures slots { HasWaited result fixed.now.slot world.old.slots world.new.slots }
+    ensures slots { HasWaited (waits_in_call (unix_of world.old) fixed.now.slot call args) world.old.slots world.new.slots }
 {
     let s = fixed.slot;
     match call {
@@ -392,7 +437,7 @@ fn call<T: Trace>(world: &mut World, fixed: &Fixed, number: u8, trace: &mut T) -
         (system_call number (unix_of world.old) fixed.now.slot).effects).items (T.taken trace.new) }
     ensures frame { T.leads_to trace.old trace.new }
     ensures rest { SameRest world.old.files.tree.nodes world.new.files.tree.nodes }
-    ensures slots { HasWaited result fixed.now.slot world.old.slots world.new.slots }
+    ensures slots { HasWaited (waits_in (unix_of world.old) fixed.now.slot (Outcome.Call number)) world.old.slots world.new.slots }
 {
     let asked = ask(&world.procs.images, fixed, number);
     let entry = sysent_of(asked.number);
@@ -461,7 +506,7 @@ pub(crate) fn come_to<T: Trace>(
         (comes_to (unix_of world.old) fixed.now.slot outcome).effects).items (T.taken trace.new) }
     ensures frame { T.leads_to trace.old trace.new }
     ensures rest { SameRest world.old.files.tree.nodes world.new.files.tree.nodes }
-    ensures slots { HasWaited result fixed.now.slot world.old.slots world.new.slots }
+    ensures slots { HasWaited (waits_in (unix_of world.old) fixed.now.slot outcome) world.old.slots world.new.slots }
 {
     match outcome {
         Outcome::Next => Ending::Next,

@@ -113,7 +113,7 @@ pub(crate) fn wait_for_disk(world: &mut World, s: Slot) -> Ending
     ensures board { board_in world.new ≡ board_in world.old }
     ensures ending { result ≡ Ending.Slept pribio (Chan.Disk s) }
     ensures ready { IsReady world.new s }
-    ensures slots { HasWaited result s world.old.slots world.new.slots }
+    ensures slots { HasWaited true world.old.slots world.new.slots }
     ensures files { world.new.files ≡ world.old.files }
 {
     let end = world.slots.passed() + 1 + world.slots.disk;

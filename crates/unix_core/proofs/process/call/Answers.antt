@@ -5,8 +5,9 @@ use Rattle.unix_core.specs.declared.world.World.{World}
 use Rattle.abstract_unix.specs.declared.asked.Asked.{Asked}
 use Rattle.abstract_unix.specs.Steps.{Steps}
 use Rattle.abstract_unix.specs.Calls.{system_call}
+use Rattle.unix_core.specs.Slots.{HasWaited}
 use Rattle.unix_core.specs.Parts.{unix_of, board_in, HasCome}
-use Rattle.unix_core.proofs.SystemLemmas.{asked_here, entered_ready, entered_user, entered_board, entered_call}
+use Rattle.unix_core.proofs.SystemLemmas.{asked_here, entered_ready, entered_user, entered_board, entered_call, entered_waits}
 use Rattle.unix_core.proofs.process.call.Goals as goal
 
 pub does_call-requires-clause-ready : goal.does_call-requires-clause-ready
@@ -52,3 +53,13 @@ returns-clause-items g c =
     (subst (λ (x : Steps). Took (g.T.Trace.taken c.args.trace.now)
     (logged (board_in (record w { procs = record w.procs { images = c.enter.new.images } })) x.effects).items
     (g.T.Trace.taken c.does_call.new.trace)) steps c.does_call.ensures.items)
+
+pub returns-clause-slots : goal.returns-clause-slots
+returns-clause-slots g c =
+    let w : World = c.args.world.now in
+    let s = c.args.fixed.now.slot in
+    let a : Asked = c.ask-asked.result in
+    let asks = asked_here w s c.requires.ready c.ask-asked.ensures.holds c.args.number a c.ask-asked.ensures.asked in
+    subst (λ b. HasWaited b w.slots c.does_call.new.world.slots)
+    (entered_waits w s c.requires.ready a c.sysent_of-entry.result _ _ c.enter.new.images refl c.words_passed.ensures
+    c.enter.ensures.kept c.args.number asks c.sysent_of-entry.ensures) c.does_call.ensures.slots

@@ -1,10 +1,12 @@
-use Rattle.std.proofs.Common.{sym, subst}
+use Rattle.std.proofs.Common.{refl, sym, ap, subst}
 use Rattle.v6_base.specs.Trace.{Took}
 use Rattle.pick_rules.specs.Logged.{logged}
 use Rattle.pdp_step.specs.declared.outcome.Outcome.{Outcome}
 use Rattle.unix_core.specs.declared.world.World.{World}
-use Rattle.abstract_unix.specs.Turn.{comes_to}
+use Rattle.abstract_unix.specs.Turn.{comes_to, waits_in}
+use Rattle.unix_core.specs.Slots.{HasWaited}
 use Rattle.unix_core.specs.Parts.{unix_of, board_in, HasCome}
+use Rattle.unix_core.proofs.CountLemmas.{has_not_waited}
 use Rattle.unix_core.proofs.process.come_to.Goals as goal
 
 pub returns-in-Call-clause-come : goal.returns-in-Call-clause-come
@@ -40,3 +42,17 @@ returns-in-Fault-clause-good g c goes = (c.fault.ensures.ready goes).good
 
 pub returns-in-Fault-clause-runs : goal.returns-in-Fault-clause-runs
 returns-in-Fault-clause-runs g c goes other = (c.fault.ensures.ready goes).runs
+
+pub returns-in-Next-clause-slots : goal.returns-in-Next-clause-slots
+returns-in-Next-clause-slots g c =
+    has_not_waited _ _ _ refl c.requires.waits (ap (λ (o : Outcome). waits_in (unix_of c.args.world.now) c.args.fixed.now.slot o) c.in-Next.is)
+
+pub returns-in-Call-clause-slots : goal.returns-in-Call-clause-slots
+returns-in-Call-clause-slots g c =
+    let w : World = c.args.world.now in
+    subst (λ (o : Outcome). HasWaited (waits_in (unix_of w) c.args.fixed.now.slot o) w.slots c.call.new.world.slots) (sym c.in-Call.is)
+    c.call.ensures.slots
+
+pub returns-in-Fault-clause-slots : goal.returns-in-Fault-clause-slots
+returns-in-Fault-clause-slots g c =
+    has_not_waited _ _ _ c.fault.ensures.slots c.requires.waits (ap (λ (o : Outcome). waits_in (unix_of c.args.world.now) c.args.fixed.now.slot o) c.in-Fault.is)

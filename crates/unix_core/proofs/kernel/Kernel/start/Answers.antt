@@ -2,6 +2,8 @@ use Rattle.std.proofs.Common.{◌∙◌, ap, subst, sym}
 use Rattle.v6_base.specs.Trace.{Took}
 use Rattle.abstract_unix.specs.Unix.{System}
 use Rattle.unix_core.specs.State.{KernelState}
+use Rattle.unix_core.specs.declared.machine.Stage.{Stage}
+use Rattle.unix_core.specs.Parts.{phase_of, goes_on}
 use Rattle.abstract_unix.specs.Endings.{phase_after}
 use Rattle.abstract_unix.specs.Runs.{start_of}
 use Rattle.unix_core.proofs.SwapLemmas.{first_goes}
@@ -12,21 +14,27 @@ use Rattle.abstract_unix.specs.Shared.{AllTextsStay}
 use Rattle.unix_core.proofs.StayingLemmas.{start_stays}
 use Rattle.unix_core.proofs.kernel.Kernel.start.Goals as goal
 
-pub pass-ran-requires-clause-good : goal.pass-ran-requires-clause-good
-pass-ran-requires-clause-good g c =
+pub first_pass-ran-requires-clause-good : goal.first_pass-ran-requires-clause-good
+first_pass-ran-requires-clause-good g c =
     let m = c.self.inside.machine in
     let new = new_stage m.stage (ap (λ (v : KernelState). v.phase) c.self.view_is ∙ c.requires) in
     (c.self.invariant.new new).good
 
-pub pass-ran-requires-clause-runs : goal.pass-ran-requires-clause-runs
-pass-ran-requires-clause-runs g c =
+pub first_pass-ran-requires-clause-runs : goal.first_pass-ran-requires-clause-runs
+first_pass-ran-requires-clause-runs g c =
     let m = c.self.inside.machine in
     let new = new_stage m.stage (ap (λ (v : KernelState). v.phase) c.self.view_is ∙ c.requires) in
     (c.self.invariant.new new).runs
 
+pub first_pass-ran-requires-clause-counted : goal.first_pass-ran-requires-clause-counted
+first_pass-ran-requires-clause-counted g c =
+    let m = c.self.inside.machine in
+    let new = new_stage m.stage (ap (λ (v : KernelState). v.phase) c.self.view_is ∙ c.requires) in
+    c.self.invariant.counted (ap (λ (t : Stage). goes_on (phase_of t)) new)
+
 pub returns-clause-next : goal.returns-clause-next
 returns-clause-next g c =
-    c.pass-ran.ensures.takes.system
+    c.first_pass-ran.ensures.takes.system
     ∙ ap (λ (v : KernelState). (start_of v.system).next) c.self.view_is
 
 pub returns-clause-private : goal.returns-clause-private
@@ -43,14 +51,14 @@ pub returns-clause-items : goal.returns-clause-items
 returns-clause-items g c =
     let m = c.self.inside.machine in
     let new = new_stage m.stage (ap (λ (v : KernelState). v.phase) c.self.view_is ∙ c.requires) in
-    subst (λ (v : KernelState). Took (g.T.Trace.taken c.args.trace.now) (start_of v.system).items (g.T.Trace.taken c.pass-ran.new.trace)) c.self.view_is
-    (start_items m.world (c.self.invariant.new new).good _ _ _ c.entry.ensures.took c.pass-ran.ensures.items)
+    subst (λ (v : KernelState). Took (g.T.Trace.taken c.args.trace.now) (start_of v.system).items (g.T.Trace.taken c.first_pass-ran.new.trace)) c.self.view_is
+    (start_items m.world (c.self.invariant.new new).good _ _ _ c.entry.ensures.took c.first_pass-ran.ensures.items)
 
 pub returns-clause-phase : goal.returns-clause-phase
 returns-clause-phase g c =
     let m = c.self.inside.machine in
     let new = new_stage m.stage (ap (λ (v : KernelState). v.phase) c.self.view_is ∙ c.requires) in
-    c.pass-ran.ensures.takes.phase ∙ ap phase_after (first_goes m.world (c.self.invariant.new new))
+    c.first_pass-ran.ensures.takes.phase ∙ ap phase_after (first_goes m.world (c.self.invariant.new new))
 
 pub returns-clause-goes : goal.returns-clause-goes
 returns-clause-goes g c =

@@ -1,17 +1,24 @@
-use Rattle.std.proofs.Common.{◌≡◌, ◌∙◌, ap, sym, subst}
+use Rattle.std.proofs.Common.{◌≡◌, ◌∙◌, refl, ap, sym, subst}
 use Rattle.v6_base.specs.Trace.{Took}
 use Rattle.unix_core.specs.declared.world.World.{World}
-use Rattle.abstract_unix.specs.Turn.{begins_turn, turn, turn_of, turned, settled_after}
-use Rattle.unix_core.specs.Parts.{board_in, slot_in, HasCome, HasStepped, Takes, IsRunning}
+use Rattle.abstract_unix.specs.Turn.{comes_to, begins_turn, turn, turn_of, turned, after_slot, settled_after}
+use Rattle.unix_core.specs.Parts.{unix_of, board_in, slot_in, HasCome, HasStepped, Takes, IsRunning}
 use Rattle.unix_core.proofs.TurnLemmas.{turn_is, turn_takes, turn_items, stepped_come, stepped_items}
 use Rattle.unix_core.proofs.TrapLemmas.{step_user}
+use Rattle.unix_core.proofs.CountLemmas.{counted_waits_can}
+use Rattle.unix_core.proofs.TurnCounts.{comes_counted}
 use Rattle.unix_core.proofs.WorldLemmas.{slot_is}
 use Rattle.unix_core.proofs.machine.Machine.after_step.Goals as goal
 
 pub come_to-ending-requires : goal.come_to-ending-requires
 come_to-ending-requires g c =
     let run : IsRunning c.in-Running.fixed c.args.self.now.world = c.requires.user c.in-Running.fixed c.in-Running.is in
-    record { fixed = run.fixed; ready = run.user.ready; user = run.user.user }
+    record {
+      fixed = run.fixed;
+      ready = run.user.ready;
+      user = run.user.user;
+      waits = counted_waits_can c.args.self.now.world.slots (unix_of c.args.self.now.world) refl c.requires.fresh c.requires.counted;
+    }
 
 pub deliver_after-ending-requires-clause-user : goal.deliver_after-ending-requires-clause-user
 deliver_after-ending-requires-clause-user g c =
@@ -27,6 +34,17 @@ deliver_after-ending-requires-clause-above g c = (c.requires.user c.in-Running.f
 pub end-requires-clause-user : goal.end-requires-clause-user
 end-requires-clause-user g c = (c.requires.user c.in-Running.fixed c.in-Running.is).user.ready.user
 
+pub end-requires-clause-counted : goal.end-requires-clause-counted
+end-requires-clause-counted g c goes =
+    let w : World = c.args.self.now.world in
+    let s = c.in-Running.fixed.slot in
+    let o = c.args.self.now.came in
+    let run = c.requires.user c.in-Running.fixed c.in-Running.is in
+    let first = c.come_to-ending in
+    let last = c.deliver_after-ending in
+    comes_counted w s run.user.ready c.requires.counted o run.user.user first.new.world.slots first.ensures.slots
+    last.result last.new.world (last.ensures.come (board_in w) (comes_to (unix_of w) s o) first.ensures.come) last.ensures.slots goes
+
 pub returns-clause-answer : goal.returns-clause-answer
 returns-clause-answer g c p stepped =
     let s = c.in-Running.fixed.slot in
@@ -36,7 +54,7 @@ returns-clause-answer g c p stepped =
     let last = c.deliver_after-ending in
     let begun : HasCome p.board (begins_turn p s) first.result first.new.world =
     stepped_come p s c.args.self.now.came c.args.self.now.world did first.result first.new.world first.ensures.come in
-    subst (λ r. c.end.result ≡ turned (settled_after (turn_of p r (turn p r)))) at
+    subst (λ r. c.end.result ≡ turned (settled_after (after_slot (turn_of p r (turn p r))))) at
     (c.end.ensures.answer ∙ ap turned (sym (turn_is p s (turn p s) last.result last.new.world (last.ensures.come p.board (begins_turn p s) begun))))
 
 pub returns-clause-takes : goal.returns-clause-takes
@@ -48,7 +66,7 @@ returns-clause-takes g c p stepped =
     let last = c.deliver_after-ending in
     let begun : HasCome p.board (begins_turn p s) first.result first.new.world =
     stepped_come p s c.args.self.now.came c.args.self.now.world did first.result first.new.world first.ensures.come in
-    subst (λ r. Takes (settled_after (turn_of p r (turn p r))) c.end.new.self.stage c.end.new.self.world) at
+    subst (λ r. Takes (settled_after (after_slot (turn_of p r (turn p r)))) c.end.new.self.stage c.end.new.self.world) at
     (turn_takes p s (turn p s) last.result last.new.world (last.ensures.come p.board (begins_turn p s) begun) _ _ c.end.ensures.takes)
 
 pub returns-clause-kernel : goal.returns-clause-kernel
@@ -64,7 +82,7 @@ returns-clause-items g c p stepped =
     let last = c.deliver_after-ending in
     let begun : HasCome p.board (begins_turn p s) first.result first.new.world =
     stepped_come p s c.args.self.now.came w did first.result first.new.world first.ensures.come in
-    subst (λ r. Took (g.T.Trace.taken c.args.trace.now) (settled_after (turn_of p r (turn p r))).items (g.T.Trace.taken c.end.new.trace)) at
+    subst (λ r. Took (g.T.Trace.taken c.args.trace.now) (settled_after (after_slot (turn_of p r (turn p r)))).items (g.T.Trace.taken c.end.new.trace)) at
     (turn_items p s (turn p s) last.result last.new.world (last.ensures.come p.board (begins_turn p s) begun) _ _ _
     (last.ensures.items p.board (begins_turn p s) _ begun (stepped_items p s c.args.self.now.came w did _ _ first.ensures.items))
     c.end.ensures.items)

@@ -1,18 +1,26 @@
 use Rattle.std.proofs.Common.{◌∙◌, refl}
 use Rattle.v6_base.proofs.Took.{took_nothing}
 use Rattle.unix_core.specs.declared.world.World.{World}
-use Rattle.unix_core.specs.Parts.{board_in}
+use Rattle.unix_core.specs.Parts.{unix_of, board_in}
+use Rattle.unix_core.proofs.CountLemmas.{counted_same}
+use Rattle.unix_core.proofs.TableLemmas.{with_table}
 use Rattle.unix_core.proofs.EndLemmas.{not_over, ended_good, ended_takes, ended_items, stopped_takes, stopped_items, end_answer}
 use Rattle.unix_core.proofs.machine.Machine.end.Goals as goal
 
 pub end_turn-requires-clause-table : goal.end_turn-requires-clause-table
 end_turn-requires-clause-table g c = (c.requires.good (not_over c.args.ending (c.in-Ran.ensures.goes refl))).agree.table
 
-pub settle-requires : goal.settle-requires
-settle-requires g c =
+pub count-requires-clause-good : goal.count-requires-clause-good
+count-requires-clause-good g c =
     let w : World = c.args.self.now.world in
     let on = not_over c.args.ending (c.in-Ran.ensures.goes refl) in
     ended_good w (c.requires.good on) c.args.s c.requires.user c.requires.slot c.args.ending (c.requires.runs on) c.end_turn.new.table c.end_turn.ensures.table c.end_turn.ensures.good
+
+pub count-requires-clause-counted : goal.count-requires-clause-counted
+count-requires-clause-counted g c =
+    let w : World = c.args.self.now.world in
+    let on = not_over c.args.ending (c.in-Ran.ensures.goes refl) in
+    counted_same w.slots (unix_of w) (unix_of (with_table w c.end_turn.new.table)) refl refl (c.requires.counted on)
 
 pub returns-in-Ran-clause-answer : goal.returns-in-Ran-clause-answer
 returns-in-Ran-clause-answer g c = c.in-Ran.ensures.answer ∙ end_answer c.args.self.now.world c.args.s c.args.ending
@@ -23,7 +31,8 @@ returns-in-Ran-clause-takes g c =
     let goes = c.in-Ran.ensures.goes refl in
     let on = not_over c.args.ending goes in
     ended_takes w (c.requires.good on) c.args.s c.requires.user c.requires.slot c.args.ending (c.requires.runs on) c.end_turn.new.table c.end_turn.ensures.table c.end_turn.ensures.good
-    goes _ _ c.settle.ensures.kernel c.settle.ensures.started (c.end_turn.ensures.board w.procs.images.kept) c.settle.ensures.system
+    goes c.count.new.world c.count.ensures.unix c.count.ensures.board (c.end_turn.ensures.board w.procs.images.kept)
+    _ _ c.settle.ensures.kernel c.settle.ensures.started c.settle.ensures.system
 
 pub returns-in-Ran-clause-items : goal.returns-in-Ran-clause-items
 returns-in-Ran-clause-items g c =
@@ -31,7 +40,8 @@ returns-in-Ran-clause-items g c =
     let goes = c.in-Ran.ensures.goes refl in
     let on = not_over c.args.ending goes in
     ended_items w (c.requires.good on) c.args.s c.requires.user c.requires.slot c.args.ending (c.requires.runs on) c.end_turn.new.table c.end_turn.ensures.table c.end_turn.ensures.good
-    goes _ _ _ (c.end_turn.ensures.board w.procs.images.kept) (c.end_turn.ensures.items (board_in w)) c.settle.ensures.items
+    goes c.count.new.world c.count.ensures.unix c.count.ensures.board (c.end_turn.ensures.board w.procs.images.kept)
+    _ _ _ _ (c.end_turn.ensures.items (board_in w)) c.count.ensures.items c.settle.ensures.items
 
 pub returns-in_default-clause-answer : goal.returns-in_default-clause-answer
 returns-in_default-clause-answer g c = c.turned.ensures.answer ∙ end_answer c.args.self.now.world c.args.s c.args.ending

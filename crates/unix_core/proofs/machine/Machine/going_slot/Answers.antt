@@ -2,7 +2,9 @@ use Rattle.std.proofs.Common.{◌∙◌, ap, sym, subst}
 use Rattle.v6_base.specs.Trace.{Took}
 use Rattle.abstract_unix.specs.Unix.{System}
 use Rattle.abstract_unix.specs.Turn.{Turn, turn, turned}
-use Rattle.unix_core.specs.Parts.{system_at, Takes}
+use Rattle.unix_core.specs.declared.world.World.{World}
+use Rattle.unix_core.specs.Parts.{system_at, phase_of, goes_on, Takes}
+use Rattle.unix_core.proofs.TurnCounts.{goes_counted}
 use Rattle.unix_core.proofs.PutLemmas.{good_alive}
 use Rattle.unix_core.proofs.TurnLemmas.{turn_is, turn_takes, turn_items}
 use Rattle.unix_core.proofs.TurnSteps.{user_slot}
@@ -12,6 +14,14 @@ pub end-requires-clause-slot : goal.end-requires-clause-slot
 end-requires-clause-slot g c =
     let m = c.args.self.now in
     (good_alive m.world c.args.s (c.requires.kernel.resting c.requires.resting).good c.requires.runs c.requires.user).below
+
+pub end-requires-clause-counted : goal.end-requires-clause-counted
+end-requires-clause-counted g c goes =
+    let w : World = c.args.self.now.world in
+    let paused = c.requires.kernel.resting c.requires.resting in
+    goes_counted w c.args.s (record { good = paused.good; runs = c.requires.runs; user = c.requires.user })
+    (c.requires.kernel.counted (ap (λ t. goes_on (phase_of t)) c.requires.resting)) (paused.calls c.args.s c.requires.runs c.requires.user)
+    c.go_on-ending.result c.go_on-ending.new.self.world c.go_on-ending.ensures.come c.go_on-ending.ensures.slots goes
 
 pub returns-clause-answer : goal.returns-clause-answer
 returns-clause-answer g c =

@@ -1,10 +1,15 @@
-use Rattle.std.proofs.Common.{◌≡◌, ◌∷◌, [], false, rules, sym, ap, subst}
+use Rattle.std.proofs.Common.{◌≡◌, ◌∷◌, [], false, rules, refl, sym, ap, subst}
 use Rattle.v6_base.specs.Trace.{Took, Log}
 use Rattle.v6_base.specs.declared.entry.Entry.{Entry}
 use Rattle.fs_laws.specs.Rest.{SameAround}
 use Rattle.unix_core.specs.declared.world.World.{World}
 use Rattle.abstract_unix.specs.Unix.{System}
-use Rattle.unix_core.specs.Parts.{system_at, is_over}
+use Rattle.unix_core.specs.declared.slots.Slots.{Slots}
+use Rattle.unix_core.specs.Slots.{IsCounted}
+use Rattle.unix_core.specs.Parts.{unix_of, system_at, goes_on, is_over}
+use Rattle.unix_core.proofs.CountLemmas.{counted_same}
+use Rattle.unix_core.proofs.TurnCounts.{charged_counted, delivered_counted}
+use Rattle.unix_core.proofs.WaitLemmas.{taken_unix}
 use Rattle.unix_core.proofs.BootKernelLemmas.{kernel_good}
 use Rattle.unix_core.proofs.GoodLemmas.{runs_low}
 use Rattle.unix_core.proofs.TableLemmas.{with_table}
@@ -47,6 +52,21 @@ deliver-requires-clause-user g c =
     c.is_as_trap.result (second_trap c.mode-mode.result n.world.procs.table second.result c.is_as_trap.result second.ensures.told
     c.is_as_trap.ensures.second c.is_as_trap.ensures.within) in
     ticked.user
+
+pub settle-requires-clause-counted : goal.settle-requires-clause-counted
+settle-requires-clause-counted g c =
+    let w : World = c.args.self.now.world in
+    let n = c.charge.new.self in
+    let then_ : World = with_table n.world c.wake.new.table in
+    let on : is_over c.deliver.result ≡ false = search rules in
+    let counted : IsCounted n.world.slots (unix_of n.world) =
+    subst (λ (x : Slots). IsCounted x (unix_of n.world)) (sym c.charge.ensures.slots)
+    (subst (IsCounted w.slots) (sym c.charge.ensures.unix)
+    (charged_counted w.slots (unix_of w) c.mode-mode.result w.procs.table.running (c.requires.kernel.counted (ap goes_on c.requires.started)))) in
+    subst (λ (x : Slots). IsCounted x (unix_of c.deliver.new.self.world)) (sym c.deliver.ensures.slots)
+    (subst (IsCounted n.world.slots) (sym (taken_unix _ _ c.deliver.result c.deliver.new.self.world c.deliver.ensures.come on))
+    (delivered_counted n.world.slots c.is_as_trap.result (unix_of then_) c.wake.new.table.running (deliver-requires-clause-user g c)
+    (counted_same n.world.slots (unix_of n.world) (unix_of then_) refl refl counted)))
 
 pub returns-in-Panic : goal.returns-in-Panic
 returns-in-Panic g c =

@@ -1,4 +1,11 @@
-use Rattle.std.proofs.Common.{refl}
+use Rattle.std.proofs.Common.{refl, sym, ap, subst}
+use Rattle.unix_core.specs.declared.world.World.{World}
+use Rattle.unix_core.specs.declared.slots.Slots.{Slots}
+use Rattle.unix_core.specs.Slots.{IsCounted}
+use Rattle.unix_core.specs.Parts.{unix_of, goes_on}
+use Rattle.unix_core.proofs.CountLemmas.{counted_same}
+use Rattle.unix_core.proofs.TurnCounts.{key_counted}
+use Rattle.unix_core.proofs.TableLemmas.{with_table}
 use Rattle.unix_core.proofs.BootKernelLemmas.{kernel_good}
 use Rattle.unix_core.proofs.TypedLemmas.{line_good, typed_good, typed_next, typed_items}
 use Rattle.unix_core.proofs.machine.Machine.typed.Goals as goal
@@ -11,8 +18,19 @@ send_key-requires g c =
 pub wake-requires : goal.wake-requires
 wake-requires g c = c.send_key.ensures.good.agree.table
 
-pub settle-requires : goal.settle-requires
-settle-requires g c =
+pub settle-requires-clause-counted : goal.settle-requires-clause-counted
+settle-requires-clause-counted g c =
+    let w : World = c.args.self.now.world in
+    let sent = c.send_key.new.self in
+    let typed_ : World = record w { files = record w.files { line = c.typed-keyed.new.self } } in
+    counted_same sent.world.slots (unix_of sent.world) (unix_of (with_table sent.world c.wake.new.table)) refl refl
+    (subst (λ (x : Slots). IsCounted x (unix_of sent.world)) (sym c.send_key.ensures.slots)
+    (subst (IsCounted w.slots) (sym c.send_key.ensures.unix)
+    (key_counted w.slots (unix_of typed_) c.typed-keyed.result
+    (counted_same w.slots (unix_of w) (unix_of typed_) refl refl (c.requires.kernel.counted (ap goes_on c.requires.started))))))
+
+pub settle-requires-clause-good : goal.settle-requires-clause-good
+settle-requires-clause-good g c =
     let sent = c.send_key.new.self in
     typed_good c.args.self.now.world c.args.byte c.typed-keyed.new.self c.typed-keyed.ensures.line c.typed-keyed.result c.typed-keyed.ensures.keyed
     sent.world c.send_key.ensures.good c.send_key.ensures.unix c.send_key.ensures.board c.calls.result c.calls.ensures
