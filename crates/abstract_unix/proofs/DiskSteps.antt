@@ -87,8 +87,10 @@ module _ (s : ℕ) where
   lives_answers u (Sleep pri chan) here = here
 
   lives_did : (u : Unix) (did : Did) → LivesIn s u → LivesIn s (did_by u s did).unix
-  lives_did u did here = lives_answers (with_handed u s did.state) did.answer
-      (lives_put u (record (process_of u s) { u = did.state.u; row = did.state.row; «data» = did.state.image.data; stack = did.state.image.stack }) refl here)
+  lives_did u did here =
+      let q : Process = record (process_of u s) { u = did.state.u; row = did.state.row; «data» = did.state.image.data; stack = did.state.image.stack } in
+      let now = lives_put u q refl here in
+      lives_answers (with_handed u s did.state) did.answer (record { there = now.there; lives = now.lives; fifty = now.fifty })
 
   lives_came : (u : Unix) (c : Comes) → IsStill (world_of u) s c.state → LivesIn s (came_by u s c).unix
   lives_came u c k = lives_answers (with_world u c.state) c.answer (record { there = k.there; lives = k.lives; fifty = k.fifty })

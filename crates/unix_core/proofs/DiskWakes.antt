@@ -21,7 +21,7 @@ use Rattle.proc_tab.specs.declared.member.Member.{Member}
 use Rattle.proc_tab.specs.Processes.{member_at}
 use Rattle.image_keep.specs.Kept.{Held, Keeping, Nothing, Alive, Grave, HasImage, keeping, text_of, area_of}
 use Rattle.sys_procs.specs.declared.procs.Procs.{Procs}
-use Rattle.sys_procs.specs.Process.{Process, process_in}
+use Rattle.sys_procs.specs.Process.{Process, process_by, process_in}
 use Rattle.sys_procs.specs.World.{clock_of}
 use Rattle.sys_procs.specs.Signals.{is_meant}
 use Rattle.sys_procs.specs.Agree.{Kind, Free, Lives, Died, kind_of_stat, kind_by, kind_of_keeping, kind_of_member, Agrees, board_of}
@@ -80,12 +80,14 @@ module _ (p : Procs) (s : ℕ) (agree : AreProcs p) (above : 0 < s) (low : s < 5
         where
           zombie : (m : Option Member) (x : Keeping) → kind_of_member m ≡ Died → process_in m x (text_of p.images.kept s) ≡ Some q → q.is_zombie ≡ true
           zombie None x dead e = absurd (cc dead)
-          zombie (Some m) x dead e = is_dead m.is_dead dead (same x e)
+          zombie (Some m) x dead e =
+              let same : process_by m x (text_of p.images.kept s) ≡ q = cc e in
+              is_dead m.is_dead dead (sym (dead_by x) ∙ ap (λ (r : Process). r.is_zombie) same)
             where
-              same : (x : Keeping) → process_in (Some m) x (text_of p.images.kept s) ≡ Some q → m.is_dead ≡ q.is_zombie
-              same Nothing e = ap (λ (r : Process). r.is_zombie) (cc e)
-              same (Alive held) e = ap (λ (r : Process). r.is_zombie) (cc e)
-              same (Grave u block) e = ap (λ (r : Process). r.is_zombie) (cc e)
+              dead_by : (x : Keeping) → (process_by m x (text_of p.images.kept s)).is_zombie ≡ m.is_dead
+              dead_by Nothing = refl
+              dead_by (Alive held) = refl
+              dead_by (Grave u block) = refl
 
               is_dead : (b : Bool) → kind_by b ≡ Died → b ≡ q.is_zombie → q.is_zombie ≡ true
               is_dead true k e = sym e
@@ -117,7 +119,7 @@ line_for s = Log (entry.Wake (Disk s))
 abbrev pub lines_below : ℕ → ℕ → List (Option Process) → List Item
 lines_below n k ps = map line_for (meant_below (waits_until n) n k ps)
 
-one_line : Bool → ℕ → List Item
+abbrev one_line : Bool → ℕ → List Item
 one_line b k = cond b (line_for k ∷ []) []
 
 abbrev board_by : Board → List Item → Board
@@ -183,10 +185,10 @@ module _ {n k : ℕ} {old mid : Procs} {woken : Woken} {start a : Taken} (was : 
     (end : ℕ) (ends : (m : ℕ) → m < NEVER → IsMeant m k (get_or (processes_of mid) k None) ≡ (end == m)) (few : n < NEVER)
     (t : Table) (table : t ≡ called_table (end == n) (Disk k) mid.table) (fine : IsTable t)
     (board : board_of t mid.images.kept ≡ (logged {W = Unix} (board_of mid.table mid.images.kept) (wakes (end == n) (Disk k))).board) where
-  ps : List (Option Process)
+  abbrev ps : List (Option Process)
   ps = processes_of old
 
-  now : Procs
+  abbrev pub now : Procs
   now = record mid { table = t }
 
   same : processes_of mid ≡ ps

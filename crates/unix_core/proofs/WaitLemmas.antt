@@ -1,5 +1,5 @@
 -- A process begins to wait for the disk, or has waited: its u area is another one, and the rest of the world as it was.
-use Rattle.std.proofs.Common.{◌≡◌, ◌≢◌, ◌∙◌, ◌<◌, ◌≤◌, ◌+◌, ◌-◌, ◌==◌, ◌&&◌, not, cond, ℕ, Bool, true, false, List, [], length, min, Option, Some, None, replicate, refl, sym, ap, subst, inl, inr, arith}
+use Rattle.std.proofs.Common.{◌≡◌, ◌≢◌, ◌∙◌, ◌<◌, ◌≤◌, ◌+◌, ◌-◌, ◌==◌, ◌&&◌, not, cond, ℕ, Bool, true, false, List, [], length, min, Option, Some, None, refl, sym, ap, subst, inl, inr, arith}
 use Rattle.std.proofs.lemmas.Bool.{ne_eqb}
 use Rattle.u_area.specs.declared.layout.TheConstants.{NOTHING_PENDING, DISK_WAIT}
 use Rattle.u_area.specs.declared.area.UArea.{UArea}
@@ -25,7 +25,7 @@ use Rattle.abstract_unix.proofs.GoingOnLemmas.{moved_goes_on}
 use Rattle.abstract_unix.proofs.PendingRows.{never_in_pipe}
 use Rattle.unix_core.specs.declared.world.World.{World}
 use Rattle.unix_core.specs.declared.slots.Slots.{Slots}
-use Rattle.unix_core.specs.Slots.{passed_in, timing_in, CanWait, HasWaited}
+use Rattle.unix_core.specs.Slots.{passed_in, timing_in, CanWait, HasWaited, rested_area}
 use Rattle.unix_core.specs.Parts.{unix_of, board_in, ended_as, is_over, IsReady, HasCome}
 use Rattle.unix_core.proofs.WorldLemmas.{ready_alive, slot_is}
 use Rattle.unix_core.proofs.PutLemmas.{with_images, with_kept, good_but}
@@ -41,7 +41,7 @@ pub record IsSameImage (u v : UArea) : Type 0 where
 module _ (w : World) (s : ℕ) (ready : IsReady w s) (rule : UArea → UArea) (like : (u : UArea) → IsSameImage (rule u) u)
     (never : (u : UArea) → IsPipeCall (rule u).pending → ⊥) (x : ImagesState)
     (kept : x.kept ≡ with_area w.procs.images.kept s (rule (area_of w.procs.images.kept s))) where
-  p : Process
+  abbrev p : Process
   p = process_of (unix_of w) s
 
   own : x.kept ≡ with_area w.procs.images.kept s (rule p.u)
@@ -122,9 +122,6 @@ waiting_sizes end u v m is has =
     subst (λ x. HasSizes x m) (sym is) (record { text_size = has.text_size; data_size = has.data_size; stack_size = has.stack_size })
 
 -- 3. A wait is over.
-abbrev pub rested_area : UArea → UArea
-rested_area u = record u { pending = NOTHING_PENDING; call = replicate 8 0 }
-
 module _ (w : World) (s : ℕ) (ready : IsReady w s) (x : ImagesState)
     (kept : x.kept ≡ with_area w.procs.images.kept s (rested_area (area_of w.procs.images.kept s))) where
   pub rest_come : HasCome (board_in w) (returns (with_process (unix_of w) s (awake (process_of (unix_of w) s)))) Trapped (with_images w x)

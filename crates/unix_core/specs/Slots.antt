@@ -1,12 +1,13 @@
 -- How a kernel counts the slots that have been taken, and who waits for the disk.
-use Rattle.std.specs.Prelude.{◌≡◌, ◌≢◌, ◌<◌, ◌≤◌, ◌⊎◌, ℕ, ◌+◌, ◌-◌, Bool, true, List, map, Option, Some, None, slice_index_or}
+use Rattle.std.specs.Prelude.{◌≡◌, ◌≢◌, ◌<◌, ◌≤◌, ◌⊎◌, ℕ, ◌+◌, ◌-◌, Bool, true, List, map, Option, Some, None, slice_index_or, replicate}
 use Rattle.v6_base.specs.Trace.{Item, Log}
 use Rattle.v6_base.specs.declared.entry.Chan.TheVariants.{Disk}
 use Rattle.v6_base.specs.declared.entry.Entry.TheVariants as entry
 use Rattle.abstract_unix.specs.Unix.{Timing, Unix}
 use Rattle.abstract_unix.specs.Turn.{disk_end_of, waits_until}
 use Rattle.abstract_unix.specs.Whole.{AreDue, NoGraveWaits}
-use Rattle.u_area.specs.declared.layout.TheConstants.{DISK_WAIT}
+use Rattle.u_area.specs.declared.layout.TheConstants.{NOTHING_PENDING, DISK_WAIT}
+use Rattle.u_area.specs.declared.area.UArea.{UArea}
 use Rattle.sys_procs.specs.Process.{Process}
 use Rattle.sys_procs.specs.Signals.{meant_in}
 use Rattle.sys_procs.specs.declared.procs.Procs.{Procs}
@@ -59,3 +60,7 @@ AreDueFrom next n processes = (s : ℕ) (p : Process) → slice_index_or process
 -- who has ended waits for nothing
 abbrev pub NoneInGraves : List (Option Process) → Type 0
 NoneInGraves processes = (s : ℕ) (p : Process) → slice_index_or processes s None ≡ Some p → p.is_zombie ≡ true → p.u.pending ≢ DISK_WAIT
+
+-- the u area of a process whose call is done
+abbrev pub rested_area : UArea → UArea
+rested_area u = record u { pending = NOTHING_PENDING; call = replicate 8 0 }

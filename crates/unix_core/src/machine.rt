@@ -309,7 +309,7 @@ impl Machine {
         see_procs(&self.world.procs);
         match passed {
             Ok(()) => {
-                count(&mut self.world, trace);
+                let _woken = count(&mut self.world, trace);
                 self.settle(trace);
                 Turned::Ran
             }

@@ -1,6 +1,6 @@
 //! The slots that have been taken, and who waits for the disk up to one of them: `iowait` and `iodone` in Lions' Commentary,
 //! `bio.c`.
-ghost use Rattle.std.specs.Prelude.{◌≡◌, ◌≢◌, ◌<◌, ◌≤◌, ◌==◌, ◌||◌, ℕ, true, false, not, length, map, min, None, slice_index_or};
+ghost use Rattle.std.specs.Prelude.{◌≡◌, ◌≢◌, ◌<◌, ◌≤◌, ◌+◌, ◌==◌, ◌||◌, ℕ, true, false, not, length, map, min, None, slice_index_or};
 ghost use Rattle.v6_base.specs.Trace.{Took};
 ghost use Rattle.pick_rules.specs.Effects.{Show};
 ghost use Rattle.pick_rules.specs.Logged.{logged};
@@ -15,7 +15,7 @@ ghost use Rattle.sys_procs.specs.Agree.{board_of};
 ghost use Rattle.sys_procs.specs.Handed.{AreProcs};
 ghost use Rattle.sys_procs.specs.Signals.{is_meant};
 ghost use Rattle.unix_core.specs.Parts.{unix_of, board_in, one_before, IsGood, IsReady, HasCome};
-ghost use Rattle.unix_core.specs.Slots.{passed_in, CanWait, IsCounted, HasWaited, processes_of, woken_with, AreDueFrom, NoneInGraves};
+ghost use Rattle.unix_core.specs.Slots.{passed_in, CanWait, IsCounted, HasWaited, rested_area, processes_of, woken_with, AreDueFrom, NoneInGraves};
 ghost use Rattle.unix_core.specs.declared.slots.TheConstants.{NEVER};
 
 use crate::settling::wake;
@@ -67,11 +67,24 @@ impl Slots {
         self.due - self.left
     }
 
+    /// The number of the slot with whose end a wait ends that begins in this slot.
+    fn wait_end(&self) -> u32
+        requires within { self.now.left ≤ self.now.due }
+        requires fresh { passed_in self.now ≤ 3000000000 }
+        requires few { self.now.disk ≤ 999999999 }
+        ensures { result ≡ passed_in self.now + 1 + self.now.disk }
+    {
+        self.passed() + 1 + self.disk
+    }
+
     /// A wait ends with the slot of this number.
     fn add(&mut self, end: u32)
         requires within { self.old.left ≤ self.old.due }
         requires ahead { passed_in self.old < end }
         ensures due { self.new.due ≡ min end self.old.due }
+        ensures ends { self.new.due ≤ end }
+        ensures sooner { self.new.due ≤ self.old.due }
+        ensures later { passed_in self.old < self.new.due }
         ensures passed { passed_in self.new ≡ passed_in self.old }
         ensures within { self.new.left ≤ self.new.due }
         ensures disk { self.new.disk ≡ self.old.disk }
@@ -116,7 +129,7 @@ pub(crate) fn wait_for_disk(world: &mut World, s: Slot) -> Ending
     ensures slots { HasWaited true world.old.slots world.new.slots }
     ensures files { world.new.files ≡ world.old.files }
 {
-    let end = world.slots.passed() + 1 + world.slots.disk;
+    let end = world.slots.wait_end();
     let u = waiting(world.procs.images.area(s), end);
     world.procs.images.set_area(s, &u);
     world.slots.add(end);
@@ -124,6 +137,16 @@ pub(crate) fn wait_for_disk(world: &mut World, s: Slot) -> Ending
         pri: PRIBIO,
         chan: Chan::Disk(s),
     }
+}
+
+/// The u area of a process whose call is done.
+fn rested(u: UArea) -> UArea
+    ensures { result ≡ rested_area u }
+{
+    let mut u = u;
+    u.pending = NOTHING_PENDING;
+    u.call = [0; 8];
+    u
 }
 
 /// A process has waited for the disk: its call is done.
@@ -136,9 +159,7 @@ pub(crate) fn end_wait(world: &mut World, s: Slot) -> Ending
     ensures files { world.new.files ≡ world.old.files }
     ensures trapped { result ≡ Ending.Trapped }
 {
-    let mut u = world.procs.images.area(s);
-    u.pending = NOTHING_PENDING;
-    u.call = [0; 8];
+    let u = rested(world.procs.images.area(s));
     world.procs.images.set_area(s, &u);
     Ending::Trapped
 }

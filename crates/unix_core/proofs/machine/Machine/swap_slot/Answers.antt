@@ -12,15 +12,15 @@ pub pass-passed-requires-clause-matches : goal.pass-passed-requires-clause-match
 pass-passed-requires-clause-matches g c =
     let w : World = c.args.self.now.world in agree_matches w.procs.rows w.procs.table w.procs.images.kept c.requires.good.agree
 
-pub count-requires-clause-good : goal.count-requires-clause-good
-count-requires-clause-good g c =
+pub count-woken-requires-clause-good : goal.count-woken-requires-clause-good
+count-woken-requires-clause-good g c =
     let w : World = c.args.self.now.world in
     let passed = c.pass-passed in
     after_good w passed.new.table passed.new.images _ _ c.requires.good passed.ensures.does passed.ensures.same c.see_procs.ensures.images
     (c.in-Ok.ensures.sleeps)
 
-pub count-requires-clause-counted : goal.count-requires-clause-counted
-count-requires-clause-counted g c =
+pub count-woken-requires-clause-counted : goal.count-woken-requires-clause-counted
+count-woken-requires-clause-counted g c =
     let w : World = c.args.self.now.world in
     let passed = c.pass-passed in
     after_counted w passed.new.table passed.new.images _ _ c.requires.good passed.ensures.does passed.ensures.same c.see_procs.ensures.images
@@ -31,7 +31,7 @@ returns-in-Ok-clause-answer g c =
     let w : World = c.args.self.now.world in
     let passed = c.pass-passed in
     slot_answer w passed.new.table passed.new.images _ _ c.requires.good passed.ensures.does passed.ensures.same c.see_procs.ensures.images
-    c.in-Ok.ensures.answer c.count.new.world c.count.ensures.unix c.count.ensures.board
+    c.in-Ok.ensures.answer c.count-woken.new.world c.count-woken.ensures.unix c.count-woken.ensures.board
 
 pub returns-in-Ok-clause-takes : goal.returns-in-Ok-clause-takes
 returns-in-Ok-clause-takes g c =
@@ -39,7 +39,7 @@ returns-in-Ok-clause-takes g c =
     let passed = c.pass-passed in
     let last = c.settle.new.self in
     slot_takes w passed.new.table passed.new.images _ _ c.requires.good passed.ensures.does passed.ensures.same c.see_procs.ensures.images
-    c.in-Ok.ensures.answer c.count.new.world c.count.ensures.unix c.count.ensures.board
+    c.in-Ok.ensures.answer c.count-woken.new.world c.count-woken.ensures.unix c.count-woken.ensures.board
     last.stage last.world c.settle.ensures.kernel c.settle.ensures.started c.settle.ensures.system
 
 pub returns-in-Ok-clause-items : goal.returns-in-Ok-clause-items
@@ -47,8 +47,8 @@ returns-in-Ok-clause-items g c =
     let w : World = c.args.self.now.world in
     let passed = c.pass-passed in
     slot_items w passed.new.table passed.new.images _ _ c.requires.good passed.ensures.does passed.ensures.same c.see_procs.ensures.images
-    c.in-Ok.ensures.answer c.count.new.world c.count.ensures.unix c.count.ensures.board _ _ _
-    passed.ensures.does.items c.count.ensures.items c.settle.ensures.items
+    c.in-Ok.ensures.answer c.count-woken.new.world c.count-woken.ensures.unix c.count-woken.ensures.board _ _ _
+    passed.ensures.does.items c.count-woken.ensures.items c.settle.ensures.items
 
 pub returns-in-Err-clause-takes : goal.returns-in-Err-clause-takes
 returns-in-Err-clause-takes g c =
