@@ -1,5 +1,5 @@
 -- Who has waited for the disk is woken, slot by slot.
-use Rattle.std.proofs.Common.{◌≡◌, ◌≢◌, ◌∙◌, ◌<◌, ◌≤◌, ◌⊎◌, ◌+◌, ◌-◌, ◌==◌, ◌&&◌, ◌||◌, not, cond, ℕ, suc, Bool, true, false, List, [], ◌∷◌, ◌++◌, length, map, fold, get_or, Option, Some, None, refl, sym, ap, subst, inl, inr, arith}
+use Rattle.std.proofs.Common.{◌≡◌, ◌≢◌, ◌∙◌, ◌<◌, ◌≤◌, ◌⊎◌, ◌+◌, ◌*◌, ◌-◌, ◌==◌, ◌&&◌, ◌||◌, not, cond, ℕ, suc, Bool, true, false, List, [], ◌∷◌, ◌++◌, length, map, fold, get_or, slice_index, Option, Some, None, refl, sym, ap, subst, inl, inr, arith}
 use Rattle.std.specs.List.{range_with_len}
 use Rattle.std.proofs.lemmas.Bool.{cases_lt, eqb-true, eq-eqb, ne_eqb}
 use Rattle.std.proofs.lemmas.List.{get_or_past}
@@ -112,6 +112,39 @@ module _ (p : Procs) (s : ℕ) (agree : AreProcs p) (above : 0 < s) (low : s < 5
       ∙ ap (λ x. process_in (Some here.member) x (text_of p.images.kept s)) here.image_is ∙ ap (λ (q : Process). Some q) (sym here.process_is))
       ∙ ap (λ (u : UArea). waits_until n s (record (process_here p s) { u = u })) (sym (area_here p s alive))
 
+  -- Who doesn't live waits for nothing,
+  pub other_waits : (kind_of_stat (row_at p.table s).stat ≢ Lives) → NoneInGraves (processes_of p) → (n : ℕ) → n < NEVER
+      → IsMeant n s (get_or (processes_of p) s None) ≡ (NEVER == n)
+  other_waits other graves n few = by (row_at p.table s).stat refl
+    where
+      alive : (stat : Stat) → (row_at p.table s).stat ≡ stat → kind_of_stat stat ≡ Lives → IsMeant n s (get_or (processes_of p) s None) ≡ (NEVER == n)
+      alive stat is lives = absurd (other (ap kind_of_stat is ∙ lives))
+
+      by : (stat : Stat) → (row_at p.table s).stat ≡ stat → IsMeant n s (get_or (processes_of p) s None) ≡ (NEVER == n)
+      by Empty is = free_waits is n few
+      by Zombie is = dead_waits is graves n few
+      by Sleeping is = alive Sleeping is refl
+      by Waiting is = alive Waiting is refl
+      by Ready is = alive Ready is refl
+
+  -- nor does one in another call, or in none,
+  pub no_wait : HasImage p.images.kept s → (u : UArea) → u ≡ area_of p.images.kept s → u.pending ≢ DISK_WAIT → (n : ℕ) → n < NEVER
+      → IsMeant n s (get_or (processes_of p) s None) ≡ (NEVER == n)
+  no_wait image u is other n few =
+      living_waits image n
+      ∙ ap (λ (v : UArea). waits_until n s (record (process_here p s) { u = v })) (sym is)
+      ∙ ap (λ b. b && (disk_end_of (record (process_here p s) { u = u }) == n)) (ne_eqb u.pending DISK_WAIT other)
+      ∙ never_is n few
+
+  -- and else its u area says up to which slot.
+  pub some_wait : HasImage p.images.kept s → (u : UArea) → u ≡ area_of p.images.kept s → u.pending ≡ DISK_WAIT → (end : ℕ)
+      → end ≡ 65536 * slice_index u.call 4 + slice_index u.call 5 → (n : ℕ) → IsMeant n s (get_or (processes_of p) s None) ≡ (end == n)
+  some_wait image u is waits end ends n =
+      living_waits image n
+      ∙ ap (λ (v : UArea). waits_until n s (record (process_here p s) { u = v })) (sym is)
+      ∙ ap (λ b. b && (disk_end_of (record (process_here p s) { u = u }) == n)) (eq-eqb u.pending DISK_WAIT waits)
+      ∙ ap (λ m. m == n) (sym ends)
+
 -- 2. Slot by slot.
 abbrev pub line_for : ℕ → Item
 line_for s = Log (entry.Wake (Disk s))
@@ -164,6 +197,12 @@ pub record IsWoken (n k : ℕ) (old new : Procs) (woken : Woken) (start end : Ta
   pub due : (s : ℕ) (p : Process) → s < k → get_or (processes_of old) s None ≡ Some p → p.u.pending ≡ DISK_WAIT → n < disk_end_of p
       → woken.next ≤ disk_end_of p
   pub items : Took start (lines_below n k (processes_of old)) end
+
+-- nobody is in the kernel's slot
+pub kernel_none : (p : Procs) → member_at p.rows.slots 0 ≡ None → get_or (processes_of p) 0 None ≡ None
+kernel_none p none =
+    process_in_slot p.rows.slots p.images.kept 0 (omega arith)
+    ∙ ap (λ o. process_in o (keeping p.images.kept 0) (text_of p.images.kept 0)) none
 
 pub woken_first : (n : ℕ) (p : Procs) (start : Taken) → AreProcs p → n < NEVER → get_or (processes_of p) 0 None ≡ None
     → IsWoken n 1 p p (record { any = false; next = NEVER }) start start

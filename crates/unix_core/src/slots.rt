@@ -1,6 +1,6 @@
 //! The slots that have been taken, and who waits for the disk up to one of them: `iowait` and `iodone` in Lions' Commentary,
 //! `bio.c`.
-ghost use Rattle.std.specs.Prelude.{◌≡◌, ◌≢◌, ◌<◌, ◌≤◌, ◌+◌, ◌==◌, ◌||◌, ℕ, true, false, not, length, map, min, None, slice_index_or};
+ghost use Rattle.std.specs.Prelude.{◌≡◌, ◌≢◌, ◌<◌, ◌≤◌, ◌+◌, ◌*◌, ◌==◌, ◌||◌, ℕ, true, false, not, length, map, min, None, slice_index, slice_index_or};
 ghost use Rattle.v6_base.specs.Trace.{Took};
 ghost use Rattle.pick_rules.specs.Effects.{Show};
 ghost use Rattle.pick_rules.specs.Logged.{logged};
@@ -11,7 +11,8 @@ ghost use Rattle.abstract_unix.specs.Unix.{Unix, process_of, with_process};
 ghost use Rattle.abstract_unix.specs.Steps.{returns};
 ghost use Rattle.abstract_unix.specs.Calls.{waiting_area, waits_for_disk};
 ghost use Rattle.abstract_unix.specs.Turn.{with_slot, waits_until, disk_lines};
-ghost use Rattle.sys_procs.specs.Agree.{board_of};
+ghost use Rattle.pick_rules.specs.Table.{row_at};
+ghost use Rattle.sys_procs.specs.Agree.{Lives, kind_of_stat, board_of};
 ghost use Rattle.sys_procs.specs.Handed.{AreProcs};
 ghost use Rattle.sys_procs.specs.Signals.{is_meant};
 ghost use Rattle.unix_core.specs.Parts.{unix_of, board_in, one_before, IsGood, IsReady, HasCome};
@@ -81,6 +82,7 @@ impl Slots {
     fn add(&mut self, end: u32)
         requires within { self.old.left ≤ self.old.due }
         requires ahead { passed_in self.old < end }
+        requires before { passed_in self.old < self.old.due }
         ensures due { self.new.due ≡ min end self.old.due }
         ensures ends { self.new.due ≤ end }
         ensures sooner { self.new.due ≤ self.old.due }
@@ -164,6 +166,32 @@ pub(crate) fn end_wait(world: &mut World, s: Slot) -> Ending
     Ending::Trapped
 }
 
+/// What the table says of a slot.
+fn stat_of(procs: &Procs, s: Slot) -> Stat
+    requires { s < 50 }
+    ensures { result ≡ (row_at procs.now.table s).stat }
+{
+    procs.table.rows[s as usize].stat
+}
+
+/// Whether a slot has a process that hasn't ended.
+fn lives(stat: Stat) -> bool
+    ensures yes { result ≡ true → kind_of_stat stat ≡ Lives }
+    ensures no { result ≡ false → kind_of_stat stat ≢ Lives }
+{
+    match stat {
+        Stat::Empty | Stat::Zombie => false,
+        Stat::Sleeping | Stat::Waiting | Stat::Ready => true,
+    }
+}
+
+/// The number of the slot with whose end the wait ends that a u area keeps.
+fn end_kept(u: &UArea) -> u32
+    ensures { result ≡ 65536 * slice_index u.now.call 4 + slice_index u.now.call 5 }
+{
+    65536 * u32::from(u.call[4]) + u32::from(u.call[5])
+}
+
 /// The number of the slot with whose end a process waits no more for the disk: `NEVER` where it doesn't wait for it. Who has ended
 /// waits for nothing.
 fn disk_end(procs: &Procs, s: Slot) -> u32
@@ -174,17 +202,14 @@ fn disk_end(procs: &Procs, s: Slot) -> u32
     ensures { (n : ℕ) → n < NEVER
         → is_meant (waits_until n) s (slice_index_or (processes_of procs.now) s None) ≡ (result == n) }
 {
-    match procs.table.rows[s as usize].stat {
-        Stat::Empty | Stat::Zombie => NEVER,
-        Stat::Sleeping | Stat::Waiting | Stat::Ready => {
-            let u = procs.images.area(s);
-            if u.pending == DISK_WAIT {
-                65536 * u32::from(u.call[4]) + u32::from(u.call[5])
-            } else {
-                NEVER
-            }
-        }
+    if !lives(stat_of(procs, s)) {
+        return NEVER;
     }
+    let u = procs.images.area(s);
+    if u.pending != DISK_WAIT {
+        return NEVER;
+    }
+    end_kept(&u)
 }
 
 /// Who was woken by the disk with the end of a slot, and with which slot that comes again.
@@ -232,6 +257,7 @@ fn wake_disks<T: Trace>(procs: &mut Procs, passed: u32, trace: &mut T) -> Woken
     ensures items { Took (T.taken trace.old) (woken_with passed (processes_of procs.old)) (T.taken trace.new) }
     ensures frame { T.leads_to trace.old trace.new }
 {
+    let _kernel = procs.rows.in_use(0);
     let mut woken = Woken {
         any: false,
         next: NEVER,

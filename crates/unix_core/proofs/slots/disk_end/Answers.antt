@@ -1,0 +1,26 @@
+use Rattle.std.proofs.Common.{◌≡◌, ◌∙◌, sym, ap}
+use Rattle.image_keep.specs.Kept.{HasImage}
+use Rattle.sys_procs.specs.Agree.{kind_of_stat}
+use Rattle.sys_procs.specs.declared.procs.Procs.{Procs}
+use Rattle.unix_core.proofs.DiskWakes.{living_image, other_waits, no_wait, some_wait}
+use Rattle.unix_core.proofs.slots.disk_end.Goals as goal
+
+pub area-u-requires : goal.area-u-requires
+area-u-requires c =
+    living_image c.args.procs.now c.args.s c.requires.agree c.requires.above c.requires.slot
+    (ap kind_of_stat (sym c.stat_of.ensures) ∙ c.lives.ensures.yes c.if-not-lives.false)
+
+pub returns-then-not-lives : goal.returns-then-not-lives
+returns-then-not-lives c =
+    other_waits c.args.procs.now c.args.s c.requires.agree c.requires.above c.requires.slot
+    (λ lives. c.lives.ensures.no c.if-not-lives.true (ap kind_of_stat c.stat_of.ensures ∙ lives)) c.requires.graves
+
+pub returns-then-u-ne-DISK_WAIT : goal.returns-then-u-ne-DISK_WAIT
+returns-then-u-ne-DISK_WAIT c =
+    no_wait c.args.procs.now c.args.s c.requires.agree c.requires.above c.requires.slot (area-u-requires c) c.area-u.result c.area-u.ensures.u
+    c.if-u-ne-DISK_WAIT.true
+
+pub returns : goal.returns
+returns c n few =
+    some_wait c.args.procs.now c.args.s c.requires.agree c.requires.above c.requires.slot (area-u-requires c) c.area-u.result c.area-u.ensures.u
+    c.if-u-ne-DISK_WAIT.false c.end_kept.result c.end_kept.ensures n
