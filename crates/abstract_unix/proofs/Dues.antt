@@ -57,10 +57,10 @@ module _ (s : ℕ) where
   times_answers u (Fail e) = times_refuses u (error_number e)
   times_answers u (Sleep pri chan) = refl
 
-  times_did : (u : Unix) (did : Did) → Times u.timing (did_by u s did)
+  pub times_did : (u : Unix) (did : Did) → Times u.timing (did_by u s did)
   times_did u did = times_answers (with_handed u s did.state) did.answer
 
-  times_came : (u : Unix) (c : Comes) → Times u.timing (came_by u s c)
+  pub times_came : (u : Unix) (c : Comes) → Times u.timing (came_by u s c)
   times_came u c = times_answers (with_world u c.state) c.answer
 
   times_timed : (t : Timing) (has_read : Bool) (steps : Steps) → Times t steps → Times t (takes_time has_read s steps)

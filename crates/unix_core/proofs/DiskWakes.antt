@@ -184,9 +184,15 @@ any_more (x ∷ xs) b k =
     let some : (l : ℕ) → not (suc l == 0) ≡ true = λ l. ap not (ne_eqb (suc l) 0 (λ e. omega (arith, e))) in
     some (length (xs ++ one_line b k)) ∙ sym (ap (λ t. t || b) (some (length xs)))
 
+or_false : (a b : Bool) → (a || b) ≡ false → (a ≡ false) × (b ≡ false)
+or_false true b e = absurd (cc e)
+or_false false true e = absurd (cc e)
+or_false false false e = (refl, refl)
+
 -- The parts when those below a slot have been woken who waited up to the end of the slot of this number.
 pub record IsWoken (n k : ℕ) (old new : Procs) (woken : Woken) (start end : Taken) : Type 0 where
   pub others : new ≡ record old { table = new.table }
+  pub same : woken.any ≡ false → new ≡ old
   pub agree : AreProcs new
   pub running : new.table.running ≡ old.table.running
   pub clock : clock_of new.table ≡ clock_of old.table
@@ -208,6 +214,7 @@ pub woken_first : (n : ℕ) (p : Procs) (start : Taken) → AreProcs p → n < N
     → IsWoken n 1 p p (record { any = false; next = NEVER }) start start
 woken_first n p start agree few kernel = record {
   others = refl;
+  same = λ none. refl;
   agree = agree;
   running = refl;
   clock = refl;
@@ -230,11 +237,11 @@ module _ {n k : ℕ} {old mid : Procs} {woken : Woken} {start a : Taken} (was : 
   abbrev pub now : Procs
   now = record mid { table = t }
 
-  same : processes_of mid ≡ ps
-  same = ap processes_of was.others
+  its : processes_of mid ≡ ps
+  its = ap processes_of was.others
 
   ends_here : (m : ℕ) → m < NEVER → IsMeant m k (get_or ps k None) ≡ (end == m)
-  ends_here m less = ap (λ (l : List (Option Process)). IsMeant m k (get_or l k None)) (sym same) ∙ ends m less
+  ends_here m less = ap (λ (l : List (Option Process)). IsMeant m k (get_or l k None)) (sym its) ∙ ends m less
 
   lines_next : lines_below n (k + 1) ps ≡ lines_below n k ps ++ one_line (end == n) k
   lines_next =
@@ -246,6 +253,9 @@ module _ {n k : ℕ} {old mid : Procs} {woken : Woken} {start a : Taken} (was : 
       → IsWoken n (k + 1) old now after start b
   woken_next b after items any next sooner due = record {
     others = ap (λ (p : Procs). record p { table = t }) was.others;
+    same = λ none.
+        let both = or_false woken.any (end == n) (sym any ∙ none) in
+        ap (λ (u : Table). record mid { table = u }) (table ∙ ap (λ b. called_table b (Disk k) mid.table) both.1) ∙ was.same both.0;
     agree = called_agree mid.rows mid.images.kept mid.table t (end == n) (Disk k) table fine was.agree;
     running = ap (λ (x : Table). x.running) table ∙ called_running mid.table (end == n) (Disk k) ∙ was.running;
     clock = ap clock_of table ∙ called_clock mid.table (end == n) (Disk k) ∙ was.clock;
@@ -261,14 +271,14 @@ module _ {n k : ℕ} {old mid : Procs} {woken : Woken} {start a : Taken} (was : 
       | inl less ↦ let m = was.due s p less is waits late in omega (arith, sooner, m)
       | inr past ↦
           let here : s ≡ k = omega (arith, below, past) in
-          its p (ap (λ r. get_or ps r None) (sym here) ∙ is) waits late
+          own_due p (ap (λ r. get_or ps r None) (sym here) ∙ is) waits late
     ];
     items = took_then start a b (lines_below n k ps) (one_line (end == n) k) (lines_below n (k + 1) ps) was.items
         (subst (λ l. Took a l b) (wakes_items (board_of mid.table mid.images.kept) (end == n) k) items) (sym lines_next);
   }
     where
-      its : (p : Process) → get_or ps k None ≡ Some p → p.u.pending ≡ DISK_WAIT → n < disk_end_of p → after.next ≤ disk_end_of p
-      its p is waits late = elim (cases_lt (disk_end_of p) NEVER) [
+      own_due : (p : Process) → get_or ps k None ≡ Some p → p.u.pending ≡ DISK_WAIT → n < disk_end_of p → after.next ≤ disk_end_of p
+      own_due p is waits late = elim (cases_lt (disk_end_of p) NEVER) [
         | inl less ↦
             let meant : IsMeant (disk_end_of p) k (Some p) ≡ true =
                 ap (λ b. b && (disk_end_of p == disk_end_of p)) (eq-eqb p.u.pending DISK_WAIT waits) ∙ eq-eqb (disk_end_of p) (disk_end_of p) refl in

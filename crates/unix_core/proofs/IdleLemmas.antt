@@ -18,9 +18,9 @@ use Rattle.unix_core.specs.declared.machine.Stage.TheVariants as stage
 use Rattle.abstract_unix.specs.Unix.{Unix, System, Started}
 use Rattle.pick_rules.specs.Effects.{Effect, Show}
 use Rattle.abstract_unix.specs.Endings.{is_early}
-use Rattle.abstract_unix.specs.Turn.{Happened, turned_by, turned, stays, settling, calls_for_settling, settled_after, slot_of, NobodyCanRun, with_slot, counted, followed, disk_lines, wakes_disks, after_slot}
+use Rattle.abstract_unix.specs.Turn.{Happened, turned_by, turned, stays, settling, calls_for_settling, settled_after, pass_of, slot_of, NobodyCanRun, with_slot, counted, followed, disk_lines, wakes_disks, after_slot}
 use Rattle.abstract_unix.specs.Runs.{Slot, event_of}
-use Rattle.unix_core.specs.Parts.{system_at, phase_of, IsGood, IsKernel}
+use Rattle.unix_core.specs.Parts.{system_at, turn_at, phase_of, IsGood, IsStill, IsKernel}
 use Rattle.unix_core.proofs.BootKernelLemmas.{kernel_good}
 
 -- The choice is nobody.
@@ -89,3 +89,21 @@ module _ (at : Stage) (w : World) (started : phase_of at ≡ Started) (kernel : 
   idle_nobody m same answer is idle =
       subst (λ (x : System). NobodyCanRun x.board.table) same
       (nobody_here (nobody_runs (system_at w) (ap (λ (x : System). turned (event_of Slot x)) same ∙ sym is ∙ idle)))
+
+-- A slot in which nobody runs: nothing is logged in it.
+module _ (w : World) (none : w.procs.table.running ≡ None) where
+  abbrev pub idle_so : Happened
+  idle_so = slot_of (system_at w) None
+
+  pub idle_still : IsStill idle_so w
+  idle_still = record { unix = refl; log = refl; ending = refl; settled = λ e. absurd (cc e) }
+
+  pub idle_turn : settled_after (after_slot idle_so) ≡ turn_at w
+  idle_turn = ap (λ o. settled_after (after_slot (slot_of (system_at w) o))) (sym none)
+
+  pub idle_told : Idle ≡ turned (turn_at w)
+  idle_told = sym (settled_answer (after_slot idle_so) ∙ after_answer idle_so) ∙ ap turned idle_turn
+
+-- A slot of the swapper is its pass.
+pub swap_turn : (w : World) → w.procs.table.running ≡ Some 0 → settled_after (after_slot (pass_of (system_at w))) ≡ turn_at w
+swap_turn w runs = ap (λ o. settled_after (after_slot (slot_of (system_at w) o))) (sym runs)

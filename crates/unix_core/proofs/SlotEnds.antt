@@ -1,7 +1,8 @@
 -- What follows a slot after which the kernel settles, and one in which nothing was logged.
-use Rattle.std.proofs.Common.{◌≡◌, ◌∙◌, ◌&&◌, not, cond, Bool, true, false, List, [], ◌∷◌, ◌++◌, append-nil, map, None, refl, sym, ap, subst, append_assoc}
+use Rattle.std.proofs.Common.{◌≡◌, ◌∙◌, ◌+◌, ◌-◌, ◌≤◌, ◌==◌, ◌&&◌, not, cond, ℕ, Bool, true, false, List, [], ◌∷◌, ◌++◌, append-nil, length, map, None, refl, sym, ap, subst, append_assoc, arith}
+use Rattle.std.proofs.lemmas.Bool.{ne_eqb}
 use Rattle.v6_base.specs.Trace.{Item, Took, Taken}
-use Rattle.v6_base.proofs.Took.{took_then}
+use Rattle.v6_base.proofs.Took.{took_then, took_nothing}
 use Rattle.pick_rules.specs.Choice.{settle}
 use Rattle.pick_rules.specs.Board.{Board}
 use Rattle.pick_rules.specs.Effects.{Effect, Show}
@@ -14,7 +15,7 @@ use Rattle.abstract_unix.specs.Endings.{is_early, phase_after}
 use Rattle.abstract_unix.specs.Turn.{Happened, Turn, stays, settling, settled, settled_as, settled_after, with_slot, counted, followed, disk_lines, wakes_disks, after_slot}
 use Rattle.unix_core.specs.declared.world.World.{World}
 use Rattle.unix_core.specs.declared.machine.Stage.{Stage}
-use Rattle.unix_core.specs.Parts.{unix_of, board_in, system_at, phase_of, IsKernel, IsStill, Takes}
+use Rattle.unix_core.specs.Parts.{unix_of, board_in, system_at, phase_of, one_before, IsKernel, IsStill, Takes}
 use Rattle.unix_core.proofs.BoardLemmas.{settle_same}
 use Rattle.unix_core.proofs.LoggedLemmas.{logged_shown}
 
@@ -131,3 +132,54 @@ module _ (h : Happened) (w v : World) (still : IsStill h w) (none : disk_lines (
 
   pub still_items : (settled_after (after_slot h)).items ≡ []
   still_items = ap (λ (t : Turn). t.items) still_is
+
+-- The slot that is due has been counted, and nothing was logged in it.
+module _ (w : World) (left : w.slots.left ≡ 0) (within : 1 ≤ w.slots.due) (h : Happened) (still : IsStill h (one_before w)) where
+  due_unix : unix_of w ≡ with_slot (unix_of (one_before w))
+  due_unix = let e : w.slots.due - w.slots.left ≡ w.slots.due - 1 + 1 = omega (arith, left, within) in
+      λ i. record (unix_of w) { timing = record { passed = e i; disk = w.slots.disk } }
+
+  unix_due : unix_of w ≡ with_slot h.unix
+  unix_due = due_unix ∙ ap with_slot (sym still.unix)
+
+  module _ (v : World) (unix : unix_of v ≡ unix_of w)
+      (board : board_in v ≡ (logged {W = Unix} (board_in w) (map Show (disk_lines (unix_of w)))).board) where
+    unix_then : unix_of v ≡ with_slot h.unix
+    unix_then = unix ∙ unix_due
+
+    board_then : board_in v ≡ (woken_log h.unix h.log.board).board
+    board_then = board ∙ (λ i. (logged {W = Unix} ((sym still.log i).board) (map Show (disk_lines (unix_due i)))).board)
+
+    -- somebody is woken, and the kernel has settled
+    module _ (any : true ≡ not (length (disk_lines (unix_of w)) == 0)) where
+      some : disk_lines (with_slot h.unix) ≡ [] → h.settles ≡ true
+      some none = absurd (let no = any ∙ ap (λ (u : Unix). not (length (disk_lines u) == 0)) unix_due ∙ ap (λ l. not (length l == 0)) none in cc no)
+
+      pub woken_takes : (at : Stage) (x : World) → IsKernel at x → phase_of at ≡ Started
+          → system_at x ≡ record (system_at v) { board = (settled (board_in v)).board } → Takes (settled_after (after_slot h)) at x
+      woken_takes = settled_takes h still.ending some v unix_then board_then
+
+      pub woken_took : (a b c : Taken) → Took a (disk_lines (unix_of w)) b → Took b (settled (board_in v)).items c
+          → Took a (settled_after (after_slot h)).items c
+      woken_took a b c first second =
+          settled_items h still.ending some v unix_then board_then a a b c (took_nothing a h.log.items (ap (λ (l : Logged Unix). l.items) still.log))
+          (subst (λ (u : Unix). Took a (disk_lines u) b) unix_due first) second
+
+    -- nobody is
+    module _ (any : false ≡ not (length (disk_lines (unix_of w)) == 0)) where
+      empty : (xs : List Item) → false ≡ not (length xs == 0) → xs ≡ []
+      empty [] e = refl
+      empty (x ∷ xs) e = absurd (let no = e ∙ ap not (ne_eqb (length (x ∷ xs)) 0 (λ z. cc z)) in cc no)
+
+      pub none_woken : disk_lines (with_slot (unix_of (one_before w))) ≡ []
+      none_woken = ap disk_lines (sym due_unix) ∙ empty (disk_lines (unix_of w)) any
+
+      same_board : board_in v ≡ board_in (one_before w)
+      same_board = board ∙ ap (λ l. (logged {W = Unix} (board_in w) (map Show l)).board) (empty (disk_lines (unix_of w)) any)
+
+      pub quiet_takes : (at : Stage) → IsKernel at v → phase_of at ≡ Started → Takes (settled_after (after_slot h)) at v
+      quiet_takes = still_takes h (one_before w) v still none_woken (unix ∙ due_unix) same_board
+
+      pub quiet_took : (a b : Taken) → Took a (disk_lines (unix_of w)) b → Took a (settled_after (after_slot h)).items b
+      quiet_took a b = subst (λ l. Took a l b)
+          (empty (disk_lines (unix_of w)) any ∙ sym (still_items h (one_before w) v still none_woken (unix ∙ due_unix) same_board))

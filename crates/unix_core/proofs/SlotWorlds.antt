@@ -153,3 +153,7 @@ module _ (w : World) (left : w.slots.left ≡ 0) (good : IsGood (one_before w)) 
     };
     graves = counted.graves;
   })
+
+  -- where nobody was woken, nothing else has changed
+  pub reach_none : p ≡ w.procs → reached ≡ with_slots w anew
+  reach_none is = ap (λ (x : Procs). record w { procs = x; slots = anew }) is

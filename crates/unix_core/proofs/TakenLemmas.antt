@@ -1,5 +1,5 @@
 -- A slot has been taken, and what it came to is the event of the system.
-use Rattle.std.proofs.Common.{◌≡◌, ◌∙◌, false, true, Some, None, refl, sym, ap, subst}
+use Rattle.std.proofs.Common.{◌≡◌, ◌∙◌, ◌≤◌, false, true, Some, None, refl, sym, ap, subst}
 use Rattle.pdp_step.specs.declared.outcome.Outcome.{Outcome}
 use Rattle.pdp_step.specs.declared.outcome.Outcome.TheVariants.{Next}
 use Rattle.pdp_step.specs.Instruction.{instr}
@@ -27,7 +27,7 @@ use Rattle.unix_core.proofs.MachineLemmas.{fixed_or, runs_kernel}
 use Rattle.unix_core.proofs.TurnSteps.{user_slot, has_stepped, stepped_user, quiet_system, plain_still}
 use Rattle.unix_core.proofs.CountLemmas.{counted_waits}
 use Rattle.unix_core.proofs.WorldLemmas.{slot_is}
-use Rattle.unix_core.specs.Slots.{IsCounted}
+use Rattle.unix_core.specs.Slots.{passed_in, IsCounted}
 use Rattle.abstract_unix.proofs.GoingOnLemmas.{WaitedIn, like_waited, all_waited_put}
 use Rattle.abstract_unix.proofs.RunsLemmas.{whole_answer}
 use Rattle.sys_procs.specs.Process.{Process}
@@ -51,7 +51,7 @@ module _ (at : Stage) (w : World) (f : Fixed) (is : at ≡ stage.Running f) (ker
   step_done o outcome = has_stepped w f.slot run.user holds x kept o outcome
 
   -- it waits as it did
-  step_counted : IsCounted w.slots (unix_of then_)
+  pub step_counted : IsCounted w.slots (unix_of then_)
   step_counted =
       let p : Process = process_of (unix_of w) f.slot in
       let q : Process = with_machine p (instr (machine_of (unix_of w).texts p)).machine in
@@ -100,17 +100,20 @@ state_of at w = record {
 
 -- What a slot came to is the event of the system that was told.
 module _ (at : Stage) (w : World) (kernel : IsKernel at w) (holds : IsKept w.procs.images.kept) (v : KernelState) (view : state_of at w ≡ v) (goes : v.phase ≡ Started) where
-  started : phase_of at ≡ Started
-  started = ap (λ (x : KernelState). x.phase) view ∙ goes
+  pub taken_started : phase_of at ≡ Started
+  taken_started = ap (λ (x : KernelState). x.phase) view ∙ goes
 
   same : system_at w ≡ v.system
   same = ap (λ (x : KernelState). x.system) view
+
+  pub taken_fresh : v.system.unix.timing.passed ≤ 3000000000 → passed_in w.slots ≤ 3000000000
+  taken_fresh fresh = subst (λ (m : System). m.unix.timing.passed ≤ 3000000000) (sym same) fresh
 
   pub taken_answer : (answer : Turned) → answer ≡ turned (turn_at w) → answer ≡ turned (event_of Slot v.system)
   taken_answer answer is = is ∙ ap (λ (x : System). turned (event_of Slot x)) same
 
   pub taken_idle : (answer : Turned) → answer ≡ turned (turn_at w) → answer ≡ Idle → NobodyCanRun v.system.board.table
-  taken_idle answer is = idle_nobody at w started kernel v.system same answer (taken_answer answer is)
+  taken_idle answer is = idle_nobody at w taken_started kernel v.system same answer (taken_answer answer is)
 
   module _ (at' : Stage) (w' : World) (takes : Takes (turn_at w) at' w') where
     pub taken_next : system_at w' ≡ (event_of Slot v.system).next
@@ -123,7 +126,7 @@ module _ (at : Stage) (w : World) (kernel : IsKernel at w) (holds : IsKept w.pro
     taken_private = subst (λ (n : System). OthersUndisturbed v.system n) (sym taken_next) (slot_private v.system (fifty_slots w v.system same))
 
     pub taken_texts : OtherTextsStay v.system (event_of Slot v.system).items (system_at w')
-    taken_texts = turned_stays at w started kernel holds v.system _ same taken_next
+    taken_texts = turned_stays at w taken_started kernel holds v.system _ same taken_next
 
   -- an instruction that just goes on
   module _ (f : Fixed) (is : at ≡ stage.Running f) (x : ImagesState) (kept : x.kept ≡ with_machine_in w.procs.images.kept f.slot (instr (machine_in w.procs.images.kept f.slot)).machine)

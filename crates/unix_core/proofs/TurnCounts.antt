@@ -30,7 +30,14 @@ use Rattle.unix_core.proofs.CountLemmas.{counted_waits, counted_no_new, counted_
 use Rattle.unix_core.proofs.WaitLemmas.{taken_unix}
 use Rattle.unix_core.proofs.WorldLemmas.{slot_is, is_living}
 
--- 1. A turn of a process.
+-- 1. A turn of a process. Where the run goes on after its end, it did before.
+pub first_goes : (first last : Ending) → (is_over first ≡ true → last ≡ first) → is_over last ≡ false → is_over first ≡ false
+first_goes first last stopped goes = by (is_over first) refl
+  where
+    by : (b : Bool) → is_over first ≡ b → is_over first ≡ false
+    by true is = absurd (let over = sym goes ∙ ap is_over (stopped is) ∙ is in cc over)
+    by false is = is
+
 module _ (w : World) (s : ℕ) (ready : IsReady w s) (counted : IsCounted w.slots (unix_of w)) where
   here : LivesIn s (unix_of w)
   here = record { there = slot_is w s ready; lives = is_living w s ready; fifty = fifty_processes w.procs.rows.slots w.procs.images.kept }

@@ -1,6 +1,6 @@
 -- A process begins to wait for the disk, or has waited: its u area is another one, and the rest of the world as it was.
 use Rattle.std.proofs.Common.{◌≡◌, ◌≢◌, ◌∙◌, ◌<◌, ◌≤◌, ◌+◌, ◌-◌, ◌==◌, ◌&&◌, not, cond, ℕ, Bool, true, false, List, [], length, min, Option, Some, None, refl, sym, ap, subst, inl, inr, arith}
-use Rattle.std.proofs.lemmas.Bool.{ne_eqb}
+use Rattle.std.proofs.lemmas.Bool.{eq-eqb, ne_eqb}
 use Rattle.u_area.specs.declared.layout.TheConstants.{NOTHING_PENDING, DISK_WAIT}
 use Rattle.u_area.specs.declared.area.UArea.{UArea}
 use Rattle.u_area.specs.Pending.{IsPipeCall}
@@ -14,11 +14,16 @@ use Rattle.image_keep.specs.Kept.{Kept, with_area, area_of, clicks_of, HasSizes}
 use Rattle.image_keep.specs.State.{ImagesState}
 use Rattle.sys_procs.specs.Process.{Process}
 use Rattle.sys_procs.specs.Resume.{awake}
+use Rattle.v6_base.specs.declared.answer.Answer.{Answer}
+use Rattle.abstract_unix.specs.declared.calls.FileCall.{FileCall}
+use Rattle.abstract_unix.specs.declared.calls.FileCall.TheVariants as file
+use Rattle.abstract_unix.specs.declared.calls.ProcessCall.{ProcessCall}
+use Rattle.abstract_unix.specs.declared.calls.ProcessCall.TheVariants as process
 use Rattle.abstract_unix.specs.declared.ending.Ending.{Ending}
 use Rattle.abstract_unix.specs.declared.ending.Ending.TheVariants.{Trapped, Slept}
 use Rattle.abstract_unix.specs.Unix.{Timing, Unix, process_of, with_process}
 use Rattle.abstract_unix.specs.Steps.{Steps, returns}
-use Rattle.abstract_unix.specs.Calls.{waiting_area, waiting_until, disk_end, waits_for_disk, takes_time}
+use Rattle.abstract_unix.specs.Calls.{waiting_area, waiting_until, disk_end, waits_for_disk, takes_time, is_read, loads_program}
 use Rattle.abstract_unix.specs.Whole.{CanGoOn}
 use Rattle.abstract_unix.proofs.Owing.{some_within}
 use Rattle.abstract_unix.proofs.GoingOnLemmas.{moved_goes_on}
@@ -117,6 +122,40 @@ same_bits true false c d = sym (and_false (c && d))
     and_false false = refl
 same_bits false b c d = refl
 
+-- where no transfer takes time, nothing waits
+pub none_takes : (x : Bool) (n : ℕ) → n ≡ 0 → false ≡ (x && not (n == 0))
+none_takes x n zero = sym (ap (λ b. x && not b) (eq-eqb n 0 zero) ∙ by x)
+  where
+    by : (x : Bool) → (x && false) ≡ false
+    by true = refl
+    by false = refl
+
+pub some_takes : (x : Bool) (n : ℕ) → n ≢ 0 → x ≡ (x && not (n == 0))
+some_takes x n some = sym (ap (λ b. x && not b) (ne_eqb n 0 some) ∙ by x)
+  where
+    by : (x : Bool) → (x && true) ≡ x
+    by true = refl
+    by false = refl
+
+-- where it waits, a transfer takes time
+pub some_disk : (x y : Bool) (n : ℕ) → ((x && not (n == 0)) && y) ≡ true → n ≢ 0
+some_disk x y n all zero = by x y (ap (λ b. (x && not b) && y) (sym (eq-eqb n 0 zero)) ∙ all)
+  where
+    by : (x y : Bool) → ((x && false) && y) ≡ true → ⊥
+    by true y e = absurd (cc e)
+    by false y e = absurd (cc e)
+
+pub takes_disk : (x : Bool) (n : ℕ) → (x && not (n == 0)) ≡ true → n ≢ 0
+takes_disk x n all zero = by x (ap (λ b. x && not b) (sym (eq-eqb n 0 zero)) ∙ all)
+  where
+    by : (x : Bool) → (x && false) ≡ true → ⊥
+    by true e = absurd (cc e)
+    by false e = absurd (cc e)
+
+-- a turn that sleeps isn't over
+pub slept_goes : (e : Ending) (s : ℕ) → e ≡ Slept pribio (Disk s) → is_over e ≡ true → ⊥
+slept_goes e s is over = let no = sym (ap is_over is) ∙ over in cc no
+
 pub waiting_sizes : (end : ℕ) (u v : UArea) (m : Image) → v ≡ waiting_area end u → HasSizes u m → HasSizes v m
 waiting_sizes end u v m is has =
     subst (λ x. HasSizes x m) (sym is) (record { text_size = has.text_size; data_size = has.data_size; stack_size = has.stack_size })
@@ -177,3 +216,65 @@ module _ (b : Board) (steps : Steps) (e : Ending) (w : World) (come : HasCome b 
               ∙ ap (λ o. left_by o (waits_for_disk steps.unix s)) (sym none);
           board = board ∙ come.board;
         })
+
+    -- it was stopped on the way
+    pub cut_come : (stop : Stop Unix) → (logged b steps.effects).stop ≡ Some stop → HasCome b (takes_time has s steps) e w
+    cut_come stop some = by (has && not (steps.unix.timing.disk == 0))
+      where
+        by : (c : Bool) → HasCome b (so c) e w
+        by true = record {
+          ending = come.ending ∙ ap (λ o. ended_as o steps.ending) some ∙ ap (λ o. ended_as o (Slept pribio (Disk s))) (sym some);
+          unix = come.unix ∙ ap (λ o. left_by o steps.unix) some ∙ ap (λ o. left_by o (waits_for_disk steps.unix s)) (sym some);
+          board = come.board;
+        }
+        by false = come
+
+-- a turn that panics was stopped, where its steps don't panic themselves
+pub stopped_by : (b : Board) (steps : Steps) (e : Ending) (w : World) → HasCome b steps e w → is_over e ≡ true → is_over steps.ending ≡ false
+    → (stop : Stop Unix) × ((logged b steps.effects).stop ≡ Some stop)
+stopped_by b steps e w come over goes = by (logged b steps.effects).stop come.ending
+  where
+    by : (o : Option (Stop Unix)) → e ≡ ended_as o steps.ending → (stop : Stop Unix) × (o ≡ Some stop)
+    by None is = absurd (let no = sym over ∙ ap is_over is ∙ goes in cc no)
+    by (Some stop) is = (stop, refl)
+
+-- 5. Calls of the other kinds.
+pub not_read : (call : FileCall) → call ≢ file.Read → is_read call ≡ false
+not_read file.Read other = absurd (other refl)
+not_read file.Write other = refl
+not_read file.Open other = refl
+not_read file.Close other = refl
+not_read file.Creat other = refl
+not_read file.Link other = refl
+not_read file.Unlink other = refl
+not_read file.Chdir other = refl
+not_read file.Mknod other = refl
+not_read file.Chmod other = refl
+not_read file.Chown other = refl
+not_read file.Stat other = refl
+not_read file.Seek other = refl
+not_read file.Fstat other = refl
+not_read file.Stty other = refl
+not_read file.Gtty other = refl
+not_read file.Sync other = refl
+not_read file.Dup other = refl
+not_read file.Pipe other = refl
+
+pub not_exec : (call : ProcessCall) (answer : Answer) → call ≢ process.Exec → loads_program call answer ≡ false
+not_exec process.Exec answer other = absurd (other refl)
+not_exec process.Wait answer other = refl
+not_exec process.Time answer other = refl
+not_exec process.Break answer other = refl
+not_exec process.Getpid answer other = refl
+not_exec process.Setuid answer other = refl
+not_exec process.Getuid answer other = refl
+not_exec process.Stime answer other = refl
+not_exec process.Smdate answer other = refl
+not_exec process.Nice answer other = refl
+not_exec process.Sleep answer other = refl
+not_exec process.Kill answer other = refl
+not_exec process.Csw answer other = refl
+not_exec process.Times answer other = refl
+not_exec process.Setgid answer other = refl
+not_exec process.Getgid answer other = refl
+not_exec process.Signal answer other = refl

@@ -259,6 +259,7 @@ pub(crate) fn deliver_after<T: Trace>(
     ensures frame { T.leads_to trace.old trace.new }
     ensures rest { SameRest world.old.files.tree.nodes world.new.files.tree.nodes }
     ensures slots { world.new.slots ≡ world.old.slots }
+    ensures stopped { is_over ending ≡ true → result ≡ ending }
 {
     match ending {
         Ending::Trapped => deliver_due(world, s, trace),

@@ -254,6 +254,7 @@ impl Machine {
     {
         if reach(&mut self.world, trace) {
             self.settle(trace);
+            return answer;
         }
         answer
     }

@@ -195,7 +195,10 @@ fn may_wait(world: &World, s: Slot, call: FileCall) -> bool
 fn waits(may: bool, answer: Answer) -> bool
     ensures { result ≡ (may && has_bytes answer) }
 {
-    may && matches!(answer, Answer::Ret { r0, .. } if r0 != 0)
+    match answer {
+        Answer::Ret { r0, .. } => may && r0 != 0,
+        Answer::Fail(_) | Answer::Sleep { .. } => false,
+    }
 }
 
 /// Whether a call on files is a read of the disk: of a plain file or a directory, and of no pipe.
@@ -225,13 +228,24 @@ fn names_disk(world: &World, s: Slot) -> bool
     match world.files.table.get(&u.files, u.r[0]) {
         Ok(entry) => {
             let file = world.files.table.file(entry);
-            !file.kind.pipe && !is_device_at(&world.files.tree.nodes, file.ino)
+            let device = is_device_at(&world.files.tree.nodes, file.ino);
+            !file.kind.pipe && !device
         }
         Err(_) => false,
     }
 }
 
-/// Whether a call on processes that answers so waits for the disk: a transfer takes time, and it has loaded a program. exec(II).
+/// Whether a call on processes that answers so has loaded a program: exec(II).
+fn loads_program(call: ProcessCall, answer: Answer) -> bool
+    ensures { result ≡ loads_program call answer }
+{
+    match call {
+        ProcessCall::Exec => matches!(answer, Answer::Ret { .. }),
+        _ => false,
+    }
+}
+
+/// Whether a call on processes that answers so waits for the disk: a transfer takes time, and it has loaded a program.
 #[inline(always)]
 fn has_loaded(world: &World, call: ProcessCall, answer: Answer) -> bool
     ensures { result ≡ (loads_program call answer && not (world.now.slots.disk == 0)) }
@@ -239,10 +253,7 @@ fn has_loaded(world: &World, call: ProcessCall, answer: Answer) -> bool
     if world.slots.disk == 0 {
         return false;
     }
-    match (call, answer) {
-        (ProcessCall::Exec, Answer::Ret { .. }) => true,
-        _ => false,
-    }
+    loads_program(call, answer)
 }
 
 /// A call on processes, which has been entered.
@@ -264,7 +275,8 @@ fn call_processes<T: Trace>(
         (does_call (unix_of world.old) s (SystemCall.OnProcesses call) args).effects).items (T.taken trace.new) }
     ensures frame { T.leads_to trace.old trace.new }
     ensures rest { SameRest world.old.files.tree.nodes world.new.files.tree.nodes }
-    ensures slots { HasWaited (waits_in_call (unix_of world.old) s (SystemCall.OnProcesses call) args) world.old.slots world.new.slots }
+    ensures slots { is_over result ≡ false
+        → HasWaited (waits_in_call (unix_of world.old) s (SystemCall.OnProcesses call) args) world.old.slots world.new.slots }
 {
     world.files.tree.nodes.see();
     see_table(&world.files.table);
@@ -399,7 +411,8 @@ fn does_call<T: Trace>(
         (does_call (unix_of world.old) fixed.now.slot call args).effects).items (T.taken trace.new) }
     ensures frame { T.leads_to trace.old trace.new }
     ensures rest { SameRest world.old.files.tree.nodes world.new.files.tree.nodes }
-    ensures slots { HasWaited (waits_in_call (unix_of world.old) fixed.now.slot call args) world.old.slots world.new.slots }
+    ensures slots { is_over result ≡ false
+        → HasWaited (waits_in_call (unix_of world.old) fixed.now.slot call args) world.old.slots world.new.slots }
 {
     let s = fixed.slot;
     match call {
@@ -437,7 +450,8 @@ fn call<T: Trace>(world: &mut World, fixed: &Fixed, number: u8, trace: &mut T) -
         (system_call number (unix_of world.old) fixed.now.slot).effects).items (T.taken trace.new) }
     ensures frame { T.leads_to trace.old trace.new }
     ensures rest { SameRest world.old.files.tree.nodes world.new.files.tree.nodes }
-    ensures slots { HasWaited (waits_in (unix_of world.old) fixed.now.slot (Outcome.Call number)) world.old.slots world.new.slots }
+    ensures slots { is_over result ≡ false
+        → HasWaited (waits_in (unix_of world.old) fixed.now.slot (Outcome.Call number)) world.old.slots world.new.slots }
 {
     let asked = ask(&world.procs.images, fixed, number);
     let entry = sysent_of(asked.number);
@@ -506,7 +520,8 @@ pub(crate) fn come_to<T: Trace>(
         (comes_to (unix_of world.old) fixed.now.slot outcome).effects).items (T.taken trace.new) }
     ensures frame { T.leads_to trace.old trace.new }
     ensures rest { SameRest world.old.files.tree.nodes world.new.files.tree.nodes }
-    ensures slots { HasWaited (waits_in (unix_of world.old) fixed.now.slot outcome) world.old.slots world.new.slots }
+    ensures slots { is_over result ≡ false
+        → HasWaited (waits_in (unix_of world.old) fixed.now.slot outcome) world.old.slots world.new.slots }
 {
     match outcome {
         Outcome::Next => Ending::Next,

@@ -247,6 +247,7 @@ fn wake_disks<T: Trace>(procs: &mut Procs, passed: u32, trace: &mut T) -> Woken
     requires fresh { passed < NEVER }
     ensures agree { AreProcs procs.new }
     ensures others { procs.new ≡ record procs.old { table = procs.new.table } }
+    ensures same { result.any ≡ false → procs.new ≡ procs.old }
     ensures running { procs.new.table.running ≡ procs.old.table.running }
     ensures clock { clock_of procs.new.table ≡ clock_of procs.old.table }
     ensures board { board_of procs.new.table procs.new.images.kept ≡ (logged {W = Unix}
@@ -285,7 +286,8 @@ pub(crate) fn reach<T: Trace>(world: &mut World, trace: &mut T) -> bool
     ensures good { IsGood world.new }
     ensures counted { IsCounted world.new.slots (unix_of world.new) }
     ensures running { world.new.procs.table.running ≡ world.old.procs.table.running }
-    ensures files { world.new.files ≡ world.old.files }
+    ensures others { world.new ≡ record world.old { procs = world.new.procs; slots = world.new.slots } }
+    ensures same { result ≡ false → world.new.procs ≡ world.old.procs }
     ensures items { Took (T.taken trace.old) (disk_lines (unix_of world.old)) (T.taken trace.new) }
     ensures frame { T.leads_to trace.old trace.new }
 {
@@ -309,7 +311,7 @@ pub(crate) fn count<T: Trace>(world: &mut World, trace: &mut T) -> bool
     ensures good { IsGood world.new }
     ensures counted { IsCounted world.new.slots (unix_of world.new) }
     ensures running { world.new.procs.table.running ≡ world.old.procs.table.running }
-    ensures files { world.new.files ≡ world.old.files }
+    ensures others { world.new ≡ record world.old { procs = world.new.procs; slots = world.new.slots } }
     ensures items { Took (T.taken trace.old) (disk_lines (with_slot (unix_of world.old))) (T.taken trace.new) }
     ensures frame { T.leads_to trace.old trace.new }
 {

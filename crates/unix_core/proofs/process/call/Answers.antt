@@ -55,11 +55,11 @@ returns-clause-items g c =
     (g.T.Trace.taken c.does_call.new.trace)) steps c.does_call.ensures.items)
 
 pub returns-clause-slots : goal.returns-clause-slots
-returns-clause-slots g c =
+returns-clause-slots g c goes =
     let w : World = c.args.world.now in
     let s = c.args.fixed.now.slot in
     let a : Asked = c.ask-asked.result in
     let asks = asked_here w s c.requires.ready c.ask-asked.ensures.holds c.args.number a c.ask-asked.ensures.asked in
     subst (λ b. HasWaited b w.slots c.does_call.new.world.slots)
     (entered_waits w s c.requires.ready a c.sysent_of-entry.result _ _ c.enter.new.images refl c.words_passed.ensures
-    c.enter.ensures.kept c.args.number asks c.sysent_of-entry.ensures) c.does_call.ensures.slots
+    c.enter.ensures.kept c.args.number asks c.sysent_of-entry.ensures) (c.does_call.ensures.slots goes)

@@ -1,4 +1,4 @@
-use Rattle.std.proofs.Common.{◌≡◌, ◌∙◌, ◌⊎◌, ℕ, true, List, refl, sym, subst}
+use Rattle.std.proofs.Common.{◌≡◌, ◌∙◌, ◌⊎◌, ◌==◌, ◌&&◌, not, ℕ, Bool, true, List, Result, Ok, refl, sym, ap, subst}
 use Rattle.std.proofs.lemmas.Result.{IfOk-at_ok, IfErr-at_err}
 use Rattle.v6_base.specs.Trace.{Took}
 use Rattle.v6_base.specs.declared.answer.Answer.{Answer}
@@ -8,19 +8,28 @@ use Rattle.pick_rules.specs.Logged.{logged}
 use Rattle.fs_nodes.specs.FileSystem.{IsFileSystem}
 use Rattle.image_keep.specs.Kept.{IsKept}
 use Rattle.sys_procs.specs.Comes.{Comes}
-use Rattle.sys_procs.specs.Handed.{AreProcs, AreBare}
+use Rattle.sys_procs.specs.Agree.{answered}
+use Rattle.sys_procs.specs.Handed.{AreProcs, AreBare, came}
+use Rattle.sys_files.specs.declared.files.Files.{Files}
 use Rattle.unix_core.specs.declared.world.World.{World}
 use Rattle.abstract_unix.specs.declared.ending.Ending.TheVariants.{Panic}
 use Rattle.abstract_unix.specs.declared.calls.ProcessCall.{ProcessCall}
-use Rattle.abstract_unix.specs.Unix.{process_of}
-use Rattle.abstract_unix.specs.Calls.{came_by, process_row, with_world}
+use Rattle.abstract_unix.specs.declared.calls.SystemCall.TheVariants.{OnProcesses}
+use Rattle.abstract_unix.specs.Unix.{Timing, process_of}
+use Rattle.abstract_unix.specs.Calls.{world_of, came_by, process_row, loads_program, waits_in_call, with_world}
 use Rattle.abstract_unix.specs.Turn.{is_user}
 use Rattle.abstract_unix.specs.Whole.{CanGoOn}
 use Rattle.abstract_unix.proofs.GoingOnLemmas.{world_goes_on}
 use Rattle.abstract_unix.proofs.WaitingRows.{row_waited}
+use Rattle.abstract_unix.proofs.Dues.{times_came}
+use Rattle.unix_core.specs.declared.slots.Slots.{Slots}
+use Rattle.unix_core.specs.Slots.{CanWait}
 use Rattle.unix_core.proofs.AreaLemmas.{none_pending}
+use Rattle.unix_core.proofs.CountLemmas.{has_not_waited}
+use Rattle.unix_core.proofs.EndingLemmas.{came_goes}
+use Rattle.unix_core.proofs.WaitLemmas.{takes_disk, slept_goes, waited_any, timed_effects, untimed_come, timed_come, cut_come, stopped_by}
 use Rattle.unix_core.specs.Parts.{unix_of, board_in, HasCome, IsReady}
-use Rattle.unix_core.proofs.CameLemmas.{given, IsTame, after, beside, world_is, ready_calls, over_then, call_took, call_cut, call_stops, call_ready, call_come}
+use Rattle.unix_core.proofs.CameLemmas.{given, IsTame, goes_on, after, beside, world_is, ready_calls, over_then, call_took, call_cut, call_stops, call_ready, call_come}
 use Rattle.unix_core.proofs.CoverLemmas.{stopped_covered}
 use Rattle.unix_core.proofs.TameRows.{tame_row}
 use Rattle.unix_core.proofs.process.call_processes.Goals as goal
@@ -38,14 +47,35 @@ waits w call s args ready user =
     world_goes_on (unix_of w) (row w call s args).state ready.good.pending
     (row_waited (given w) s (none_pending (process_of (unix_of w) s) user) call args)
 
+-- what is answered is what the row says
+went : (w : World) (call : ProcessCall) (s : ℕ) (args : List ℕ) (a : Answer) (r : Result Answer PanicKind)
+    → r ≡ answered (came w.procs (row w call s args)).stop (row w call s args).answer → r ≡ Ok a → a ≡ (row w call s args).answer
+went w call s args a r is ok = (goes_on (came w.procs (row w call s args)).stop (row w call s args).answer a r is ok).1
+
+-- whether the call waits
+waits_so : (w : World) (call : ProcessCall) (s : ℕ) (args : List ℕ) → IsReady w s → IsFileSystem w.files.tree.nodes → (answer : Answer)
+    → answer ≡ (row w call s args).answer → (loaded : Bool) (slots : Slots) → slots ≡ w.slots
+    → loaded ≡ (loads_program call answer && not (slots.disk == 0)) → waits_in_call (unix_of w) s (OnProcesses call) args ≡ loaded
+waits_so w call s args ready form answer is loaded slots same told =
+    sym (told ∙ ap (λ (x : Slots). loads_program call answer && not (x.disk == 0)) same
+    ∙ ap (λ a. loads_program call a && not (w.slots.disk == 0))
+    (is ∙ ap (λ x. (process_row call x s args).answer) (world_is w s ready form)))
+
+waits_then : (w : World) (call : ProcessCall) (s : ℕ) (args : List ℕ) (loaded : Bool) → waits_in_call (unix_of w) s (OnProcesses call) args ≡ loaded
+    → let its : Comes = process_row call (world_of (unix_of w)) s args in
+    (loads_program call its.answer && not ((came_by (unix_of w) s its).unix.timing.disk == 0)) ≡ loaded
+waits_then w call s args loaded is =
+    let its : Comes = process_row call (world_of (unix_of w)) s args in
+    ap (λ (t : Timing). loads_program call its.answer && not (t.disk == 0)) (times_came s (unix_of w) its) ∙ is
+
 pub do_process_call-requires-clause-calls : goal.do_process_call-requires-clause-calls
 do_process_call-requires-clause-calls g c = ready_calls c.args.world.now c.args.s c.requires.ready c.see_table.ensures c.see_kept.ensures
 
 pub do_process_call-requires-clause-marks : goal.do_process_call-requires-clause-marks
 do_process_call-requires-clause-marks g c = c.requires.ready.good.marks
 
-pub conclude-requires : goal.conclude-requires
-conclude-requires g c =
+pub conclude-ending-requires : goal.conclude-ending-requires
+conclude-ending-requires g c =
     let w : World = c.args.world.now in
     let e = c.do_process_call.ensures in
     call_ready w (after w c.do_process_call.new.tree c.do_process_call.new.p) c.args.s (row w c.args.call c.args.s c.args.args)
@@ -54,50 +84,133 @@ conclude-requires g c =
     (IfOk-at_ok (λ (a : Answer). AreProcs c.do_process_call.new.p) c.in-Ok.is e.agree)
     (waits w c.args.call c.args.s c.args.args c.requires.ready c.requires.user) e.marks
 
+pub wait_for_disk-requires-clause-waits : goal.wait_for_disk-requires-clause-waits
+wait_for_disk-requires-clause-waits g c = subst CanWait (sym c.conclude-ending.ensures.slots) c.requires.waits
+
+pub wait_for_disk-requires-clause-some : goal.wait_for_disk-requires-clause-some
+wait_for_disk-requires-clause-some g c = takes_disk _ c.conclude-ending.new.world.slots.disk (sym c.has_loaded.ensures ∙ c.if-has_loaded.true)
+
+pub returns-then-has_loaded-clause-come : goal.returns-then-has_loaded-clause-come
+returns-then-has_loaded-clause-come g c =
+    let w : World = c.args.world.now in
+    let s = c.args.s in
+    let e = c.do_process_call.ensures in
+    let its : Comes = process_row c.args.call (world_of (unix_of w)) s c.args.args in
+    let is = went w c.args.call s c.args.args c.in-Ok.answer _ e.does.answer c.in-Ok.is in
+    let waits = waits_so w c.args.call s c.args.args c.requires.ready c.see.ensures c.in-Ok.answer is c.has_loaded.result c.conclude-ending.new.world.slots
+    c.conclude-ending.ensures.slots c.has_loaded.ensures in
+    let done : HasCome (board_in w) (came_by (unix_of w) s its) c.conclude-ending.result c.conclude-ending.new.world =
+    subst (λ x. HasCome (board_in w) (came_by (unix_of w) s (process_row c.args.call x s c.args.args)) c.conclude-ending.result c.conclude-ending.new.world)
+    (world_is w s c.requires.ready c.see.ensures)
+    (call_come w (after w c.do_process_call.new.tree c.do_process_call.new.p) s (row w c.args.call s c.args.args)
+    (tame w c.args.call s c.args.args c.requires.ready c.see.ensures c.see_kept.ensures) (beside w c.do_process_call.new.tree c.do_process_call.new.p) e.does
+    c.in-Ok.answer c.in-Ok.is c.conclude-ending.result c.conclude-ending.new.world c.conclude-ending.ensures.come) in
+    timed_come (board_in w) (came_by (unix_of w) s its) c.conclude-ending.result c.conclude-ending.new.world done
+    (loads_program c.args.call its.answer) s c.wait_for_disk.new.world c.wait_for_disk.result c.conclude-ending.ensures.goes
+    (waits_then w c.args.call s c.args.args c.has_loaded.result waits ∙ c.if-has_loaded.true)
+    c.wait_for_disk.ensures.unix c.wait_for_disk.ensures.board c.wait_for_disk.ensures.ending
+
+pub returns-then-has_loaded-clause-items : goal.returns-then-has_loaded-clause-items
+returns-then-has_loaded-clause-items g c =
+    let w : World = c.args.world.now in
+    let s = c.args.s in
+    let e = c.do_process_call.ensures in
+    let its : Comes = process_row c.args.call (world_of (unix_of w)) s c.args.args in
+    subst (λ es. Took (g.T.Trace.taken c.args.trace.now) (logged (board_in w) es).items (g.T.Trace.taken c.conclude-ending.new.trace))
+    (sym (timed_effects (loads_program c.args.call its.answer) s (came_by (unix_of w) s its)))
+    (subst (λ x. Took (g.T.Trace.taken c.args.trace.now) (logged (board_in w) (came_by (unix_of w) s (process_row c.args.call x s c.args.args)).effects).items
+    (g.T.Trace.taken c.conclude-ending.new.trace))
+    (world_is w s c.requires.ready c.see.ensures)
+    (call_took w (after w c.do_process_call.new.tree c.do_process_call.new.p) s (row w c.args.call s c.args.args)
+    (tame w c.args.call s c.args.args c.requires.ready c.see.ensures c.see_kept.ensures) (beside w c.do_process_call.new.tree c.do_process_call.new.p) e.does
+    c.in-Ok.answer c.in-Ok.is _ c.conclude-ending.ensures.items))
+
+pub returns-then-has_loaded-clause-covered : goal.returns-then-has_loaded-clause-covered
+returns-then-has_loaded-clause-covered g c ends = absurd (slept_goes _ _ c.wait_for_disk.ensures.ending ends)
+
+pub returns-then-has_loaded-clause-frame : goal.returns-then-has_loaded-clause-frame
+returns-then-has_loaded-clause-frame g c = g.met.T.Trace.goes_on _ _ _ c.do_process_call.ensures.frame c.conclude-ending.ensures.frame
+
+pub returns-then-has_loaded-clause-rest : goal.returns-then-has_loaded-clause-rest
+returns-then-has_loaded-clause-rest g c =
+    subst (λ (f : Files). SameAround c.args.world.now.files.tree.nodes.blocks f.tree.nodes.blocks) (sym c.wait_for_disk.ensures.files)
+    (subst (λ b. SameAround c.args.world.now.files.tree.nodes.blocks b) (sym c.conclude-ending.ensures.blocks) c.do_process_call.ensures.blocks)
+
+pub returns-then-has_loaded-clause-slots : goal.returns-then-has_loaded-clause-slots
+returns-then-has_loaded-clause-slots g c goes =
+    waited_any _ c.args.world.now.slots c.conclude-ending.new.world.slots c.wait_for_disk.new.world.slots c.conclude-ending.ensures.slots
+    c.wait_for_disk.ensures.slots
+
 pub returns-in-Ok-clause-come : goal.returns-in-Ok-clause-come
 returns-in-Ok-clause-come g c =
     let w : World = c.args.world.now in
     let s = c.args.s in
     let e = c.do_process_call.ensures in
-    subst (λ x. HasCome (board_in w) (came_by (unix_of w) s (process_row c.args.call x s c.args.args)) c.conclude.result c.conclude.new.world)
+    let its : Comes = process_row c.args.call (world_of (unix_of w)) s c.args.args in
+    let is = went w c.args.call s c.args.args c.in-Ok.answer _ e.does.answer c.in-Ok.is in
+    let waits = waits_so w c.args.call s c.args.args c.requires.ready c.see.ensures c.in-Ok.answer is c.has_loaded.result c.conclude-ending.new.world.slots
+    c.conclude-ending.ensures.slots c.has_loaded.ensures in
+    let done : HasCome (board_in w) (came_by (unix_of w) s its) c.conclude-ending.result c.conclude-ending.new.world =
+    subst (λ x. HasCome (board_in w) (came_by (unix_of w) s (process_row c.args.call x s c.args.args)) c.conclude-ending.result c.conclude-ending.new.world)
     (world_is w s c.requires.ready c.see.ensures)
     (call_come w (after w c.do_process_call.new.tree c.do_process_call.new.p) s (row w c.args.call s c.args.args)
     (tame w c.args.call s c.args.args c.requires.ready c.see.ensures c.see_kept.ensures) (beside w c.do_process_call.new.tree c.do_process_call.new.p) e.does
-    c.in-Ok.answer c.in-Ok.is c.conclude.result c.conclude.new.world c.conclude.ensures.come)
+    c.in-Ok.answer c.in-Ok.is c.conclude-ending.result c.conclude-ending.new.world c.conclude-ending.ensures.come) in
+    untimed_come (board_in w) (came_by (unix_of w) s its) c.conclude-ending.result c.conclude-ending.new.world done
+    (loads_program c.args.call its.answer) s (waits_then w c.args.call s c.args.args c.has_loaded.result waits ∙ c.if-has_loaded.false)
+
+pub returns-in-Ok-clause-slots : goal.returns-in-Ok-clause-slots
+returns-in-Ok-clause-slots g c goes =
+    let w : World = c.args.world.now in
+    let s = c.args.s in
+    let is = went w c.args.call s c.args.args c.in-Ok.answer _ c.do_process_call.ensures.does.answer c.in-Ok.is in
+    has_not_waited _ w.slots c.conclude-ending.new.world.slots c.conclude-ending.ensures.slots c.requires.waits
+    (waits_so w c.args.call s c.args.args c.requires.ready c.see.ensures c.in-Ok.answer is c.has_loaded.result c.conclude-ending.new.world.slots
+    c.conclude-ending.ensures.slots c.has_loaded.ensures ∙ c.if-has_loaded.false)
 
 pub returns-in-Ok-clause-items : goal.returns-in-Ok-clause-items
 returns-in-Ok-clause-items g c =
     let w : World = c.args.world.now in
     let s = c.args.s in
     let e = c.do_process_call.ensures in
-    subst (λ x. Took (g.T.Trace.taken c.args.trace.now) (logged (board_in w) (came_by (unix_of w) s (process_row c.args.call x s c.args.args)).effects).items
-    (g.T.Trace.taken c.conclude.new.trace))
+    let its : Comes = process_row c.args.call (world_of (unix_of w)) s c.args.args in
+    subst (λ es. Took (g.T.Trace.taken c.args.trace.now) (logged (board_in w) es).items (g.T.Trace.taken c.conclude-ending.new.trace))
+    (sym (timed_effects (loads_program c.args.call its.answer) s (came_by (unix_of w) s its)))
+    (subst (λ x. Took (g.T.Trace.taken c.args.trace.now) (logged (board_in w) (came_by (unix_of w) s (process_row c.args.call x s c.args.args)).effects).items
+    (g.T.Trace.taken c.conclude-ending.new.trace))
     (world_is w s c.requires.ready c.see.ensures)
     (call_took w (after w c.do_process_call.new.tree c.do_process_call.new.p) s (row w c.args.call s c.args.args)
     (tame w c.args.call s c.args.args c.requires.ready c.see.ensures c.see_kept.ensures) (beside w c.do_process_call.new.tree c.do_process_call.new.p) e.does
-    c.in-Ok.answer c.in-Ok.is _ c.conclude.ensures.items)
+    c.in-Ok.answer c.in-Ok.is _ c.conclude-ending.ensures.items))
 
 pub returns-in-Ok-clause-covered : goal.returns-in-Ok-clause-covered
-returns-in-Ok-clause-covered g c ends = absurd (let never = sym c.conclude.ensures.goes ∙ ends in cc never)
+returns-in-Ok-clause-covered g c ends = absurd (let never = sym c.conclude-ending.ensures.goes ∙ ends in cc never)
 
 pub returns-in-Ok-clause-frame : goal.returns-in-Ok-clause-frame
-returns-in-Ok-clause-frame g c = g.met.T.Trace.goes_on _ _ _ c.do_process_call.ensures.frame c.conclude.ensures.frame
+returns-in-Ok-clause-frame g c = g.met.T.Trace.goes_on _ _ _ c.do_process_call.ensures.frame c.conclude-ending.ensures.frame
 
 pub returns-in-Ok-clause-rest : goal.returns-in-Ok-clause-rest
 returns-in-Ok-clause-rest g c =
-    subst (λ b. SameAround c.args.world.now.files.tree.nodes.blocks b) (sym c.conclude.ensures.blocks) c.do_process_call.ensures.blocks
+    subst (λ b. SameAround c.args.world.now.files.tree.nodes.blocks b) (sym c.conclude-ending.ensures.blocks) c.do_process_call.ensures.blocks
 
 pub returns-in-Err-clause-come : goal.returns-in-Err-clause-come
 returns-in-Err-clause-come g c =
     let w : World = c.args.world.now in
     let s = c.args.s in
     let e = c.do_process_call.ensures in
-    subst (λ x. HasCome (board_in w) (came_by (unix_of w) s (process_row c.args.call x s c.args.args)) (Panic c.in-Err.kind)
-    (after w c.do_process_call.new.tree c.do_process_call.new.p))
+    let its : Comes = process_row c.args.call (world_of (unix_of w)) s c.args.args in
+    let now : World = after w c.do_process_call.new.tree c.do_process_call.new.p in
+    let done : HasCome (board_in w) (came_by (unix_of w) s its) (Panic c.in-Err.kind) now =
+    subst (λ x. HasCome (board_in w) (came_by (unix_of w) s (process_row c.args.call x s c.args.args)) (Panic c.in-Err.kind) now)
     (world_is w s c.requires.ready c.see.ensures)
-    (call_stops w (after w c.do_process_call.new.tree c.do_process_call.new.p) s (row w c.args.call s c.args.args)
+    (call_stops w now s (row w c.args.call s c.args.args)
     (tame w c.args.call s c.args.args c.requires.ready c.see.ensures c.see_kept.ensures) (beside w c.do_process_call.new.tree c.do_process_call.new.p) e.does
-    c.in-Err.kind c.in-Err.is (Panic c.in-Err.kind) refl)
+    c.in-Err.kind c.in-Err.is (Panic c.in-Err.kind) refl) in
+    let stop = stopped_by (board_in w) (came_by (unix_of w) s its) (Panic c.in-Err.kind) now done refl (came_goes (unix_of w) s its) in
+    cut_come (board_in w) (came_by (unix_of w) s its) (Panic c.in-Err.kind) now done (loads_program c.args.call its.answer) s stop.0 stop.1
+
+pub returns-in-Err-clause-slots : goal.returns-in-Err-clause-slots
+returns-in-Err-clause-slots g c goes = over_then c.in-Err.kind goes
 
 pub returns-in-Err-clause-ready : goal.returns-in-Err-clause-ready
 returns-in-Err-clause-ready g c goes = over_then c.in-Err.kind goes
@@ -107,12 +220,15 @@ returns-in-Err-clause-items g c =
     let w : World = c.args.world.now in
     let s = c.args.s in
     let e = c.do_process_call.ensures in
-    subst (λ x. Took (g.T.Trace.taken c.args.trace.now) (logged (board_in w) (came_by (unix_of w) s (process_row c.args.call x s c.args.args)).effects).items
+    let its : Comes = process_row c.args.call (world_of (unix_of w)) s c.args.args in
+    subst (λ es. Took (g.T.Trace.taken c.args.trace.now) (logged (board_in w) es).items (g.T.Trace.taken c.do_process_call.new.trace))
+    (sym (timed_effects (loads_program c.args.call its.answer) s (came_by (unix_of w) s its)))
+    (subst (λ x. Took (g.T.Trace.taken c.args.trace.now) (logged (board_in w) (came_by (unix_of w) s (process_row c.args.call x s c.args.args)).effects).items
     (g.T.Trace.taken c.do_process_call.new.trace))
     (world_is w s c.requires.ready c.see.ensures)
     (call_cut w (after w c.do_process_call.new.tree c.do_process_call.new.p) s (row w c.args.call s c.args.args)
     (tame w c.args.call s c.args.args c.requires.ready c.see.ensures c.see_kept.ensures) (beside w c.do_process_call.new.tree c.do_process_call.new.p) e.does
-    c.in-Err.kind c.in-Err.is)
+    c.in-Err.kind c.in-Err.is))
 
 pub returns-in-Err-clause-covered : goal.returns-in-Err-clause-covered
 returns-in-Err-clause-covered g c ends =

@@ -44,15 +44,15 @@ pub returns-in-Fault-clause-runs : goal.returns-in-Fault-clause-runs
 returns-in-Fault-clause-runs g c goes other = (c.fault.ensures.ready goes).runs
 
 pub returns-in-Next-clause-slots : goal.returns-in-Next-clause-slots
-returns-in-Next-clause-slots g c =
+returns-in-Next-clause-slots g c goes =
     has_not_waited _ _ _ refl c.requires.waits (ap (λ (o : Outcome). waits_in (unix_of c.args.world.now) c.args.fixed.now.slot o) c.in-Next.is)
 
 pub returns-in-Call-clause-slots : goal.returns-in-Call-clause-slots
-returns-in-Call-clause-slots g c =
+returns-in-Call-clause-slots g c goes =
     let w : World = c.args.world.now in
     subst (λ (o : Outcome). HasWaited (waits_in (unix_of w) c.args.fixed.now.slot o) w.slots c.call.new.world.slots) (sym c.in-Call.is)
-    c.call.ensures.slots
+    (c.call.ensures.slots goes)
 
 pub returns-in-Fault-clause-slots : goal.returns-in-Fault-clause-slots
-returns-in-Fault-clause-slots g c =
+returns-in-Fault-clause-slots g c goes =
     has_not_waited _ _ _ c.fault.ensures.slots c.requires.waits (ap (λ (o : Outcome). waits_in (unix_of c.args.world.now) c.args.fixed.now.slot o) c.in-Fault.is)

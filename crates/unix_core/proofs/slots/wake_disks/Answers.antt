@@ -51,6 +51,7 @@ returns g c =
     record {
       agree = was.agree;
       others = was.others;
+      same = was.same;
       running = was.running;
       clock = was.clock;
       board = was.board;

@@ -1,5 +1,5 @@
-use Rattle.std.proofs.Common.{sym}
-use Rattle.unix_core.proofs.TakenLemmas.{taken_answer, taken_next, taken_phase, taken_idle, taken_private, taken_texts}
+use Rattle.std.proofs.Common.{◌∙◌, sym}
+use Rattle.unix_core.proofs.TakenLemmas.{step_counted, taken_started, taken_fresh, taken_answer, taken_next, taken_phase, taken_idle, taken_private, taken_texts}
 use Rattle.unix_core.proofs.TakenLemmas.{near_kernel, near_answer, near_takes, near_items, far_running, far_answer, far_takes, far_items}
 use Rattle.unix_core.proofs.kernel.Kernel.turn.Goals as goal
 
@@ -20,10 +20,24 @@ invariant_of-self g c =
     (sym (c.execute.ensures.next.0 c.if-execute.true)) c.execute.ensures.fixed
     c.count_slot.new.self.stage c.count_slot.new.self.world c.count_slot.ensures.takes).kernel
 
+pub count_slot-requires-clause-started : goal.count_slot-requires-clause-started
+count_slot-requires-clause-started g c =
+    let m = c.self.inside.machine in
+    taken_started m.stage m.world c.self.invariant c.see_kept.ensures c.args.self.now c.self.view_is c.requires.started
+
+pub count_slot-requires-clause-fresh : goal.count_slot-requires-clause-fresh
+count_slot-requires-clause-fresh g c =
+    let m = c.self.inside.machine in
+    taken_fresh m.stage m.world c.self.invariant c.see_kept.ensures c.args.self.now c.self.view_is c.requires.started c.requires.fresh
+
+pub returns-then-execute-clause-idle : goal.returns-then-execute-clause-idle
+returns-then-execute-clause-idle g c idle = absurd (let never = sym c.count_slot.ensures.answer ∙ idle in cc never)
+
 pub returns-then-execute-clause-answer : goal.returns-then-execute-clause-answer
 returns-then-execute-clause-answer g c =
     let m = c.self.inside.machine in
-    near_answer m.stage m.world c.self.invariant c.see_kept.ensures c.args.self.now c.self.view_is c.requires.started c.in-Running.fixed c.in-Running.is c.execute.new.self c.execute.ensures.kept
+    c.count_slot.ensures.answer
+    ∙ near_answer m.stage m.world c.self.invariant c.see_kept.ensures c.args.self.now c.self.view_is c.requires.started c.in-Running.fixed c.in-Running.is c.execute.new.self c.execute.ensures.kept
     (sym (c.execute.ensures.next.0 c.if-execute.true)) c.execute.ensures.fixed
 
 pub returns-then-execute-clause-phase : goal.returns-then-execute-clause-phase
@@ -68,6 +82,16 @@ returns-then-execute-clause-items g c =
 -- It comes to something else.
 pub after_step-requires-clause-running : goal.after_step-requires-clause-running
 after_step-requires-clause-running g c = (c.in-Running.fixed, c.in-Running.is)
+
+pub after_step-requires-clause-counted : goal.after_step-requires-clause-counted
+after_step-requires-clause-counted g c =
+    let m = c.self.inside.machine in
+    step_counted m.stage m.world c.in-Running.fixed c.in-Running.is c.self.invariant c.see_kept.ensures c.execute.new.self c.execute.ensures.kept
+
+pub after_step-requires-clause-fresh : goal.after_step-requires-clause-fresh
+after_step-requires-clause-fresh g c =
+    let m = c.self.inside.machine in
+    taken_fresh m.stage m.world c.self.invariant c.see_kept.ensures c.args.self.now c.self.view_is c.requires.started c.requires.fresh
 
 pub after_step-requires-clause-user : goal.after_step-requires-clause-user
 after_step-requires-clause-user g c =

@@ -6,7 +6,7 @@ use Rattle.unix_core.specs.Parts.{unix_of, board_in, slot_in, HasCome, HasSteppe
 use Rattle.unix_core.proofs.TurnLemmas.{turn_is, turn_takes, turn_items, stepped_come, stepped_items}
 use Rattle.unix_core.proofs.TrapLemmas.{step_user}
 use Rattle.unix_core.proofs.CountLemmas.{counted_waits_can}
-use Rattle.unix_core.proofs.TurnCounts.{comes_counted}
+use Rattle.unix_core.proofs.TurnCounts.{first_goes, comes_counted}
 use Rattle.unix_core.proofs.WorldLemmas.{slot_is}
 use Rattle.unix_core.proofs.machine.Machine.after_step.Goals as goal
 
@@ -42,7 +42,8 @@ end-requires-clause-counted g c goes =
     let run = c.requires.user c.in-Running.fixed c.in-Running.is in
     let first = c.come_to-ending in
     let last = c.deliver_after-ending in
-    comes_counted w s run.user.ready c.requires.counted o run.user.user first.new.world.slots first.ensures.slots
+    comes_counted w s run.user.ready c.requires.counted o run.user.user first.new.world.slots
+    (first.ensures.slots (first_goes first.result last.result last.ensures.stopped goes))
     last.result last.new.world (last.ensures.come (board_in w) (comes_to (unix_of w) s o) first.ensures.come) last.ensures.slots goes
 
 pub returns-clause-answer : goal.returns-clause-answer

@@ -1,0 +1,51 @@
+use Rattle.std.proofs.Common.{◌≡◌, ◌∙◌, sym, ap, subst}
+use Rattle.sys_procs.specs.declared.procs.Procs.{Procs}
+use Rattle.unix_core.specs.declared.world.World.{World}
+use Rattle.unix_core.specs.Slots.{IsCounted}
+use Rattle.unix_core.specs.Parts.{unix_of, one_before, goes_on, IsKernel}
+use Rattle.unix_core.proofs.BootKernelLemmas.{kernel_good}
+use Rattle.unix_core.proofs.SlotWorlds.{kernel_slots}
+use Rattle.unix_core.proofs.SlotEnds.{woken_takes, woken_took, quiet_takes, quiet_took}
+use Rattle.unix_core.proofs.machine.Machine.reach.Goals as goal
+
+pub reach-requires-clause-good : goal.reach-requires-clause-good
+reach-requires-clause-good g c =
+    let m = c.args.self.now in kernel_good m.stage (one_before m.world) c.requires.started c.requires.kernel
+
+pub reach-requires-clause-counted : goal.reach-requires-clause-counted
+reach-requires-clause-counted g c = c.requires.kernel.counted (ap goes_on c.requires.started)
+
+pub returns-then-reach-clause-takes : goal.returns-then-reach-clause-takes
+returns-then-reach-clause-takes g c h still =
+    let w : World = c.args.self.now.world in
+    let counted = c.requires.kernel.counted (ap goes_on c.requires.started) in
+    woken_takes w c.requires.left counted.within h still c.reach.new.world c.reach.ensures.unix c.reach.ensures.board
+    (sym c.if-reach.true ∙ c.reach.ensures.any) _ _ c.settle.ensures.kernel c.settle.ensures.started c.settle.ensures.system
+
+pub returns-then-reach-clause-items : goal.returns-then-reach-clause-items
+returns-then-reach-clause-items g c h still =
+    let w : World = c.args.self.now.world in
+    let counted = c.requires.kernel.counted (ap goes_on c.requires.started) in
+    woken_took w c.requires.left counted.within h still c.reach.new.world c.reach.ensures.unix c.reach.ensures.board
+    (sym c.if-reach.true ∙ c.reach.ensures.any) _ _ _ c.reach.ensures.items c.settle.ensures.items
+
+pub returns-clause-takes : goal.returns-clause-takes
+returns-clause-takes g c h still =
+    let m = c.args.self.now in
+    let w : World = m.world in
+    let counted = c.requires.kernel.counted (ap goes_on c.requires.started) in
+    let v : World = c.reach.new.world in
+    let there : v ≡ record w { slots = v.slots } =
+    c.reach.ensures.others ∙ ap (λ (p : Procs). record w { procs = p; slots = v.slots }) (c.reach.ensures.same c.if-reach.false) in
+    let kernel : IsKernel m.stage v =
+    subst (IsKernel m.stage) (sym there)
+    (kernel_slots (one_before w) v.slots m.stage (λ goes. subst (λ (x : World). IsCounted v.slots (unix_of x)) there c.reach.ensures.counted) c.requires.kernel) in
+    quiet_takes w c.requires.left counted.within h still v c.reach.ensures.unix c.reach.ensures.board
+    (sym c.if-reach.false ∙ c.reach.ensures.any) m.stage kernel c.requires.started
+
+pub returns-clause-items : goal.returns-clause-items
+returns-clause-items g c h still =
+    let w : World = c.args.self.now.world in
+    let counted = c.requires.kernel.counted (ap goes_on c.requires.started) in
+    quiet_took w c.requires.left counted.within h still c.reach.new.world c.reach.ensures.unix c.reach.ensures.board
+    (sym c.if-reach.false ∙ c.reach.ensures.any) _ _ c.reach.ensures.items
