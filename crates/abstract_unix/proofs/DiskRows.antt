@@ -1,9 +1,8 @@
 -- No row of a call on files leaves a wait for the disk.
-use Rattle.std.proofs.Common.{◌≡◌, ◌⊎◌, ◌∙◌, ◌==◌, ℕ, true, false, List, slice_index, refl, inl, inr, arith}
+use Rattle.std.proofs.Common.{◌≡◌, ◌⊎◌, ◌∙◌, ◌==◌, ℕ, true, List, refl, inl, inr, arith}
 use Rattle.u_area.specs.declared.layout.TheConstants.{NOTHING_PENDING, LINE_READ, DISK_WAIT}
 use Rattle.u_area.specs.Pending.{is_on_files, IsPipeCall}
 use Rattle.sys_files.specs.Handed.{Handed}
-use Rattle.sys_files.specs.Did.{Did}
 use Rattle.sys_files.specs.Moving.{resumes}
 use Rattle.sys_files.proofs.Walks.{Walks, walk_resume}
 use Rattle.abstract_unix.specs.declared.calls.FileCall.{FileCall}

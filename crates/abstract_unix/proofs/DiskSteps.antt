@@ -1,6 +1,6 @@
 -- Who waits for the disk after a turn waited for it before, or the turn's own call has read the disk.
 use Rattle.std.proofs.Common.{◌≡◌, ◌≢◌, ◌∙◌, ◌⊎◌, ◌<◌, ◌+◌, ◌*◌, ◌/◌, ◌%◌, ◌==◌, ◌&&◌, not, ℕ, Bool, true, false, cond, nat_lt, List, length, get_or, set, Option, Some, None, option_map, unwrap_or, slice_index, refl, sym, ap, subst, inl, inr, arith}
-use Rattle.std.proofs.lemmas.Bool.{cases_eq, eqb-true, eqb-false}
+use Rattle.std.proofs.lemmas.Bool.{cases_eq}
 use Rattle.std.proofs.lemmas.List.{get_or-set_same, get_or-set_other, length-set}
 use Rattle.v6_base.specs.declared.answer.Answer.{Answer}
 use Rattle.v6_base.specs.declared.answer.Answer.TheVariants.{Ret, Fail, Sleep}
@@ -29,7 +29,7 @@ use Rattle.abstract_unix.specs.declared.ending.Ending.TheVariants.{Slept}
 use Rattle.abstract_unix.specs.Unix.{Text, Timing, Unix, process_of, with_process}
 use Rattle.abstract_unix.specs.Errors.{error_number}
 use Rattle.abstract_unix.specs.Steps.{Steps, returns, signals}
-use Rattle.abstract_unix.specs.Calls.{handed_of, with_handed, world_of, with_world, with_area, given_area, refused_area, refuses, answers, file_row, process_row, did_by, came_by, forks, waiting_until, disk_end, waits_for_disk, takes_time, waits_in_call, reads_disk, loads_program, entered_area, words_passed, asked, does_call, does_asked, sysent_of, grows, grown_by, grows_to, exits_with, resumed}
+use Rattle.abstract_unix.specs.Calls.{handed_of, with_handed, world_of, with_world, with_area, given_area, refused_area, refuses, answers, file_row, process_row, did_by, came_by, forks, disk_end, waits_for_disk, takes_time, waits_in_call, reads_disk, loads_program, entered_area, words_passed, asked, does_call, does_asked, sysent_of, grows, grown_by, grows_to, exits_with, resumed}
 use Rattle.abstract_unix.specs.declared.calls.Sysent.{Sysent}
 use Rattle.abstract_unix.specs.declared.ending.Ending.{Ending}
 use Rattle.abstract_unix.specs.declared.ending.Ending.TheVariants as ending
@@ -42,7 +42,7 @@ use Rattle.sys_files.specs.Core.{core_file, is_written}
 use Rattle.sys_files.specs.Descriptors.{Closing, close_all}
 use Rattle.sys_files.specs.Moving.{resumes}
 use Rattle.sys_procs.specs.Break.{sized, expands, grown_stack, grow, grown_or_not}
-use Rattle.sys_procs.specs.Exit.{exit_status, end_proc}
+use Rattle.sys_procs.specs.Exit.{exit_status}
 use Rattle.sys_procs.specs.Resume.{awake, resume_proc}
 use Rattle.abstract_unix.proofs.Owing.{some_within}
 use Rattle.abstract_unix.proofs.GoingOnLemmas.{Waited, AllWaited, handed_pends, all_waited_put}

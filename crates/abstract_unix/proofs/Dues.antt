@@ -1,6 +1,5 @@
 -- The number of the slot at whose end somebody is woken next, through a turn.
-use Rattle.std.proofs.Common.{◌≡◌, ◌≢◌, ◌∙◌, ◌⊎◌, ◌<◌, ◌≤◌, ◌+◌, ◌*◌, ◌==◌, ◌&&◌, not, ℕ, Bool, true, false, cond, nat_lt, List, get_or, Option, Some, None, unwrap_or, slice_index, refl, sym, ap, subst, inl, inr, arith}
-use Rattle.std.proofs.lemmas.Bool.{cases_eq}
+use Rattle.std.proofs.Common.{◌≡◌, ◌≢◌, ◌∙◌, ◌⊎◌, ◌<◌, ◌≤◌, ◌+◌, ◌*◌, ◌==◌, ◌&&◌, not, ℕ, Bool, true, false, cond, nat_lt, List, get_or, Option, Some, None, slice_index, refl, sym, ap, subst, inl, inr, arith}
 use Rattle.v6_base.specs.declared.answer.Answer.{Answer}
 use Rattle.v6_base.specs.declared.answer.Answer.TheVariants.{Ret, Fail, Sleep}
 use Rattle.v6_base.specs.declared.entry.Chan.TheVariants.{Disk}
@@ -25,7 +24,6 @@ use Rattle.sys_procs.specs.Break.{grow}
 use Rattle.sys_procs.specs.Fork.{fork_one}
 use Rattle.sys_procs.specs.Resume.{awake, resume_proc}
 use Rattle.abstract_unix.specs.declared.asked.Asked.{Asked}
-use Rattle.abstract_unix.specs.declared.calls.Sysent.{Sysent}
 use Rattle.abstract_unix.specs.declared.calls.SystemCall.{SystemCall}
 use Rattle.abstract_unix.specs.declared.calls.SystemCall.TheVariants.{Indirect, Exit, Fork, Unknown, OnFiles, OnProcesses}
 use Rattle.abstract_unix.specs.declared.ending.Ending.{Ending}
@@ -33,7 +31,7 @@ use Rattle.abstract_unix.specs.declared.ending.Ending.TheVariants as ending
 use Rattle.abstract_unix.specs.Unix.{Timing, Unix, System, process_of, with_process}
 use Rattle.abstract_unix.specs.Errors.{error_number}
 use Rattle.abstract_unix.specs.Steps.{Steps, returns, signals}
-use Rattle.abstract_unix.specs.Calls.{handed_of, with_handed, world_of, with_world, with_area, refused_area, entered_area, words_passed, asked, file_row, process_row, refuses, answers, did_by, came_by, forks, grown_by, grows_to, exits_with, disk_end, waits_for_disk, takes_time, reads_disk, loads_program, does_call, does_asked, sysent_of, resumed}
+use Rattle.abstract_unix.specs.Calls.{handed_of, with_handed, world_of, with_world, with_area, refused_area, entered_area, words_passed, asked, file_row, process_row, refuses, answers, did_by, came_by, grown_by, exits_with, disk_end, waits_for_disk, takes_time, reads_disk, loads_program, does_call, sysent_of, resumed}
 use Rattle.abstract_unix.specs.Delivery.{heeds, catches, signal_status, ends_after, ends_by, delivers_if, delivers_due, ends_by_ending, ends_turn}
 use Rattle.abstract_unix.specs.Turn.{machine_of, with_machine, faults, comes_to, waits_in, instruction, is_user, passes_setd, begins_turn, turn, disk_end_of}
 use Rattle.abstract_unix.specs.Whole.{AreDue, NoGraveWaits, CanGoOn}

@@ -7,8 +7,6 @@ use Rattle.v6_base.specs.declared.answer.Answer.TheVariants.{Ret, Fail, Sleep}
 use Rattle.v6_base.specs.declared.errno.Errno.TheVariants.{ENOSYS}
 use Rattle.tty_line.specs.declared.line.Keyed.{Keyed}
 use Rattle.tty_line.specs.declared.line.Keyed.TheVariants as key
-use Rattle.pick_rules.specs.declared.row.Mode.{Mode}
-use Rattle.pick_rules.specs.declared.row.Mode.TheVariants.{User, Kernel, Idle}
 use Rattle.pdp_step.specs.declared.outcome.Kind.{Kind}
 use Rattle.pdp_step.specs.declared.outcome.Kind.TheVariants as kind
 use Rattle.pdp_step.specs.declared.outcome.Outcome.{Outcome}
@@ -33,16 +31,16 @@ use Rattle.abstract_unix.specs.declared.calls.Sysent.{Sysent}
 use Rattle.v6_base.specs.declared.entry.Chan.TheVariants.{Disk}
 use Rattle.pick_rules.specs.Priority.{pribio}
 use Rattle.abstract_unix.specs.declared.ending.Ending.TheVariants.{Trapped, Slept}
-use Rattle.abstract_unix.specs.Unix.{Unix, System, process_at, process_of, with_process}
+use Rattle.abstract_unix.specs.Unix.{Unix, System, process_of, with_process}
 use Rattle.abstract_unix.specs.Errors.{error_number}
 use Rattle.abstract_unix.specs.Steps.{Steps, returns, signals}
 use Rattle.abstract_unix.specs.Calls.{handed_of, with_handed, world_of, with_world, with_area, entered_area, given_area, refused_area, words_passed, asked, refuses, answers, did_by, came_by, grown_by, grows_to, file_row, process_row, reads_disk, loads_program, waits_for_disk, takes_time, does_call, does_asked, sysent_of, resumed}
 use Rattle.abstract_unix.specs.Turn.{machine_of, with_machine, passes_setd, faults, comes_to, instruction, is_user, begins_turn}
-use Rattle.abstract_unix.specs.Outside.{timed, charged, with_key}
+use Rattle.abstract_unix.specs.Outside.{with_key}
 use Rattle.abstract_unix.specs.Whole.{CanGoOn}
 use Rattle.abstract_unix.proofs.Owing.{some_within}
 use Rattle.abstract_unix.proofs.PendingRows.{is_sleep, row_user, resume_user}
-use Rattle.abstract_unix.proofs.GoingOnLemmas.{WaitedIn, like_waited, user_waited, waited_goes_on, put_goes_on, handed_pends}
+use Rattle.abstract_unix.proofs.GoingOnLemmas.{WaitedIn, like_waited, user_waited, waited_goes_on, handed_pends}
 use Rattle.abstract_unix.proofs.WaitingRows.{set_either, process_user, resumed_user, fork_user, key_waited}
 
 -- A process waits as another one does.

@@ -25,7 +25,7 @@ use Rattle.sys_procs.specs.Process.{Process}
 use Rattle.sys_procs.specs.World.{Clock}
 use Rattle.pick_rules.specs.Logged.{logged}
 use Rattle.abstract_unix.specs.Unix.{Unix, System, process_of, with_process}
-use Rattle.abstract_unix.specs.Turn.{happens, stays, settled_after, is_user}
+use Rattle.abstract_unix.specs.Turn.{happens, settled_after, is_user}
 use Rattle.pick_rules.specs.Table.{row_at}
 use Rattle.pick_rules.specs.Apply.{applied}
 use Rattle.pick_rules.proofs.Laws.{passed_running, wakeup_kept}

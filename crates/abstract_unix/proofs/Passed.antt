@@ -1,14 +1,12 @@
 -- How many slots have been taken: each slot counts once, and nothing else does.
-use Rattle.std.proofs.Common.{◌≡◌, ◌∙◌, ◌+◌, ◌<◌, ℕ, zero, suc, Bool, true, false, cond, List, [], ◌∷◌, ◌++◌, map, Option, Some, None, refl, sym, ap, subst}
+use Rattle.std.proofs.Common.{◌≡◌, ◌∙◌, ◌+◌, ◌<◌, ℕ, zero, suc, Bool, true, false, cond, List, [], ◌∷◌, ◌++◌, map, Option, Some, None, refl, sym, ap}
 use Rattle.pick_rules.specs.Effects.{Effect, Show}
-use Rattle.pick_rules.specs.Logged.{Stop, Logged, logged, left_by}
+use Rattle.pick_rules.specs.Logged.{Stop, logged, left_by}
 use Rattle.swap_sched.specs.Pass.{pass, over}
-use Rattle.abstract_unix.specs.declared.ends.Ends.{Ends}
 use Rattle.abstract_unix.specs.declared.ends.Ends.TheVariants.{AtEnd}
-use Rattle.abstract_unix.specs.declared.ending.Ending.{Ending}
 use Rattle.abstract_unix.specs.Unix.{Timing, Unix, System}
 use Rattle.abstract_unix.specs.Endings.{is_early}
-use Rattle.abstract_unix.specs.Turn.{Happened, stays, settling, calls_for_settling, settled_after, ending_by, ending_of_pass, end_effects, turn, turn_of, pass_of, slot_by, slot_of, with_slot, counted, followed, disk_lines, wakes_disks, after_slot}
+use Rattle.abstract_unix.specs.Turn.{Happened, stays, settling, calls_for_settling, settled_after, ending_by, ending_of_pass, end_effects, turn, turn_of, pass_of, slot_of, with_slot, counted, followed, disk_lines, wakes_disks, after_slot}
 use Rattle.abstract_unix.specs.Runs.{Slot, event_of}
 use Rattle.abstract_unix.proofs.RunsLemmas.{settled_ending, after_ending}
 use Rattle.abstract_unix.proofs.Dues.{times_turn}

@@ -1,5 +1,5 @@
 -- How a run over a list of events is made of runs over its parts.
-use Rattle.std.proofs.Common.{Option, ◌≡◌, ◌≢◌, ◌||◌, ℕ, cond, Bool, true, false, map, List, [], ◌∷◌, ◌++◌, Ok, Err, refl, sym, ◌∙◌, ap, append_assoc}
+use Rattle.std.proofs.Common.{Option, ◌≡◌, ◌≢◌, ◌||◌, cond, Bool, true, false, map, List, [], ◌∷◌, ◌++◌, Ok, Err, refl, sym, ◌∙◌, ap, append_assoc}
 use Rattle.std.proofs.lemmas.List.{append-nil}
 use Rattle.std.proofs.lemmas.List.Folds.{list_any-append}
 use Rattle.v6_base.specs.Trace.{Item}
@@ -15,7 +15,7 @@ use Rattle.pick_rules.specs.Logged.{Stop, logged}
 use Rattle.abstract_unix.specs.Endings.{is_early}
 use Rattle.abstract_unix.specs.Unix.{Unix, System}
 use Rattle.abstract_unix.specs.Turn.{settled, Happened, Turn, with_slot, counted, followed, disk_lines, wakes_disks, after_slot, stays, settling, calls_for_settling, settled_after, turned_by, turned, ticked_by}
-use Rattle.abstract_unix.specs.Runs.{Event, Tick, Byte, Switch, Course, begun, event_of, goes_on_by, unless_ended, after_event, course, after_items}
+use Rattle.abstract_unix.specs.Runs.{Event, Tick, Course, begun, event_of, goes_on_by, unless_ended, after_event, course, after_items}
 
 -- first these events and then those
 pub course-append : (c : Course) (xs ys : List Event) → course c (xs ++ ys) ≡ course (course c xs) ys

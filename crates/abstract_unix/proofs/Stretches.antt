@@ -1,30 +1,27 @@
 -- Slots after which nothing follows: a process executes instructions, or nobody runs, and nobody's wait for the disk is over.
-use Rattle.std.proofs.Common.{◌≡◌, ◌≢◌, ◌∙◌, ◌<◌, ◌≤◌, ◌⊎◌, ◌+◌, ◌==◌, ◌&&◌, not, ℕ, suc, Bool, true, false, cond, List, [], ◌∷◌, ◌++◌, map, filter, get_or, Option, Some, None, refl, sym, ap, subst, inl, inr, arith}
+use Rattle.std.proofs.Common.{◌≡◌, ◌≢◌, ◌∙◌, ◌<◌, ◌≤◌, ◌⊎◌, ◌+◌, ◌==◌, ◌&&◌, ℕ, suc, Bool, true, false, cond, List, [], ◌∷◌, ◌++◌, map, filter, get_or, Option, Some, None, refl, ap, inl, inr, arith}
 use Rattle.std.proofs.lemmas.Bool.{eqb-true}
-use Rattle.v6_base.specs.Trace.{Item, Log}
+use Rattle.v6_base.specs.Trace.{Log}
 use Rattle.v6_base.specs.declared.entry.Chan.TheVariants.{Disk}
-use Rattle.v6_base.specs.declared.entry.Entry.{Entry}
 use Rattle.v6_base.specs.declared.entry.Entry.TheVariants as entry
 use Rattle.proc_tab.specs.Processes.{slots_above_0}
 use Rattle.pdp_step.specs.declared.outcome.Outcome.{Outcome}
 use Rattle.pdp_step.specs.declared.outcome.Outcome.TheVariants as outcome
-use Rattle.pdp_step.specs.Instruction.{Stepped, instr}
+use Rattle.pdp_step.specs.Instruction.{instr}
 use Rattle.pick_rules.specs.Choice.{settle}
-use Rattle.pick_rules.specs.Board.{Board}
 use Rattle.pick_rules.specs.Effects.{Show}
 use Rattle.sys_procs.specs.Process.{Process}
-use Rattle.sys_procs.specs.Signals.{is_meant, meant_in}
-use Rattle.abstract_unix.specs.declared.ends.Ends.{Ends}
+use Rattle.sys_procs.specs.Signals.{is_meant}
 use Rattle.abstract_unix.specs.declared.ends.Ends.TheVariants.{AtEnd}
-use Rattle.abstract_unix.specs.Unix.{Unix, System, process_at, process_of, with_process}
+use Rattle.abstract_unix.specs.Unix.{Unix, System, process_of, with_process}
 use Rattle.abstract_unix.specs.Endings.{is_early}
 use Rattle.u_area.specs.declared.layout.TheConstants.{DISK_WAIT}
 use Rattle.abstract_unix.specs.Calls.{resumed}
 use Rattle.abstract_unix.specs.Steps.{Steps}
 use Rattle.abstract_unix.specs.Delivery.{ends_turn}
-use Rattle.abstract_unix.specs.Turn.{Happened, Turn, stays, settling, settled_as, settled_after, machine_of, with_machine, comes_to, instruction, is_user, begins_turn, turn, turn_of, slot_of, with_slot, counted, followed, disk_end_of, waits_until, disk_lines, wakes_disks, after_slot, whole_slot}
+use Rattle.abstract_unix.specs.Turn.{Happened, stays, settled_as, settled_after, machine_of, with_machine, comes_to, instruction, is_user, turn_of, slot_of, with_slot, counted, followed, disk_end_of, waits_until, disk_lines, wakes_disks, after_slot}
 use Rattle.abstract_unix.specs.Whole.{AreDue}
-use Rattle.abstract_unix.specs.Runs.{Event, Slot, event_of}
+use Rattle.abstract_unix.specs.Runs.{Slot, event_of}
 
 pub due_after : (due : ℕ) (u : Unix) → AreDue due u → u.timing.passed + 1 < due → AreDue due (with_slot u)
 due_after due u d more = record { next = more; each = λ s p is waits. elim (d.each s p is waits) [

@@ -1,5 +1,5 @@
 -- Calls on processes: who waits in a pipe afterwards waited in it before, and a call that comes to an answer waits for nothing.
-use Rattle.std.proofs.Common.{◌≡◌, ◌<◌, ◌≤◌, ◌&&◌, ◌==◌, ◌∙◌, not, is_none, ℕ, Bool, true, false, cond, List, [], length, get_or, set, map, Option, Some, None, slice_index, refl, sym, ap, subst, inl, inr, arith, option_map, unwrap_or}
+use Rattle.std.proofs.Common.{◌≡◌, ◌<◌, ◌≤◌, ◌&&◌, ◌==◌, ◌∙◌, not, is_none, ℕ, Bool, true, false, cond, List, [], length, get_or, set, map, Option, Some, None, slice_index, refl, sym, ap, subst, inl, inr, arith, unwrap_or}
 use Rattle.std.specs.Prelude.{Result, Ok, Err, bit_and, slice_index_or, slice_set}
 use Rattle.std.proofs.lemmas.Bool.{cases_lt, cases_eq}
 use Rattle.std.proofs.lemmas.List.{get_or_past, get_or-set_same, get_or-set_other, length-set}
@@ -24,7 +24,7 @@ use Rattle.sys_procs.specs.Texts.{free_entry, new_text, with_user, with_entry, r
 use Rattle.sys_procs.specs.Comes.{Comes, does, logs}
 use Rattle.sys_procs.specs.Tests.{node_at}
 use Rattle.sys_procs.specs.Stack.{first_stack}
-use Rattle.sys_procs.specs.Break.{sized, expands, clicks_up_to, break_at, grown_stack, grow, grown_or_not}
+use Rattle.sys_procs.specs.Break.{sized, expands, clicks_up_to, break_at}
 use Rattle.sys_procs.specs.ExecFile.{Tested, tests, with_moved, data_read, reads_text, image_clicks, as_owner, in_its_group, begun_area, bared, begins, executes, begins_anew, loads, done_by, exec_file}
 use Rattle.sys_procs.specs.Times.{with_time}
 use Rattle.sys_procs.specs.Fork.{copied, past_word, next_pid, with_child, fork_into, fork_one}

@@ -1,13 +1,13 @@
 -- The count of slots through what a kernel does: who waits for the disk is woken when the slot has come.
-use Rattle.std.proofs.Common.{◌≡◌, ◌≢◌, ◌∙◌, ◌⊎◌, ◌<◌, ◌≤◌, ◌+◌, ◌*◌, ◌-◌, ℕ, Bool, true, false, List, get_or, Option, Some, None, slice_index, refl, sym, ap, subst, inl, inr, arith}
+use Rattle.std.proofs.Common.{◌≡◌, ◌≢◌, ◌∙◌, ◌⊎◌, ◌<◌, ◌≤◌, ◌+◌, ◌*◌, ◌-◌, ℕ, Bool, false, List, get_or, Option, Some, None, slice_index, refl, sym, ap, subst, inl, inr, arith}
 use Rattle.u_area.specs.declared.layout.TheConstants.{NOTHING_PENDING, DISK_WAIT}
 use Rattle.sys_procs.specs.Process.{Process}
 use Rattle.abstract_unix.specs.Unix.{Timing, Unix, process_at, process_of}
 use Rattle.pdp_step.specs.declared.outcome.Outcome.{Outcome}
-use Rattle.abstract_unix.specs.Calls.{disk_end, resumed}
+use Rattle.abstract_unix.specs.Calls.{resumed}
 use Rattle.abstract_unix.specs.Delivery.{ends_turn}
 use Rattle.abstract_unix.specs.Turn.{comes_to, waits_in, with_slot, disk_end_of}
-use Rattle.abstract_unix.specs.Whole.{AreDue, CanGoOn}
+use Rattle.abstract_unix.specs.Whole.{CanGoOn}
 use Rattle.abstract_unix.proofs.GoingOnLemmas.{Waited, AllWaited}
 use Rattle.abstract_unix.proofs.Stretches.{due_after}
 use Rattle.abstract_unix.proofs.DiskSteps.{LivesIn}

@@ -1,6 +1,5 @@
 -- Who has waited for the disk is woken, slot by slot.
 use Rattle.std.proofs.Common.{◌≡◌, ◌≢◌, ◌∙◌, ◌<◌, ◌≤◌, ◌⊎◌, ◌+◌, ◌*◌, ◌-◌, ◌==◌, ◌&&◌, ◌||◌, not, cond, ℕ, suc, Bool, true, false, List, [], ◌∷◌, ◌++◌, length, map, fold, get_or, slice_index, Option, Some, None, refl, sym, ap, subst, inl, inr, arith}
-use Rattle.std.specs.List.{range_with_len}
 use Rattle.std.proofs.lemmas.Bool.{cases_lt, eqb-true, eq-eqb, ne_eqb}
 use Rattle.std.proofs.lemmas.List.{get_or_past}
 use Rattle.std.proofs.lemmas.List.Sums.{fold-append}
@@ -19,12 +18,12 @@ use Rattle.pick_rules.specs.Effects.{Effect, Show}
 use Rattle.pick_rules.specs.Logged.{Logged, logged, board_after}
 use Rattle.proc_tab.specs.declared.member.Member.{Member}
 use Rattle.proc_tab.specs.Processes.{member_at}
-use Rattle.image_keep.specs.Kept.{Held, Keeping, Nothing, Alive, Grave, HasImage, keeping, text_of, area_of}
+use Rattle.image_keep.specs.Kept.{Keeping, Nothing, Alive, Grave, HasImage, keeping, text_of, area_of}
 use Rattle.sys_procs.specs.declared.procs.Procs.{Procs}
 use Rattle.sys_procs.specs.Process.{Process, process_by, process_in}
 use Rattle.sys_procs.specs.World.{clock_of}
 use Rattle.sys_procs.specs.Signals.{is_meant}
-use Rattle.sys_procs.specs.Agree.{Kind, Free, Lives, Died, kind_of_stat, kind_by, kind_of_keeping, kind_of_member, Agrees, board_of}
+use Rattle.sys_procs.specs.Agree.{Free, Lives, Died, kind_of_stat, kind_by, kind_of_keeping, kind_of_member, Agrees, board_of}
 use Rattle.sys_procs.specs.Handed.{AreProcs, IsAlive, process_here}
 use Rattle.sys_procs.proofs.Slots.{process_in_slot, fifty_processes}
 use Rattle.sys_procs.proofs.Alive.{is_here, area_here}
@@ -34,7 +33,7 @@ use Rattle.abstract_unix.specs.Turn.{disk_end_of, waits_until}
 use Rattle.abstract_unix.specs.Outside.{wakes}
 use Rattle.unix_core.specs.declared.slots.Woken.{Woken}
 use Rattle.unix_core.specs.declared.slots.TheConstants.{NEVER}
-use Rattle.unix_core.specs.Slots.{processes_of, woken_with, AreDueFrom, NoneInGraves}
+use Rattle.unix_core.specs.Slots.{processes_of, AreDueFrom, NoneInGraves}
 use Rattle.unix_core.specs.Passing.{called_table}
 use Rattle.unix_core.proofs.LoggedLemmas.{logged_shown}
 use Rattle.unix_core.proofs.EventLemmas.{called_agree, called_running, called_clock}

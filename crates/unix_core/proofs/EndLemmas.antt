@@ -10,7 +10,6 @@ use Rattle.pick_rules.specs.declared.table.Table.{Table}
 use Rattle.pick_rules.specs.Table.{empty_row, row_at, same_chan, IsTable}
 use Rattle.pick_rules.specs.Priority.{setpri}
 use Rattle.pick_rules.specs.Sleepers.{sleep_stat, runin_told, asleep, flagged, fall_asleep}
-use Rattle.pick_rules.specs.Board.{Board}
 use Rattle.pick_rules.specs.Effects.{Show}
 use Rattle.pick_rules.specs.Logged.{logged}
 use Rattle.pick_rules.proofs.Laws.{sleep_now, sleep_ticks, sleep_tout, sleep_running}
@@ -24,10 +23,9 @@ use Rattle.unix_core.specs.declared.machine.Stage.{Stage}
 use Rattle.unix_core.specs.declared.machine.Stage.TheVariants as stage
 use Rattle.abstract_unix.specs.declared.ending.Ending.{Ending}
 use Rattle.abstract_unix.specs.declared.ending.Ending.TheVariants as ending
-use Rattle.abstract_unix.specs.declared.ends.Ends.{Ends}
 use Rattle.abstract_unix.specs.declared.ends.Ends.TheVariants as ends
 use Rattle.abstract_unix.specs.declared.ends.Ends.TheVariants.{AtEnd}
-use Rattle.abstract_unix.specs.Unix.{Unix, System, Started}
+use Rattle.abstract_unix.specs.Unix.{Unix, Started}
 use Rattle.unix_core.specs.Passing.{trapped, ended_table}
 use Rattle.abstract_unix.specs.Endings.{is_early}
 use Rattle.abstract_unix.proofs.RunsLemmas.{whole_answer}

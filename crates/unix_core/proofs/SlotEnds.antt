@@ -1,17 +1,14 @@
 -- What follows a slot after which the kernel settles, and one in which nothing was logged.
-use Rattle.std.proofs.Common.{◌≡◌, ◌∙◌, ◌+◌, ◌-◌, ◌≤◌, ◌==◌, ◌&&◌, not, cond, ℕ, Bool, true, false, List, [], ◌∷◌, ◌++◌, append-nil, length, map, None, refl, sym, ap, subst, append_assoc, arith}
+use Rattle.std.proofs.Common.{◌≡◌, ◌∙◌, ◌+◌, ◌-◌, ◌≤◌, ◌==◌, ◌&&◌, not, cond, Bool, true, false, List, [], ◌∷◌, ◌++◌, length, map, refl, sym, ap, subst, append_assoc, arith}
 use Rattle.std.proofs.lemmas.Bool.{ne_eqb}
 use Rattle.v6_base.specs.Trace.{Item, Took, Taken}
 use Rattle.v6_base.proofs.Took.{took_then, took_nothing}
-use Rattle.pick_rules.specs.Choice.{settle}
 use Rattle.pick_rules.specs.Board.{Board}
 use Rattle.pick_rules.specs.Effects.{Effect, Show}
-use Rattle.pick_rules.specs.Logged.{Logged, logged, nothing_logged, board_after}
-use Rattle.sys_procs.specs.Agree.{board_of}
-use Rattle.abstract_unix.specs.declared.ends.Ends.{Ends}
+use Rattle.pick_rules.specs.Logged.{Logged, logged}
 use Rattle.abstract_unix.specs.declared.ends.Ends.TheVariants.{AtEnd}
-use Rattle.abstract_unix.specs.Unix.{Unix, System, Started}
-use Rattle.abstract_unix.specs.Endings.{is_early, phase_after}
+use Rattle.abstract_unix.specs.Unix.{Unix, Started}
+use Rattle.abstract_unix.specs.Endings.{is_early}
 use Rattle.abstract_unix.specs.Turn.{Happened, Turn, stays, settling, settled, settled_as, settled_after, with_slot, counted, followed, disk_lines, wakes_disks, after_slot}
 use Rattle.unix_core.specs.declared.world.World.{World}
 use Rattle.unix_core.specs.declared.machine.Stage.{Stage}

@@ -1,23 +1,19 @@
 -- A world whose slots are counted otherwise: what is so of it still is.
-use Rattle.std.proofs.Common.{◌≡◌, ◌≢◌, ◌∙◌, ◌<◌, ◌≤◌, ◌+◌, ◌-◌, ◌==◌, not, ℕ, true, false, List, [], length, map, Option, Some, None, refl, sym, ap, subst, inl, inr, arith}
-use Rattle.pick_rules.specs.declared.table.Table.{Table}
+use Rattle.std.proofs.Common.{◌≡◌, ◌≢◌, ◌∙◌, ◌<◌, ◌≤◌, ◌+◌, ◌-◌, ◌==◌, not, ℕ, true, false, [], length, map, refl, sym, ap, subst, inl, inr, arith}
 use Rattle.pick_rules.specs.Effects.{Show}
 use Rattle.pick_rules.specs.Logged.{logged}
-use Rattle.image_keep.specs.State.{ImagesState}
-use Rattle.image_keep.specs.Kept.{with_area, area_of}
-use Rattle.u_area.specs.declared.area.UArea.{UArea}
 use Rattle.sys_procs.specs.declared.procs.Procs.{Procs}
 use Rattle.sys_procs.specs.World.{clock_of}
-use Rattle.sys_procs.specs.Agree.{Agree, board_of}
+use Rattle.sys_procs.specs.Agree.{Agree}
 use Rattle.sys_procs.specs.Handed.{AreProcs}
-use Rattle.abstract_unix.specs.Unix.{Timing, Unix}
+use Rattle.abstract_unix.specs.Unix.{Unix}
 use Rattle.abstract_unix.specs.Turn.{with_slot, disk_lines}
 use Rattle.abstract_unix.proofs.Stretches.{nobody_due}
 use Rattle.unix_core.specs.declared.world.World.{World}
 use Rattle.unix_core.specs.declared.slots.Slots.{Slots}
 use Rattle.unix_core.specs.declared.machine.Stage.{Stage}
 use Rattle.unix_core.specs.Memory.{kept_in}
-use Rattle.unix_core.specs.Slots.{passed_in, timing_in, IsCounted, processes_of, woken_with, AreDueFrom}
+use Rattle.unix_core.specs.Slots.{IsCounted, processes_of, woken_with, AreDueFrom}
 use Rattle.unix_core.specs.Parts.{unix_of, board_in, phase_of, goes_on, one_before, IsGood, IsReady, IsUser, IsCovered, IsKernel}
 use Rattle.unix_core.proofs.GoingLemmas.{going_same}
 use Rattle.unix_core.proofs.CountLemmas.{counted_one}

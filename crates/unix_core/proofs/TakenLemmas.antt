@@ -1,10 +1,9 @@
 -- A slot has been taken, and what it came to is the event of the system.
-use Rattle.std.proofs.Common.{◌≡◌, ◌∙◌, ◌≤◌, false, true, Some, None, refl, sym, ap, subst}
+use Rattle.std.proofs.Common.{◌≡◌, ◌∙◌, ◌≤◌, false, Some, refl, sym, ap, subst}
 use Rattle.pdp_step.specs.declared.outcome.Outcome.{Outcome}
 use Rattle.pdp_step.specs.declared.outcome.Outcome.TheVariants.{Next}
 use Rattle.pdp_step.specs.Instruction.{instr}
 use Rattle.v6_base.specs.Trace.{Taken, Took}
-use Rattle.pick_rules.specs.Choice.{settle}
 use Rattle.image_keep.specs.declared.running.Fixed.{Fixed}
 use Rattle.image_keep.specs.Kept.{IsKept}
 use Rattle.image_keep.specs.State.{ImagesState}

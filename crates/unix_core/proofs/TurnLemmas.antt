@@ -1,5 +1,5 @@
 -- The log of a turn of a process: its steps, and the line with which it ends.
-use Rattle.std.proofs.Common.{true, ◌≡◌, ◌∙◌, ℕ, false, if◌then◌else◌, List, [], ◌∷◌, ◌++◌, fold, Option, Some, None, refl, sym, ap, subst, append_assoc}
+use Rattle.std.proofs.Common.{true, ◌≡◌, ◌∙◌, ℕ, false, if◌then◌else◌, List, [], ◌∷◌, ◌++◌, fold, Option, Some, None, refl, sym, ap, subst}
 use Rattle.std.proofs.lemmas.List.{append-nil}
 use Rattle.std.proofs.lemmas.List.Sums.{fold-append}
 use Rattle.v6_base.specs.Trace.{Item, Log, Took, Taken}
@@ -16,14 +16,13 @@ use Rattle.abstract_unix.specs.declared.ending.Ending.TheVariants as ending
 use Rattle.unix_core.specs.declared.machine.Stage.{Stage}
 use Rattle.abstract_unix.specs.declared.ends.Ends.{Ends}
 use Rattle.abstract_unix.specs.declared.ends.Ends.TheVariants as ends
-use Rattle.abstract_unix.specs.declared.ends.Ends.TheVariants.{AtEnd}
 use Rattle.unix_core.specs.declared.world.World.{World}
 use Rattle.abstract_unix.specs.Unix.{Unix, System}
 use Rattle.abstract_unix.specs.Endings.{phase_after}
 use Rattle.abstract_unix.specs.Steps.{Steps}
 use Rattle.abstract_unix.specs.Calls.{resumed}
 use Rattle.abstract_unix.proofs.RunsLemmas.{with_front, after_front, settled_front, after_stop}
-use Rattle.abstract_unix.specs.Turn.{after_slot, Happened, Turn, comes_to, instruction, begins_turn, end_effects, settled, settled_after, ending_of, ending_by, turn_of}
+use Rattle.abstract_unix.specs.Turn.{after_slot, Happened, Turn, comes_to, instruction, begins_turn, end_effects, settled_after, ending_of, ending_by, turn_of}
 use Rattle.unix_core.specs.Parts.{unix_of, board_in, turn_end, ended_as, HasCome, HasStepped, Takes}
 use Rattle.unix_core.proofs.BoardLemmas.{logged_line}
 

@@ -1,6 +1,6 @@
 -- An instruction of the process that runs: its memory is another one, what belongs together still does, and the process has
 -- stepped.
-use Rattle.std.proofs.Common.{◌≡◌, ◌<◌, ◌∙◌, ◌==◌, if◌then◌else◌, ℕ, zero, suc, false, List, [], Option, Some, None, refl, sym, ap, subst, arith}
+use Rattle.std.proofs.Common.{◌≡◌, ◌<◌, ◌∙◌, ◌==◌, if◌then◌else◌, ℕ, zero, suc, List, Option, Some, None, refl, sym, ap, subst, arith}
 use Rattle.std.proofs.lemmas.List.{set-set}
 use Rattle.v6_base.specs.Image.{Image}
 use Rattle.u_area.specs.declared.layout.TheConstants.{NOTHING_PENDING}

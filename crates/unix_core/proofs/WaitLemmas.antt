@@ -1,12 +1,11 @@
 -- A process begins to wait for the disk, or has waited: its u area is another one, and the rest of the world as it was.
-use Rattle.std.proofs.Common.{◌≡◌, ◌≢◌, ◌∙◌, ◌<◌, ◌≤◌, ◌+◌, ◌-◌, ◌==◌, ◌&&◌, not, cond, ℕ, Bool, true, false, List, [], length, min, Option, Some, None, refl, sym, ap, subst, inl, inr, arith}
+use Rattle.std.proofs.Common.{◌≡◌, ◌≢◌, ◌∙◌, ◌<◌, ◌≤◌, ◌+◌, ◌-◌, ◌==◌, ◌&&◌, not, cond, ℕ, Bool, true, false, Option, Some, None, refl, sym, ap, subst, inl, inr, arith}
 use Rattle.std.proofs.lemmas.Bool.{eq-eqb, ne_eqb}
 use Rattle.u_area.specs.declared.layout.TheConstants.{NOTHING_PENDING, DISK_WAIT}
 use Rattle.u_area.specs.declared.area.UArea.{UArea}
 use Rattle.u_area.specs.Pending.{IsPipeCall}
 use Rattle.v6_base.specs.declared.entry.Chan.TheVariants.{Disk}
 use Rattle.v6_base.specs.Image.{Image}
-use Rattle.v6_base.specs.Trace.{Taken, Took}
 use Rattle.pick_rules.specs.Priority.{pribio}
 use Rattle.pick_rules.specs.Board.{Board}
 use Rattle.pick_rules.specs.Logged.{Stop, logged, left_by}
@@ -21,7 +20,7 @@ use Rattle.abstract_unix.specs.declared.calls.ProcessCall.{ProcessCall}
 use Rattle.abstract_unix.specs.declared.calls.ProcessCall.TheVariants as process
 use Rattle.abstract_unix.specs.declared.ending.Ending.{Ending}
 use Rattle.abstract_unix.specs.declared.ending.Ending.TheVariants.{Trapped, Slept}
-use Rattle.abstract_unix.specs.Unix.{Timing, Unix, process_of, with_process}
+use Rattle.abstract_unix.specs.Unix.{Unix, process_of, with_process}
 use Rattle.abstract_unix.specs.Steps.{Steps, returns}
 use Rattle.abstract_unix.specs.Calls.{waiting_area, waiting_until, disk_end, waits_for_disk, takes_time, is_read, loads_program}
 use Rattle.abstract_unix.specs.Whole.{CanGoOn}
@@ -34,7 +33,7 @@ use Rattle.unix_core.specs.Slots.{passed_in, timing_in, CanWait, HasWaited, rest
 use Rattle.unix_core.specs.Parts.{unix_of, board_in, ended_as, is_over, IsReady, HasCome}
 use Rattle.unix_core.proofs.WorldLemmas.{ready_alive, slot_is}
 use Rattle.unix_core.proofs.PutLemmas.{with_images, with_kept, good_but}
-use Rattle.unix_core.proofs.AreaLemmas.{with_its_area, ruled_unix, ruled_board, own_area}
+use Rattle.unix_core.proofs.AreaLemmas.{ruled_unix, ruled_board, own_area}
 use Rattle.unix_core.proofs.SlotWorlds.{with_slots, ready_slots}
 
 -- 1. The pending call of who runs is another one, and no wait in a pipe.

@@ -8,7 +8,7 @@ use Rattle.proc_tab.specs.declared.row.Row.{Row}
 use Rattle.proc_tab.specs.declared.member.Member.{Member}
 use Rattle.proc_tab.specs.Processes as proc
 use Rattle.proc_tab.specs.Processes.{member_at}
-use Rattle.image_keep.specs.Kept.{Held, Kept, Has, keeping, clicks_of, area_of, image_of}
+use Rattle.image_keep.specs.Kept.{Held, Has, keeping, clicks_of, area_of, image_of}
 use Rattle.image_keep.specs.Kept as kept
 use Rattle.image_keep.proofs.Frames.{SameTexts}
 use Rattle.fs_nodes.specs.FileSystem.{IsFileSystem}

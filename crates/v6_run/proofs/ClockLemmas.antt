@@ -2,19 +2,19 @@
 use Rattle.std.proofs.Common.{◌≡◌, ◌≢◌, ◌<◌, ◌≤◌, ◌+◌, ◌-◌, ◌%◌, ◌==◌, ◌&&◌, ℕ, zero, suc, Bool, true, false, not, List, [], ◌∷◌, ◌++◌, refl, sym, ◌∙◌, ap, subst, flat_map, append_assoc, length, drop, get_or, replicate, eqb-true, arith}
 use Rattle.std.specs.List.{range_with_len}
 use Rattle.std.proofs.Math.Nat.{mod-add-mod, mod-eq_of_lt, mod-lt}
-use Rattle.std.proofs.lemmas.List.{append-nil, drop_more, drop_all}
+use Rattle.std.proofs.lemmas.List.{append-nil, drop_more}
 use Rattle.v6_base.specs.Trace.{Taken}
 use Rattle.script_text.specs.declared.script.Event as asked
 use Rattle.script_text.specs.declared.script.Event.TheVariants as ask
 use Rattle.abstract_unix.specs.declared.ends.Ends.{Ends}
 use Rattle.abstract_unix.specs.declared.ends.Ends.TheVariants.{AtEnd}
 use Rattle.abstract_unix.specs.Unix.{System}
-use Rattle.abstract_unix.specs.Runs.{Event, Slot, Tick, Byte, Switch, Course, begun}
+use Rattle.abstract_unix.specs.Runs.{Event, Slot, Course, begun}
 use Rattle.v6_run.specs.Events.{Clock, is_ticked, slot_with, slot_numbered, happens, clock_after, events_from, events_of}
 use Rattle.v6_run.specs.Clocks.{TicksAlike}
 use Rattle.v6_run.specs.Courses.{HasRun}
 use Rattle.v6_run.proofs.FinalLemmas.{flat_split}
-use Rattle.v6_run.proofs.SlotLemmas.{run_none, run_more, run_last, run_as}
+use Rattle.v6_run.proofs.SlotLemmas.{run_more, run_last}
 
 next_alike : (every m n j : ℕ) → m % every ≡ n % every → (m + j) % every ≡ (n + j) % every
 next_alike every m n j is = sym (mod-add-mod m every j) ∙ ap (λ r. (r + j) % every) is ∙ mod-add-mod n every j

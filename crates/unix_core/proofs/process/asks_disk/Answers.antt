@@ -1,5 +1,5 @@
-use Rattle.std.proofs.Common.{◌≡◌, ◌∙◌, ◌&&◌, Bool, sym, ap}
-use Rattle.sys_files.specs.Handed.{Handed, r0}
+use Rattle.std.proofs.Common.{◌≡◌, ◌∙◌, ◌&&◌, sym, ap}
+use Rattle.sys_files.specs.Handed.{r0}
 use Rattle.sys_files.specs.Descriptors.{open_entry}
 use Rattle.abstract_unix.specs.declared.calls.FileCall.{FileCall}
 use Rattle.abstract_unix.specs.Calls.{is_read, is_of_disk}

@@ -12,7 +12,6 @@ use Rattle.unix_core.specs.declared.slots.Slots.{Slots}
 use Rattle.abstract_unix.specs.declared.calls.FileCall.{FileCall}
 use Rattle.abstract_unix.specs.declared.calls.SystemCall.TheVariants.{OnFiles}
 use Rattle.abstract_unix.specs.Unix.{Timing, process_of}
-use Rattle.abstract_unix.specs.Steps.{Steps}
 use Rattle.abstract_unix.specs.Calls.{answers, handed_of, file_row, did_by, is_read, has_bytes, is_of_disk, reads_disk, waits_in_call}
 use Rattle.abstract_unix.proofs.Dues.{times_did}
 use Rattle.unix_core.specs.Slots.{CanWait}

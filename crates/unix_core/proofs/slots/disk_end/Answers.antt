@@ -1,7 +1,5 @@
 use Rattle.std.proofs.Common.{◌≡◌, ◌∙◌, sym, ap}
-use Rattle.image_keep.specs.Kept.{HasImage}
 use Rattle.sys_procs.specs.Agree.{kind_of_stat}
-use Rattle.sys_procs.specs.declared.procs.Procs.{Procs}
 use Rattle.unix_core.proofs.DiskWakes.{living_image, other_waits, no_wait, some_wait}
 use Rattle.unix_core.proofs.slots.disk_end.Goals as goal
 

@@ -1,5 +1,5 @@
-use Rattle.std.proofs.Common.{◌≡◌, ◌∙◌, ◌==◌, map, not, length, sym, ap, subst, arith}
-use Rattle.v6_base.specs.Trace.{Item, Took}
+use Rattle.std.proofs.Common.{◌≡◌, ◌∙◌, ◌==◌, map, not, length, ap, subst, arith}
+use Rattle.v6_base.specs.Trace.{Took}
 use Rattle.pick_rules.specs.Effects.{Show}
 use Rattle.pick_rules.specs.Logged.{logged}
 use Rattle.abstract_unix.specs.Unix.{Unix}

@@ -1,14 +1,7 @@
-use Rattle.std.proofs.Common.{◌≡◌, ◌∙◌, ◌==◌, ℕ, Bool, List, Option, map, not, length, sym, ap, subst, arith}
-use Rattle.v6_base.specs.Trace.{Item, Took}
-use Rattle.v6_base.specs.declared.entry.Chan.TheVariants.{Disk}
-use Rattle.pick_rules.specs.Effects.{Show}
-use Rattle.pick_rules.specs.Logged.{logged}
+use Rattle.std.proofs.Common.{◌≡◌, ◌∙◌, ◌==◌, sym, ap, subst, arith}
 use Rattle.sys_procs.specs.declared.procs.Procs.{Procs}
-use Rattle.sys_procs.specs.Process.{Process}
-use Rattle.sys_procs.specs.Agree.{board_of}
-use Rattle.abstract_unix.specs.Unix.{Unix}
-use Rattle.unix_core.specs.Slots.{processes_of, NoneInGraves, AreDueFrom}
-use Rattle.unix_core.proofs.DiskWakes.{IsWoken, lines_below, kernel_none, woken_first, woken_next, all_due}
+use Rattle.unix_core.specs.Slots.{processes_of, NoneInGraves}
+use Rattle.unix_core.proofs.DiskWakes.{IsWoken, kernel_none, woken_first, woken_next, all_due}
 use Rattle.unix_core.proofs.slots.wake_disks.Goals as goal
 
 pub loop-s-init : goal.loop-s-init

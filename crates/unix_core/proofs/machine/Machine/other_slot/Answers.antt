@@ -1,8 +1,8 @@
-use Rattle.std.proofs.Common.{◌∙◌, sym, ap, subst}
+use Rattle.std.proofs.Common.{◌∙◌, ap, subst}
 use Rattle.v6_base.specs.Trace.{Took}
-use Rattle.abstract_unix.specs.Turn.{Turn, turned}
+use Rattle.abstract_unix.specs.Turn.{Turn}
 use Rattle.unix_core.specs.Parts.{phase_of, goes_on, Takes}
-use Rattle.unix_core.proofs.IdleLemmas.{idle_so, idle_still, idle_turn, idle_told, swap_turn}
+use Rattle.unix_core.proofs.IdleLemmas.{idle_so, idle_still, idle_turn, idle_told}
 use Rattle.unix_core.proofs.machine.Machine.other_slot.Goals as goal
 
 pub count_slot-requires-clause-started : goal.count_slot-requires-clause-started
