@@ -38,3 +38,4 @@ pub mod DiskRows
 pub mod DiskSteps
 pub mod Dues
 pub mod Passed
+pub mod Uncounted

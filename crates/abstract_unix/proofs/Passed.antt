@@ -12,7 +12,7 @@ use Rattle.abstract_unix.proofs.RunsLemmas.{settled_ending, after_ending}
 use Rattle.abstract_unix.proofs.Dues.{times_turn}
 
 -- settling leaves the Unix
-settled_unix : (h : Happened) → (settled_after h).next.unix ≡ h.unix
+pub settled_unix : (h : Happened) → (settled_after h).next.unix ≡ h.unix
 settled_unix h = by (calls_for_settling h)
   where
     by : (b : Bool) → (cond b (settling h) (stays h)).next.unix ≡ h.unix
@@ -36,7 +36,7 @@ turn_timing m s goes = by (logged m.board ((turn m s).effects ++ end_effects s (
     by None e = refl
     by (Some stop) e = absurd (cc e)
 
-pass_timing : (m : System) → (pass_of m).ending ≡ AtEnd → (pass_of m).unix.timing ≡ m.unix.timing
+pub pass_timing : (m : System) → (pass_of m).ending ≡ AtEnd → (pass_of m).unix.timing ≡ m.unix.timing
 pass_timing m goes = by (over m.unix (pass m.board)).stop goes
   where
     by : (o : Option (Stop Unix)) → ending_of_pass o ≡ AtEnd → (left_by o m.unix).timing ≡ m.unix.timing

@@ -21,6 +21,7 @@ use Rattle.abstract_unix.proofs.GoingOnSteps.{SameWait, changed_waited, user_fre
 use Rattle.abstract_unix.proofs.WaitingRows.{key_waited}
 use Rattle.abstract_unix.proofs.DiskSteps.{LivesIn, disk_due}
 use Rattle.abstract_unix.proofs.Dues.{disked_same, times_due}
+use Rattle.abstract_unix.proofs.Uncounted.{charged_timing}
 use Rattle.unix_core.specs.declared.world.World.{World}
 use Rattle.unix_core.specs.declared.slots.Slots.{Slots}
 use Rattle.unix_core.specs.Slots.{IsCounted, HasWaited}
@@ -73,14 +74,6 @@ charged_waited u mode (Some s) = by (s == 0)
     by : (b : Bool) → AllWaited u.processes (cond b u (with_process u s (timed mode (process_of u s)))).processes
     by true = all_waited_same u.processes
     by false = all_waited_put u.processes s (Some (timed mode (process_of u s))) (changed_waited (get_or u.processes s None) (timed mode) (timed_wait mode))
-
-charged_timing : (u : Unix) (mode : Mode) (running : Option ℕ) → (charged u mode running).timing ≡ u.timing
-charged_timing u mode None = refl
-charged_timing u mode (Some s) = by (s == 0)
-  where
-    by : (b : Bool) → (cond b u (with_process u s (timed mode (process_of u s)))).timing ≡ u.timing
-    by true = refl
-    by false = refl
 
 pub charged_counted : (slots : Slots) (u : Unix) (mode : Mode) (running : Option ℕ) → IsCounted slots u → IsCounted slots (charged u mode running)
 charged_counted slots u mode running =

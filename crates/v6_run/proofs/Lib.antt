@@ -18,3 +18,4 @@ pub mod CommandLemmas
 pub mod MemoryLemmas
 pub mod DemoLemmas
 pub mod TickLemmas
+pub mod CanLemmas

@@ -1,5 +1,5 @@
 -- What a script makes happen to the kernel, by docs/manual/scripts.md.
-use Rattle.std.specs.Prelude.{ℕ, Bool, not, ◌+◌, ◌%◌, ◌==◌, ◌&&◌, if◌then◌else◌, List, [], ◌∷◌, ◌++◌, flat_map}
+use Rattle.std.specs.Prelude.{ℕ, Bool, not, ◌+◌, ◌%◌, ◌==◌, ◌&&◌, if◌then◌else◌, List, [], ◌∷◌, ◌++◌, flat_map, replicate}
 use Rattle.std.specs.List.{range_with_len}
 use Rattle.script_text.specs.declared.script.Event as asked
 use Rattle.script_text.specs.declared.script.Event.TheVariants as ask
@@ -24,6 +24,10 @@ slot_with ticks = if ticks then Slot ∷ Tick ∷ [] else Slot ∷ []
 
 abbrev pub slot_numbered : ℕ → ℕ → List Event
 slot_numbered every n = slot_with (is_ticked every n)
+
+-- so many slots, and then a tick, where that is called for
+abbrev pub stretch : ℕ → Bool → List Event
+stretch n ticks = replicate n Slot ++ (if ticks then Tick ∷ [] else [])
 
 -- what one event of a script makes happen
 abbrev pub happens : Clock → asked.Event → List Event

@@ -1,11 +1,11 @@
 //! A run over the events of a script.
-ghost use Rattle.std.specs.Prelude.{◌≡◌, ◌<◌, ◌≤◌, ◌+◌, [], ◌∷◌, Ok, Err, replicate, flat_map};
+ghost use Rattle.std.specs.Prelude.{◌≡◌, ◌<◌, ◌≤◌, ◌+◌, ◌-◌, ◌==◌, [], ◌∷◌, Ok, Err, if◌then◌else◌, replicate, flat_map};
 ghost use Rattle.std.specs.List.{range_with_len};
 ghost use Rattle.abstract_unix.specs.Unix.{New, Started};
 ghost use Rattle.abstract_unix.specs.declared.ends.Ends.TheVariants.{AtEnd};
 ghost use Rattle.abstract_unix.specs.Endings.{phase_after, last_line};
 ghost use Rattle.abstract_unix.specs.Runs.{Slot, begun, started, course, shown_by};
-ghost use Rattle.v6_run.specs.Events.{slot_with, slot_numbered, happens, clock_after, events_of};
+ghost use Rattle.v6_run.specs.Events.{stretch, slot_numbered, happens, clock_after, events_of};
 ghost use Rattle.script_text.specs.Script.{slots_of};
 ghost use Rattle.v6_run.specs.Clocks.{clock_value, TicksAlike};
 ghost use Rattle.v6_base.specs.Trace.{Took};
@@ -50,6 +50,43 @@ fn ends_by(ticked: Result<(), PanicKind>) -> Ends
     }
 }
 
+/// Takes so many slots, and then a tick, where that is called for; or what comes up to the first that ends the run.
+fn run_stretch<T: Trace>(kernel: &mut Kernel, count: u32, ticks: bool, trace: &mut T) -> Ends
+    requires started { kernel.old.phase ≡ Started }
+    requires fresh { kernel.old.system.unix.timing.passed + count ≤ 3000000001 }
+    ensures phase { kernel.new.phase ≡ phase_after result }
+    ensures run { HasRun (begun kernel.old.system) (stretch count ticks) result kernel.new.system (T.taken trace.old) (T.taken trace.new) }
+    ensures passed { result ≡ AtEnd → kernel.new.system.unix.timing.passed ≡ kernel.old.system.unix.timing.passed + count }
+    ensures rest { KeepsRest kernel.old kernel.new }
+    ensures frame { T.leads_to trace.old trace.new }
+{
+    match run_slots(kernel, count, trace) {
+        Ends::AtEnd => {}
+        ends => return ends,
+    }
+    if ticks {
+        return ends_by(kernel.tick(trace));
+    }
+    Ends::AtEnd
+}
+
+/// How many slots the next stretch has: those up to the next tick, or all that are left.
+fn stretch_len(left: u32, upto: u32) -> u32
+    ensures few { result ≤ left }
+    ensures less { result ≤ upto }
+    ensures some { 0 < left → 0 < upto → 0 < result }
+{
+    if left < upto { left } else { upto }
+}
+
+/// How many slots there are up to the next tick, when so many of them have been taken.
+fn upto_next(every: u32, upto: u32, taken: u32) -> u32
+    requires { taken ≤ upto }
+    ensures { result ≡ (if taken == upto then every else upto - taken) }
+{
+    if taken == upto { every } else { upto - taken }
+}
+
 /// Takes so many slots, with a tick after every so manyth, where some have been taken since the last: the slots up to the next
 /// tick by the one loop over turns, then that tick. A loop of its own would be a second place where a turn is taken, and then it
 /// would stand out of line in both.
@@ -74,18 +111,12 @@ fn run_clocked<T: Trace>(
     let mut left = count;
     let mut upto = every - since;
     'ticks: while left > 0 {
-        let slots = left.min(upto);
-        match run_slots(kernel, slots, trace) {
+        let slots = stretch_len(left, upto);
+        match run_stretch(kernel, slots, slots == upto, trace) {
             Ends::AtEnd => {}
             ends => return ends,
         }
-        if slots == upto {
-            match ends_by(kernel.tick(trace)) {
-                Ends::AtEnd => {}
-                ends => return ends,
-            }
-        }
-        upto = every;
+        upto = upto_next(every, upto, slots);
         left -= slots;
     }
     Ends::AtEnd

@@ -11,6 +11,8 @@ use Rattle.v6_run.specs.Errors.{end_of, run_status}
 use Rattle.v6_run.specs.Events.{events_of}
 use Rattle.v6_run.specs.Answers.{Answers}
 use Rattle.v6_run.specs.Demo.{EndsCourse, StopsCourse}
+use Rattle.v6_run.specs.Courses.{CanTake}
+use Rattle.v6_run.proofs.CanLemmas.{boot_can}
 use Rattle.v6_run.proofs.FinalLemmas.{image_below}
 use Rattle.v6_run.proofs.DemoLemmas.{demo_answers, demo_tells}
 use Rattle.v6_run.proofs.demo.demo.Goals as goal
@@ -21,6 +23,12 @@ run_counted-requires-clause-root g c =
     let kernel = c.in_ok-kernel.kernel in
     let blocks_is = subst (λ l. kernel.blocks ≡ blocks_of l) c.deref.ensures.value c.in_ok-kernel.ensures.blocks in
     subst (λ l. (head (block_at l)).f_size ≤ SWAP_START) (sym blocks_is) (image_below c.in_ok-image.image.items good)
+
+pub run_counted-requires-clause-can : goal.run_counted-requires-clause-can
+run_counted-requires-clause-can g c =
+    let kernel = c.in_ok-kernel.kernel in
+    subst (λ l. CanTake kernel.system l) (sym c.deref-2.ensures.value)
+    (boot_can _ _ kernel.system c.in_ok-script.script.events.items c.in_ok-kernel.ensures.system c.in_ok-script.ensures.slots c.in_ok-script.ensures.rates)
 
 pub returns-clause-answers : goal.returns-clause-answers
 returns-clause-answers g c =

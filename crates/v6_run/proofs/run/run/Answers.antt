@@ -15,6 +15,8 @@ use Rattle.v6_run.specs.Errors.{run_status}
 use Rattle.v6_run.specs.Answers.{Answers}
 use Rattle.v6_run.proofs.ResultLemmas.{value_where_ok, error_where_err, end_passed}
 use Rattle.v6_run.proofs.RunLemmas.{script_refused, boot_refused, run_ended, run_stopped}
+use Rattle.v6_run.specs.Courses.{CanTake}
+use Rattle.v6_run.proofs.CanLemmas.{boot_can}
 use Rattle.v6_run.proofs.FinalLemmas.{image_below}
 use Rattle.v6_run.proofs.OutputLemmas.{same_blocks, ends_over, stops_over}
 use Rattle.v6_run.proofs.run.run.Goals as goal
@@ -57,6 +59,14 @@ run_with_outputs-requires-clause-root g c =
     let files = value_where_ok _ _ _ c.in_ok-files.was c.read_files.ensures.files in
     let blocks_is = subst (λ l. c.in_ok-kernel.kernel.blocks ≡ blocks_of l) c.deref-2.ensures.value (value_where_ok _ _ _ c.in_ok-kernel.was c.boot.ensures.blocks) in
     subst (λ l. (head (block_at l)).f_size ≤ SWAP_START) (sym blocks_is) (image_below c.in_ok-files.files.image.items files.good)
+
+pub run_with_outputs-requires-clause-can : goal.run_with_outputs-requires-clause-can
+run_with_outputs-requires-clause-can g c =
+    let kernel = c.in_ok-kernel.kernel in
+    let boots_is = value_where_ok _ _ _ c.in_ok-kernel.was c.boot.ensures.system in
+    subst (λ l. CanTake kernel.system l) (sym c.deref-3.ensures.value)
+    (boot_can _ _ kernel.system c.in_ok-script.script.events.items boots_is (value_where_ok _ _ _ c.in_ok-script.was c.read.ensures.slots)
+    (value_where_ok _ _ _ c.in_ok-script.was c.read.ensures.rates))
 
 pub returns-in-Ok-AtEnd : goal.returns-in-Ok-AtEnd
 returns-in-Ok-AtEnd g c =

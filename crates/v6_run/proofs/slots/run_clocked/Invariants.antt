@@ -22,3 +22,6 @@ invariant-ticks g l = record {
   rest : KeepsRest l.initial.kernel l.kernel;
   frame : g.T.Trace.leads_to l.initial.trace l.trace;
 }
+
+abbrev pub decreases-ticks : goal.decreases-ticks
+decreases-ticks g l = l.left

@@ -4,8 +4,13 @@ use Rattle.abstract_unix.specs.Endings.{phase_after}
 use Rattle.fs_laws.proofs.RestLemmas.{rest_then}
 use Rattle.v6_run.specs.Clocks.{clock_value}
 use Rattle.v6_run.proofs.SlotLemmas.{ends_as}
+use Rattle.v6_run.proofs.CanLemmas.{one_can, rest_can}
 use Rattle.v6_run.proofs.ClockLemmas.{taken_more, taken_last}
 use Rattle.v6_run.proofs.slots.run_events.Goals as goal
+
+pub take_event-requires-clause-can : goal.take_event-requires-clause-can
+take_event-requires-clause-can g c =
+    one_can c.events.kernel.system c.args.events.now c.events.event-index _ _ c.events-test.true refl c.events.invariant.can
 
 pub returns-in_default-clause-run : goal.returns-in_default-clause-run
 returns-in_default-clause-run g c =
@@ -20,6 +25,8 @@ events-preserved g c =
     record {
       taken = taken_more c.args.events.now c.events.event-index (clock_value c.events.clock) (clock_value c.take_event.new.clock) _ _ _ _ _ _ c.events.invariant.taken
           _ _ c.events-test.true refl event.clock run;
+      can = rest_can c.events.kernel.system c.args.events.now c.events.event-index _ _ c.events-test.true refl c.events.invariant.can
+          c.take_event.new.kernel.system (event.passed c.in-AtEnd.is);
       phase = event.phase ∙ ap phase_after c.in-AtEnd.is;
       rest = rest_then _ _ _ c.events.invariant.rest event.rest;
       frame = g.met.T.Trace.goes_on _ _ _ c.events.invariant.frame event.frame;

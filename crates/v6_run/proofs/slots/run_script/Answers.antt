@@ -1,6 +1,12 @@
 use Rattle.std.proofs.Common.{[], refl}
 use Rattle.v6_run.proofs.SlotLemmas.{run_started, run_more}
+use Rattle.v6_run.proofs.CanLemmas.{start_can}
 use Rattle.v6_run.proofs.slots.run_script.Goals as goal
+
+pub run_events-requires-clause-can : goal.run_events-requires-clause-can
+run_events-requires-clause-can g c =
+    let start = c.start.ensures in
+    start_can c.args.kernel.now.system c.start.new.self.system c.args.events.now start.goes start.next c.requires.can
 
 pub returns-clause-run : goal.returns-clause-run
 returns-clause-run g c =
