@@ -1,5 +1,5 @@
 -- What follows a slot after which the kernel settles, and one in which nothing was logged.
-use Rattle.std.proofs.Common.{◌≡◌, ◌∙◌, ◌+◌, ◌-◌, ◌≤◌, ◌==◌, ◌&&◌, not, cond, Bool, true, false, List, [], ◌∷◌, ◌++◌, length, map, refl, sym, ap, subst, append_assoc, arith}
+use Rattle.std.proofs.Common.{◌≡◌, ◌∙◌, ◌+◌, ◌-◌, ◌≤◌, ◌==◌, ◌&&◌, not, cond, suc, Bool, true, false, List, [], ◌∷◌, ◌++◌, length, map, refl, sym, ap, subst, append_assoc, arith}
 use Rattle.std.proofs.lemmas.Bool.{ne_eqb}
 use Rattle.v6_base.specs.Trace.{Item, Took, Taken}
 use Rattle.v6_base.proofs.Took.{took_then, took_nothing}
@@ -166,7 +166,7 @@ module _ (w : World) (left : w.slots.left ≡ 0) (within : 1 ≤ w.slots.due) (h
     module _ (any : false ≡ not (length (disk_lines (unix_of w)) == 0)) where
       empty : (xs : List Item) → false ≡ not (length xs == 0) → xs ≡ []
       empty [] e = refl
-      empty (x ∷ xs) e = absurd (let no = e ∙ ap not (ne_eqb (length (x ∷ xs)) 0 (λ z. cc z)) in cc no)
+      empty (x ∷ xs) e = absurd (let no = e ∙ ap not (ne_eqb (suc (length xs)) 0 (λ z. omega (arith, z))) in cc no)
 
       pub none_woken : disk_lines (with_slot (unix_of (one_before w))) ≡ []
       none_woken = ap disk_lines (sym due_unix) ∙ empty (disk_lines (unix_of w)) any

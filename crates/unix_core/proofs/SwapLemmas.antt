@@ -48,6 +48,7 @@ use Rattle.abstract_unix.specs.Unix.{Unix, System, Started}
 use Rattle.abstract_unix.specs.declared.ends.Ends.TheVariants as ends
 use Rattle.abstract_unix.specs.declared.ends.Ends.TheVariants.{AtEnd}
 use Rattle.abstract_unix.specs.Whole.{Owed, CanGoOn}
+use Rattle.abstract_unix.specs.declared.turned.Turned.TheVariants as told
 use Rattle.abstract_unix.specs.declared.turned.Turned.TheVariants.{Ran}
 use Rattle.abstract_unix.specs.Turn.{Happened, Turn, settled, settled_after, turned, passes, pass_of, with_slot, disk_lines, after_slot}
 use Rattle.abstract_unix.proofs.RunsLemmas.{whole_answer}
@@ -387,6 +388,12 @@ module _ (w : World) (u : Table) (x : ImagesState) (a z : Taken) (good : IsGood 
     not_counted =
         ap (λ o. settled_after (after_slot (passes (unix_of w) (over (unix_of w) (record (pass (board_in w)) { stop = o }))))) why.1
         ∙ sym (ap (λ o. settled_after (passes (unix_of w) (over (unix_of w) (record (pass (board_in w)) { stop = o })))) why.1)
+
+    pub stopped_answer : told.Panic kind ≡ turned (settled_after (after_slot (pass_of (system_at w))))
+    stopped_answer = sym (ap turned (not_counted ∙ over_with))
+
+    pub stopped_items : Took a (pass (board_in w)).items z → Took a (settled_after (after_slot (pass_of (system_at w)))).items z
+    stopped_items = subst (λ (t : Turn). Took a t.items z) (sym (not_counted ∙ over_with))
 
     pub panic_takes : AreProcesses w.procs.rows → Takes (settled_after (pass_of (system_at w))) stage.Stopped now
     panic_takes processes = subst (λ (o : Turn). Takes o stage.Stopped now) (sym over_with) (record {
