@@ -155,6 +155,11 @@ returns-else-execute-clause-items g c =
     _ _ c.after_step.ensures.items
 
 -- No process executes an instruction.
+pub other_slot-requires-clause-fresh : goal.other_slot-requires-clause-fresh
+other_slot-requires-clause-fresh g c =
+    let m = c.self.inside.machine in
+    taken_fresh m.stage m.world c.self.invariant c.see_kept.ensures c.args.self.now c.self.view_is c.requires.started c.requires.fresh
+
 pub returns-in_default-clause-idle : goal.returns-in_default-clause-idle
 returns-in_default-clause-idle g c =
     let m = c.self.inside.machine in
