@@ -1,0 +1,46 @@
+"""Pages whose commands are played, and print what the pages show."""
+import os
+import re
+import subprocess
+
+from common import TOP, V6, Case, read
+
+BLOCK = re.compile(r"^```\n(\$ .*?)^```$", re.M | re.S)
+PICTURE = re.compile(r"!\[[^]]*\]\(([a-z]+\.svg)\)")
+
+
+def commands(page):
+    """The commands of a page, each with what the page shows that it prints."""
+    found = []
+    for block in BLOCK.findall(page):
+        for line in block.splitlines(True):
+            if line.startswith("$ "):
+                found.append([line[2:-1], ""])
+            else:
+                found[-1][1] += line
+    return found
+
+
+class Runs(Case):
+    """A folder in which the commands are played, one page after the other in folders of their own."""
+
+    def setUp(self):
+        super().setUp()
+        for name in ("docs", "examples", "tools"):
+            os.symlink(os.path.join(TOP, name), self.path(name))
+        os.mkdir(self.path("bin"))
+        self.put("bin/v6", f'#!/bin/sh\nexec {V6} "$@"\n'.encode())
+        os.chmod(self.path("bin/v6"), 0o755)
+
+    def play(self, command):
+        done = subprocess.run(["sh", "-c", command], cwd=self.folder, env={**os.environ, "V6": self.path("bin/v6")},
+                              stdout=subprocess.PIPE, stderr=subprocess.STDOUT)
+        return done.returncode, done.stdout.decode().replace("\r\n", "\n")
+
+    def played(self, *path):
+        """Plays a page, by the names of its path; its pictures are those that its commands make."""
+        page = read(os.path.join(TOP, "docs", *path)).decode()
+        for command, shown in commands(page):
+            self.assertEqual(self.play(command), (0, shown), command)
+        for picture in PICTURE.findall(page):
+            self.assertEqual(read(self.path(picture)), read(os.path.join(TOP, "docs", *path[:-1], picture)))
