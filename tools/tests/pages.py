@@ -7,6 +7,7 @@ from common import TOP, V6, Case, read
 
 BLOCK = re.compile(r"^```\n(\$ .*?)^```$", re.M | re.S)
 PICTURE = re.compile(r"!\[[^]]*\]\(([a-z]+\.svg)\)")
+LINK = re.compile(r"\]\(([^)#]*)(?:#([^)]*))?\)")
 
 
 def commands(page):
@@ -19,6 +20,21 @@ def commands(page):
             else:
                 found[-1][1] += line
     return found
+
+
+def anchors(page):
+    return {re.sub(r"[^a-z0-9 _-]", "", line.lstrip("# ").lower()).replace(" ", "-")
+            for line in page.splitlines() if line.startswith("#")}
+
+
+def broken_links(*path):
+    """The links of a page that lead to no file, or to no heading of one."""
+    page, broken = os.path.join(TOP, "docs", *path), []
+    for file, heading in LINK.findall(read(page).decode()):
+        target = os.path.normpath(os.path.join(os.path.dirname(page), file)) if file else page
+        if not os.path.exists(target) or heading and heading not in anchors(read(target).decode()):
+            broken.append((file, heading))
+    return broken
 
 
 class Runs(Case):

@@ -4,16 +4,10 @@ import re
 import unittest
 
 from common import TOP, read
-from pages import PICTURE, Runs, commands
+from pages import PICTURE, Runs, broken_links, commands
 
 LIONS = os.path.join(TOP, "docs", "lions")
-LINK = re.compile(r"\]\(([^)#]*)(?:#([^)]*))?\)")
 QUESTION = re.compile(r"\[the answer\]\(answers\.md#([a-z0-9-]+)\)")
-
-
-def anchors(page):
-    return {re.sub(r"[^a-z0-9 _-]", "", line.lstrip("# ").lower()).replace(" ", "-")
-            for line in page.splitlines() if line.startswith("#")}
 
 
 def page_class(name):
@@ -40,11 +34,7 @@ class Links(unittest.TestCase):
     def test_links(self):
         """Each leads to a file that is there, and to a heading of it."""
         for name in (*(page + ".md" for page in PAGES), "README.md", "answers.md"):
-            for file, heading in LINK.findall(self.page(name)):
-                target = os.path.normpath(os.path.join(LIONS, file)) if file else os.path.join(LIONS, name)
-                self.assertTrue(os.path.exists(target), (name, file))
-                if heading:
-                    self.assertIn(heading, anchors(read(target).decode()), (name, file))
+            self.assertEqual(broken_links("lions", name), [], name)
 
     def test_pictures(self):
         """Each page has one, which one of its commands makes."""

@@ -5,7 +5,7 @@ import sys
 import unittest
 
 from common import TOOLS, TOP, V6, Case, read, tool
-from pages import Runs
+from pages import Runs, broken_links
 
 as_main, disk_main = tool("as").main, tool("disk").main
 SHELL = os.path.join(TOP, "examples", "shell", "src")
@@ -235,6 +235,7 @@ class Home(Case):
 class Page(Runs):
     def test_page(self):
         self.played("tools", "try.md")
+        self.assertEqual(broken_links("tools", "try.md"), [])
 
 
 del Runs  # has no page of its own
