@@ -207,12 +207,12 @@ class Picture:
         first, *known = sorted(self.passed)
         if not known:
             return [first]
-        step = step_of(self.passed[known[-1]] - self.passed[first])
+        step, x = step_of(self.passed[known[-1]] - self.passed[first]), self.columns.x
         found, wanted = [first], step
         for column in known:
             if self.passed[column] >= wanted:
                 wanted = (self.passed[column] // step + 1) * step
-                if min(self.columns.x(column) - self.columns.x(found[-1]), self.columns.x(known[-1]) - self.columns.x(column)) >= APART:
+                if min(x(column) - x(found[-1]), x(known[-1]) - x(column)) >= APART:
                     found.append(column)
         return [*found, known[-1]]
 
