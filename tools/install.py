@@ -17,6 +17,7 @@ from manpages import PAGES, TOOLS, TOP, installed, installed_page, page
 LIB = "lib/v6"
 KNOWN = LIB + "/installed"  # the file that tells what was put
 AT_HOME = ("install.py", "manpages.py", "row.py", "rowfile.py", "rownew.py")  # tools for the repository alone
+KINDS = (".py", ".js", ".css", ".html")
 DOCS = ("docs/lions", "docs/manual", "docs/tools")
 COMPLETION = "share/bash-completion/completions"
 UNFIT = re.compile(r"[\s\"'\\`$]")  # what a prefix can't have, since commands and pages name it
@@ -38,7 +39,7 @@ def sources():
     yield "bin/v6"
     for name in below("tools"):
         folder, base = os.path.split(name)
-        if folder == "tools" and base.endswith(".py") and base not in AT_HOME or folder.startswith("tools/c"):
+        if folder == "tools" and base.endswith(KINDS) and base not in AT_HOME or folder.startswith("tools/c"):
             yield name
     for folder in ("examples", *DOCS):
         yield from below(folder)
