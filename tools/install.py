@@ -1,5 +1,10 @@
 #!/usr/bin/env python3
 """Puts v6, its tools and their pages below a prefix, and takes them away: `make install`, see docs/tools/README.md."""
+import signal
+
+if __name__ == "__main__":
+    signal.signal(signal.SIGINT, signal.SIG_DFL)  # an interrupt before main ends it without a word
+
 import argparse
 import compileall
 import hashlib

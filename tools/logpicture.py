@@ -9,8 +9,8 @@ from xml.sax.saxutils import escape
 from proctable import CORE_FIRST, SWAP_FIRST, SWAP_LAST
 
 COLUMNS, LEFT, LANE, GAP, TOP = 1000, 150, 16, 6, 58
-CORE_HEIGHT, CORE_MOST = 240, 480  # of the map of core; that of a large core has a unit for four clicks, up to the most
-SWAP_HEIGHT, SWAP_LEAST = 150, 24
+CORE_HEIGHT, SWAP_HEIGHT = 240, 150
+SWAP_LEAST = 24
 MARKS = 10  # places with a number under the picture
 APART = 50  # between two numbers of slots, at least
 STATES = {  # letter: how it is filled, and what it means. They differ in brightness and in pattern, for paper
@@ -109,6 +109,7 @@ class Picture:
         self.names = [[] for _ in range(width)]  # the numbers of the processes that a slot has had
         self.passed = {}  # column -> how many slots of the run had passed, where a tick tells it
         self.teller, self.line = teller, 0
+        self.heights = CORE_HEIGHT, SWAP_HEIGHT  # of the maps
 
     def take(self, table, passed=None):
         """The table after one more line."""
@@ -135,13 +136,7 @@ class Picture:
             lane.add(self.line)
         lanes_end = TOP + len(self.lanes) * (LANE + GAP)
         core_top = lanes_end + 44 + 14 * bool(self.passed)
-        core_end = core_top + min(max(CORE_HEIGHT, table.core // 4), CORE_MOST)
-        maps = self.map(f"core: {table.core} clicks", "at", CORE_FIRST, table.core, core_top, core_end - core_top)
-        blocks, end = self.swap_held(), core_end
-        if blocks:
-            swap_top, high = core_end + 30, min(max(SWAP_HEIGHT * blocks // 32, SWAP_LEAST), SWAP_HEIGHT)
-            maps += self.map("swap area: blocks", "swap", SWAP_FIRST, SWAP_FIRST + blocks - 1, swap_top, high)
-            end = swap_top + high
+        maps, end = self.maps(table.core, core_top)
         width, height = LEFT + COLUMNS + 20, end + 20
         style = STYLE % ("portrait" if height > width else "landscape")  # of the page, where it is printed
         out = [f'<svg xmlns="http://www.w3.org/2000/svg" viewBox="0 0 {width} {height}" '
@@ -215,6 +210,17 @@ class Picture:
                 if min(x(column) - x(found[-1]), x(known[-1]) - x(column)) >= APART:
                     found.append(column)
         return [*found, known[-1]]
+
+    def maps(self, core, top):
+        """The maps, from here on, and where they end. That of a large core has a point for four clicks, up to twice the height;
+        that of the swap area is lower where fewer than 32 blocks are held, and isn't there where none is."""
+        core_high, swap_most = self.heights
+        end = top + min(max(core_high, core // 4), 2 * core_high)
+        maps, blocks = self.map(f"core: {core} clicks", "at", CORE_FIRST, core, top, end - top), self.swap_held()
+        if blocks:
+            top, high = end + 30, min(max(swap_most * blocks // 32, SWAP_LEAST), swap_most)
+            maps, end = maps + self.map("swap area: blocks", "swap", SWAP_FIRST, SWAP_FIRST + blocks - 1, top, high), top + high
+        return maps, end
 
     def swap_held(self):
         """How many blocks of the swap area there are up to the last that anybody ever holds."""

@@ -18,7 +18,7 @@ from dialogue import MOST_SLOTS, Dialogue, DialogueError, Machine, Refused, tota
 from files import guarded, place_of, read_bytes, replace
 from processes import BUSY, RUNS, WAITS
 from program import CORE, V6, ProgramError, add_version, call
-from volume import CHARACTER, ROOT, DiskError, Volume, check_name
+from volume import CHARACTER, ROOT, DiskError, Volume, check_name, plural
 
 HERE, WRITTEN = b"here", b"written"  # the directory of the root that is the folder, and the file of /etc that is the output
 FAILED, OUT_OF_SLOTS, STOPPED = 125, 124, 126  # the status where it isn't the program's own
@@ -31,8 +31,8 @@ WHY = {2: "no such file", 7: "its arguments have more than 510 bytes", 8: "it is
 # how a program ends by a signal, in the words of sh(I)
 SIGNALS = {1: "Hangup", 2: "Interrupt", 3: "Quit", 4: "Illegal instruction", 5: "Trace/BPT trap", 6: "IOT trap", 7: "EMT trap",
            8: "Floating exception", 9: "Killed", 10: "Bus error", 11: "Memory fault", 12: "Bad system call", 13: "Broken pipe"}
-# The first program of the machine: it opens the console for what it runs, waits for that, and keeps how it ended. What the child
-# does before its exec is put in.
+# The first program of the machine: it opens the console for what it runs, waits for that, and keeps how it ended. What the
+# child does before its exec is put in.
 FIRST = """
 	sys	open; tty; 2
 	sys	dup
@@ -100,7 +100,8 @@ def first_program(path, options):
     """The first program of the machine, for a program and its arguments."""
     words = [os.path.basename(path), *(os.fsencode(word) for word in options.arguments)]
     before = IN_FOLDER * has_folder(options) + TO_FILE * options.binary
-    source = FIRST.format(before=before) + "list:	" + "; ".join(f"arg{n}" for n in range(len(words))) + "; 0\nname:\n" + text(path)
+    addresses = "; ".join(f"arg{n}" for n in range(len(words)))
+    source = FIRST.format(before=before) + f"list:	{addresses}; 0\nname:\n{text(path)}"
     source += "".join(f"arg{n}:\n{text(word)}" for n, word in enumerate(words))
     source += f"here:\n{text(b'/' + HERE)}out:\n{text(b'/etc/' + WRITTEN)}"
     return Assembler().assemble([("try.py", source)])
@@ -253,7 +254,7 @@ class Run:
             if not n:
                 count -= self.least(done, step, b"\nimage 2 ")
             done += step
-        return f"{'about ' if count > EXACT else ''}{count} slots"
+        return f"{'about ' if count > EXACT else ''}{plural(count, 'slot')}"
 
 
 def bytes_of(volume, path):
@@ -270,8 +271,8 @@ def word_of(volume, path):
 
 
 def come_home(run, lines, options):
-    """Brings home what the run with these lines leaves: its disk, its folder, and its output where that is a file. Gives the disk,
-    and whether it is full."""
+    """Brings home what the run with these lines leaves: its disk, its folder, and its output where that is a file. Gives the
+    disk, and whether it is full."""
     image = run.machine.disk(lines)
     volume = Volume(image)
     if options.final:
@@ -359,8 +360,8 @@ def options_of(words):
     parser.add_argument("--file", dest="files", metavar="FILE", action="append", default=[],
                         help="a file for the disk's root")
     parser.add_argument("--folder", metavar="DIR", help="a folder whose copy is the program's current directory")
-    parser.add_argument("--back", metavar="NEW", help="a new folder for what stands in that directory when the program has ended")
-    parser.add_argument("--binary", action="store_true", help="the standard output is a file of the disk, and comes home byte for byte")
+    parser.add_argument("--back", metavar="NEW", help="a new folder for what stands there when the program has ended")
+    parser.add_argument("--binary", action="store_true", help="the output is a file of the disk, and comes home byte for byte")
     parser.add_argument("--disk", metavar="IMAGE", help="a copy of this disk in the place of a small one")
     parser.add_argument("--final", metavar="FILE", help="where the disk goes that the run leaves")
     parser.add_argument("--core", type=int, default=CORE, help=f"the size of core, in clicks ({CORE})")

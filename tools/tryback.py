@@ -53,7 +53,7 @@ class Home:
 
 
 def bring_folder(volume, here, name):
-    """Makes the folder, whole or not at all, of what stands in its directory of the disk. Gives the devices that stand there."""
+    """Makes the folder, whole or not at all, of what stands in its directory of the disk. Gives the devices there."""
     target = os.path.abspath(os.fsencode(name))
     with uninterrupted():
         made = tempfile.TemporaryDirectory(dir=os.path.dirname(target), prefix=b".new-")
@@ -65,7 +65,7 @@ def bring_folder(volume, here, name):
 
 
 def bring(image, volume, here, options):
-    """Brings a folder back, and gives what is to be told. Where it can't be made the disk is kept in a file, and that is told."""
+    """Brings a folder back, and gives what is to be told. Where it can't be made the disk is kept in a file, which is told."""
     try:
         devices = bring_folder(volume, here, options.back)
     except (OSError, DiskError) as error:

@@ -50,6 +50,7 @@ class Try(Case):
                          (3, b"", "try.py: status 3, 103 slots\n"))
         # 2 up to the read that waits; 11, from its going on to the read that waits next; and 6 from there to the exit
         self.assertEqual(self.run_it("-t", self.source(COPY), typed=b"ab\n"), (3, b"ab\n", "try.py: status 3, 19 slots\n"))
+        self.assertEqual(self.run_it("-t", self.source("\tsys\texit\n"))[2], "try.py: status 0, 1 slot\n")
 
     def test_a_program_and_its_arguments(self):
         program = self.path("echo")
@@ -139,9 +140,9 @@ GOES = """
 	sys	exit
 name:	</here\\0>
 """
-# Of 4000 blocks 62 are the super-block's and the inodes', and eight are taken: the root, /etc, /dev, /bin, /tmp, init, the program,
-# and the word that tells how it ended. Of the 3930 left, seven indirect blocks lead to 256 each, nine more to the rest, and one leads
-# to the nine.
+# Of 4000 blocks 62 are the super-block's and the inodes', and eight are taken: the root, /etc, /dev, /bin, /tmp, init, the
+# program, and the word that tells how it ended. Of the 3930 left, seven indirect blocks lead to 256 each, nine more to the rest,
+# and one leads to the nine.
 FULL = 512 * (3930 - 7 - 9 - 1)
 
 
@@ -151,7 +152,7 @@ class Home(Case):
     run_it, source = Try.run_it, Try.source
 
     def test_bytes(self):
-        """All 256 bytes come home as they were written; a terminal has seven bits. What goes to the console is told beside them."""
+        """All 256 bytes come home as they were written; a terminal has seven bits. The console goes beside them."""
         it = self.source(ALL_BYTES)
         self.assertEqual(self.run_it("--binary", it), (3, bytes(range(256)), "told\n"))
         self.assertEqual(self.run_it(it)[1], bytes(byte & 0o177 for byte in range(256) if byte & 0o177 != 4) + b"told\n")
@@ -192,25 +193,27 @@ class Home(Case):
 
     def test_folders_that_are_refused(self):
         """A line and a status, and nothing is made."""
-        source, nowhere = self.source(ALL_BYTES), self.path("nowhere")
-        self.assertEqual(self.run_it("--folder", nowhere, source)[::2], (125, f"try.py: {nowhere}: No such file or directory\n"))
-        self.assertEqual(self.run_it("--folder", source, source)[::2], (125, f"try.py: {source}: not a folder\n"))
+        source, nowhere, folder = self.source(ALL_BYTES), self.path("nowhere"), self.path("in")
         back = os.path.join(nowhere, "back")
-        self.assertEqual(self.run_it("--back", back, source), (125, b"", f"try.py: {back}: No such file or directory\n"))
-        os.mkdir(self.path("in"))
-        # 2100000 bytes are 4102 blocks, with ten indirect ones behind the first seven and one that leads to them; eight are taken
+        for words, said in ((("--folder", nowhere), f"{nowhere}: No such file or directory"),
+                            (("--folder", source), f"{source}: not a folder"),
+                            (("--back", back), f"{back}: No such file or directory")):
+            self.assertEqual(self.run_it(*words, source), (125, b"", f"try.py: {said}\n"))
+        os.mkdir(folder)
+        # 2100000 bytes are 4102 blocks, and 18 indirect ones as above
         for name, size, said in (("a" * 15, 0, f"/here/{'a' * 15}: the name has 15 bytes, and a directory keeps 14"),
-                                 ("large", 2**24, f"{self.path('in/large')}: 16777216 bytes are too many for a file: at most 16777215"),
+                                 ("large", 2**24, f"{folder}/large: 16777216 bytes are too many for a file: at most 16777215"),
                                  ("full", 2100000, "/here/full: no room for 2100000 bytes: they need 4120 blocks, and 3930 are free")):
             with open(self.put("in/" + name, b"x"), "wb") as file:
                 file.write(b"x" * size if size < 2**24 else b"")
                 file.truncate(size)
-            self.assertEqual(self.run_it("--folder", self.path("in"), "--back", self.path("back"), source), (125, b"", f"try.py: {said}\n"))
+            words = ("--folder", folder, "--back", self.path("back"))
+            self.assertEqual(self.run_it(*words, source), (125, b"", f"try.py: {said}\n"))
             os.unlink(self.path("in/" + name))
         self.assertEqual(sorted(os.listdir(self.path("."))), ["in", "it.s"])
 
     def test_a_full_disk(self):
-        """All that was written comes home, and a line tells that it may be less than all. An error of the program's own stays."""
+        """All that was written comes home, and a line tells that it may be less than all. The program's own error stays."""
         said = "try.py: the disk is full, so what was written may have been cut\n"
         for status, found in ((0, 125), (7, 7)):
             done = self.run_it("--binary", self.source(FILLS % status))
