@@ -191,7 +191,7 @@ class Walk:
     def done(self, slot, old, first, kind):
         """Compares what was done here with what the program tells, and goes on from that."""
         told = [line.partition(" ")[0] for line in self.lines[first : self.line]]
-        if kind == "sleep" and self.sought is None:
+        if kind == "sleep" and self.sought is None and old:
             old.pending = True  # what it has stays as it is
             return
         if old is None or old.pending or self.is_other(slot):
