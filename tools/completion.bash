@@ -18,7 +18,7 @@ _v6() {
             words='show draw diff'
             case $word in -*) words='--help --version' ;; esac
         else
-            case $word in -*) words='--disk --from --help --output --script --to -o' ;; esac
+            case $word in -*) words='--book --disk --from --help --output --script --to -o' ;; esac
         fi ;;
     v6-look | look.py) case $word in -*) words='--help --log --replay --symbols --v6 --version -c' ;; esac ;;
     v6-as | as.py) case $word in -*) words='--disassemble --help --version -g -l -n -o -s' ;; esac ;;

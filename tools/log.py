@@ -12,6 +12,7 @@ import sys
 
 sys.path.insert(0, os.path.dirname(os.path.abspath(__file__)))
 from files import guarded, put_out, read_bytes
+from lions import OF_WORDS, told
 from logpicture import Picture
 from logwords import Teller
 from processes import programs_of
@@ -20,6 +21,7 @@ from program import add_version
 from scriptfile import ScriptError, ticks_of, read_script
 from volume import DiskError
 
+WIDEST = len("newproc (1826)")  # of the procedures that `show --book` names
 COMMON, MORE = 3, 5  # lines that are shown before the place where two logs part, and behind it
 OTHER = "the script isn't that of this run: it has {} ticks, and the log {}"
 CUT = "the log ends within a run: its last line is neither `end` nor `panic`"
@@ -92,8 +94,13 @@ def show(options):
         words, passed = story.take(line)
         if options.first <= number <= options.last:
             at = f" {'' if passed is None else passed:>8}" if options.script else " "
-            print(f"{number:>{number_width}}{at} {story.letters(width)}  {words}")
+            print(f"{number:>{number_width}}{at} {story.letters(width)}  {procedure(line) if options.book else ''}{words}")
     return ended(story, options)
+
+
+def procedure(line):
+    """The procedure of Lions' book that does what a line tells, with the line at which it stands there."""
+    return f"{told(OF_WORDS.get(line.partition(' ')[0], '')):{WIDEST}}  "
 
 
 def ended(story, options):
@@ -183,6 +190,7 @@ def options_of(words):
         if name == "show":
             command.add_argument("--from", dest="first", type=int, default=1, metavar="LINE", help="the first line that is shown")
             command.add_argument("--to", dest="last", type=int, default=sys.maxsize, metavar="LINE", help="the last one")
+            command.add_argument("--book", action="store_true", help="names the procedure of each line, and its line in Lions' book")
         if name == "draw":
             command.add_argument("-o", "--output", metavar="FILE", default="-", help="where the picture goes, in SVG")
     return parser.parse_args(words)

@@ -217,6 +217,19 @@ class Log(Case):
         self.assertIn("\n\n" + shown + "```\n", page)
         self.assertEqual(self.log("draw", names[1])[1], read(os.path.join(TOP, "docs", "tools", "log.svg")).decode())
 
+    def test_book(self):
+        """The procedure of each line stands before what it tells, with its line in the book; the end of a script has none."""
+        name = self.text("log", "boot 64 0\nsleep 0 -100 runout\ngo 1\ntick u\nend\n")
+        self.assertEqual(self.log("show", "--book", name)[1].splitlines()[1:], [
+            "   1  Rr  main (1550)     the system begins, with 64 clicks of core, at 0 seconds",
+            "   2  sr  sleep (2066)    the swapper waits until somebody out of core can run, at priority -100",
+            "   3  sR  swtch (2178)    process 1 runs", "   4  sR  clock (3725)    a tick in a program",
+            "   5  sR                  the script has ended"])
+        shell, names = os.path.join(TOP, "examples", "shell"), [self.path(name) for name in ("term", "log", "final")]
+        self.assertEqual(v6("run", os.path.join(shell, "image"), "1200", os.path.join(shell, "script"), *names)[0], 0)
+        shown = self.log("show", "--book", "--disk", os.path.join(shell, "image"), "--from", "26", "--to", "35", names[1])[1]
+        self.assertIn("\n\n" + shown + "```\n", read(os.path.join(TOP, "docs", "tools", "log.md")).decode())
+
     def test_page_of_seconds(self):
         """The page's lines of the example crowd, in which a second is 600 slots."""
         crowd, image = os.path.join(TOP, "examples", "crowd"), self.path("image")
