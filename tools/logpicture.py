@@ -107,6 +107,7 @@ class Picture:
         self.names = [[] for _ in range(width)]  # the numbers of the processes that a slot has had
         self.passed = {}  # column -> the slots of the run, where a tick tells them
         self.teller, self.line = teller, 0
+        self.heights = CORE_HEIGHT, SWAP_HEIGHT  # of the maps
 
     def take(self, table, passed=None):
         """The table after one more line."""
@@ -126,16 +127,17 @@ class Picture:
         for lane in self.lanes:
             lane.add(self.line)
         lanes_end = TOP + len(self.lanes) * (LANE + GAP)
-        core_top, core_end = lanes_end + 44, lanes_end + 44 + CORE_HEIGHT
-        swap_top, swap_end = core_end + 30, core_end + 30 + SWAP_HEIGHT
+        core_high, swap_high = self.heights
+        core_top, core_end = lanes_end + 44, lanes_end + 44 + core_high
+        swap_top, swap_end = core_end + 30, core_end + 30 + swap_high
         width, height = LEFT + COLUMNS + 20, swap_end + 20
         style = STYLE % ("portrait" if height > width else "landscape")  # of the page, where it is printed
         out = [f'<svg xmlns="http://www.w3.org/2000/svg" viewBox="0 0 {width} {height}" '
                f'width="{width}" height="{height}">', f"<style>{style}</style>", PATTERNS,
                '<rect width="100%" height="100%" fill="#fff"/>']
         out += self.legend() + self.drawn_lanes() + self.marks(lanes_end)
-        out += self.map(f"core: {table.core} clicks", "at", CORE_FIRST, table.core, core_top, CORE_HEIGHT)
-        out += self.map("swap area: blocks", "swap", SWAP_FIRST, SWAP_LAST, swap_top, SWAP_HEIGHT)
+        out += self.map(f"core: {table.core} clicks", "at", CORE_FIRST, table.core, core_top, core_high)
+        out += self.map("swap area: blocks", "swap", SWAP_FIRST, SWAP_LAST, swap_top, swap_high)
         return "\n".join([*out, "</svg>", ""])
 
     def legend(self):

@@ -5,7 +5,7 @@ const CHOICE = 1, CALL = 2, SECOND = 4;   // what a line of the log is
 const APART = 2048;                       // lines between two states of the panels that are kept
 const AROUND = 7;                         // lines that are shown before and after the one at the cursor
 const KINDS = { choice: CHOICE, call: CALL, second: SECOND };
-const SENTENCE = 100000;                  // bytes of a terminal that are shown, from its end
+const MOST_SHOWN = 100000;                 // bytes of a terminal that are shown, from its end
 
 const $ = (id) => document.getElementById(id);
 
@@ -129,12 +129,23 @@ class Run {
   }
 }
 
-/** Bytes of a terminal as text: what has no sign of its own is shown as one of those from U+2400 on. */
+/** Bytes of a terminal as pieces: texts, and bytes without a sign as their octal numbers. A return just before a new line shows nothing. */
 function typed(bytes) {
-  const own = { 9: "\t", 10: "\n", 127: "\u2421" };
-  const sign = (byte) => own[byte] || (byte < 32 ? String.fromCharCode(0x2400 + byte)
-    : byte < 127 ? String.fromCharCode(byte) : "\\" + byte.toString(8));
-  return Array.from(bytes, sign).join("");
+  const pieces = [];
+  let text = "";
+  bytes.forEach((byte, at) => {
+    if (byte === 13 && bytes[at + 1] === 10) return;
+    if (byte === 9 || byte === 10 || byte >= 32 && byte < 127) {
+      text += String.fromCharCode(byte);
+      return;
+    }
+    const code = document.createElement("span");
+    code.className = "control";
+    code.textContent = "\\" + byte.toString(8).padStart(3, "0");
+    pieces.push(text, code);
+    text = "";
+  });
+  return [...pieces, text];
 }
 
 /** What the page shows, and where one is in it. */
@@ -312,7 +323,7 @@ class Page {
 
   /** The processes that may be chosen to be shown whole. */
   offer(rows) {
-    const wanted = [["", "who runs"], ...rows.map(([slot, found]) => [String(slot), `process ${found[2]}, in slot ${slot}`])];
+    const wanted = [["", "who runs, or process 1"], ...rows.map(([slot, found]) => [String(slot), `process ${found[2]}, in slot ${slot}`])];
     const was = $("chosen").value;
     const same = [...$("chosen").options].map((one) => one.value + one.textContent).join() === wanted.map((one) => one.join("")).join();
     if (same) return;
@@ -339,7 +350,8 @@ class Page {
     const parts = { process: "process", code: "code", stack: "stack", area: "u area" };
     for (const [id, name] of Object.entries(parts)) $(id).textContent = this.run.shown(`${name} ${slot}`).join("\n");
     if (moment && !moment.isLast && moment.isExact) {
-      $("process").textContent = "after all lines of the moment, since memory isn't known within it:\n" + $("process").textContent;
+      const end = this.run.end(moment.place);
+      $("process").textContent = `after all lines of the moment, up to ${end}, since memory isn't known within it:\n` + $("process").textContent;
     } else if (moment && !moment.isExact) {
       $("process").textContent = `as in slot ${moment.slot}, where core was looked at last:\n` + $("process").textContent;
     }
@@ -350,8 +362,8 @@ class Page {
     const which = Number($("terminal").value || 0);
     const start = terminals.slice(0, which).reduce((sum, one) => sum + one, 0);
     const end = start + (moment ? moment.shown : this.run.head.isRun ? 0 : terminals[which] || 0);
-    const from = Math.max(start, end - SENTENCE);
-    $("term").textContent = (from > start ? ".. " : "") + typed(this.run.columns.term.subarray(from, end));
+    const from = Math.max(start, end - MOST_SHOWN);
+    $("term").replaceChildren(from > start ? ".. " : "", ...typed(this.run.columns.term.subarray(from, end)));
     $("term").scrollTop = $("term").scrollHeight;
   }
 
@@ -403,14 +415,18 @@ class Page {
     if (this.isQuiz) this.ask(); else this.show();
   }
 
-  /** Goes to just before the next choice, which is then hidden. */
-  ask() {
-    const next = this.run.next(this.line + 1, CHOICE, 1);
+  /** Goes to just before the next choice from a line on, which is then hidden. */
+  ask(from = this.line) {
+    const next = this.run.next(from, CHOICE, 1);
     this.go(this.run.is(next, CHOICE) ? next - 1 : this.line);
   }
 
+  isAsked() {
+    return this.line < this.run.lines && this.run.is(this.line + 1, CHOICE);
+  }
+
   showQuestion() {
-    const isAsked = this.line < this.run.lines && this.run.is(this.line + 1, CHOICE);
+    const isAsked = this.isAsked();
     $("answer").disabled = !isAsked;
     $("question").textContent = isAsked ? "A choice comes next. Who runs, and by which rule?"
       : this.run.is(this.line, CHOICE) ? `${this.run.words(this.line)}. ${this.run.one("rule")}` : "No choice comes with the next line.";
@@ -433,7 +449,7 @@ class Page {
     $("search").addEventListener("submit", (event) => { event.preventDefault(); this.search(1); });
     $("quiz").addEventListener("click", () => this.quiz());
     $("answer").addEventListener("click", () => this.step("on", "line"));
-    $("another").addEventListener("click", () => this.ask());
+    $("another").addEventListener("click", () => this.ask(this.line + (this.isAsked() ? 1 : 0)));
     $("keys").addEventListener("click", () => {
       $("help").hidden = !$("help").hidden;
       $("keys").setAttribute("aria-expanded", String(!$("help").hidden));

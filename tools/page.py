@@ -39,7 +39,7 @@ def marks_of(name, last):
 
 
 def page_of_run(options):
-    """The page of a run that is made here."""
+    """The page of a run that is made here, and that it is whole."""
     from lookviews import Views
     from pagehtml import html_of_run
     from pagerun import Recorded, account_of_run
@@ -61,11 +61,11 @@ def page_of_run(options):
             print(f"page.py: {run.said}: core is shown up to slot {account.last}", file=sys.stderr)
         if account.left_out():
             print(f"page.py: {account.left_out()}", file=sys.stderr)
-        return html_of_run(account, run, head_of(options, options.script, account))
+        return html_of_run(account, run, head_of(options, options.script, account)), True
 
 
 def page_of_log(options):
-    """The page of a log alone."""
+    """The page of a log alone, and whether the log is whole."""
     from log import CUT, lines_of
     from pagehtml import html_of_log
     from pagerun import account_of_log
@@ -79,7 +79,7 @@ def page_of_log(options):
     account = account_of_log(log, sizes, ticks)
     if not account.table.over:
         print(f"page.py: {options.log}: {CUT}", file=sys.stderr)
-    return html_of_log(account, terminals, head_of(options, options.log, account))
+    return html_of_log(account, terminals, head_of(options, options.log, account)), account.table.over
 
 
 def head_of(options, name, account):
@@ -94,8 +94,9 @@ def make(options):
             raise PageError(f"{options.output}: the page would take the place of what it is made of")
     if options.output != "-":
         place_of(options.output)
-    put_out(options.output, page_of_log(options) if options.log else page_of_run(options))
-    return 0
+    page, is_whole = page_of_log(options) if options.log else page_of_run(options)
+    put_out(options.output, page)
+    return int(not is_whole)
 
 
 def options_of(words):

@@ -25,6 +25,7 @@ PARTS = {"process": 16, "code": 64, "stack": 20, "u area": 28}  # rows of the pa
 MOVES = {"boot", "size", "fork", "drop", "bare", "text", "share", "image", "in", "out", "exit", "reap"}  # words that change a map
 WIDE = {"boot", "exit", "reap"}  # words that may change the row of any process
 UNKNOWN = -1
+MAPS = 150, 75  # the heights of the maps of core and of the swap area
 
 
 class Recorded(Run):
@@ -91,8 +92,8 @@ class Looks:
         last = self.history.last
         self.look([0, last])
         stretches = [(self.counts[0] - self.counts[last], 0, last)]
-        while stretches and len(self.counts) < 2 * self.most:
-            taken = [heapq.heappop(stretches) for _ in range(min(AT_ONCE, len(stretches)))]
+        while stretches and (left := self.most - len(set(self.counts.values()))) > 0:
+            taken = [heapq.heappop(stretches) for _ in range(min(AT_ONCE, left, len(stretches)))]
             taken = [(low, high) for lines, low, high in taken if lines and high - low > 1]
             self.look([(low + high) // 2 for low, high in taken])
             for low, high in taken:
@@ -190,14 +191,15 @@ class Memory:
 class Account:
     """The account of a run: its texts, what the panels show at each line, and the picture."""
 
-    def __init__(self, log, sizes, ticks=(), lines=None):
-        self.log, self.lines, self.ticks = log, lines, iter(ticks)
+    def __init__(self, log, sizes, ticks=()):
+        self.log, self.ticks = log, iter(ticks)
         self.table, self.texts = Table(), Texts()
         self.teller, self.panels = Teller(self.table, sizes), Panels(self.texts)
         self.words, self.raw = array("I"), array("I")
         self.kinds, self.moments = array("B"), array("I")
         self.width = Story("\n".join(log).encode()).width()
         self.picture = Picture(len(log), self.width, self.teller)
+        self.picture.heights = MAPS
         self.memory, self.is_new = None, False  # what memory tells, and whether it does so of the next line first
         for name, rows in ROWS.items():
             self.panels.add(name, rows)
@@ -210,8 +212,8 @@ class Account:
         self.memory.take(moment)
         self.is_new = True
 
-    def take(self, text, moment=UNKNOWN, call=""):
-        """One more line: its words, and the panels after it."""
+    def take(self, text, moment=UNKNOWN, call="", is_call=False):
+        """One more line: its words, and the panels after it. A call that is shown ends or waits with this line, or with its moment."""
         entry = self.table.read(text)
         rule, procedures = rule_of(entry, self.table)
         self.words.append(self.texts.number(self.teller.told(entry)))
@@ -219,10 +221,10 @@ class Account:
         second = self.table.second()
         self.table.apply(entry)
         self.panels.show("rule", [rule])
-        self.panels.show("book", told(procedures, self.lines))
+        self.panels.show("book", told(procedures))
         self.panels.row("call", 0, call)
         is_second = self.table.second() > second
-        kind = CHOICE * (entry["word"] in ("go", "idle")) | CALL * bool(call) | SECOND * is_second
+        kind = CHOICE * (entry["word"] in ("go", "idle")) | CALL * is_call | SECOND * is_second
         self.kinds.append(kind)
         self.moments.append(moment + 1)
         self.show(entry["word"], is_second)
@@ -273,19 +275,19 @@ class Account:
         return "\t".join(map(str, cells(self.table, slot, user, command)))
 
 
-def account_of_log(log, sizes, ticks=(), lines=None):
+def account_of_log(log, sizes, ticks=()):
     """The account of a log alone: nothing of it comes from core."""
-    account = Account(log, sizes, ticks, lines)
+    account = Account(log, sizes, ticks)
     for text in log:
         account.take(text)
     return account
 
 
-def account_of_run(run, views, ticks, most, lines=None):
+def account_of_run(run, views, ticks, most):
     """The account of a run, whose core is looked at in so many moments at most."""
     history = History(run)
     looks, ahead = Looks(history, most), Table()
-    account = Account(run.log, views.sizes, ticks, lines)
+    account = Account(run.log, views.sizes, ticks)
     account.memory = Memory(views, account.panels)
     calls = Ahead(Calls(run, looks.exact()).follow())
     for number, (slots, before, after, is_exact) in enumerate(looks.found):
@@ -299,7 +301,7 @@ def account_of_run(run, views, ticks, most, lines=None):
         ended = calls.until(after)
         call = next(iter(ended.values())) if len(ended) == 1 else ""
         for line in range(start, after):
-            account.take(run.log[line], number, ended.get(line, call))
+            account.take(run.log[line], number, ended.get(line, call), line in ended)
     for line in range(ahead.lines, len(run.log)):
         account.take(run.log[line], len(looks.found) - 1)
     account.looks, account.last = looks, history.last
@@ -316,6 +318,6 @@ class Ahead:
         """Of the turns before a line what each tells, by its line."""
         found = {}
         while self.next and self.next[0].line < line:
-            found[self.next[0].line] = self.next[1]
+            found[self.next[0].line] = self.next[1].strip()
             self.next = next(self.turns, None)
         return found
