@@ -47,8 +47,8 @@ tty.c 8100: gtty 8165, stty 8183, sgtty 8201, wflushtty 8217, cinit 8234, flusht
 tty.c 8100: ttrstrt 8486, ttstart 8505, ttread 8535, ttwrite 8550, ttystty 8577
 pc.c 8600:
 """
-# What the lessons name of the book and this table leaves out: its line isn't certain.
-WITHOUT = ("sysent",)
+# What the lessons name of the book and the table leaves out: its line isn't certain.
+WITHOUT = ("sysent", "fuword")
 # Of each word of a log: the procedure that does what the line tells.
 OF_WORDS = {
     "boot": "main", "go": "swtch", "idle": "swtch", "trap": "trap", "tick": "clock", "sleep": "sleep", "wake": "wakeup",
