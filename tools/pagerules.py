@@ -39,7 +39,7 @@ RULES = {
     "in": ("The swapper, rule 1: of those that can run and are out of core the one that has been out for longest, the lowest slot of "
            "equals. Rule 2: it comes in where there is room by first fit.",
            [("sched", "swap_sched: pass"), ("malloc", "map_fit: take")]),
-    "out": ("The image goes to the first place in the swap area where it fits.", [("xswap", "image_keep: swap_out")]),
+    "out": ("The swapper, rules 3 and 5: where there is no room, somebody goes out, to the first place in the swap area where it fits.", [("xswap", "image_keep: swap_out")]),
     "exit": ("A process ends: its files are closed, its image is given back, and one block keeps its status and times until its parent "
              "waits. Its children become those of process 1.", [("exit", "unix_core/process: exit")]),
     "reap": ("The parent's wait finds a child that has ended: slot and block are free again.",
@@ -52,37 +52,14 @@ SWAPPER = {  # of the swapper's own sleeps
     "runin": ("The swapper, rules 4 and 5: there is no room, nobody in core waits, and either who wants to come in has been out for less "
               "than three seconds, or who would go out has been in for less than two.", [("sched", "swap_sched: pass")]),
 }
-EASY = "The swapper, rule 3: there is no room, and who waits in core so that a signal wakes it goes at once, the lowest slot first."
-OLDEST = ("The swapper, rule 5: there is no room, and nobody in core waits. Of the others the one that has been in core for longest goes, "
-          "the lowest slot of equals, where that is two seconds at least and rule 4 doesn't forbid it.")
-
-
-def rule_of(entry, table):
-    """The rule of a line, and its procedures, by the table before it."""
+def rule_of(entry, table, text):
+    """The rule of a line and its procedures, by the table before it, which knows the priorities; of a choice also why it is this one."""
     word = entry["word"]
-    if word == "sleep" and entry["W"] in SWAPPER:
-        return SWAPPER[entry["W"]]
-    rule, procedures = RULES[word]
+    rule, procedures = SWAPPER[entry["W"]] if word == "sleep" and entry["W"] in SWAPPER else RULES[word]
     if word == "out":
-        return " ".join([why_out(table, table.row(entry["S"])), rule]), [("sched", "swap_sched: pass"), *procedures]
-    if word == "in":
-        row = table.row(entry["S"])
-        return f"{rule} Process {row.number} has been out for {seconds(row.time)}.", procedures
-    return rule, procedures
-
-
-def why_out(table, row):
-    """By which rule an image goes out of core, and by which times."""
-    waits = row.state == "asleep" and row.priority >= 0
-    outside = [(-one.time, slot, one) for slot, one in table.rows.items() if slot and one.state == "ready" and not one.is_loaded()]
-    wants = min(outside)[2] if outside else None
-    told = f"Process {wants.number} wants to come in, and has been out for {seconds(wants.time)}. " if wants else ""
-    does = "waits" if waits else f"has been in core for {seconds(row.time)}"
-    return f"{EASY if waits else OLDEST} {told}Process {row.number} {does}."
-
-
-def seconds(count):
-    return f"{count} second" + "s" * (count != 1)
+        procedures = [("sched", "swap_sched: pass"), *procedures]
+    line, why = table.foretold(entry) or (None, None)
+    return f"{rule} Here: {why}." if line == text else rule, procedures
 
 
 def told(procedures):

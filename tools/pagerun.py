@@ -6,6 +6,7 @@ from array import array
 from collections import OrderedDict
 from concurrent.futures import ThreadPoolExecutor
 
+from choices import Ruled
 from history import History, Moment
 from log import Story
 from logpicture import Picture
@@ -193,7 +194,7 @@ class Account:
 
     def __init__(self, log, sizes, ticks=()):
         self.log, self.ticks = log, iter(ticks)
-        self.table, self.texts = Table(), Texts()
+        self.table, self.texts = Ruled(), Texts()
         self.teller, self.panels = Teller(self.table, sizes), Panels(self.texts)
         self.words, self.raw = array("I"), array("I")
         self.kinds, self.moments = array("B"), array("I")
@@ -215,7 +216,7 @@ class Account:
     def take(self, text, moment=UNKNOWN, call="", is_call=False):
         """One more line: its words, and the panels after it. A call that is shown ends or waits with this line, or with its moment."""
         entry = self.table.read(text)
-        rule, procedures = rule_of(entry, self.table)
+        rule, procedures = rule_of(entry, self.table, text)
         self.words.append(self.texts.number(self.teller.told(entry)))
         self.raw.append(self.texts.number(text))
         second = self.table.second()

@@ -82,10 +82,11 @@ class Runs(Made):
     def test_rules(self):
         """Why each process went out and came in is what docs/lions/sched.md works out."""
         found, _ = self.made(*self.crowd(2500), "--moments", "2")
-        for line, words in {82: ("rule 3", "Process 3 wants to come in", "Process 1 waits."),
-                            273: ("rule 5", "Process 4 wants to come in, and has been out for 3 seconds",
-                                  "Process 2 has been in core for 4 seconds"),
-                            274: ("rule 1", "Process 4 has been out for 3 seconds"), 13: ("rules 4 and 5",), 2: ("rule 1",)}.items():
+        for line, words in {82: ("rules 3 and 5", "slot 3 has been out of core for longest, 1 second (1)", "slot 1 is the lowest in core that waits"),
+                            273: ("slot 4 has been out of core for longest, 3 seconds (1)", "no room for 37 clicks (2)",
+                                  "slot 2 has been there for longest, 4 seconds (5)"),
+                            274: ("there is room for 37 clicks at click 38 (2)",), 13: ("less than three seconds are too few",),
+                            2: ("nobody who can run is out of core",), 276: ("from the slot after the one that was chosen last",)}.items():
             for one in words:
                 self.assertIn(one, found.at(line)["rule"][0], line)
         self.assertTrue(found.at(273)["book"][0].startswith("sched (1940) of slp.c; here swap_sched"))
