@@ -3,7 +3,7 @@
 PREFIX = /usr/local
 DESTDIR =
 LIB = $(PREFIX)/lib/v6
-TOOLS = as cc console disk log look run trace try
+TOOLS = as cc console disk log look page run trace try
 root = $(DESTDIR)$(PREFIX)
 
 .PHONY: all check install uninstall
@@ -17,7 +17,7 @@ check:
 install:
 	install -d $(root)/bin $(root)/lib/v6/bin $(root)/lib/v6/tools $(root)/share/man $(root)/share/bash-completion/completions
 	install -m 755 bin/v6 $(root)/lib/v6/bin/v6
-	install -m 644 tools/*.py $(root)/lib/v6/tools
+	install -m 644 tools/*.py tools/page.js tools/page.css tools/page.html $(root)/lib/v6/tools
 	install -d $(root)/lib/v6/tools/c/include $(root)/lib/v6/tools/c/lib
 	install -m 755 tools/c/build.sh tools/c/build-gcc.sh $(root)/lib/v6/tools/c
 	install -m 644 tools/c/pcc.patch tools/c/gcc.patch $(root)/lib/v6/tools/c

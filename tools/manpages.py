@@ -6,7 +6,7 @@ import re
 import sys
 
 TOP = os.path.dirname(os.path.dirname(os.path.abspath(__file__)))
-TOOLS = ("as", "cc", "console", "disk", "log", "look", "run", "trace", "try")  # those of the Makefile
+TOOLS = ("as", "cc", "console", "disk", "log", "look", "page", "run", "trace", "try")  # those of the Makefile
 BULLET = "\\(bu"
 PAGES = {  # by its name and section: the source, and what it is in a line
     ("v6", 1): ("commands.md", "run, check and make disks of Sixth Edition UNIX"),
