@@ -79,7 +79,8 @@ class Ruled(Table):
     def ready(self):
         """The slots that can run and are in core, from the one after that which was chosen last on."""
         after = [(self.chosen + 1 + number) % SLOTS for number in range(SLOTS)]
-        return [slot for slot in after if slot in self.rows and self.rows[slot].state == "ready" and self.rows[slot].is_loaded()]
+        rows = [(slot, self.rows[slot]) for slot in after if slot in self.rows]
+        return [slot for slot, row in rows if row.state == "ready" and row.is_loaded()]
 
     def next_choice(self):
         """The line of the choice, and why."""
@@ -129,15 +130,15 @@ class Ruled(Table):
         easy = [slot for slot, row in inside.items() if row.state == "asleep" and row.priority >= 0]
         if easy:
             return self.goes_out(min(easy)), f"slot {min(easy)} is the lowest in core that waits so that a signal wakes it (3)"
-        sleeps = "sleep 0 -100 runin"
+        sleeps, nobody = "sleep 0 -100 runin", "nobody in core waits so that a signal wakes it (3)"
         if time < OUT_LONG_ENOUGH:
-            return sleeps, "nobody in core waits so that a signal wakes it (3), and less than three seconds are too few: it sleeps (4)"
+            return sleeps, f"{nobody}, and less than three seconds are too few: it sleeps (4)"
         oldest = self.longest(slot for slot, row in inside.items() if row.state != "dead")
         if oldest is None or self.rows[oldest].time < IN_LONG_ENOUGH:
-            return sleeps, "nobody in core waits so that a signal wakes it (3), and nobody has been there for two seconds: it sleeps (5)"
+            return sleeps, f"{nobody}, three seconds are enough (4), and nobody has been there for two: it sleeps (5)"
         stayed = seconds(self.rows[oldest].time)
-        return self.goes_out(oldest), ("nobody in core waits so that a signal wakes it (3), three seconds are enough (4), "
-                                       f"and slot {oldest} has been there for longest, {stayed} (5)")
+        return self.goes_out(oldest), (f"{nobody}, three seconds are enough (4), and slot {oldest} has been there for longest, "
+                                       f"{stayed} (5)")
 
     def foretold(self, entry):
         """What the line has to be where it is a choice, and why; None where it is none."""

@@ -27,7 +27,7 @@ _v6() {
     v6-cc | cc.py) case $word in -*) words='--compiler --gcc --help --version -D -I -S -g -n -o -s' ;; esac ;;
     v6-run | run.py) case $word in -*) words='--core --disk --help --log --replay --term --v6 --version' ;; esac ;;
     v6-trace | trace.py) case $word in -*) words='--from --help --process --replay --to --v6 --version' ;; esac ;;
-    v6-try | try.py) case $word in -*) words='--core --disk --file --final --help --slots --v6 --version --with -t' ;; esac ;;
+    v6-try | try.py) case $word in -*) words='--back --binary --core --disk --file --final --folder --help --slots --v6 --version --with -t' ;; esac ;;
     row.py)
         rows=$(dirname "${COMP_WORDS[0]}")/../crates/run_rows/data/rows
         case $word in

@@ -43,8 +43,8 @@ nami.c 7500: namei 7518, schar 7679, uchar 7689
 pipe.c 7700: pipe 7723, readp 7758, writep 7805, plock 7862, prele 7882
 tty.h 7900:
 kl.c 8000: klopen 8023, klclose 8055, klread 8062, klwrite 8066, klxint 8070, klrint 8078, klsgtty 8090
-tty.c 8100: gtty 8165, stty 8183, sgtty 8201, wflushtty 8217, cinit 8234, flushtty 8252, canon 8274, ttyinput 8333, ttyoutput 8373
-tty.c 8100: ttrstrt 8486, ttstart 8505, ttread 8535, ttwrite 8550, ttystty 8577
+tty.c 8100: gtty 8165, stty 8183, sgtty 8201, wflushtty 8217, cinit 8234, flushtty 8252, canon 8274, ttyinput 8333
+tty.c 8100: ttyoutput 8373, ttrstrt 8486, ttstart 8505, ttread 8535, ttwrite 8550, ttystty 8577
 pc.c 8600:
 """
 # What the lessons name of the book and the table leaves out: its line isn't certain.

@@ -202,12 +202,12 @@ def options_of(words):
         command.add_argument("--disk", metavar="IMAGE", help="names programs by the size of their images on this disk")
         command.add_argument("--script", metavar="FILE", help="tells by the script of the run how many slots have passed")
         if name == "ask":
-            command.add_argument("--from", dest="first", type=int, default=1, metavar="LINE", help="the first line that is asked for")
+            command.add_argument("--from", dest="first", type=int, default=1, metavar="LINE", help="the first that is asked for")
             command.add_argument("--count", type=int, default=sys.maxsize, metavar="N", help="how many choices are asked for")
         if name == "show":
             command.add_argument("--from", dest="first", type=int, default=1, metavar="LINE", help="the first line that is shown")
             command.add_argument("--to", dest="last", type=int, default=sys.maxsize, metavar="LINE", help="the last one")
-            command.add_argument("--book", action="store_true", help="names the procedure of each line, and its line in Lions' book")
+            command.add_argument("--book", action="store_true", help="names the procedures of Lions' book, with their lines")
         if name == "draw":
             command.add_argument("-o", "--output", metavar="FILE", default="-", help="where the picture goes, in SVG")
     options = parser.parse_args(words)

@@ -29,6 +29,9 @@ def answers(file):
             except EOFError:
                 print()
                 return
+            except KeyboardInterrupt:
+                print()
+                raise
             continue
         line = file.readline()
         if not line:
@@ -90,7 +93,8 @@ class Quiz:
     def show(self, number):
         for line in self.told[-BEFORE:]:
             print(line)
-        print(f"line {number} of {len(self.story.lines)}, second {self.table.second()}; slot {self.table.chosen} was chosen last")
+        last = f"slot {self.table.chosen} was chosen last"
+        print(f"line {number} of {len(self.story.lines)}, second {self.table.second()}; {last}")
         print("S SLOT   PID PRI TIME SIZE TEXT PLACE      WAITS")
         for slot, row in sorted(self.table.rows.items()):
             place = f"{row.place.where} {row.place.start}" if row.place else "-"

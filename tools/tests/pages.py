@@ -1,58 +1,62 @@
-"""Reads pages that page.py has made, by themselves: each line's panels by replaying all changes before it."""
-import base64
-import json
+"""Pages whose commands are played, and print what the pages show."""
+import os
 import re
-import struct
-import zlib
+import subprocess
 
-CODES = {1: "B", 2: "H", 4: "I"}
+from common import TOP, V6, Case, read
 
-
-class Read:
-    def __init__(self, page):
-        self.html = page.decode()
-        packed = re.search(r'<script type="text/plain" id="data">([^<]*)</script>', self.html)[1]
-        blob = zlib.decompress(base64.b64decode(packed))
-        size = int.from_bytes(blob[:4], "little")
-        self.head = json.loads(blob[4 : 4 + size])
-        self.columns = {name: struct.unpack_from(f"<{count}{CODES[width]}", blob, 4 + size + at)
-                        for name, (at, count, width) in self.head["columns"].items()}
-
-    def at(self, line):
-        """The texts of all rows at a line, counted from 1 on, by their panels."""
-        rows = [0] * self.head["fields"]
-        end = sum(self.columns["counts"][:line])
-        for field, value in zip(self.columns["fields"][:end], self.columns["values"][:end]):
-            rows[field] = value
-        texts = self.head["texts"]
-        return {name: [texts[rows[at]] for at in range(first, first + count)] for name, (first, count) in self.head["places"].items()}
-
-    def words(self, line):
-        return self.head["texts"][self.columns["words"][line - 1]]
-
-    def slot(self, line):
-        """The slot of the moment that a line shows, or None."""
-        place = self.columns["moments"][line - 1]
-        return self.columns["slots"][place - 1] if place else None
-
-    def terminal(self, line):
-        place = self.columns["moments"][line - 1]
-        return bytes(self.columns["term"][: self.columns["shown"][place - 1] if place else 0])
+BLOCK = re.compile(r"^```\n(\$ .*?)^```$", re.M | re.S)
+PICTURE = re.compile(r"!\[[^]]*\]\(([a-z]+\.svg)\)")
+LINK = re.compile(r"\]\(([^)#]*)(?:#([^)]*))?\)")
 
 
-def shown(rows):
-    return [row for row in rows if row]
+def commands(page):
+    """The commands of a page, each with what the page shows that it prints."""
+    found = []
+    for block in BLOCK.findall(page):
+        for line in block.splitlines(True):
+            if line.startswith("$ "):
+                found.append([line[2:-1], ""])
+            else:
+                found[-1][1] += line
+    return found
 
 
-def process_of(panels, slot):
-    """The lines of a process whole, as look.py's `process` has them."""
-    out = shown(panels[f"process {slot}"])
-    for name in ("code", "stack", "u area"):
-        lines = shown(panels[f"{name} {slot}"])
-        out += [name] * bool(lines) + lines
-    return out
+def anchors(page):
+    return {re.sub(r"[^a-z0-9 _-]", "", line.lstrip("# ").lower()).replace(" ", "-")
+            for line in page.splitlines() if line.startswith("#")}
 
 
-def table_of(panels, row):
-    """The lines of `ps`, by the form of a row."""
-    return [row.format(*(int(cell) if cell.isdecimal() else cell for cell in text.split("\t"))).rstrip() for text in shown(panels["ps"])]
+def broken_links(*path):
+    """The links of a page that lead to no file, or to no heading of one."""
+    page, broken = os.path.join(TOP, "docs", *path), []
+    for file, heading in LINK.findall(read(page).decode()):
+        target = os.path.normpath(os.path.join(os.path.dirname(page), file)) if file else page
+        if not os.path.exists(target) or heading and heading not in anchors(read(target).decode()):
+            broken.append((file, heading))
+    return broken
+
+
+class Runs(Case):
+    """A folder in which the commands are played, one page after the other in folders of their own."""
+
+    def setUp(self):
+        super().setUp()
+        for name in ("docs", "examples", "tools"):
+            os.symlink(os.path.join(TOP, name), self.path(name))
+        os.mkdir(self.path("bin"))
+        self.put("bin/v6", f'#!/bin/sh\nexec {V6} "$@"\n'.encode())
+        os.chmod(self.path("bin/v6"), 0o755)
+
+    def play(self, command):
+        done = subprocess.run(["sh", "-c", command], cwd=self.folder, env={**os.environ, "V6": self.path("bin/v6")},
+                              stdout=subprocess.PIPE, stderr=subprocess.STDOUT)
+        return done.returncode, done.stdout.decode().replace("\r\n", "\n")
+
+    def played(self, *path):
+        """Plays a page, by the names of its path; its pictures are those that its commands make."""
+        page = read(os.path.join(TOP, "docs", *path)).decode()
+        for command, shown in commands(page):
+            self.assertEqual(self.play(command), (0, shown), command)
+        for picture in PICTURE.findall(page):
+            self.assertEqual(read(self.path(picture)), read(os.path.join(TOP, "docs", *path[:-1], picture)))

@@ -14,8 +14,8 @@ NAMED = re.compile(r"`([a-z0-9_]+)`")
 HEAD = re.compile(r"^Lions' book: .*?(?=\sHere:)", re.M | re.S)
 SHEET = 50  # lines
 # From the text of the Commentary, which names these procedures with their lines.
-QUOTED = {"main": 1550, "newproc": 1826, "sched": 1940, "sleep": 2066, "wakeup": 2113, "swtch": 2178, "expand": 2268, "malloc": 2528,
-          "mfree": 2556, "trap": 2693}
+QUOTED = {"main": 1550, "newproc": 1826, "sched": 1940, "sleep": 2066, "wakeup": 2113, "swtch": 2178, "expand": 2268,
+          "malloc": 2528, "mfree": 2556, "trap": 2693}
 
 
 def pages():
@@ -62,7 +62,7 @@ class Lines(unittest.TestCase):
         self.assertEqual((told("sleep"), told("savu"), told("sysent")), ("sleep (2066)", "savu (0725)", "sysent"))
 
     def test_those_of_the_lessons(self):
-        """Each number on a page is that of the table, and the head of each page and the list of pages give it wherever there is one."""
+        """Each number on a page is that of the table, and heads and the list of pages give it wherever there is one."""
         for page, text in pages().items():
             for name, line in NUMBERED.findall(text):
                 self.assertEqual(int(line), line_of(name), (page, name))

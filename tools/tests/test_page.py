@@ -5,7 +5,7 @@ import tempfile
 import unittest
 
 from common import TOP, V6, Case, read, tool
-from pages import Read, process_of, shown, table_of
+from pagereader import Read, process_of, shown, table_of
 
 from lookviews import ROW
 from pagepack import Panels, Texts

@@ -11,8 +11,7 @@ from choices import Ruled
 from proctable import Place, Row
 
 log_main = tool("log").main
-# Worked by hand. Slot 1 forks, so slot 2 can run at 0. The fork's end gives slot 1 the priority 100 in the place of 0, at which it
-# was chosen. Slot 0 looks into core for slot 2's image: there is none out of core, so it sleeps at once.
+# Worked by hand. Slot 1 was chosen at 100, the priority of a program. It forks, and its child can run at 0.
 FORKED = """boot 100 0
 sleep 0 -100 runout
 go 1
@@ -94,12 +93,13 @@ class Quiz(Case):
     def test_a_log_that_breaks_the_rules(self):
         status, shown, error = self.asked(FORKED.replace("go 2", "go 1"), b"2\n")
         self.assertEqual((status, shown), (1, ["no choice was asked for"]))
-        self.assertEqual(error, "log.py: line 10: it is 'go 1', and by the rules 'go 2': the least priority of those that can run is 0, "
-                                "that of slot 2\n")
+        self.assertEqual(error, "log.py: line 10: it is 'go 1', and by the rules 'go 2': the least priority of those that can run "
+                                "is 0, that of slot 2\n")
 
     def test_page(self):
         """The page's questions about the example crowd, which a run answers."""
-        crowd, names = os.path.join(TOP, "examples", "crowd"), [self.path(name) for name in ("image", "term", "crowd.log", "final")]
+        crowd = os.path.join(TOP, "examples", "crowd")
+        names = [self.path(name) for name in ("image", "term", "crowd.log", "final")]
         self.assertEqual(self.call(tool("as").main, "-o", self.path("crowd"), os.path.join(crowd, "crowd.s"))[0], 0)
         self.assertEqual(v6("make", "0", names[0])[0], 0)
         self.assertEqual(self.call(tool("disk").main, "--v6", V6, "put", names[0], self.path("crowd"), "/etc/init")[0], 0)
