@@ -18,7 +18,7 @@ from logwords import Teller
 from processes import programs_of
 from proctable import SLOTS, LogFault, Table
 from program import add_version
-from scriptfile import ScriptError, ticks_of, read_script
+from scriptfile import ScriptError, read_script, slots_of, ticks_of
 from volume import DiskError
 
 WIDEST = len("newproc (1826)")  # of the procedures that `show --book` names
@@ -121,8 +121,11 @@ def ended(story, options):
 def draw(options):
     story = story_of(options, options.log)
     picture = Picture(len(story.lines), story.width(), story.teller)
-    for line in story.lines:
+    slots = slots_of(read_script(options.script)) if options.script else None
+    for number, line in enumerate(story.lines):
         _, passed = story.take(line)
+        if slots is not None and (number == 0 or line == "end"):
+            passed = slots if number else 0
         picture.take(story.table, passed)
     put_out(options.output, picture.drawn(story.table).encode())
     return ended(story, options)
