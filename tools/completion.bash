@@ -21,6 +21,8 @@ _v6() {
             case $word in -*) words='--book --count --disk --from --help --output --script --to -o' ;; esac
         fi ;;
     v6-look | look.py) case $word in -*) words='--help --log --replay --symbols --v6 --version -c' ;; esac ;;
+    v6-page | page.py)
+        case $word in -*) words='--disk --help --log --marks --moments --output --replay --script --symbols --term --title --v6 --version -o' ;; esac ;;
     v6-as | as.py) case $word in -*) words='--disassemble --help --version -g -l -n -o -s' ;; esac ;;
     v6-cc | cc.py) case $word in -*) words='--compiler --gcc --help --version -D -I -S -g -n -o -s' ;; esac ;;
     v6-run | run.py) case $word in -*) words='--core --disk --help --log --replay --term --v6 --version' ;; esac ;;
@@ -40,5 +42,5 @@ _v6() {
     fi
 }
 
-complete -o filenames -F _v6 v6 v6-as v6-cc v6-console v6-disk v6-log v6-look v6-run v6-trace v6-try as.py cc.py console.py disk.py \
-    log.py look.py row.py run.py trace.py try.py
+complete -o filenames -F _v6 v6 v6-as v6-cc v6-console v6-disk v6-log v6-look v6-page v6-run v6-trace v6-try as.py cc.py console.py disk.py \
+    log.py look.py page.py row.py run.py trace.py try.py

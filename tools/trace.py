@@ -88,7 +88,7 @@ class Tracer:
         execs = {turn.line for turn in found if turn.line and lines[turn.line - 1].startswith("image ")}
         for turn in found:
             turn.is_shown = self.options.first <= turn.line + 1 <= self.options.last
-        wanted = [turn for turn in found if turn.line < self.options.last and (turn.is_shown or turn.line in execs)]
+        wanted = [turn for turn in found if self.is_wanted(turn, turn.line in execs)]
         slots = self.run.slots_of([turn.line for turn in wanted])
         with ThreadPoolExecutor(WORKERS) as pool:
             before = pool.map(lambda turn: self.run.count(slots[turn.line] - 1, True), wanted)
@@ -102,6 +102,10 @@ class Tracer:
                     turn.is_shown = False
                 if turn.is_shown or turn.line in execs:
                     yield turn
+
+    def is_wanted(self, turn, is_exec):
+        """Whether a turn is looked at."""
+        return turn.line < self.options.last and (turn.is_shown or is_exec)
 
     def row(self, slot, count):
         """The row of a slot and its text after so many lines of the log."""

@@ -5,21 +5,10 @@ import subprocess
 
 from common import TOP, V6, Case, read
 
-BLOCK = re.compile(r"^```\n(\$ .*?)^```$", re.M | re.S)
+from lessonpages import commands
+
 PICTURE = re.compile(r"!\[[^]]*\]\(([a-z]+\.svg)\)")
 LINK = re.compile(r"\]\(([^)#]*)(?:#([^)]*))?\)")
-
-
-def commands(page):
-    """The commands of a page, each with what the page shows that it prints."""
-    found = []
-    for block in BLOCK.findall(page):
-        for line in block.splitlines(True):
-            if line.startswith("$ "):
-                found.append([line[2:-1], ""])
-            else:
-                found[-1][1] += line
-    return found
 
 
 def anchors(page):

@@ -17,10 +17,10 @@ ENVIRONMENT = {**{key: value for key, value in os.environ.items() if key != "V6"
 class Words(Case):
     def test_help_and_version(self):
         program = hashlib.sha256(read(os.path.join(TOP, "bin", "v6"))).hexdigest()[:12]
-        for name in ("as", "cc", "console", "disk", "log", "look", "row", "run", "trace", "try"):
+        for name in ("as", "cc", "console", "disk", "log", "look", "page", "row", "run", "trace", "try"):
             self.assertEqual(self.call(tool(name).main, "--version"),
                              (0, f"{name}.py of the repository whose bin/v6 is {program}\n", ""))
-        for name in ("as", "cc", "console", "disk", "install", "log", "look", "manpages", "row", "run", "trace", "try"):
+        for name in ("as", "cc", "console", "disk", "install", "log", "look", "manpages", "page", "row", "run", "trace", "try"):
             status, said, _ = self.call(tool(name).main, "--help")
             self.assertEqual((status, said.split()[:2]), (0, ["usage:", name + ".py"]))
         self.assertFalse(os.path.exists("--help"))
@@ -235,7 +235,7 @@ class Completion(Case):
     @unittest.skipUnless(shutil.which("bash"), "bash isn't there")
     def test_completion_knows_all_options(self):
         """Those that the help of each tool, and of each command of disk.py and log.py, names."""
-        for name in ("as", "cc", "console", "look", "row", "run", "trace", "try"):
+        for name in ("as", "cc", "console", "look", "page", "row", "run", "trace", "try"):
             self.assertEqual(set(self.completed(f"{TOP}/tools/{name}.py x -", 2)), self.options(name), name)
         for name in ("disk", "log"):
             self.assertEqual(set(self.completed(f"{name}.py -", 1)), self.options(name))
