@@ -35,7 +35,7 @@ class Rules(unittest.TestCase):
         for name in rowfile.names():
             row = rowfile.Row(name)
             log = None if row.lines["command"] is not None or row.is_end else row.wanted_log(base)
-            if not log or row.numbers["size"] or row.numbers["made"]:
+            if not log:
                 continue
             table = Ruled()
             for line in log.decode().splitlines():
@@ -47,6 +47,28 @@ class Rules(unittest.TestCase):
                 table.apply(entry)
         for kind in (("go", True), ("idle", False), ("in", True), ("out", True), ("sleep", True), ("sleep", False)):
             self.assertGreater(kinds.get(kind, 0), 10, kinds)
+
+    def test_priorities(self):
+        """Sixty ticks of use are 50 when the second ends, and 100 + 50 / 16 is 103; sixty more are 100, and 106. A child that has
+        never run keeps its 0, and who sleeps the priority of what it sleeps for. Nice comes to it, up to 127."""
+        table = Ruled()
+        for line in ("boot 200 0", "sleep 0 -100 runout", "go 1", "fork 1 2 at 18", "trap 1", *["tick u"] * 60):
+            table.take(line)
+        self.assertEqual(table.priority, {0: -100, 1: 103, 2: 0})
+        for line in ["tick u"] * 60:
+            table.take(line)
+        self.assertEqual(table.priority, {0: -100, 1: 106, 2: 0})
+        for line in ("nice 1 5", "sleep 1 40 wait.1", "idle", *["tick i"] * 60, "wake wait.1", "go 1"):
+            table.take(line)
+        self.assertEqual(table.priority, {0: -100, 1: 40, 2: 0})
+        table.take("trap 1")  # by now 90 of use are left, and 90 / 16 is 5
+        self.assertEqual(table.priority[1], 110)
+        table.take("nice 1 20")
+        table.take("trap 1")
+        self.assertEqual(table.priority[1], 125)
+        table.take("nice 1 23")
+        table.take("trap 1")
+        self.assertEqual(table.priority[1], 127)
 
     def test_the_page_s_table(self):
         """Slot 3 was chosen last, and these can run, at 100 but slot 7: docs/manual/clock.md."""
