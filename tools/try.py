@@ -18,7 +18,7 @@ from dialogue import MOST_SLOTS, Dialogue, DialogueError, Machine, Refused, tota
 from files import guarded, place_of, read_bytes, replace
 from processes import BUSY, RUNS, WAITS
 from program import CORE, V6, ProgramError, add_version, call
-from volume import CHARACTER, ROOT, DiskError, Volume, check_name
+from volume import CHARACTER, ROOT, DiskError, Volume, check_name, plural
 
 HERE, WRITTEN = b"here", b"written"  # the directory of the root that is the folder, and the file of /etc that is the output
 FAILED, OUT_OF_SLOTS, STOPPED = 125, 124, 126  # the status where it isn't the program's own
@@ -254,7 +254,7 @@ class Run:
             if not n:
                 count -= self.least(done, step, b"\nimage 2 ")
             done += step
-        return f"{'about ' if count > EXACT else ''}{count} slots"
+        return f"{'about ' if count > EXACT else ''}{plural(count, 'slot')}"
 
 
 def bytes_of(volume, path):

@@ -50,6 +50,7 @@ class Try(Case):
                          (3, b"", "try.py: status 3, 103 slots\n"))
         # 2 up to the read that waits; 11, from its going on to the read that waits next; and 6 from there to the exit
         self.assertEqual(self.run_it("-t", self.source(COPY), typed=b"ab\n"), (3, b"ab\n", "try.py: status 3, 19 slots\n"))
+        self.assertEqual(self.run_it("-t", self.source("\tsys\texit\n"))[2], "try.py: status 0, 1 slot\n")
 
     def test_a_program_and_its_arguments(self):
         program = self.path("echo")
