@@ -201,6 +201,7 @@ class Account:
         self.width = Story("\n".join(log).encode()).width()
         self.picture = Picture(len(log), self.width, self.teller)
         self.picture.heights = MAPS
+        self.letters, self.procedures = ["."] * self.width, None
         self.memory, self.is_new = None, False  # what memory tells, and whether it does so of the next line first
         for name, rows in ROWS.items():
             self.panels.add(name, rows)
@@ -221,8 +222,10 @@ class Account:
         self.raw.append(self.texts.number(text))
         second = self.table.second()
         self.table.apply(entry)
-        self.panels.show("rule", [rule])
-        self.panels.show("book", told(procedures))
+        self.panels.row("rule", 0, rule)
+        if procedures != self.procedures:
+            self.procedures = procedures
+            self.panels.show("book", told(procedures))
         self.panels.row("call", 0, call)
         is_second = self.table.second() > second
         kind = CHOICE * (entry["word"] in ("go", "idle")) | CALL * is_call | SECOND * is_second
@@ -245,8 +248,10 @@ class Account:
         is_all = word in WIDE or is_second or self.is_new
         for slot in range(self.width) if is_all else table.touched - {None}:
             panels.row("ps", slot, self.row(slot) if slot in table.rows else "")
-        panels.row("letters", 0, "".join(table.letter(slot) for slot in range(self.width)))
-        panels.row("second", 0, str(table.second()))
+            self.letters[slot] = table.letter(slot)
+        panels.row("letters", 0, "".join(self.letters))
+        if word == "boot" or is_second:
+            panels.row("second", 0, str(table.second()))
         running = table.rows.get(table.running)
         panels.row("running", 0, "" if running is None else f"{table.running} {self.running(running)}")
         if word in MOVES or self.is_new:
