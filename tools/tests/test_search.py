@@ -9,6 +9,7 @@ import unittest.mock
 from common import TOP, V6, Case, read, tool, v6, words
 
 import stepper
+import walk as walk_module
 from history import History
 from moments import MomentError, Run
 from stepper import Stepper
@@ -77,7 +78,9 @@ class Searches(Case):
             is_in = [pc is not None and low <= pc <= high for pc in seen[number]]
             wanted = [slots for slots in range(1, 131) if is_in[slots] and not is_in[slots - 1]]
             self.assertTrue(wanted)
-            self.assertEqual(list(found(history, Sought(number, [(low, high)]), 0, 130)), wanted, (number, low))
+            for few, near in ((walk_module.FEW, walk_module.NEAR), (-1, walk_module.NEAR), (100, 1)):  # by the log where others do much
+                with unittest.mock.patch.multiple(walk_module, FEW=few, NEAR=near):
+                    self.assertEqual(list(found(history, Sought(number, [(low, high)]), 0, 130)), wanted, (number, low, few))
 
     def pc(self, moment, number):
         process = moment.process(number)
