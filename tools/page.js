@@ -80,17 +80,16 @@ class Run {
     return (this.columns.kinds[line - 1] & kind) !== 0;
   }
 
-  /** The moment of a line: its slot, whether that is just the line's, and what the terminal has shown. */
+  /** The moment of a line: its slot, what the terminal has shown, and whether it is the line's own, or one that was looked at before. */
   moment(line) {
     const place = this.columns.moments[line - 1];
     if (!this.head.isRun || !place) return null;
-    const { slots, shown, exact } = this.columns;
-    const inside = (one) => this.columns.moments[one - 1] === place;
-    const isLast = line === this.lines || !inside(line + 1);
-    return { slot: slots[place - 1], shown: shown[place - 1], isExact: exact[place - 1] === 1 || this.first(place) === line, isLast, place };
+    const { slots, shown, ends } = this.columns;
+    const end = ends[place - 1];
+    return { slot: slots[place - 1], shown: shown[place - 1], isExact: line <= end, isLast: line >= end, place, end };
   }
 
-  /** The first and the last line with which the moment at this place came. */
+  /** The first line with which the moment at this place came. */
   first(place) {
     let low = 1, high = this.lines;
     while (low < high) {
@@ -100,10 +99,6 @@ class Run {
     return low;
   }
 
-  end(place) {
-    return place === this.columns.slots.length ? this.lines : this.first(place + 1) - 1;
-  }
-
   /** The next line of a kind, or the last before; the end that is nearer where there is none. */
   next(line, kind, by) {
     let one = line + by;
@@ -111,16 +106,30 @@ class Run {
     return Math.max(1, Math.min(one, this.lines));
   }
 
-  /** The next line about a word, or the last before, or 0. A number is that of a process. */
-  search(word, line, by) {
-    const isNumber = /^[0-9]+$/.test(word);
-    const about = isNumber ? new RegExp(`\\b(process|processes) ${word}\\b|, process ${word}\\b|^[0-9 ]*\\[${word}[ \\]]`) : null;
+  /** Whether each text is about a word: that with which lines of the log begin, a number of a process, or any other piece of text. */
+  about(word) {
     const low = word.toLowerCase();
-    const has = this.texts.map((text) => isNumber ? about.test(text) : text.toLowerCase().includes(low));
-    const { words, raw, fields, values, kinds } = this.columns;
+    if (this.texts.some((text) => text === low || text.startsWith(low + " ") && this.isRaw(text))) {
+      return this.texts.map((text) => this.isRaw(text) && text.split(" ")[0] === low);
+    }
+    if (!/^[0-9]+$/.test(word)) return this.texts.map((text) => text.toLowerCase().includes(low));
+    const number = new RegExp(`\\bprocess ${word}\\b|^[0-9 ]*\\[${word}[ \\]]`);
+    return this.texts.map((text) => !this.isRaw(text) && number.test(text));
+  }
+
+  /** Whether a text is a line of the log as it stands there. */
+  isRaw(text) {
+    this.raws = this.raws || new Set(Array.from(new Set(this.columns.raw), (one) => this.texts[one]));
+    return this.raws.has(text);
+  }
+
+  /** The next line about a word, or the last before, or 0. */
+  search(word, line, by) {
+    const has = this.about(word);
+    const { words, raw, fields, values } = this.columns;
     const call = this.head.places.call[0];
     const isThere = (one) => {
-      if (has[words[one]] || (!isNumber && has[raw[one]])) return true;
+      if (has[words[one]] || has[raw[one]]) return true;
       for (let at = this.starts[one]; at < this.starts[one + 1]; at++) if (fields[at] === call && has[values[at]]) return true;
       return false;
     };
@@ -267,7 +276,7 @@ class Page {
 
   within(moment) {
     if (!moment || !moment.isExact || moment.isLast) return "";
-    return ` (of the lines ${this.run.first(moment.place)} to ${this.run.end(moment.place)} of the moment)`;
+    return ` (of the lines ${this.run.first(moment.place)} to ${moment.end} of the moment)`;
   }
 
   nobody() {
@@ -350,8 +359,7 @@ class Page {
     const parts = { process: "process", code: "code", stack: "stack", area: "u area" };
     for (const [id, name] of Object.entries(parts)) $(id).textContent = this.run.shown(`${name} ${slot}`).join("\n");
     if (moment && !moment.isLast && moment.isExact) {
-      const end = this.run.end(moment.place);
-      $("process").textContent = `after all lines of the moment, up to ${end}, since memory isn't known within it:\n` + $("process").textContent;
+      $("process").textContent = `after all lines of the moment, up to ${moment.end}, since memory isn't known within it:\n` + $("process").textContent;
     } else if (moment && !moment.isExact) {
       $("process").textContent = `as in slot ${moment.slot}, where core was looked at last:\n` + $("process").textContent;
     }

@@ -24,7 +24,7 @@ def html_of_run(account, run, head):
     """The page of a run."""
     looks = account.looks.found
     moments = {"slots": array("I", [slots for slots, *_ in looks]), "shown": array("I", [run.shown_at(slots) for slots, *_ in looks]),
-               "exact": array("B", [is_exact for *_, is_exact in looks])}
+               "ends": array("I", [after for _, _, after, _ in looks])}
     head = {**head, "isRun": True, "last": account.last, "left": account.left_out(), "said": run.said if run.status else ""}
     return html_of(account, head, moments, [run.term])
 

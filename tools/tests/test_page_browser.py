@@ -1,12 +1,10 @@
 """Pages of page.py in a browser without a window: they open without an error or a request, and show what look.py shows."""
 import re
+import tempfile
 import unittest
 
 import browser
-from common import read
-from test_page import Made, page, look
-
-import tempfile
+from test_page import Made, look
 
 PANELS = "[...document.querySelectorAll('#head, #panels section')].map((one) => one.textContent).join('\\u0001')"
 TEXT = "document.getElementById({!r}).textContent"
@@ -98,6 +96,23 @@ class Opened(Made):
         self.assertIn(EVIL, self.text("marks"))
         self.assertEqual((self.browser.value("document.title"), self.browser.value("document.images.length")), (EVIL, 0))
         self.assertEqual(self.browser.value("new Promise((done) => setTimeout(() => done(location.hash), 400))"), "#line=30")
+
+    def test_words_of_the_log(self):
+        """A search for a word of the log finds its lines alone, and not others that have it; within few moments a head is right too."""
+        words = self.crowd()
+        self.made(*words, "--moments", "20")
+        self.open()
+        looker = self.looker(words)
+        self.browser.value("document.getElementById('word').value = 'out'; page.search(1)")
+        self.assertEqual((self.line(), self.text("raw")), (82, "out 1 4010"))
+        own = self.browser.value("[...Array(page.run.lines).keys()].map((one) => one + 1).filter((one) => page.run.moment(one).isExact)")
+        self.assertGreater(len(own), 10)
+        for line in (82, *self.random.sample(own, 4)):
+            self.browser.value(f"page.go({line})")
+            head, whole = self.text("head"), looker.lines_of(f"line {line}")[0]
+            self.assertEqual(*(re.sub(r" \(of [^)]*\)", "", one.partition(", ")[2]) for one in (head, whole)), line)
+            self.assertEqual(head.startswith("slot "), line in own, line)
+            self.assertLessEqual(looker.moment.slots, int(head.split()[1]) if line in own else looker.history.last)
 
     def test_quiz(self):
         """The next choice is nowhere on the page until it is asked for."""
