@@ -68,6 +68,13 @@ class Run {
     return this.texts[this.rows[this.head.places[name][0]]];
   }
 
+  /** The first row of a panel at a line that isn't before that one. */
+  after(name, line) {
+    const field = this.head.places[name][0], { fields, values } = this.columns;
+    for (let one = this.starts[line] - 1; one >= this.starts[this.at]; one--) if (fields[one] === field) return this.texts[values[one]];
+    return this.one(name);
+  }
+
   words(line) {
     return this.texts[this.columns.words[line - 1]];
   }
@@ -349,7 +356,8 @@ class Page {
   chosenSlot() {
     const chosen = $("chosen").value;
     if (chosen !== "") return Number(chosen);
-    const running = this.run.one("running");
+    const moment = this.run.moment(this.line);
+    const running = moment && moment.isExact && !this.isQuiz ? this.run.after("running", moment.end) : this.run.one("running");
     return running ? Number(running.split(" ")[0]) : 1;
   }
 

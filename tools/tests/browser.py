@@ -1,5 +1,6 @@
 """A browser without a window, driven by its debugging protocol over a pipe: for the tests of pages."""
 import base64
+import fcntl
 import json
 import os
 import pathlib
@@ -7,6 +8,7 @@ import select
 import shutil
 import signal
 import subprocess
+import sys
 import tempfile
 import time
 
@@ -15,6 +17,7 @@ FOUND = next(filter(None, map(shutil.which, NAMES)), None)
 WORDS = ["--headless", "--no-sandbox", "--disable-gpu", "--remote-debugging-pipe", "--no-first-run", "--disable-extensions",
          "--disable-background-networking", "--disable-dev-shm-usage", "--disable-component-update", "--disable-sync"]
 LONGEST = 60  # seconds for one answer
+BEGIN = "import os, sys; os.dup2(int(sys.argv[1]), 3); os.dup2(int(sys.argv[2]), 4); os.execv(sys.argv[3], sys.argv[3:])"
 
 
 class Browser:
@@ -24,12 +27,11 @@ class Browser:
         self.folder = tempfile.TemporaryDirectory()
         to_read, self.to = os.pipe()
         self.source, to_write = os.pipe()
-        command = f'exec "$@" 3<&{to_read} 4>&{to_write}'
-        self.process = subprocess.Popen(["sh", "-c", command, "sh", FOUND, *WORDS, f"--user-data-dir={self.folder.name}"],
-                                        pass_fds=(to_read, to_write), stdout=subprocess.DEVNULL, stderr=subprocess.DEVNULL,
-                                        start_new_session=True)
-        os.close(to_read)
-        os.close(to_write)
+        ends = [fcntl.fcntl(one, fcntl.F_DUPFD, 5) for one in (to_read, to_write)]  # neither is 3 or 4, as which the browser wants them
+        words = [sys.executable, "-c", BEGIN, *map(str, ends), FOUND, *WORDS, f"--user-data-dir={self.folder.name}"]
+        self.process = subprocess.Popen(words, pass_fds=ends, stdout=subprocess.DEVNULL, stderr=subprocess.DEVNULL, start_new_session=True)
+        for one in (to_read, to_write, *ends):
+            os.close(one)
         self.number, self.rest, self.events = 0, b"", []
         self.session = None
         target = self.ask("Target.createTarget", url="about:blank")["targetId"]
