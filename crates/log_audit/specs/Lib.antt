@@ -1,0 +1,5 @@
+pub mod Judge
+pub mod World
+pub mod Sound
+pub mod Searches
+pub mod After
