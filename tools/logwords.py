@@ -1,8 +1,8 @@
 """What the lines of a log tell, in words: docs/manual/log.md."""
 from proctable import TICKS_OF_A_SECOND
 
-CHANNELS = {"keys": "for keys", "tout": "for a time", "runin": "until somebody may go out of core",
-            "runout": "until somebody out of core can run"}
+CHANNELS = {"keys": "for keys", "show": "for room to write on the terminal", "tout": "for a time",
+            "runin": "until somebody may go out of core", "runout": "until somebody out of core can run"}
 TICKS = {"u": "in a program", "k": "in the kernel", "i": "while nobody ran"}
 PANICS = {"swap": "there is no room in the swap area", "zombie": "there is no block for a process that ended",
           "text": "there is no place in the table of texts"}
@@ -34,7 +34,7 @@ class Teller:
     def channel(self, name):
         kind, _, number = name.partition(".")
         if kind in CHANNELS:
-            return CHANNELS[kind]
+            return CHANNELS[kind] + (f" of line {number}" if number else "")
         if kind == "wait":
             row = self.table.rows.get(int(number))
             return f"for a child of {self.who(int(number))}" if row else f"for a child in slot {number}"

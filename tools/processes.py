@@ -12,9 +12,11 @@ SLEEPS = "sleeps"  # nobody can run, nobody waits for a key, and somebody sleeps
 RUNS = "runs"  # somebody runs, and nobody waits for a key
 OVER = "over"  # nobody can run, and no key and no tick changes that
 KEYS, TIME = b"keys", b"tout"
+DISK = "disk."  # begins the channel of a process that waits for the disk, behind it the slot of the process
 MOST_NUMBER = 32767
 CLICK, U_AREA, STACK = 64, 16, 20  # bytes, and the clicks that exec(II) gives to these
-DOES = {"keys": "reads the terminal", "tout": "sleeps for a time", "runs": "runs", "ended": "has ended"}
+DOES = {"keys": "reads the terminal", "show": "writes on the terminal", "tout": "sleeps for a time", "wait": "waits for a child",
+        "read": "reads a pipe", "write": "writes into a pipe", "disk": "waits for the disk", "runs": "runs", "ended": "has ended"}
 
 
 def programs_of(disk):
@@ -110,9 +112,10 @@ class Processes:
 
     def state(self):
         readers = self.sleepers(KEYS)
+        is_idle = self.idle and not any(one.does.startswith(DISK) for one in self.slots.values())  # a slot ends a wait for the disk
         if readers:
-            return WAITS if self.idle or self.woken <= readers else BUSY
-        if not self.idle:
+            return WAITS if is_idle or self.woken <= readers else BUSY
+        if not is_idle:
             return RUNS
         return SLEEPS if self.sleepers(TIME) else OVER
 
@@ -121,7 +124,7 @@ class Processes:
         whose image and text are as large as its own: see programs_of."""
         lines = []
         for _, one in sorted(self.slots.items()):
-            does = DOES.get(one.does) or ("waits for the disk" if one.does.startswith("disk.") else "waits for a child")
+            does = DOES[one.does.partition(".")[0]]
             if commands and commands.get(one.number):
                 does += f": {commands[one.number]}"
             elif one.program in (programs or {}) and one.does != "ended":

@@ -21,7 +21,8 @@ NUMBERS = {  # the letter of a number, and its range
     "TIME": (0, 2**32 - 1), "P": (-128, 127),
 }
 PATTERNS = {
-    "P": "(?P<P>-?[1-9][0-9]*|0)", "W": "(?P<W>runin|runout|tout|keys|(?:wait|disk)[.](?:%s)|(?:read|write)[.](?:%s))" % (NUMBER, NUMBER),
+    "P": "(?P<P>-?[1-9][0-9]*|0)",
+    "W": f"(?P<W>runin|runout|tout|(?:keys|show)(?:[.][1-7])?|(?:wait|disk|read|write)[.](?:{NUMBER}))",
     "place": "(?:at (?P<C>%s)|swap (?P<B>%s))" % (NUMBER, NUMBER), "swap": "swap (?P<B>%s)" % NUMBER, "mode": "(?P<mode>[uki])",
     "kind": "(?P<kind>plain|sticky)", "reason": "(?P<reason>swap|zombie|text)",
 }

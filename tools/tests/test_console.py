@@ -93,6 +93,8 @@ LOGS = (
     ("sleep 1 10 keys\nidle\ntick i\ntick i\n", "waits"),
     ("sleep 1 10 keys\nidle\nwake keys\ngo 1\n", "runs"),
     ("exit 1 swap 4000\nidle\n", "over"),
+    ("sleep 1 -50 disk.1\nidle\n", "runs"),  # slots go on, and end the wait
+    ("sleep 1 10 keys\nidle\nwake keys\ngo 1\nsleep 1 -50 disk.1\nidle\n", "runs"),
     ("sleep 1 10 keys\nwake keys\nidle\n", "over"),
     ("sleep 1 10 keys\nsignal 1 2\nidle\n", "over"),
     (FORK + "sleep 2 90 tout\nsleep 1 40 wait.1\nidle\n", "sleeps"),
@@ -105,6 +107,9 @@ LOGS = (
     (FORK + "sleep 1 10 keys\ngo 2\nsleep 2 10 keys\nidle\nwake keys\ngo 1\nsleep 1 10 keys\ngo 2\n", "busy"),
     (FORK + "sleep 1 10 keys\ngo 2\nsleep 2 10 keys\nidle\nwake keys\ngo 1\nsleep 1 10 keys\ngo 2\nexit 2 swap 4000\n",
      "waits"),
+    # whoever had the line waits for the disk
+    (FORK + "sleep 1 10 keys\ngo 2\nsleep 2 10 keys\nidle\nwake keys\ngo 1\nsleep 1 10 keys\ngo 2\nsleep 2 -50 disk.2\nidle\n",
+     "busy"),
 )
 BOOT = "boot 1200 0\nsleep 0 -100 runout\ngo 1\n"
 

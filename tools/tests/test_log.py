@@ -73,6 +73,44 @@ TOLD = """line  012
   25  so.  the system stops, for there is no room in the swap area
 """
 
+CHANNELS = """boot 100 7
+sleep 0 -100 runout
+go 1
+sleep 1 -50 disk.1
+idle
+wake disk.1
+go 1
+sleep 1 20 show
+idle
+wake show
+go 1
+sleep 1 10 keys.3
+idle
+wake keys.3
+go 1
+sleep 1 20 show.7
+end
+"""
+TOLD_CHANNELS = """line  01
+   1  Rr  the system begins, with 100 clicks of core, at 7 seconds
+   2  sr  the swapper waits until somebody out of core can run, at priority -100
+   3  sR  process 1 runs
+   4  ss  process 1 waits for the disk, at priority -50
+   5  ss  nobody can run
+   6  sr  woken are those who wait for the disk, as process 1 does: process 1
+   7  sR  process 1 runs
+   8  sw  process 1 waits for room to write on the terminal, at priority 20
+   9  sw  nobody can run
+  10  sr  woken are those who wait for room to write on the terminal: process 1
+  11  sR  process 1 runs
+  12  sw  process 1 waits for keys of line 3, at priority 10
+  13  sw  nobody can run
+  14  sr  woken are those who wait for keys of line 3: process 1
+  15  sR  process 1 runs
+  16  sw  process 1 waits for room to write on the terminal of line 7, at priority 20
+  17  sw  the script has ended
+"""
+
 
 class Log(Case):
     def log(self, *words):
@@ -90,6 +128,11 @@ class Log(Case):
         self.assertEqual(self.log("show", name), (0, TOLD, ""))
         few = "".join(TOLD.splitlines(True)[:1] + TOLD.splitlines(True)[7:9])
         self.assertEqual(self.log("show", name, "--from", "7", "--to", "8"), (0, few, ""))
+
+    def test_channels(self):
+        self.assertEqual(self.log("show", self.text("log", CHANNELS)), (0, TOLD_CHANNELS, ""))
+        for channel in ("keys.0", "keys.8", "keys.03", "show.8", "show.", "disk", "disk.01", "tout.1"):
+            self.refused(f"boot 64 0\nsleep 0 -100 runout\nwake {channel}\n", f"line 3: no line of a log: 'wake {channel}'")
 
     def test_programs_and_moments(self):
         shell = os.path.join(TOP, "examples", "shell", "image")
