@@ -15,10 +15,12 @@ returns-then-not-lives c =
 
 pub returns-then-u-ne-DISK_WAIT : goal.returns-then-u-ne-DISK_WAIT
 returns-then-u-ne-DISK_WAIT c =
-    no_wait c.args.procs.now c.args.s c.requires.agree c.requires.above c.requires.slot (area-u-requires c) c.area-u.result c.area-u.ensures.u
+    no_wait c.args.procs.now c.args.s c.requires.agree c.requires.above c.requires.slot (living_image c.args.procs.now c.args.s c.requires.agree c.requires.above c.requires.slot
+    (ap kind_of_stat (sym c.stat_of.ensures) ∙ c.lives.ensures.yes c.if-not-lives.false)) c.area-u.result c.area-u.ensures.u
     c.if-u-ne-DISK_WAIT.true
 
 pub returns : goal.returns
 returns c n few =
-    some_wait c.args.procs.now c.args.s c.requires.agree c.requires.above c.requires.slot (area-u-requires c) c.area-u.result c.area-u.ensures.u
+    some_wait c.args.procs.now c.args.s c.requires.agree c.requires.above c.requires.slot (living_image c.args.procs.now c.args.s c.requires.agree c.requires.above c.requires.slot
+    (ap kind_of_stat (sym c.stat_of.ensures) ∙ c.lives.ensures.yes c.if-not-lives.false)) c.area-u.result c.area-u.ensures.u
     c.if-u-ne-DISK_WAIT.false c.end_kept.result c.end_kept.ensures n

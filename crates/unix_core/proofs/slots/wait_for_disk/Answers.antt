@@ -1,4 +1,4 @@
-use Rattle.std.proofs.Common.{◌≡◌, ◌∙◌, ℕ, ap, arith}
+use Rattle.std.proofs.Common.{◌≡◌, ◌∙◌, ℕ, ap}
 use Rattle.abstract_unix.specs.Calls.{waiting_area}
 use Rattle.image_keep.specs.Kept.{with_area, area_of, image_of}
 use Rattle.image_keep.specs.State.{ImagesState}
@@ -36,12 +36,6 @@ set_area-requires-clause-sizes c =
 
 pub add-requires-clause-within : goal.add-requires-clause-within
 add-requires-clause-within c = c.requires.waits.within
-
-pub add-requires-clause-ahead : goal.add-requires-clause-ahead
-add-requires-clause-ahead c = let is = c.wait_end-end.ensures in omega (arith, is)
-
-pub add-requires-clause-before : goal.add-requires-clause-before
-add-requires-clause-before c = c.requires.waits.ahead
 
 pub returns-clause-unix : goal.returns-clause-unix
 returns-clause-unix c =

@@ -21,8 +21,8 @@ disk_end-end-requires-clause-graves g c = subst NoneInGraves (sym (ap processes_
 pub wake-requires : goal.wake-requires
 wake-requires g c = c.loop-s.invariant.woken.agree.table
 
-pub with-requires : goal.with-requires
-with-requires g c = c.loop-s.invariant.woken.next
+pub with-woken-requires : goal.with-woken-requires
+with-woken-requires g c = c.loop-s.invariant.woken.next
 
 pub loop-s-preserved : goal.loop-s-preserved
 loop-s-preserved g c =
@@ -30,7 +30,7 @@ loop-s-preserved g c =
     record {
       woken = woken_next c.loop-s.invariant.woken (omega (arith, c.loop-s.auto)) (omega (arith, c.loop-s-test.true)) c.disk_end-end.result
           c.disk_end-end.ensures c.requires.fresh c.wake.new.table c.wake.ensures.table c.wake.ensures.good (c.wake.ensures.board mid.images.kept) _
-          c.with.result (c.wake.ensures.items _) c.with.ensures.any c.with.ensures.next c.with.ensures.sooner c.with.ensures.due;
+          c.with-woken.result (c.wake.ensures.items _) c.with-woken.ensures.any c.with-woken.ensures.next c.with-woken.ensures.sooner c.with-woken.ensures.due;
       frame = g.met.T.Trace.goes_on _ _ _ c.loop-s.invariant.frame c.wake.ensures.frame;
     }
 

@@ -1,4 +1,8 @@
-use Rattle.std.proofs.Common.{◌∙◌, sym}
+use Rattle.std.proofs.Common.{◌≡◌, ◌∙◌, sym, ap, subst}
+use Rattle.fs_laws.specs.Rest.{SameAround}
+use Rattle.fs_laws.proofs.RestLemmas.{rest_stays}
+use Rattle.unix_core.specs.State.{KernelState}
+use Rattle.sys_files.specs.declared.files.Files.{Files}
 use Rattle.unix_core.proofs.TakenLemmas.{step_counted, taken_started, taken_fresh, taken_answer, taken_next, taken_phase, taken_idle, taken_private, taken_texts}
 use Rattle.unix_core.proofs.TakenLemmas.{near_kernel, near_answer, near_takes, near_items, far_running, far_answer, far_takes, far_items}
 use Rattle.unix_core.proofs.kernel.Kernel.turn.Goals as goal
@@ -78,6 +82,12 @@ returns-then-execute-clause-items g c =
     near_items m.stage m.world c.self.invariant c.see_kept.ensures c.args.self.now c.self.view_is c.requires.started c.in-Running.fixed c.in-Running.is c.execute.new.self c.execute.ensures.kept
     (sym (c.execute.ensures.next.0 c.if-execute.true)) c.execute.ensures.fixed
     _ _ c.count_slot.ensures.items
+
+pub returns-then-execute-clause-rest : goal.returns-then-execute-clause-rest
+returns-then-execute-clause-rest g c =
+    let same : c.args.self.now.blocks ≡ c.count_slot.new.self.world.files.tree.nodes.blocks =
+    sym (ap (λ (v : KernelState). v.blocks) c.self.view_is) ∙ sym (ap (λ (f : Files). f.tree.nodes.blocks) c.count_slot.ensures.files) in
+    subst (SameAround c.args.self.now.blocks) same (rest_stays _)
 
 -- It comes to something else.
 pub after_step-requires-clause-running : goal.after_step-requires-clause-running
