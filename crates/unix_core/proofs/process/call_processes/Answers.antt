@@ -141,8 +141,8 @@ returns-then-has_loaded-clause-slots g c goes =
     waited_any _ c.args.world.now.slots c.conclude-ending.new.world.slots c.wait_for_disk.new.world.slots c.conclude-ending.ensures.slots
     c.wait_for_disk.ensures.slots
 
-pub returns-in-Ok-clause-come : goal.returns-in-Ok-clause-come
-returns-in-Ok-clause-come g c =
+pub returns-else-has_loaded-clause-come : goal.returns-else-has_loaded-clause-come
+returns-else-has_loaded-clause-come g c =
     let w : World = c.args.world.now in
     let s = c.args.s in
     let e = c.do_process_call.ensures in
@@ -159,8 +159,8 @@ returns-in-Ok-clause-come g c =
     untimed_come (board_in w) (came_by (unix_of w) s its) c.conclude-ending.result c.conclude-ending.new.world done
     (loads_program c.args.call its.answer) s (waits_then w c.args.call s c.args.args c.has_loaded.result waits ∙ c.if-has_loaded.false)
 
-pub returns-in-Ok-clause-slots : goal.returns-in-Ok-clause-slots
-returns-in-Ok-clause-slots g c goes =
+pub returns-else-has_loaded-clause-slots : goal.returns-else-has_loaded-clause-slots
+returns-else-has_loaded-clause-slots g c goes =
     let w : World = c.args.world.now in
     let s = c.args.s in
     let is = went w c.args.call s c.args.args c.in-Ok.answer _ c.do_process_call.ensures.does.answer c.in-Ok.is in
@@ -168,8 +168,8 @@ returns-in-Ok-clause-slots g c goes =
     (waits_so w c.args.call s c.args.args c.requires.ready c.see.ensures c.in-Ok.answer is c.has_loaded.result c.conclude-ending.new.world.slots
     c.conclude-ending.ensures.slots c.has_loaded.ensures ∙ c.if-has_loaded.false)
 
-pub returns-in-Ok-clause-items : goal.returns-in-Ok-clause-items
-returns-in-Ok-clause-items g c =
+pub returns-else-has_loaded-clause-items : goal.returns-else-has_loaded-clause-items
+returns-else-has_loaded-clause-items g c =
     let w : World = c.args.world.now in
     let s = c.args.s in
     let e = c.do_process_call.ensures in
@@ -183,14 +183,14 @@ returns-in-Ok-clause-items g c =
     (tame w c.args.call s c.args.args c.requires.ready c.see.ensures c.see_kept.ensures) (beside w c.do_process_call.new.tree c.do_process_call.new.p) e.does
     c.in-Ok.answer c.in-Ok.is _ c.conclude-ending.ensures.items))
 
-pub returns-in-Ok-clause-covered : goal.returns-in-Ok-clause-covered
-returns-in-Ok-clause-covered g c ends = absurd (let never = sym c.conclude-ending.ensures.goes ∙ ends in cc never)
+pub returns-else-has_loaded-clause-covered : goal.returns-else-has_loaded-clause-covered
+returns-else-has_loaded-clause-covered g c ends = absurd (let never = sym c.conclude-ending.ensures.goes ∙ ends in cc never)
 
-pub returns-in-Ok-clause-frame : goal.returns-in-Ok-clause-frame
-returns-in-Ok-clause-frame g c = g.met.T.Trace.goes_on _ _ _ c.do_process_call.ensures.frame c.conclude-ending.ensures.frame
+pub returns-else-has_loaded-clause-frame : goal.returns-else-has_loaded-clause-frame
+returns-else-has_loaded-clause-frame g c = g.met.T.Trace.goes_on _ _ _ c.do_process_call.ensures.frame c.conclude-ending.ensures.frame
 
-pub returns-in-Ok-clause-rest : goal.returns-in-Ok-clause-rest
-returns-in-Ok-clause-rest g c =
+pub returns-else-has_loaded-clause-rest : goal.returns-else-has_loaded-clause-rest
+returns-else-has_loaded-clause-rest g c =
     subst (λ b. SameAround c.args.world.now.files.tree.nodes.blocks b) (sym c.conclude-ending.ensures.blocks) c.do_process_call.ensures.blocks
 
 pub returns-in-Err-clause-come : goal.returns-in-Err-clause-come
