@@ -95,4 +95,4 @@ returns c =
     c.clear.new.self c.resume_file-answer.new.trace c.resume_file-answer.new.f c.resume_file-answer.new.u c.resume_file-answer.new.row _ c.resume_file-answer.ensures.does
     c.set_row.new.self c.set_area.new.self c.clear.ensures c.resume_file-answer.ensures.frame c.see_numbers.ensures c.set_row.ensures
     (c.set_area.ensures ∙ ap (λ k. with_area k c.args.s c.resume_file-answer.new.u) back) in
-    record { answer = done.answer; unix = done.unix; shown = done.shown; rest = search rules }
+    record { answer = done.answer; unix = done.unix; shown = done.shown; rest = search rules; slots = search rules }

@@ -10,18 +10,29 @@ pub area-u-requires : goal.area-u-requires
 area-u-requires c = (ready_alive c.args.world.now c.args.s c.requires).image
 
 pub file-file-requires : goal.file-file-requires
-file-file-requires c =
-    entry_open c.args.world.now c.args.s c.requires c.see.ensures c.see_table.ensures c.see_kept.ensures c.area-u.result c.area-u.ensures.u
-    c.in-Ok.entry c.in-Ok.ensures
+file-file-requires c = record {
+  used = entry_open c.args.world.now c.args.s c.requires c.see.ensures c.see_table.ensures c.see_kept.ensures c.area-u.result c.area-u.ensures.u
+      c.in-Ok.entry c.in-Ok.ensures;
+}
 
 pub is_device_at-device-requires : goal.is_device_at-device-requires
-is_device_at-device-requires c =
-    file_there c.args.world.now c.args.s c.requires c.see.ensures c.see_table.ensures c.see_kept.ensures c.area-u.result c.area-u.ensures.u
-    c.in-Ok.entry c.in-Ok.ensures c.file-file.result.now c.file-file.ensures
+is_device_at-device-requires c = record {
+  referenced = file_there c.args.world.now c.args.s c.requires c.see.ensures c.see_table.ensures c.see_kept.ensures c.area-u.result c.area-u.ensures.u
+      c.in-Ok.entry c.in-Ok.ensures c.file-file.result.now c.file-file.ensures;
+}
 
-pub returns-in-Ok : goal.returns-in-Ok
-returns-in-Ok c h is =
-    ap (λ d. not c.file-file.result.now.kind.pipe && not d) c.is_device_at-device.ensures
+pub returns-then-not-file : goal.returns-then-not-file
+returns-then-not-file c h is =
+    ap (λ b. b && not c.is_device_at-device.result) (sym c.if-not-file.true)
+    ∙ ap (λ d. not c.file-file.result.now.kind.pipe && not d) c.is_device_at-device.ensures
+    ∙ open_of_disk c.args.world.now c.args.s c.requires c.see.ensures c.see_table.ensures c.see_kept.ensures c.area-u.result c.area-u.ensures.u
+    c.in-Ok.entry c.in-Ok.ensures c.file-file.result.now c.file-file.ensures
+    ∙ ap (λ (x : Handed). is_of_disk x (open_entry x (r0 x))) (sym is)
+
+pub returns-else-not-file : goal.returns-else-not-file
+returns-else-not-file c h is =
+    ap (λ b. b && not c.is_device_at-device.result) (sym c.if-not-file.false)
+    ∙ ap (λ d. not c.file-file.result.now.kind.pipe && not d) c.is_device_at-device.ensures
     ∙ open_of_disk c.args.world.now c.args.s c.requires c.see.ensures c.see_table.ensures c.see_kept.ensures c.area-u.result c.area-u.ensures.u
     c.in-Ok.entry c.in-Ok.ensures c.file-file.result.now c.file-file.ensures
     ∙ ap (λ (x : Handed). is_of_disk x (open_entry x (r0 x))) (sym is)
