@@ -81,4 +81,4 @@ returns c =
     c.clear.new.self c.do_file_call-answer.new.trace c.do_file_call-answer.new.files c.do_file_call-answer.new.u c.do_file_call-answer.new.row _ c.do_file_call-answer.ensures.does
     c.set_row.new.self c.put_back.new.images c.clear.ensures c.do_file_call-answer.ensures.frame c.see_numbers.ensures c.set_row.ensures
     (c.put_back.ensures ∙ ap (λ k. with_area k s c.do_file_call-answer.new.u) back) in
-    record { answer = done.answer; unix = done.unix; shown = done.shown; rest = search rules }
+    record { answer = done.answer; unix = done.unix; shown = done.shown; rest = search rules; slots = search rules }

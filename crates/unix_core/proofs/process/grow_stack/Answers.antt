@@ -73,3 +73,6 @@ returns-in-Err-clause-items g c =
 
 pub see_covered-requires : goal.see_covered-requires
 see_covered-requires g c = c.grow-grown.ensures.agree
+
+pub returns-in-Ok-false-clause-frame : goal.returns-in-Ok-false-clause-frame
+returns-in-Ok-false-clause-frame g c = g.met.T.Trace.goes_on _ _ _ c.grow-grown.ensures.frame c.signal.ensures.frame

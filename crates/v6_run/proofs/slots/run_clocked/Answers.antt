@@ -34,8 +34,8 @@ run_stretch-requires-clause-fresh g c =
     let was = c.ticks.invariant in
     omega (arith, c.requires.fresh, was.passed, was.some, c.stretch_len-slots.ensures.few)
 
-pub upto_next-requires : goal.upto_next-requires
-upto_next-requires g c = c.stretch_len-slots.ensures.less
+pub upto_next-upto-requires : goal.upto_next-upto-requires
+upto_next-upto-requires g c = c.stretch_len-slots.ensures.less
 
 pub returns-in_default : goal.returns-in_default
 returns-in_default g c =
@@ -64,10 +64,10 @@ ticks-preserved g c =
           (stretch_more c.args.every c.args.since c.args.count c.ticks.left c.ticks.upto c.stretch_len-slots.result was.some len.few was.upto was.most
           (len.some c.ticks-test.true was.ahead) len.less (omega (arith, c.requires.within)));
       some = omega (arith, was.some);
-      ahead = next_ahead c.args.every c.ticks.upto c.stretch_len-slots.result c.upto_next.result len.less (omega (arith, c.requires.within)) c.upto_next.ensures;
-      upto = next_upto c.args.every c.args.since c.args.count c.ticks.left c.ticks.upto c.stretch_len-slots.result c.upto_next.result was.some len.few was.upto
-          len.less c.upto_next.ensures;
-      most = next_most c.args.every c.ticks.upto c.stretch_len-slots.result c.upto_next.result was.most c.upto_next.ensures;
+      ahead = next_ahead c.args.every c.ticks.upto c.stretch_len-slots.result c.upto_next-upto.result len.less (omega (arith, c.requires.within)) c.upto_next-upto.ensures;
+      upto = next_upto c.args.every c.args.since c.args.count c.ticks.left c.ticks.upto c.stretch_len-slots.result c.upto_next-upto.result was.some len.few was.upto
+          len.less c.upto_next-upto.ensures;
+      most = next_most c.args.every c.ticks.upto c.stretch_len-slots.result c.upto_next-upto.result was.most c.upto_next-upto.ensures;
       passed = omega (arith, passed, was.passed, was.some, len.few);
       phase = more.phase ∙ ap phase_after c.in-AtEnd.is;
       rest = rest_then _ _ _ was.rest more.rest;

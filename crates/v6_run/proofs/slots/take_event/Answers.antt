@@ -39,7 +39,7 @@ run_line-requires-clause-fresh g c =
 
 pub set_disk-requires-clause-most : goal.set_disk-requires-clause-most
 set_disk-requires-clause-most g c =
-    let all : AreRates (ask.Disk c.in-Disk.disk ∷ []) = subst (λ (e : asked.Event). AreRates (e ∷ [])) c.in-Disk.is c.requires.can.rates in
+    let all : AreRates (ask.Disk c.in-Disk.count ∷ []) = subst (λ (e : asked.Event). AreRates (e ∷ [])) c.in-Disk.is c.requires.can.rates in
     let most = all.0 in omega (arith, most)
 
 -- How many slots have been taken then.
