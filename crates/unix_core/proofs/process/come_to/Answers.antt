@@ -1,5 +1,6 @@
 use Rattle.std.proofs.Common.{refl, sym, ap, subst}
 use Rattle.v6_base.specs.Trace.{Took}
+use Rattle.v6_base.proofs.Took.{took_nothing}
 use Rattle.pick_rules.specs.Logged.{logged}
 use Rattle.pdp_step.specs.declared.outcome.Outcome.{Outcome}
 use Rattle.unix_core.specs.declared.world.World.{World}
@@ -56,3 +57,8 @@ returns-in-Call-clause-slots g c goes =
 pub returns-in-Fault-clause-slots : goal.returns-in-Fault-clause-slots
 returns-in-Fault-clause-slots g c goes =
     has_not_waited _ _ _ c.fault.ensures.slots c.requires.waits (ap (λ (o : Outcome). waits_in (unix_of c.args.world.now) c.args.fixed.now.slot o) c.in-Fault.is)
+
+pub returns-in-Next-clause-items : goal.returns-in-Next-clause-items
+returns-in-Next-clause-items g c =
+    let w : World = c.args.world.now in
+    took_nothing _ _ (ap (λ (o : Outcome). (logged (board_in w) (comes_to (unix_of w) c.args.fixed.now.slot o).effects).items) c.in-Next.is)
