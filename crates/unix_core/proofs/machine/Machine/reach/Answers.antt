@@ -49,3 +49,6 @@ returns-clause-items g c h still =
     let counted = c.requires.kernel.counted (ap goes_on c.requires.started) in
     quiet_took w c.requires.left counted.within h still c.reach.new.world c.reach.ensures.unix c.reach.ensures.board
     (sym c.if-reach.false ∙ c.reach.ensures.any) _ _ c.reach.ensures.items
+
+pub returns-then-reach-clause-frame : goal.returns-then-reach-clause-frame
+returns-then-reach-clause-frame g c = g.met.T.Trace.goes_on _ _ _ c.reach.ensures.frame c.settle.ensures.frame

@@ -72,3 +72,7 @@ returns-in-Err-clause-takes g c =
     c.in-Err.kind c.in-Err.ensures.answer))
     (panic_takes w passed.new.table passed.new.images _ _ c.requires.good passed.ensures.does passed.ensures.same c.see_procs.ensures.images
     c.in-Err.kind c.in-Err.ensures.answer c.see_procs.ensures.rows)
+
+pub returns-in-Ok-clause-frame : goal.returns-in-Ok-clause-frame
+returns-in-Ok-clause-frame g c =
+    g.met.T.Trace.goes_on _ _ _ c.pass-passed.ensures.frame (g.met.T.Trace.goes_on _ _ _ c.count-woken.ensures.frame c.settle.ensures.frame)
