@@ -5,15 +5,37 @@ const CHOICE = 1, CALL = 2, SECOND = 4;   // what a line of the log is
 const APART = 2048;                       // lines between two states of the panels that are kept
 const AROUND = 7;                         // lines that are shown before and after the one at the cursor
 const KINDS = { choice: CHOICE, call: CALL, second: SECOND };
-const MOST_SHOWN = 100000;                 // bytes of a terminal that are shown, from its end
+const MOST_SHOWN = 100000;                // bytes of a terminal that are shown, from its end
+const HIDDEN = "hidden in the quiz: it is known after the next choice alone";
 
 const $ = (id) => document.getElementById(id);
 
+/** The bytes of a text in base 64. */
+function bytesOf(text) {
+  const letters = atob(text), bytes = new Uint8Array(letters.length);
+  for (let at = 0; at < letters.length; at++) bytes[at] = letters.charCodeAt(at);
+  return bytes;
+}
+
+/** The bytes that were packed. They come in pieces, which are put together here: streams of the browser's own take much longer. */
+async function inflated(packed) {
+  const { readable, writable } = new DecompressionStream("deflate");
+  const writer = writable.getWriter(), reader = readable.getReader(), pieces = [];
+  const written = Promise.all([writer.write(packed), writer.close()]);
+  for (let piece = await reader.read(); !piece.done; piece = await reader.read()) pieces.push(piece.value);
+  await written;
+  const bytes = new Uint8Array(pieces.reduce((sum, one) => sum + one.length, 0));
+  let at = 0;
+  for (const one of pieces) {
+    bytes.set(one, at);
+    at += one.length;
+  }
+  return bytes.buffer;
+}
+
 /** The numbers and texts of the run, unpacked. */
 async function unpacked(text) {
-  const packed = Uint8Array.from(atob(text.trim()), (one) => one.charCodeAt(0));
-  const stream = new Blob([packed]).stream().pipeThrough(new DecompressionStream("deflate"));
-  const buffer = await new Response(stream).arrayBuffer();
+  const buffer = await inflated(bytesOf(text.trim()));
   const size = new DataView(buffer).getUint32(0, true);
   const head = JSON.parse(new TextDecoder().decode(new Uint8Array(buffer, 4, size)));
   const types = { 1: Uint8Array, 2: Uint16Array, 4: Uint32Array };
@@ -87,13 +109,15 @@ class Run {
     return (this.columns.kinds[line - 1] & kind) !== 0;
   }
 
-  /** The moment of a line: its slot, what the terminal has shown, and whether it is the line's own, or one that was looked at before. */
+  /** The moment of a line: its slot, what the terminal has shown after it and before it, and whether it is the line's own, or one that was
+      looked at before. */
   moment(line) {
     const place = this.columns.moments[line - 1];
     if (!this.head.isRun || !place) return null;
     const { slots, shown, ends } = this.columns;
     const end = ends[place - 1];
-    return { slot: slots[place - 1], shown: shown[place - 1], isExact: line <= end, isLast: line >= end, place, end };
+    const was = place > 1 ? shown[place - 2] : 0;
+    return { slot: slots[place - 1], shown: shown[place - 1], was, isExact: line <= end, isLast: line >= end, place, end };
   }
 
   /** The first line with which the moment at this place came. */
@@ -253,7 +277,7 @@ class Page {
 
   show() {
     const { run, line } = this;
-    const moment = run.moment(line);
+    const moment = run.moment(line), isHidden = this.isHidden(moment);
     $("cursor").value = $("number").value = line;
     $("head").textContent = this.headOf(moment);
     $("cursor").setAttribute("aria-valuetext", `line ${line}: ${run.words(line)}`);
@@ -261,14 +285,19 @@ class Page {
     $("words").textContent = run.words(line);
     $("rule").textContent = run.one("rule");
     this.list($("book"), run.shown("book"), (text) => text);
-    $("call").textContent = run.one("call") || "No call ends with this line, and none begins to wait.";
+    $("call").textContent = isHidden && !run.is(line, CALL) ? HIDDEN : run.one("call") || "No call ends with this line, and none begins to wait.";
     for (const name of ["core", "swap", "texts"]) $(name).textContent = run.shown(name).join("\n");
     this.showLog();
     this.showProcesses();
-    this.showTerminal(moment);
-    this.showProcess(moment);
+    this.showTerminal(moment, isHidden);
+    this.showProcess(moment, isHidden);
     this.drawCursor();
     if (this.isQuiz) this.showQuestion();
+  }
+
+  /** Whether what is known of a moment would give away a choice of a quiz: it is known after all lines of the moment. */
+  isHidden(moment) {
+    return this.isQuiz && moment !== null && moment.isExact && !moment.isLast;
   }
 
   headOf(moment) {
@@ -361,23 +390,32 @@ class Page {
     return running ? Number(running.split(" ")[0]) : 1;
   }
 
-  showProcess(moment) {
-    if (!this.run.head.isRun) return;
+  showProcess(moment, isHidden) {
+    const { run } = this;
+    if (!run.head.isRun) return;
     const slot = this.chosenSlot();
     const parts = { process: "process", code: "code", stack: "stack", area: "u area" };
-    for (const [id, name] of Object.entries(parts)) $(id).textContent = this.run.shown(`${name} ${slot}`).join("\n");
-    if (moment && !moment.isLast && moment.isExact) {
-      $("process").textContent = `after all lines of the moment, up to ${moment.end}, since memory isn't known within it:\n` + $("process").textContent;
-    } else if (moment && !moment.isExact) {
-      $("process").textContent = `as in slot ${moment.slot}, where core was looked at last:\n` + $("process").textContent;
-    }
+    for (const [id, name] of Object.entries(parts)) $(id).textContent = isHidden ? "" : run.shown(`${name} ${slot}`).join("\n");
+    const said = isHidden ? HIDDEN : this.when(moment, slot);
+    if (said) $("process").textContent = `${said}\n${$("process").textContent}`;
   }
 
-  showTerminal(moment) {
+  /** Of when the memory is that is shown of a process, where that isn't just after the line; and whether it was another's then. */
+  when(moment, slot) {
+    if (!moment || moment.isExact && moment.isLast) return "";
+    const [first] = this.run.shown(`process ${slot}`), now = this.run.panel("ps")[slot].split("\t")[2];
+    if (moment.isExact && !first) return `process ${now} has gone by line ${moment.end}, the last of the moment, and memory isn't known within it`;
+    if (moment.isExact) return `after all lines of the moment, up to ${moment.end}, since memory isn't known within it:`;
+    const was = !first || slot && first.split(" ")[1] !== now ? `process ${now} wasn't there in slot ${moment.slot}` : `as in slot ${moment.slot}`;
+    return `${was}, where core was looked at last${first ? ":" : ""}`;
+  }
+
+  showTerminal(moment, isHidden) {
     const { terminals } = this.run.head;
     const which = Number($("terminal").value || 0);
     const start = terminals.slice(0, which).reduce((sum, one) => sum + one, 0);
-    const end = start + (moment ? moment.shown : this.run.head.isRun ? 0 : terminals[which] || 0);
+    const known = isHidden ? moment.was : moment && moment.shown;
+    const end = start + (moment ? known : this.run.head.isRun ? 0 : terminals[which] || 0);
     const from = Math.max(start, end - MOST_SHOWN);
     $("term").replaceChildren(from > start ? ".. " : "", ...typed(this.run.columns.term.subarray(from, end)));
     $("term").scrollTop = $("term").scrollHeight;

@@ -8,11 +8,14 @@ from common import TOP, V6, Case, read, tool
 from pagereader import Read, process_of, shown, table_of
 
 from lookviews import ROW
+from moments import Script
 from pagepack import Panels, Texts
+from rowfile import HI, Row, names
 
 page, look, as_main, disk_main = tool("page"), tool("look"), tool("as").main, tool("disk").main
 LIONS = os.path.join(TOP, "docs", "lions", "src")
 OUT = re.compile(r"^.*out of core, to block")
+LINES, SLOTS = 8, 30  # of a row that is taken: the fewest lines of its log after the boot, and the most slots
 
 
 class Made(Case):
@@ -37,12 +40,39 @@ class Made(Case):
     def crowd(self, slots=700):
         return self.disk("crowd.s"), "100", self.put("script", b"clock 10\nrun %d\n" % slots)
 
+    def rows(self, count):
+        """So many rows, drawn at random, as runs: of those that are done within few slots, and whose log has many lines."""
+        known, base, found = names(), read(HI), {}
+        while len(found) < count:
+            row = Row(self.random.choice(known))
+            if row.ends() and row.numbers["made"] is None and (row.log or b"").count(b"\n") >= LINES and Script(row.script).slots <= SLOTS:
+                image, script = self.put(f"image.{len(found)}", row.image(base)), self.put(f"script.{len(found)}", row.script)
+                found.setdefault(row.name, (image, str(row.numbers["core"]), script))
+        return found
 
-class Runs(Made):
     def looker(self, words):
         folder = tempfile.TemporaryDirectory()
         self.addCleanup(folder.cleanup)
         return look.looker_of(look.options_of(list(words)), folder.name)
+
+
+class Runs(Made):
+    def same(self, found, looker, line):
+        """What a page has at a line is what look.py shows there, and the terminal what the run has shown when it is cut there."""
+        moment, panels = looker.moment, found.at(line)
+        self.assertTrue(moment.first < line <= moment.lines and found.slot(line) == moment.slots, (line, moment.slots))
+        self.assertIn(found.words(line), looker.lines_of("log 1")[-1])
+        second, who = re.search(r", second (\d+), .*: ([^:]*)$", looker.views.head(moment)).groups()
+        self.assertEqual(panels["second"], [second], line)
+        self.assertEqual(panels["running"][0].partition(" ")[2], who if moment.running() is not None else "", line)
+        self.assertEqual(table_of(panels, ROW), looker.lines_of("ps")[1:], line)
+        for name in ("core", "swap", "texts"):
+            self.assertEqual(shown(panels[name]), looker.lines_of(name), line)
+        for slot, row in moment.whole.table.rows.items():
+            self.assertEqual(process_of(panels, slot), looker.views.process(moment.whole, row.number), (line, row.number))
+        run = looker.history.run
+        run.played(run.script.cut(moment.slots, True))
+        self.assertEqual(found.terminal(line), read(run.names("term")[0]), line)
 
     def compare(self, words, lines):
         """What a page has at some lines is what look.py shows there."""
@@ -53,14 +83,7 @@ class Runs(Made):
         self.assertEqual([found.head["texts"][one] for one in found.columns["raw"]], log)
         for line in sorted({1, len(log), *self.random.sample(range(1, len(log) + 1), lines)}):
             looker.lines_of(f"line {line}")
-            moment, panels = looker.moment, found.at(line)
-            self.assertEqual(found.slot(line), moment.slots, line)
-            self.assertIn(found.words(line), looker.lines_of("log 1")[-1])
-            self.assertEqual(table_of(panels, ROW), looker.lines_of("ps")[1:], line)
-            for name in ("core", "swap"):
-                self.assertEqual(shown(panels[name]), looker.lines_of(name), line)
-            for slot, row in moment.whole.table.rows.items():
-                self.assertEqual(process_of(panels, slot), looker.views.process(moment.whole, row.number), (line, row.number))
+            self.same(found, looker, line)
         return found
 
     def test_two_readers(self):
@@ -78,6 +101,15 @@ class Runs(Made):
         found = self.compare(self.crowd(), 6)
         within = next(line for line in range(1, found.head["lines"]) if OUT.match(found.words(line)))
         self.assertEqual(found.slot(within), found.slot(within + 1))
+
+    def test_random_rows(self):
+        """100 moments of 20 runs: all panels, and the terminal."""
+        for name, words in self.rows(20).items():
+            with self.subTest(name):
+                found, looker = self.made(*words)[0], self.looker(words)
+                for line in self.random.sample(range(1, found.head["lines"] + 1), 5):
+                    looker.go(found.slot(line), line)
+                    self.same(found, looker, line)
 
     def test_rules(self):
         """Why each process went out and came in is what docs/lions/sched.md works out."""

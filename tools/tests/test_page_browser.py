@@ -1,13 +1,13 @@
 """Pages of page.py in a browser without a window: they open without an error or a request, and show what look.py shows."""
 import re
-import tempfile
 import unittest
 
 import browser
-from test_page import Made, look
+from test_page import Made
 
 PANELS = "[...document.querySelectorAll('#head, #panels section')].map((one) => one.textContent).join('\\u0001')"
 TEXT = "document.getElementById({!r}).textContent"
+HIDDEN = "hidden in the quiz: it is known after the next choice alone"
 EVIL = "</script><script>alert(1)</script>\"'&<img src=x onerror=alert(2)>"
 
 
@@ -36,29 +36,32 @@ class Opened(Made):
     def line(self):
         return self.browser.value("page.line")
 
-    def looker(self, words):
-        folder = tempfile.TemporaryDirectory()
-        self.addCleanup(folder.cleanup)
-        return look.looker_of(look.options_of(list(words)), folder.name)
-
-    def rows(self):
+    def table(self):
         """The table of processes, cell by cell."""
         return self.browser.value("[...document.querySelectorAll('#ps tr')].slice(1).map((row) => [...row.cells].map((one) => one.textContent))")
 
+    def process(self):
+        """The process that is shown whole, as look.py has it."""
+        return [*self.lines("process"), "code", *self.lines("code"), "stack", *self.lines("stack"), "u area", *self.lines("area")]
+
+    def choose(self, slot):
+        """Chooses the process in this slot of the table to be shown whole; with nothing, who runs."""
+        self.browser.value(f"document.getElementById('chosen').value = '{slot}'; page.show()")
+
     def test_panels(self):
-        """At random lines the panels have what look.py shows there."""
-        words = self.pair()
-        self.made(*words)
-        self.open()
-        looker = self.looker(words)
-        for line in self.random.sample(range(1, len(looker.history.run.log) + 1), 8):
-            self.browser.value(f"page.go({line})")
-            head = looker.lines_of(f"line {line}")[0]
-            self.assertEqual(self.text("head"), head)
-            self.assertEqual([" ".join(row).split() for row in self.rows()], [row.split() for row in looker.lines_of("ps")[1:]], line)
-            self.assertEqual((self.lines("core"), self.lines("swap")), (looker.lines_of("core"), looker.lines_of("swap")))
-            whole = [*self.lines("process"), "code", *self.lines("code"), "stack", *self.lines("stack"), "u area", *self.lines("area")]
-            self.assertEqual(whole, looker.lines_of("process"), line)
+        """At random lines of several runs the panels have what look.py shows there. Where nobody is chosen, it is who runs."""
+        for words in (self.pair(), *self.rows(3).values()):
+            self.made(*words)
+            self.open()
+            looker = self.looker(words)
+            for line in self.random.sample(range(1, len(looker.history.run.log) + 1), 4):
+                self.browser.value(f"page.go({line})")
+                head = looker.lines_of(f"line {line}")[0]
+                self.assertEqual(self.text("head"), head)
+                self.assertEqual([" ".join(row).split() for row in self.table()], [row.split() for row in looker.lines_of("ps")[1:]], line)
+                self.assertEqual((self.lines("core"), self.lines("swap")), (looker.lines_of("core"), looker.lines_of("swap")))
+                if looker.moment.process(looker.moment.whole.running() or 1).parts:
+                    self.assertEqual(self.process(), looker.lines_of("process"), line)
 
     def test_forwards_and_back(self):
         """A step forwards and one back give the same bytes of each panel, at each line."""
@@ -114,6 +117,32 @@ class Opened(Made):
             self.assertEqual(head.startswith("slot "), line in own, line)
             self.assertLessEqual(looker.moment.slots, int(head.split()[1]) if line in own else looker.history.last)
 
+    def test_processes_between_moments(self):
+        """Where core wasn't looked at, a process is as it was in the slot that is named, or wasn't there; else it is who runs then."""
+        words = self.crowd()
+        self.made(*words, "--moments", "12")
+        self.open()
+        looker, seen = self.looker(words), set()
+        for line in (9, 14, *self.random.sample(range(1, len(looker.history.run.log) + 1), 6)):
+            self.browser.value(f"page.go({line})")
+            self.choose("")
+            after, slot = self.browser.value("[page.run.moment(page.line).isExact, page.run.moment(page.line).slot]")
+            looker.go(slot)
+            if after:
+                is_within = self.lines("process")[0].startswith("after all lines of the moment")
+                self.assertEqual(self.process()[is_within:], looker.lines_of("process"), line)
+                continue
+            for row in self.table()[1:]:
+                self.choose(row[1])
+                said, *shown = self.lines("process")
+                was_there = looker.moment.slot_of(int(row[2])) is not None
+                is_as = f"as in slot {slot}" if was_there else f"process {row[2]} wasn't there in slot {slot}"
+                self.assertEqual(said.partition(",")[0], is_as, line)
+                if was_there:
+                    self.assertEqual(shown, looker.lines_of(f"process {row[2]}")[: len(shown)], line)
+                seen.add(was_there)
+        self.assertEqual(seen, {True, False})
+
     def test_quiz(self):
         """The next choice is nowhere on the page until it is asked for."""
         self.made(*self.pair())
@@ -121,10 +150,20 @@ class Opened(Made):
         self.browser.key("q")
         self.assertEqual((self.line(), "19" in self.text("log")), (18, False))
         self.assertIn("Who runs", self.text("question"))
+        for slot in ("", "1", "2"):  # memory is known after the choice, and would tell who runs then
+            self.choose(slot)
+            self.assertEqual(self.text("process") + self.text("code") + self.text("stack") + self.text("area"), HIDDEN + "\n")
+        self.choose("")
+        self.assertEqual((self.text("call"), self.text("term")), (HIDDEN, ""))  # what was typed came with the lines of the moment
         self.browser.value("document.getElementById('answer').click()")
         self.assertIn("process 1 (/etc/init) runs. A choice", self.text("question"))
+        self.assertIn("state      R: runs", self.text("process"))
+        self.assertEqual(self.text("term"), "ONE\n")
         self.browser.value("document.getElementById('another').click()")
         self.assertEqual(self.line(), 20)
+        self.assertIn('read(0, 063, 100) = 4', self.text("call"))  # which has ended with this line
+        self.browser.key("q")
+        self.assertIn("state      R: runs", self.text("process"))
 
     def test_all_codes(self):
         """A terminal that shows each code: letters and signs stand there as they are, and the others as numbers."""
