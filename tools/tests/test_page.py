@@ -3,18 +3,46 @@ import os
 import re
 import tempfile
 import unittest
+from array import array
 
 from common import TOP, V6, Case, read, tool
 from pagereader import Read, process_of, shown, table_of
 
 from lookviews import ROW
 from moments import Script
-from pagepack import Panels, Texts
+from pagepack import Panels, Texts, packed
 from rowfile import HI, Row, names
 
 page, look, as_main, disk_main = tool("page"), tool("look"), tool("as").main, tool("disk").main
 LIONS = os.path.join(TOP, "docs", "lions", "src")
 OUT = re.compile(r"^.*out of core, to block")
+NAME = b"<img src=x>&\"'"  # of a program, of a file and of arguments
+ODD = """
+	sys	open; tty; 2
+	sys	exec; name; list
+list:	name+1; name; codes; 0
+tty:	</dev/tty8\\0>
+name:	{name}
+codes:	{codes}
+"""
+WRITES = """
+	sys	creat; name; 666	/ file 1
+	mov	$1,r0
+	sys	write; codes; 128.
+	sys	open; name; 0		/ file 2
+1:
+	mov	$2,r0
+	sys	read; line; 32.
+	tst	r0
+	beq	.
+	clr	r0
+	sys	write; line; 32.
+	br	1b
+name:	{name}
+codes:	{codes}
+	.even
+line:	.=.+32.
+"""
 LINES, SLOTS = 8, 30  # of a row that is taken: the fewest lines of its log after the boot, and the most slots
 
 
@@ -39,6 +67,20 @@ class Made(Case):
 
     def crowd(self, slots=700):
         return self.disk("crowd.s"), "100", self.put("script", b"clock 10\nrun %d\n" % slots)
+
+    def odd(self):
+        """A run in which a program, its arguments and a file have signs of HTML in their names; it reads all codes, and writes them."""
+        def octal(data):
+            return ".byte\t" + ",".join(f"{byte:o}" for byte in data)
+
+        image = self.path("image")
+        self.assertEqual(os.system(f"{V6} make 0 {image}"), 0)
+        texts = {"/etc/init": (ODD, b"/" + NAME, bytes(range(1, 128))), "/" + NAME.decode(): (WRITES, NAME[:-2] + b"o", bytes(range(128)))}
+        for place, (source, name, codes) in texts.items():
+            source = self.put("odd.s", source.format(name=octal(name + b"\0"), codes=octal(codes + b"\0")).encode())
+            self.assertEqual(self.call(as_main, "-s", "-o", self.path("program"), source), (0, "", ""))
+            self.assertEqual(self.call(disk_main, "put", image, self.path("program"), place)[:2], (0, ""))
+        return image, "1200", self.put("script", b"run 400\n")
 
     def rows(self, count):
         """So many rows, drawn at random, as runs: of those that are done within few slots, and whose log has many lines."""
@@ -88,7 +130,7 @@ class Runs(Made):
 
     def test_two_readers(self):
         """All panels are what look.py shows; the terminal and the calls are those worked out by hand from docs/lions/slp.md."""
-        found = self.compare(self.pair(), 12)
+        found = self.compare(self.pair(), 4)
         self.assertEqual(found.terminal(len(found.columns["raw"])), b"one\r\nPone\r\ntwo\r\nCtwo\r\n".upper())
         self.assertEqual(found.terminal(19), b"ONE\r\n")  # the echo of what was typed before process 1 runs
         self.assertEqual(found.terminal(24), b"ONE\r\nPONE\r\n")  # process 1 has written
@@ -98,7 +140,7 @@ class Runs(Made):
 
     def test_four_in_a_core_for_two(self):
         """Also within the moments of the swapper, which have several lines."""
-        found = self.compare(self.crowd(), 6)
+        found = self.compare(self.crowd(), 3)
         within = next(line for line in range(1, found.head["lines"]) if OUT.match(found.words(line)))
         self.assertEqual(found.slot(within), found.slot(within + 1))
 
@@ -210,7 +252,24 @@ class Safe(Made):
         self.assertNotRegex(re.sub("http://www.w3.org/2000/svg", "", found.html), "https?://")
 
 
+    def test_nothing_of_memory_is_markup(self):
+        """Names on a disk, arguments, and the bytes of a file: none is markup."""
+        found, _ = self.made(*self.odd())
+        self.assertEqual((found.html.count("<script"), found.html.count("<img")), (2, 0))
+        last = found.at(found.head["lines"])
+        self.assertIn('process 1 (/<img src=x>&"\') runs', last["running"][0])
+        for name in ("ps", "process 1", "core"):
+            self.assertTrue(any("<img src=x>&" in row for row in last[name]), name)
+
+
 class Packed(unittest.TestCase):
+    def test_widths(self):
+        """A number takes no more bytes than the largest of its column: a browser needn't unpack them."""
+        columns = {"small": array("I", [0, 255]), "middle": array("I", [256, 65535, 1]), "large": array("I", [65536]), "none": array("I")}
+        found = Read(b'<script type="text/plain" id="data">%s</script>' % packed({"head": "<"}, columns).encode())
+        self.assertEqual({name: width for name, (_, _, width) in found.head["columns"].items()}, {"small": 1, "middle": 2, "large": 4, "none": 1})
+        self.assertEqual({name: list(column) for name, column in columns.items()}, {name: list(column) for name, column in found.columns.items()})
+
     def test_rows(self):
         """A panel with fewer rows than its text says how many are left; a row that is as before is no change."""
         texts = Texts()

@@ -175,6 +175,24 @@ class Opened(Made):
         self.assertTrue(self.browser.value("document.getElementById('p-process').hidden"))
         self.assertIn("registers", self.text("note"))
 
+    def test_odd_names_and_files(self):
+        """Names of programs and files, arguments and what files hold, with signs of HTML and all codes, are text in each panel."""
+        self.made(*self.odd())
+        self.open()
+        calls = self.browser.value("Array.from({ length: page.run.lines }, (_, one) => (page.go(one + 1), page.run.one('call')))")
+        for call in ('creat("<img src=x>&o", 0666) = 1', 'write(0, " !\\"#$%&\'()*+,-./0123456789:;<=>?", 32) = 32',
+                     '32) = 32 "@ABCDEFGHIJKLMNOPQRSTUVWXYZ[\\\\]^_"', '32) = 32 "`abcdefghijklmnopqrstuvwxyz{|}~\\177"'):
+            line = next(line for line, one in enumerate(calls, 1) if one.endswith(call))
+            self.browser.value(f"page.go({line})")
+            self.assertEqual(self.text("call"), calls[line - 1])
+        self.browser.key("End")
+        self.assertIn(" !\"#$%&'()*+,-./0123456789:;<=>?@ABCDEFGHIJKLMNOPQRSTUVWXYZ[\\]^_", self.text("term"))
+        self.assertIn('process 1 (/<img src=x>&"\') runs', self.text("head"))
+        self.assertTrue(self.table()[1][11].startswith('<img src=x>&\\"\' /<img src=x>&'), self.table())
+        self.assertIn('/<img src=x>&"\'', self.text("process"))
+        self.assertIn('process 1 (/<img src=x>&"\')', self.text("core"))
+        self.assertEqual(self.browser.value("document.querySelectorAll('img, script').length"), 1)  # the page's own program
+
     def test_names_for_a_reader(self):
         """Each button, field and table has a name; the page is printed on a sheet or more."""
         self.made(*self.pair())
