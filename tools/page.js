@@ -208,7 +208,8 @@ class Page {
       svg.append(one);
       return one;
     };
-    const [, , , height] = svg.getAttribute("viewBox").split(" ").map(Number);
+    const [, , width, height] = svg.getAttribute("viewBox").split(" ").map(Number);
+    this.width = width;
     svg.setAttribute("role", "img");
     svg.setAttribute("aria-label", "Lanes of the processes, and who holds core and the swap area");
     this.veil = make("rect", { y: 44, height: height - 44, fill: "#fff", visibility: "hidden" });
@@ -231,6 +232,13 @@ class Page {
     this.veil.setAttribute("x", x + wide);
     this.veil.setAttribute("width", Math.max(left + lanes - x - wide, 0) + 2);
     this.veil.setAttribute("visibility", this.isQuiz ? "visible" : "hidden");
+    this.showCursor((x + wide / 2) / this.width);
+  }
+
+  /** Where the picture is wider than its place, the part of it is shown in which the cursor is: it is at this share of the width. */
+  showCursor(share) {
+    const paper = $("paper"), at = share * paper.scrollWidth, room = paper.clientWidth;
+    if (room < paper.scrollWidth && (at < paper.scrollLeft || at > paper.scrollLeft + room)) paper.scrollLeft = at - room / 2;
   }
 
   // where one is
@@ -323,10 +331,10 @@ class Page {
   showLog() {
     const { run, line } = this;
     const first = Math.max(1, line - AROUND), last = this.isQuiz ? line : Math.min(run.lines, line + AROUND);
-    const here = run.at, lines = [];
+    const here = run.at, lines = [], digits = String(run.lines).length;
     for (let one = first; one <= last; one++) {
       run.seek(one);
-      lines.push([one, `${String(one).padStart(7)}  ${run.one("letters")}  ${run.words(one)}`]);
+      lines.push([one, `${String(one).padStart(digits)}  ${run.one("letters")}  ${run.words(one)}`]);
     }
     run.seek(here);
     this.list($("log"), lines, ([, text]) => text, (item, [one]) => {
@@ -362,7 +370,9 @@ class Page {
     };
     const chosen = String(this.chosenSlot());
     const kind = (slot, found) => [found[0] === "R" && "runs", String(slot) === chosen && "chosen"].filter(Boolean).join(" ");
-    $("ps").replaceChildren(made("th", this.run.head.ps, ""), ...rows.map(([slot, found]) => made("td", found, kind(slot, found))));
+    const told = rows.map(([slot, found]) => made("td", found, kind(slot, found)));
+    rows.forEach(([slot], at) => told[at].addEventListener("click", () => this.choose(String(slot))));
+    $("ps").replaceChildren(made("th", this.run.head.ps, ""), ...told);
     this.offer(rows);
   }
 
@@ -379,6 +389,12 @@ class Page {
       return option;
     }));
     $("chosen").value = wanted.some(([value]) => value === was) ? was : "";
+  }
+
+  /** Shows the process in a slot whole from here on. */
+  choose(slot) {
+    $("chosen").value = slot;
+    this.show();
   }
 
   /** The slot of the table of the process that is shown whole. */

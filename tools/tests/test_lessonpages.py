@@ -1,11 +1,13 @@
 """lessonpages.py: which runs the commands of a lesson have, and the pages that are made of them."""
 import os
+import re
 import unittest
 
 from common import Case, read, tool
 from pagereader import Read
 
 lesson_pages = tool("lessonpages")
+LINK = re.compile(r'(?:href|src)="([^"#]*)(?:#([^"]*))?"')
 
 
 class Lessons(Case):
@@ -29,12 +31,27 @@ class Lessons(Case):
             self.assertTrue(found, lesson)
             self.assertIn(f"tools/lessonpages.py -o lessons {lesson}`", text)
 
+    def links(self, folder):
+        """The links of the pages in a folder: (page, file, what stands behind the #)."""
+        for name in sorted(os.listdir(folder)):
+            if name.endswith(".html") and not name.endswith("-1.html"):
+                for file, place in LINK.findall(read(os.path.join(folder, name)).decode()):
+                    yield name, file or name, place
+
     def test_a_lesson(self):
-        """A page of each run, and one that leads to them; a name that no lesson has is refused."""
+        """A page of the lesson, which leads to those of its runs and their lines, and one that leads to it. An unknown name is refused."""
         out = self.path("out")
         self.assertEqual(self.call(lesson_pages.main, "-o", out, "slp"), (0, "", ""))
-        self.assertEqual(sorted(os.listdir(out)), ["index.html", "slp-1.html"])
-        self.assertIn('<a href="slp-1.html">swtch, sleep and wakeup: run 1</a>', read(os.path.join(out, "index.html")).decode())
+        self.assertEqual(sorted(os.listdir(out)), ["answers.html", "index.html", "slp-1.html", "slp.html", "slp.svg"])
+        index, lesson = (read(os.path.join(out, name)).decode() for name in ("index.html", "slp.html"))
+        self.assertIn('<a href="slp.html">swtch, sleep and wakeup</a>: <a href="slp-1.html">run 1</a>', index)
+        self.assertIn('\n  <a href="slp-1.html#line=18">18</a>  srr  woken are those who wait for keys: process 1, process 2\n', lesson)
+        self.assertIn('<li>Lines <a href="slp-1.html#line=19">19</a> and <a href="slp-1.html#line=20">20</a>: <code>swtch</code> begins', lesson)
+        self.assertIn("line:\t.=.+100.</pre>", lesson)
+        self.assertNotIn("<a href=\"../", lesson)
+        for name, file, place in self.links(out):
+            target = read(os.path.join(out, file)).decode()
+            self.assertTrue(not place or place.startswith("line=") or f' id="{place}"' in target, (name, file, place))
         found = Read(read(os.path.join(out, "slp-1.html")))
         self.assertEqual((found.head["lines"], found.words(18)), (39, "woken are those who wait for keys: process 1 (/etc/init), process 2 (/etc/init)"))
         status, _, said = self.call(lesson_pages.main, "-o", out, "none")

@@ -43,7 +43,7 @@ codes:	{codes}
 	.even
 line:	.=.+32.
 """
-LINES, SLOTS = 8, 30  # of a row that is taken: the fewest lines of its log after the boot, and the most slots
+LINES, SLOTS = 6, 16  # of a row that is taken: the fewest lines of its log after the boot, and the most slots
 
 
 class Made(Case):
@@ -100,7 +100,7 @@ class Made(Case):
 
 class Runs(Made):
     def same(self, found, looker, line):
-        """What a page has at a line is what look.py shows there, and the terminal what the run has shown when it is cut there."""
+        """What a page has at a line is what look.py shows there."""
         moment, panels = looker.moment, found.at(line)
         self.assertTrue(moment.first < line <= moment.lines and found.slot(line) == moment.slots, (line, moment.slots))
         self.assertIn(found.words(line), looker.lines_of("log 1")[-1])
@@ -112,8 +112,11 @@ class Runs(Made):
             self.assertEqual(shown(panels[name]), looker.lines_of(name), line)
         for slot, row in moment.whole.table.rows.items():
             self.assertEqual(process_of(panels, slot), looker.views.process(moment.whole, row.number), (line, row.number))
+
+    def same_terminal(self, found, looker, line):
+        """What the terminal has shown at a line is what it shows in the run that is cut at its moment."""
         run = looker.history.run
-        run.played(run.script.cut(moment.slots, True))
+        run.played(run.script.cut(looker.moment.slots, True))
         self.assertEqual(found.terminal(line), read(run.names("term")[0]), line)
 
     def compare(self, words, lines):
@@ -145,13 +148,14 @@ class Runs(Made):
         self.assertEqual(found.slot(within), found.slot(within + 1))
 
     def test_random_rows(self):
-        """100 moments of 20 runs: all panels, and the terminal."""
+        """100 moments of 20 runs: all panels, and of each run what the terminal shows at one of them."""
         for name, words in self.rows(20).items():
             with self.subTest(name):
                 found, looker = self.made(*words)[0], self.looker(words)
                 for line in self.random.sample(range(1, found.head["lines"] + 1), 5):
                     looker.go(found.slot(line), line)
                     self.same(found, looker, line)
+                self.same_terminal(found, looker, line)
 
     def test_rules(self):
         """Why each process went out and came in is what docs/lions/sched.md works out."""

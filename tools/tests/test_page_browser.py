@@ -133,7 +133,7 @@ class Opened(Made):
                 self.assertEqual(self.process()[is_within:], looker.lines_of("process"), line)
                 continue
             for row in self.table()[1:]:
-                self.choose(row[1])
+                self.browser.value(f"[...document.querySelectorAll('#ps tr')].find((one) => one.cells[1].textContent === '{row[1]}').click()")
                 said, *shown = self.lines("process")
                 was_there = looker.moment.slot_of(int(row[2])) is not None
                 is_as = f"as in slot {slot}" if was_there else f"process {row[2]} wasn't there in slot {slot}"
@@ -201,8 +201,23 @@ class Opened(Made):
             if node.get("role", {}).get("value") in ("button", "textbox", "searchbox", "combobox", "slider", "spinbutton", "region", "image"):
                 self.assertTrue(node["name"].get("value"), node)
         self.assertEqual(self.browser.value("document.querySelectorAll('#ps th[scope=col]').length"), 12)
-        pdf = self.browser.printed()
-        self.assertEqual((pdf[:5], 1 <= len(re.findall(rb"/Type\s*/Page\b", pdf)) <= 4), (b"%PDF-", True))
+
+    def test_printed(self):
+        """On paper all is on one sheet, A4 or letter, upright; of the terminal it is the end."""
+        log = self.put("log", b"boot 100 7\nsleep 0 -100 runout\ngo 1\n" + b"trap 1\nidle\ngo 1\n" * 20 + b"end\n")
+        for words, last in ((self.pair(), "ONE\n"), (("--log", log, "--term", self.put("term", b"%d\r\n" * 99 % (*range(99),))), "98\n")):
+            self.made(*words)
+            self.addCleanup(self.browser.size, 1200, 900)
+            for width, height in ((718, 1047), (740, 980)):  # what their margins leave, in points of a screen
+                self.browser.size(width, height, media="print")
+                self.open("#line=20")
+                ends = self.browser.value("[...document.querySelectorAll('#panels > section, #panels')].map((one) => one.getBoundingClientRect().bottom)")
+                self.assertLess(max(ends), height)
+                self.assertTrue(self.text("term").endswith(last))
+                term, end = self.browser.value("['term', 'end'].map((one) => document.getElementById(one).getBoundingClientRect().bottom)")
+                self.assertAlmostEqual(term, end, delta=1)
+            pdf = self.browser.printed()
+            self.assertEqual((pdf[:5], len(re.findall(rb"/Type\s*/Page\b", pdf))), (b"%PDF-", 1))
 
     def test_many_lines(self):
         """Far steps in a longer log come to what is there by single steps."""
