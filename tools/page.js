@@ -293,6 +293,7 @@ class Page {
     $("words").textContent = run.words(line);
     $("rule").textContent = run.one("rule");
     this.list($("book"), run.shown("book"), (text) => text);
+    $("book").previousElementSibling.hidden = !$("book").hasChildNodes();
     $("call").textContent = isHidden && !run.is(line, CALL) ? HIDDEN : run.one("call") || "No call ends with this line, and none begins to wait.";
     for (const name of ["core", "swap", "texts"]) $(name).textContent = run.shown(name).join("\n");
     this.showLog();
@@ -403,7 +404,7 @@ class Page {
     if (chosen !== "") return Number(chosen);
     const moment = this.run.moment(this.line);
     const running = moment && moment.isExact && !this.isQuiz ? this.run.after("running", moment.end) : this.run.one("running");
-    return running ? Number(running.split(" ")[0]) : 1;
+    return Number(running.split(" ")[0]) || 1;  // where the swapper runs too
   }
 
   showProcess(moment, isHidden) {
@@ -516,7 +517,11 @@ class Page {
     $("play").addEventListener("click", () => this.play());
     $("pace").addEventListener("change", () => this.timer !== null && this.play(true));
     $("before").addEventListener("click", () => this.search(-1));
-    $("search").addEventListener("submit", (event) => { event.preventDefault(); this.search(1); });
+    $("search").addEventListener("submit", (event) => {
+      event.preventDefault();
+      $("word").blur();  // so that N goes on
+      this.search(1);
+    });
     $("quiz").addEventListener("click", () => this.quiz());
     $("answer").addEventListener("click", () => this.step("on", "line"));
     $("another").addEventListener("click", () => this.ask(this.line + (this.isAsked() ? 1 : 0)));

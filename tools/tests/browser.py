@@ -102,11 +102,16 @@ class Browser:
 
     def key(self, name, shift=False):
         """Presses a key."""
-        text = {"text": name} if len(name) == 1 else {}
+        text = {"text": "\r" if name == "Enter" else name} if len(name) == 1 or name == "Enter" else {}
         code = {"Enter": 13, "Tab": 9, "ArrowLeft": 37, "ArrowRight": 39, "Home": 36, "End": 35}.get(name, ord(name[0].upper()))
         for kind in ("keyDown", "keyUp"):
             self.ask("Input.dispatchKeyEvent", type=kind, key=name, modifiers=8 * shift, windowsVirtualKeyCode=code,
                      **(text if kind == "keyDown" else {}))
+
+    def keys(self, text):
+        """Types a text."""
+        for one in text:
+            self.key(one)
 
     def errors(self):
         """What went wrong: exceptions, and errors and warnings that the browser tells."""

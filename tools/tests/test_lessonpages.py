@@ -6,11 +6,44 @@ import unittest
 from common import Case, read, tool
 from pagereader import Read
 
+import lessonhtml
+
 lesson_pages = tool("lessonpages")
 LINK = re.compile(r'(?:href|src)="([^"#]*)(?:#([^"]*))?"')
+TEXT = """# A & B
+
+| a | `b<` |
+|---|---|
+| 1 | [x](../manual/log.md) |
+
+- one
+  goes *on*
+- **two**, by [buf](buf.md#a-b)
+
+```
+$ bin/v6 run image 100 script term log final
+$ tools/log.py show log | tail -n 1
+   7  sR  a <b>
+$ cat x
+   8  sR  c
+```
+
+Lines 7 and 8, and line 7 of [it](https://example.org/).
+"""
+RUN = 'href="ab-1.html#line=7">7</a>'
 
 
 class Lessons(Case):
+    def test_html(self):
+        """A lesson in HTML. The lines alone that were shown of a run's log are links to it, and pages alone that are there."""
+        lines = lessonhtml.Lesson(TEXT, {0: [("ab-1.html", "run 1")]}, {"buf"}).told().decode().split("\n")
+        self.assertEqual(lines[lines.index('<p><a href="index.html">all lessons</a></p>') + 1 : -2], [
+            '<h1 id="a--b">A &amp; B</h1>', "<table>", "<tr><th>a</th><th><code>b&lt;</code></th></tr>", "<tr><td>1</td><td>x</td></tr>", "</table>",
+            "<ul>", "<li>one goes <i>on</i></li>", '<li><b>two</b>, by <a href="buf.html#a-b">buf</a></li>', "</ul>",
+            "<pre><b>$ bin/v6 run image 100 script term log final</b>", "<b>$ tools/log.py show log | tail -n 1</b>",
+            f"   <a {RUN}  sR  a &lt;b&gt;", "<b>$ cat x</b>", "   8  sR  c</pre>", '<p>Step by step: <a href="ab-1.html">run 1</a></p>',
+            f'<p>Lines <a {RUN} and 8, and line <a {RUN} of <a href="https://example.org/">it</a>.</p>'])
+
     def test_runs(self):
         """The image, the core and the script of each run that a command makes."""
         runs_of = lesson_pages.runs_of

@@ -60,7 +60,7 @@ class Opened(Made):
                 self.assertEqual(self.text("head"), head)
                 self.assertEqual([" ".join(row).split() for row in self.table()], [row.split() for row in looker.lines_of("ps")[1:]], line)
                 self.assertEqual((self.lines("core"), self.lines("swap")), (looker.lines_of("core"), looker.lines_of("swap")))
-                if looker.moment.process(looker.moment.whole.running() or 1).parts:
+                if getattr(looker.moment.process(looker.moment.whole.running() or 1), "parts", ()):  # it has code and a stack
                     self.assertEqual(self.process(), looker.lines_of("process"), line)
 
     def test_forwards_and_back(self):
@@ -106,8 +106,11 @@ class Opened(Made):
         self.made(*words, "--moments", "20")
         self.open()
         looker = self.looker(words)
-        self.browser.value("document.getElementById('word').value = 'out'; page.search(1)")
+        self.browser.keys("/out")
+        self.browser.key("Enter")
         self.assertEqual((self.line(), self.text("raw")), (82, "out 1 4010"))
+        self.browser.key("n")
+        self.assertEqual((self.line(), self.text("found")), (82, "not found behind this line"))
         own = self.browser.value("[...Array(page.run.lines).keys()].map((one) => one + 1).filter((one) => page.run.moment(one).isExact)")
         self.assertGreater(len(own), 10)
         for line in (82, *self.random.sample(own, 4)):
