@@ -210,15 +210,15 @@ class Logs(Made):
                                                       "   35 to   100    66  free", "66 of 100 clicks are free"])
 
     def test_size(self):
-        """100,000 lines of six processes are at most 4 MB."""
+        """A line of six processes takes 40 bytes at most, so that 100,000 lines are at most 4 MB."""
         turns = b"".join(b"tick u\ntrap %d\nsleep %d 1 read.%d\ngo %d\nwake read.%d\n" % (n % 5 + 1, n % 5 + 1, n % 97 + 1, (n + 1) % 5 + 1, n % 97 + 1)
-                         for n in range(20000))
+                         for n in range(4000))
         forks = b"".join(b"fork 1 %d at %d\n" % (slot, 17 * slot) for slot in range(2, 6))
         log = self.put("log", b"boot 200 0\ngo 1\n" + forks + turns + b"end\n")
         found, _ = self.made("--log", log)
-        self.assertEqual(found.head["lines"], 100007)
-        self.assertLess(os.path.getsize(self.path("page.html")), 4_000_000)
-        self.assertEqual(found.words(100006), "woken are those who wait for bytes in the pipe of inode 18: process 5")
+        self.assertEqual(found.head["lines"], 20007)
+        self.assertLess(os.path.getsize(self.path("page.html")), 40 * 20007)
+        self.assertEqual(found.words(20006), "woken are those who wait for bytes in the pipe of inode 23: process 5")
 
     def refused(self, *words, why, status=1):
         kept = read(self.path("page.html")) if os.path.exists(self.path("page.html")) else None

@@ -224,14 +224,14 @@ class Opened(Made):
 
     def test_many_lines(self):
         """Far steps in a longer log come to what is there by single steps."""
-        log = self.put("log", b"boot 100 7\nsleep 0 -100 runout\ngo 1\n" + b"trap 1\nidle\ngo 1\n" * 3000 + b"end\n")
+        log = self.put("log", b"boot 100 7\nsleep 0 -100 runout\ngo 1\n" + b"trap 1\nidle\ngo 1\n" * 1700 + b"end\n")
         self.made("--log", log)
-        self.open("#line=9000")
+        self.open("#line=5100")
         far = self.browser.value(PANELS)
-        self.assertIn("line 9000 of 9004", far)
-        self.browser.value("page.go(1); for (let one = 0; one < 8999; one += 3) page.run.seek(one + 1); page.go(9000)")
+        self.assertIn("line 5100 of 5104", far)
+        self.browser.value("page.go(1); for (let one = 0; one < 5099; one += 3) page.run.seek(one + 1); page.go(5100)")
         self.assertEqual(self.browser.value(PANELS), far)
-        self.browser.value("page.go(4097); page.go(9000)")
+        self.browser.value("page.go(4097); page.go(5100)")
         self.assertEqual(self.browser.value(PANELS), far)
 
 
