@@ -7,6 +7,7 @@ import subprocess
 import sys
 import tempfile
 import unittest
+import unittest.mock
 
 from common import TOP, Case, read, tool
 
@@ -24,6 +25,12 @@ class Words(Case):
             status, said, _ = self.call(tool(name).main, "--help")
             self.assertEqual((status, said.split()[:2]), (0, ["usage:", name + ".py"]))
         self.assertFalse(os.path.exists("--help"))
+
+    def test_no_program_beside(self):
+        with unittest.mock.patch("program.TOP", self.folder):
+            for name in ("as", "log", "look", "trace"):
+                self.assertEqual(self.call(tool(name).main, "--version"), (1, "", f"{name}.py: {self.folder}/bin/v6: No such file or "
+                                 "directory: --version tells the program beside the tool\n"))
 
 
 def make(*words):
