@@ -126,10 +126,11 @@ class History:
         return self.outside
 
     def signalled(self, lines):
-        """The slots of the table in which a signal may wait after so many lines of the log: one was sent there, to who is there still."""
+        """The slots of the table in which a signal may wait after so many lines of the log: it was sent to who is there still."""
         if self.sent is None:
-            told = ((number, line.split(" ")) for number, line in enumerate(self.run.lines) if line.startswith(("signal ", "fork ")))
-            self.sent = [(number, words[0], int(words[1 if words[0] == "signal" else 2])) for number, words in told]
+            told = ((number, line.split(" ")) for number, line in enumerate(self.run.lines))
+            self.sent = [(number, words[0], int(words[1 if words[0] == "signal" else 2])) for number, words in told
+                         if words[0] in ("signal", "fork")]
         found = set()
         for _, word, slot in itertools.takewhile(lambda one: one[0] < lines, self.sent):
             (found.add if word == "signal" else found.discard)(slot)

@@ -285,15 +285,12 @@ class Looker:
     def stands(self, kind):
         """Where a process stands that was looked for by its PC."""
         if kind == "break":
-            return [self.at_break(*one) for one in self.breaks if self.pc_of(one[0]) == one[1]]
+            now, before = self.moment, self.history.moment(self.moment.slots - 1)
+            return [self.at_break(*one) for one in self.breaks if pc_of(now, one[0]) == one[1] != pc_of(before, one[0])]
         if kind != "pc":
             return []
         number, process = self.memory_of()
         return self.views.place(process.pc, self.views.program(self.moment, number))
-
-    def pc_of(self, number):
-        process = self.moment.process(number)
-        return process.pc if process and process.parts else None
 
     def at_break(self, number, at):
         """A break in words, with the name of its place and its line of the source."""
@@ -394,6 +391,11 @@ class Looker:
     def do_unwatch(self):
         self.watched = []
         return []
+
+
+def pc_of(moment, number):
+    process = moment.process(number)
+    return process.pc if process and process.parts else None
 
 
 def shown(value):

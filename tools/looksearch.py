@@ -128,8 +128,8 @@ class Search:
     # by memory
 
     def sought(self, *wanted):
-        """The next moment at which what is looked for of a process, of one or of several, becomes so, or the last one. All of them are
-        gone through: forwards one after the other, backwards in stretches that become longer and longer, each of them forwards."""
+        """The next moment at which what is looked for of a process, or of several, becomes so, or the last one. All moments are gone
+        through: forwards one after the other, backwards in stretches that become longer and longer, each of them forwards."""
         if self.forwards:
             nearest = None
             for one in wanted:

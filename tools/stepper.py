@@ -7,7 +7,8 @@ from stepcode import MASK, STORED, TOP, row_at, single
 
 ADDRESSES = 65536
 HOT = 12  # times that an instruction is done alone before a row is made of it and those behind it
-SINGLES, ROWS = {}, {}  # functions by the first word of an instruction; by an address the rows that were made there, with their words
+SINGLES = {}  # functions by the first word of an instruction
+ROWS = {}  # by an address the rows that were made there, each with its words, for whichever process
 MOST_ROWS = 8  # that are kept for one address
 
 
@@ -50,8 +51,8 @@ class Stepper:
         return (n & TOP) >> 12 | (0 if z else 4) | (2 if v else 0) | (1 if c else 0)
 
     def changes(self, process):
-        """What the same process has after the kernel has done something for it: the words that are others, by their addresses, or None
-        where it has another size."""
+        """What the same process has after the kernel has done something for it: the words that are others, by their addresses, or
+        None where it has another size."""
         if [part[:2] for part in process.parts] != [part[:2] for part in self.parts]:
             return None
         changed = {}
@@ -146,13 +147,14 @@ class Stepper:
         """A row that was made of the same words at an address, perhaps for another process, or None."""
         words, zones = self.words, self.zones
         for found, had in ROWS.get(pc, ()):
-            if all(words[at] == word for at, word in zip(found[2], had)) and (not zones or all(zones[at] == zones[pc] for at in found[2])):
+            is_within = not zones or all(zones[at] == zones[pc] for at in found[2])
+            if is_within and all(words[at] == word for at, word in zip(found[2], had)):
                 return found
         return None
 
     def make(self, pc, is_hot=True):
-        """Makes a row of the instructions at an address, where they can stand in one. Where it isn't hot yet, only one that is known
-        is taken."""
+        """Makes a row of the instructions at an address, where they can stand in one. Where that isn't hot yet, only a known one is
+        taken."""
         zones, found = self.zones, self.known(pc)
         if found is None and is_hot:
             found = row_at(self.words, pc, (lambda at: True) if zones is None else (lambda at: zones[at] == zones[pc]))

@@ -190,7 +190,8 @@ class Tracer:
         if call.name == "exec" and turn.made("image"):
             self.names[slot] = old.name
         is_bad = (turn.made("signal") or [""])[-1] == BAD_CALL  # no process sends a signal to itself
-        return f"{who}{call.told()} = {f'signal {BAD_CALL}' if is_bad else answer(call, new)}{self.waited(turn, call)}{shared(turn)}"
+        said = f"signal {BAD_CALL}" if is_bad else answer(call, new)
+        return f"{who}{call.told()} = {said}{self.waited(turn, call)}{shared(turn)}"
 
     def ends(self, turn, call):
         """What is told where a process ends: it has called exit(II), or it ends by the signal that was sent to it last."""

@@ -66,8 +66,8 @@ class Case(unittest.TestCase):
         return self.path(name)
 
     def ran(self, main, *words, typed=None):
-        """The status of a tool, the bytes of its standard output, and what it says on the other one. It is called here, which is cheaper
-        than a process of its own; it reads what is typed, where there is anything."""
+        """The status of a tool, the bytes of its standard output, and what it says on the other one. It is called here, which is
+        cheaper than a process of its own; it reads what is typed, where there is anything."""
         out, error = (io.TextIOWrapper(io.BytesIO(), encoding="utf-8", errors="backslashreplace", newline="\n") for _ in range(2))
         handlers = {number: signal.getsignal(number) for number in HANDLED}
         with contextlib.redirect_stdout(out), contextlib.redirect_stderr(error), contextlib.ExitStack() as streams:

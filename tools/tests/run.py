@@ -29,7 +29,8 @@ def run(name):
     out, before = io.StringIO(), worked()
     done = unittest.TextTestRunner(out).run(unittest.defaultTestLoader.loadTestsFromName(name))
     failed = len(done.failures) + len(done.errors) + len(done.unexpectedSuccesses)
-    return done.testsRun, failed, "" if done.wasSuccessful() else out.getvalue(), [why for _, why in done.skipped], worked() - before
+    said = "" if done.wasSuccessful() else out.getvalue()
+    return done.testsRun, failed, said, [why for _, why in done.skipped], worked() - before
 
 
 if __name__ == "__main__":

@@ -69,17 +69,19 @@ class Searches(Case):
         """A stretch whose parts are gone through at the same time."""
         image, script = self.disk(self.put("counts.s", COUNTS)), self.put("script", b"run 6000\n")
         with unittest.mock.patch.object(looksearch, "PART", 1):
-            self.assertEqual(self.slots(image, script, "slot 5000", "since word seen 3", "slot 5000", "since pc eighth"), [5000, 128, 5000, 4986])
+            commands = "slot 5000", "since word seen 3", "slot 5000", "since pc eighth"
+            self.assertEqual(self.slots(image, script, *commands), [5000, 128, 5000, 4986])
 
     def test_breaks_and_watches(self):
         """`eighth` is at 040; PC comes there in slot 41 and each 43 later, and behind its first instruction in the next."""
         image, script = self.disk(self.put("counts.s", COUNTS)), self.put("script", b"run 2000\n")
-        self.assertEqual(self.slots(image, script, "break eighth", "slot 1", "break eighth+4", "until break", "until break", "until break",
-                                    "since break", "unbreak eighth+4", "slot 84", "since break", "unbreak", "watch seen", "until watch",
-                                    "slot 1000", "since watch", "slot 1", "watch count", "until watch", "until watch"),
-                         [1, 41, 42, 84, 42, 84, 41, 42, 1000, 988, 1, 3, 8])
-        words_ = "--v6", V6, image, "1200", script, "-c", "break eighth", "-c", "slot 1", "-c", "break 044", "-c", "until break", "-c"
-        status, out, error = self.call(look.main, *words_, "unbreak 040", "-c", "until break of 2", "-c", "unbreak 040", "-c", "until watch")
+        commands = ("break eighth", "slot 1", "break eighth+4", "until break", "until break", "until break", "since break",
+                    "unbreak eighth+4", "slot 84", "since break", "unbreak", "watch seen", "until watch", "slot 1000", "since watch",
+                    "slot 1", "watch count", "until watch", "until watch")
+        self.assertEqual(self.slots(image, script, *commands), [1, 41, 42, 84, 42, 84, 41, 42, 1000, 988, 1, 3, 8])
+        commands = ("break eighth", "slot 1", "break 044", "until break", "unbreak 040", "until break of 2", "unbreak 040",
+                    "until watch")
+        status, out, error = self.call(look.main, "--v6", V6, image, "1200", script, *[word for one in commands for word in ("-c", one)])
         self.assertEqual((status, out.splitlines()[0]), (1, "  break 000040 of process 1"))
         breaks = ["  break 000040 of process 1: eighth", "  break 000044 of process 1: eighth+4"]
         self.assertEqual([line for line in out.splitlines()[1:] if "break" in line], [*breaks, breaks[0], breaks[1]])

@@ -51,6 +51,15 @@ open(final, "wb").write(bytes(u + data).ljust(64 * int(core) + 446464, b"\\0"))
 OLD = b"import subprocess, sys\nsys.exit(1 if sys.argv[2] == 'memory' else subprocess.run(sys.argv[1:]).returncode)\n"
 ICODE = words("104413 000014 000010 000777 000014 000000 062457 061564 064457 064556 000164")
 PROGRAM = words("104405 000022 000001 104404 000034 000003 012700 000000 104401") + b"/dev/tty8\0hi\n\0"
+WAITS = b"""
+	sys	open; tty; 2
+	sys	signal; 2; ROUTINE
+2:	sys	getpid
+	br	2b
+1:	sys	getuid
+	br	2b
+tty:	</dev/tty8\0>
+"""
 HAS_MEMORY = v6("memory", os.devnull, "63", os.devnull, os.devnull)[0] != 1
 
 
@@ -227,10 +236,9 @@ class Traces(Case):
     def test_a_signal_that_waits(self):
         """One that is ignored goes on waiting: each call is asked for once, as before. A routine begins at the end of a call."""
         script = self.put("script", b"run 8\nbyte 177\nrun 6\n")
-        for does, calls in (("1", {4: "getpid", 6: "getpid", 8: "getpid", 10: "getpid", 12: "getpid", 14: "getpid"}),
-                            ("1f", {4: "getpid", 6: "getpid", 8: "getpid", 10: "getpid", 11: "getuid", 13: "getpid"})):
-            text = f"\tsys\topen; tty; 2\n\tsys\tsignal; 2; {does}\n2:\tsys\tgetpid\n\tbr\t2b\n1:\tsys\tgetuid\n\tbr\t2b\ntty:\t</dev/tty8\\0>\n"
-            image, memory = self.disk(self.put("waits.s", text.encode())), Run.memory
+        for does, calls in ((b"1", {4: "getpid", 6: "getpid", 8: "getpid", 10: "getpid", 12: "getpid", 14: "getpid"}),
+                            (b"1f", {4: "getpid", 6: "getpid", 8: "getpid", 10: "getpid", 11: "getuid", 13: "getpid"})):
+            image, memory = self.disk(self.put("waits.s", WAITS.replace(b"ROUTINE", does))), Run.memory
             with unittest.mock.patch.object(Run, "memory", autospec=True, side_effect=memory) as asked:
                 status, out, error = self.trace("--v6", V6, image, "1200", script)
             self.assertEqual((status, error), (0, ""))
