@@ -24,7 +24,7 @@ class Stepper:
 
     def __init__(self, process, ranges=(), words=()):
         self.words, self.kept, self.heat, self.rows, self.covered = [None] * ADDRESSES, [1] * ADDRESSES, {}, {}, {}
-        self.zones = bytearray(ADDRESSES) if ranges else None
+        self.zones = [0] * ADDRESSES if ranges else None
         for number, (low, high) in enumerate(ranges):
             for at in range(low, high + 1):
                 self.zones[at] |= 1 << number

@@ -152,10 +152,15 @@ class Searches(Case):
 class Rows(unittest.TestCase):
     """Instructions in a row do what each of them does alone."""
 
-    def stepper(self, text, codes=0):
+    def stepper(self, text, codes=0, ranges=()):
         process = unittest.mock.Mock(registers=[0, 1, 2, 3, 4, 5, 64, 0], u=bytes(16) + bytes([codes]), text=0, pending=0,
                                      data=words(text).ljust(128, b"\0"), parts=[(0, 128, 0)])
-        return Stepper(process)
+        return Stepper(process, ranges)
+
+    def test_many_ranges(self):
+        """Each of them is come to, of however many."""
+        one = self.stepper("005201 " * 12, ranges=[(at, at) for at in range(2, 24, 2)])
+        self.assertEqual([(one.run(100), one.hit, one.pc) for _ in range(11)], [(1, "pc", at) for at in range(2, 24, 2)])
 
     def test_rows(self):
         text = "005201 060102 010203 006303 005504 020304 100401 005205 077011 000240 000777"
