@@ -14,8 +14,13 @@ class Version(argparse.Action):
     """Tells which program the tools stand beside: the first digits of the sha256 of bin/v6."""
 
     def __call__(self, parser, *_):
-        with open(os.path.join(TOP, "bin", "v6"), "rb") as file:
-            print(f"{parser.prog} of the repository whose bin/v6 is {hashlib.sha256(file.read()).hexdigest()[:12]}")
+        name = os.path.join(TOP, "bin", "v6")
+        try:
+            with open(name, "rb") as file:
+                digest = hashlib.sha256(file.read()).hexdigest()[:12]
+        except OSError as error:
+            parser.exit(1, f"{parser.prog}: {name}: {error.strerror}: --version tells the program beside the tool\n")
+        print(f"{parser.prog} of the repository whose bin/v6 is {digest}")
         parser.exit()
 
 

@@ -612,6 +612,12 @@ class Commands(Case):
         self.assertIn("slot 65 of 180", out)
         self.assertIn('call       write(0, "Pone\\n", 5) comes next', out)
         self.assertIn("sp 177760  pc 000040", out)
+        # each writes what it has read: process 1 in slot 66, which was typed after slot 60, and process 2 in slot 126
+        commands = "break 040 of 1", "slot 100", "break 040 of 2", "since break", "until break"
+        status, out, error = self.look(disk, "1200", script, *[word for one in commands for word in ("-c", one)])
+        self.assertEqual((status, error), (0, ""))
+        self.assertIn("\n\n" + out + "```\n", page)
+        self.assertEqual([line.split()[1] for line in out.splitlines() if line.startswith("slot")], ["100", "65", "125"])
 
 
 if __name__ == "__main__":
