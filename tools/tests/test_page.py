@@ -43,7 +43,7 @@ codes:	{codes}
 	.even
 line:	.=.+32.
 """
-LINES, SLOTS = 6, 16  # of a row that is taken: the fewest lines of its log after the boot, and the most slots
+LINES, SLOTS = range(6, 61), 16  # of a row that is taken: the lines of its log after the boot, and the most slots
 
 
 class Made(Case):
@@ -83,11 +83,12 @@ class Made(Case):
         return image, "1200", self.put("script", b"run 400\n")
 
     def rows(self, count):
-        """So many rows, drawn at random, as runs: of those that are done within few slots, and whose log has many lines."""
+        """So many rows, drawn at random, as runs: of those that are done within few slots, with some lines."""
         known, base, found = names(), read(HI), {}
         while len(found) < count:
             row = Row(self.random.choice(known))
-            if row.ends() and row.numbers["made"] is None and (row.log or b"").count(b"\n") >= LINES and Script(row.script).slots <= SLOTS:
+            lines = (row.log or b"").count(b"\n")
+            if row.ends() and row.numbers["made"] is None and lines in LINES and Script(row.script).slots <= SLOTS:
                 image, script = self.put(f"image.{len(found)}", row.image(base)), self.put(f"script.{len(found)}", row.script)
                 found.setdefault(row.name, (image, str(row.numbers["core"]), script))
         return found
