@@ -19,6 +19,7 @@ from history import History
 from moments import MomentError, Run
 from row import Runner, chosen
 from rowfile import DATA, Row, RowError
+from scriptfile import ScriptError
 from walk import Walk
 
 SLOTS = 1_000_000
@@ -35,7 +36,7 @@ def gone_through(command, name, most):
             out.write(row.image(runner.base(row.numbers["made"])))
         try:
             walk = Walk(History(Run(command, image, row.numbers["core"], row.script, folder)), 0)
-        except MomentError:
+        except (MomentError, ScriptError):
             return None  # a disk, a script or a core that is refused
         last = min(walk.history.last, most)
         try:

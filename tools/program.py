@@ -35,11 +35,11 @@ class ProgramError(Exception):
 def call(command, *words, data=None):
     """The program's status, and the line that it says. It gets these bytes as its standard input."""
     try:
-        done = subprocess.run([*shlex.split(command), *words], input=data, capture_output=True)
+        done = subprocess.run([*shlex.split(command), *words], input=data, stdout=subprocess.PIPE, stderr=subprocess.STDOUT)
     except (OSError, ValueError) as error:
         why = error.strerror if isinstance(error, OSError) else error
         raise ProgramError(f"{command}: {why}: the program v6 is wanted; --v6 names it") from None
-    said = (done.stdout + done.stderr).decode("utf-8", "replace").strip()
+    said = done.stdout.decode("utf-8", "replace").strip()
     return done.returncode, said or f"status {done.returncode}"
 
 

@@ -6,7 +6,7 @@ import struct
 from stepcode import MASK, STORED, TOP, row_at, single
 
 ADDRESSES = 65536
-HOT = 12  # times that an instruction is done alone before a row is made of it and those behind it
+HOT = 100  # times that an instruction is done alone before a row is made of it and those behind it
 SINGLES = {}  # functions by the first word of an instruction
 ROWS = {}  # by an address the rows that were made there, each with its words, for whichever process
 MOST_ROWS = 8  # that are kept for one address
@@ -84,10 +84,13 @@ class Stepper:
         return None if found is None else found >> 8 if at & 1 else found & 255
 
     def bytes(self, at, most):
-        out = bytearray()
-        while len(out) < most and (byte := self.byte(at + len(out))) is not None:
-            out.append(byte)
-        return bytes(out)
+        at &= MASK
+        found = self.words[at & MASK - 1 : at + most : 2]
+        found = found[: found.index(None)] if None in found else found
+        out = struct.pack(f"<{len(found)}H", *found)[at & 1 :][:most]
+        if at + len(out) == ADDRESSES and len(out) < most:
+            out += self.bytes(0, most - len(out))  # behind the last address comes the first
+        return out
 
     def string(self, at, most=510):
         return self.bytes(at, most).partition(b"\0")[0]

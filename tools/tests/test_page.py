@@ -43,7 +43,27 @@ codes:	{codes}
 	.even
 line:	.=.+32.
 """
-LINES, SLOTS = 6, 16  # of a row that is taken: the fewest lines of its log after the boot, and the most slots
+WAITS = b"""
+	sys	open; tty; 2
+	sys	fork
+	br	1f
+	sys	fork
+	br	2f
+	sys	wait
+	br	.
+1:
+	clr	r0
+	sys	read; line; 100.
+	br	1b
+2:
+	mov	$100.,r0
+	sys	sleep
+	br	2b
+tty:	</dev/tty8\\0>
+	.even
+line:	.=.+100.
+"""
+LINES, SLOTS = range(6, 61), 16  # of a row that is taken: the lines of its log after the boot, and the most slots
 
 
 class Made(Case):
@@ -83,11 +103,12 @@ class Made(Case):
         return image, "1200", self.put("script", b"run 400\n")
 
     def rows(self, count):
-        """So many rows, drawn at random, as runs: of those that are done within few slots, and whose log has many lines."""
+        """So many rows, drawn at random, as runs: of those that are done within few slots, with some lines."""
         known, base, found = names(), read(HI), {}
         while len(found) < count:
             row = Row(self.random.choice(known))
-            if row.ends() and row.numbers["made"] is None and (row.log or b"").count(b"\n") >= LINES and Script(row.script).slots <= SLOTS:
+            lines = (row.log or b"").count(b"\n")
+            if row.ends() and row.numbers["made"] is None and lines in LINES and Script(row.script).slots <= SLOTS:
                 image, script = self.put(f"image.{len(found)}", row.image(base)), self.put(f"script.{len(found)}", row.script)
                 found.setdefault(row.name, (image, str(row.numbers["core"]), script))
         return found
@@ -141,11 +162,16 @@ class Runs(Made):
         self.assertEqual(found.at(24)["call"], ['66 [1 /etc/init] write(0, "Pone\\n", 5) = 5'])
         self.assertEqual(found.at(16)["call"], [""])
 
-    def test_four_in_a_core_for_two(self):
-        """Also within the moments of the swapper, which have several lines."""
-        found = self.compare(self.crowd(), 3)
+    def test_three_in_a_core_for_two(self):
+        """Also within the moments of the swapper, which have several lines. Each of the three waits in another call in the end."""
+        words = self.disk(self.put("waits.s", WAITS)), "100", self.put("script", b"run 30\n")
+        found = self.compare(words, 6)
         within = next(line for line in range(1, found.head["lines"]) if OUT.match(found.words(line)))
         self.assertEqual(found.slot(within), found.slot(within + 1))
+        self.assertIn("slot 2 is the lowest in core that waits so that a signal wakes it", found.at(within)["rule"][0])
+        last = found.at(found.head["lines"])
+        for slot, call in enumerate(("wait()", "read(.., 056, 100)", "sleep()"), 1):
+            self.assertIn(f"call       {call} has begun, and isn't done", last[f"process {slot}"])
 
     def test_random_rows(self):
         """100 moments of 20 runs: all panels, and of each run what the terminal shows at one of them."""

@@ -97,20 +97,20 @@ class Searches(Case):
     def test_two_processes(self):
         """Each moment of the two readers is asked for one by one, and the same is found."""
         image = self.disk(os.path.join(TOP, "docs", "lions", "src", "pair.s"))
-        history = History(Run(V6, image, 1200, b"run 60\ntype one\nrun 30\ntick\ntype two\nrun 40\n", self.folder))
-        seen = {number: [self.pc(history.moment(slots), number) for slots in range(131)] for number in (1, 2)}
+        history = History(Run(V6, image, 1200, b"run 12\ntype one\nrun 14\ntick\ntype two\nrun 14\n", self.folder))
+        seen = {number: [self.pc(history.moment(slots), number) for slots in range(41)] for number in (1, 2)}
         for number, low, high in ((1, 0o20, 0o20), (1, 0o40, 0o46), (2, 0o20, 0o32), (2, 0o36, 0o50)):
             is_in = [pc is not None and low <= pc <= high for pc in seen[number]]
-            wanted = [slots for slots in range(1, 131) if is_in[slots] and not is_in[slots - 1]]
+            wanted = [slots for slots in range(1, 41) if is_in[slots] and not is_in[slots - 1]]
             self.assertTrue(wanted)
             for few, near in ((walk_module.FEW, walk_module.NEAR), (-1, walk_module.NEAR), (100, 1)):  # by the log where others do much
                 with unittest.mock.patch.multiple(walk_module, FEW=few, NEAR=near):
-                    self.assertEqual(list(found(history, Sought(number, [(low, high)]), 0, 130)), wanted, (number, low, few))
+                    self.assertEqual(list(found(history, Sought(number, [(low, high)]), 0, 40)), wanted, (number, low, few))
         at = {1: 0o40, 2: 0o36}  # breaks of both
-        wanted = [slots for slots in range(1, 131) if any(seen[one][slots] == at[one] != seen[one][slots - 1] for one in at)]
+        wanted = [slots for slots in range(1, 41) if any(seen[one][slots] == at[one] != seen[one][slots - 1] for one in at)]
         both = [Sought(number, [(place, place)]) for number, place in at.items()]
         for forwards, nearest in ((True, wanted[0]), (False, wanted[-1])):
-            moment = history.moment(0 if forwards else 130)
+            moment = history.moment(0 if forwards else 40)
             self.assertEqual(Search(history, moment, forwards).sought(*both), nearest)
 
     def pc(self, moment, number):
@@ -156,6 +156,14 @@ class Rows(unittest.TestCase):
         process = unittest.mock.Mock(registers=[0, 1, 2, 3, 4, 5, 64, 0], u=bytes(16) + bytes([codes]), text=0, pending=0,
                                      data=words(text).ljust(128, b"\0"), parts=[(0, 128, 0)])
         return Stepper(process, ranges)
+
+    def test_bytes(self):
+        """From odd addresses too, up to where nothing is, and from the last address to the first."""
+        process = unittest.mock.Mock(registers=[0] * 8, u=bytes(17), text=0, pending=0, data=b"ab\0dwxyz", parts=[(0, 4, 0), (65532, 4, 4)])
+        one = Stepper(process)
+        found = [one.bytes(at, most) for at, most in ((0, 4), (1, 2), (3, 9), (4, 2), (65533, 5), (65535, 1), (65536, 2), (0, 0))]
+        self.assertEqual(found, [b"ab\0d", b"b\0", b"d", b"", b"xyzab", b"z", b"ab", b""])
+        self.assertEqual((one.string(65534), one.string(3)), (b"yzab", b"d"))
 
     def test_many_ranges(self):
         """Each of them is come to, of however many."""
