@@ -4,10 +4,10 @@
     bench/opening.py TIMES PAGE..
     bench/opening.py log LINES LOG
 
-Each page is opened TIMES times, each time in a browser of its own, as is a page with nothing in it. Told are, of the median opening,
-the seconds until the page is shown, and the processor time of the thread that runs and draws it, of its process, and of all processes
-of the browser. Where other work goes on, processor time alone counts. `log` writes a log of so many lines, of five processes that take
-turns, of which tools/page.py --log makes a page.
+Each page is opened TIMES times, each time in a browser of its own, as is a page with nothing in it. Told are, of the median
+opening, the seconds until the page is shown, and the processor time of the thread that runs and draws it, of its process, and
+of all processes of the browser. Where other work goes on, processor time alone counts. `log` writes a log of so many lines,
+of five processes that take turns, of which tools/page.py --log makes a page.
 """
 import glob
 import os

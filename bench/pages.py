@@ -4,11 +4,12 @@
     bench/pages.py COMMAND RUNS LINES [FIRST] [SLOTS]
     bench/pages.py [small] [execs] COMMAND RUNS LINES [FIRST] [SLOTS]
 
-The runs are those of bench/processes.py, cut after SLOTS slots (60): a seed gives a disk, a size of core and a script. Of each run a
-page is made, and so many LINES of its log are drawn. COMMAND is a built v6. Compared are the line itself, and what the page has after the
-moment with which it came, at the last line of that moment: the rows of the table of processes with their state, number, parent, user,
-place, time, size, text and what is waited for; of each process its registers and condition codes, its signals' handlers and open files;
-who holds core and the swap area; the shared texts; and all that the terminal has shown.
+The runs are those of bench/processes.py, cut after SLOTS slots (60): a seed gives a disk, a size of core and a script. Of
+each run a page is made, and so many LINES of its log are drawn. COMMAND is a built v6. Compared are the line itself, and what
+the page has after the moment with which it came, at the last line of that moment: the rows of the table of processes with
+their state, number, parent, user, place, time, size, text and what is waited for; of each process its registers and condition
+codes, its signals' handlers and open files; who holds core and the swap area; the shared texts; and all that the terminal has
+shown.
 
 The reference is the Python module `abstract_unix`; the environment variable ABSTRACT_UNIX names the folder in which it is.
 """
@@ -48,7 +49,8 @@ def page_of(command, case, script, folder):
     for name, data in (("script", script), ("page.html", b"")):
         with open(os.path.join(folder, name), "wb") as file:
             file.write(data)
-    words = ["image", str(case.core), "script", "-o", "page.html", "--replay", "--moments", "100000", "--v6", os.path.abspath(command)]
+    words = ["image", str(case.core), "script", "-o", "page.html", "--replay", "--moments", "100000"]
+    words += ["--v6", os.path.abspath(command)]
     subprocess.run([sys.executable, os.path.join(TOOLS, "page.py"), *words], cwd=folder, check=True)
     with open(os.path.join(folder, "page.html"), "rb") as file:
         return Read(file.read())
@@ -57,7 +59,8 @@ def page_of(command, case, script, folder):
 def differences(page, line, wanted):
     """What differs at the last line of a moment; and how many processes were compared."""
     panels, count = page.at(line), 0
-    pairs = [("ps", like.rows_of([HEAD, *table_of(panels, ROW)]), wanted.rows()), ("texts", like.texts_of(shown(panels["texts"])), wanted.texts()),
+    pairs = [("ps", like.rows_of([HEAD, *table_of(panels, ROW)]), wanted.rows()),
+             ("texts", like.texts_of(shown(panels["texts"])), wanted.texts()),
              ("terminal", page.terminal(line), bytes(wanted.unix.lines[0].shown))]
     pairs += [(where, like.held_of(shown(panels[where])), wanted.held(where)) for where in ("core", "swap")]
     for slot, process in enumerate(wanted.unix.procs):

@@ -8,6 +8,7 @@ from dataclasses import dataclass
 from callwords import call_at, name_of
 from moments import ENDS, MomentError, is_turn
 from proctable import TICKS_OF_A_SECOND
+from stepcode import MASK
 from stepper import Stepper
 
 NEAR = 20_000  # slots of other processes that are gone through, and
@@ -220,9 +221,9 @@ class Walk:
             self.steppers.pop(slot, None)
 
     def is_answer(self, old, process, changed):
-        """Whether nothing has changed but what the call of a process may change."""
+        """Whether nothing has changed but what the call of a process may change; behind the last address comes the first."""
         place, size = answer_of(call_at(old))
-        return process.registers[2:7] == old.registers[2:7] and all(-1 <= at - place < size for at in changed)
+        return process.registers[2:7] == old.registers[2:7] and all(at - place + 1 & MASK <= size for at in changed)
 
     def compare(self, old, was):
         """Looks whether a process was as it was left here, before the call with which it is as it was no more."""

@@ -38,8 +38,8 @@ class Lessons(Case):
         """A lesson in HTML. The lines alone that were shown of a run's log are links to it, and pages alone that are there."""
         lines = lessonhtml.Lesson(TEXT, {0: [("ab-1.html", "run 1")]}, {"buf"}).told().decode().split("\n")
         self.assertEqual(lines[lines.index('<p><a href="index.html">all lessons</a></p>') + 1 : -2], [
-            '<h1 id="a--b">A &amp; B</h1>', "<table>", "<tr><th>a</th><th><code>b&lt;</code></th></tr>", "<tr><td>1</td><td>x</td></tr>", "</table>",
-            "<ul>", "<li>one goes <i>on</i></li>", '<li><b>two</b>, by <a href="buf.html#a-b">buf</a></li>', "</ul>",
+            '<h1 id="a--b">A &amp; B</h1>', "<table>", "<tr><th>a</th><th><code>b&lt;</code></th></tr>", "<tr><td>1</td><td>x</td></tr>",
+            "</table>", "<ul>", "<li>one goes <i>on</i></li>", '<li><b>two</b>, by <a href="buf.html#a-b">buf</a></li>', "</ul>",
             "<pre><b>$ bin/v6 run image 100 script term log final</b>", "<b>$ tools/log.py show log | tail -n 1</b>",
             f"   <a {RUN}  sR  a &lt;b&gt;", "<b>$ cat x</b>", "   8  sR  c</pre>", '<p>Step by step: <a href="ab-1.html">run 1</a></p>',
             f'<p>Lines <a {RUN} and 8, and line <a {RUN} of <a href="https://example.org/">it</a>.</p>'])
@@ -79,7 +79,8 @@ class Lessons(Case):
         index, lesson = (read(os.path.join(out, name)).decode() for name in ("index.html", "slp.html"))
         self.assertIn('<a href="slp.html">swtch, sleep and wakeup</a>: <a href="slp-1.html">run 1</a>', index)
         self.assertIn('\n  <a href="slp-1.html#line=18">18</a>  srr  woken are those who wait for keys: process 1, process 2\n', lesson)
-        self.assertIn('<li>Lines <a href="slp-1.html#line=19">19</a> and <a href="slp-1.html#line=20">20</a>: <code>swtch</code> begins', lesson)
+        self.assertIn('<li>Lines <a href="slp-1.html#line=19">19</a> and <a href="slp-1.html#line=20">20</a>: <code>swtch</code> begins',
+                      lesson)
         self.assertIn("line:\t.=.+100.</pre>", lesson)
         self.assertNotIn("<a href=\"../", lesson)
         for name, file, place in self.links(out):

@@ -297,8 +297,10 @@ class Packed(unittest.TestCase):
         """A number takes no more bytes than the largest of its column: a browser needn't unpack them."""
         columns = {"small": array("I", [0, 255]), "middle": array("I", [256, 65535, 1]), "large": array("I", [65536]), "none": array("I")}
         found = Read(b'<script type="text/plain" id="data">%s</script>' % packed({"head": "<"}, columns).encode())
-        self.assertEqual({name: width for name, (_, _, width) in found.head["columns"].items()}, {"small": 1, "middle": 2, "large": 4, "none": 1})
-        self.assertEqual({name: list(column) for name, column in columns.items()}, {name: list(column) for name, column in found.columns.items()})
+        self.assertEqual({name: width for name, (_, _, width) in found.head["columns"].items()},
+                         {"small": 1, "middle": 2, "large": 4, "none": 1})
+        for name, column in columns.items():
+            self.assertEqual(list(column), list(found.columns[name]), name)
 
     def test_rows(self):
         """A panel with fewer rows than its text says how many are left; a row that is as before is no change."""

@@ -7,6 +7,7 @@ from test_page import Made
 
 PANELS = "[...document.querySelectorAll('#head, #panels section')].map((one) => one.textContent).join('\\u0001')"
 TEXT = "document.getElementById({!r}).textContent"
+BOTTOM = "(one) => one.getBoundingClientRect().bottom"
 HIDDEN = "hidden in the quiz: it is known after the next choice alone"
 EVIL = "</script><script>alert(1)</script>\"'&<img src=x onerror=alert(2)>"
 
@@ -136,7 +137,8 @@ class Opened(Made):
                 self.assertEqual(self.process()[is_within:], looker.lines_of("process"), line)
                 continue
             for row in self.table()[1:]:
-                self.browser.value(f"[...document.querySelectorAll('#ps tr')].find((one) => one.cells[1].textContent === '{row[1]}').click()")
+                self.browser.value(f"[...document.querySelectorAll('#ps tr')].find((one) => one.cells[1].textContent === '{row[1]}')"
+                                   ".click()")
                 said, *shown = self.lines("process")
                 was_there = looker.moment.slot_of(int(row[2])) is not None
                 is_as = f"as in slot {slot}" if was_there else f"process {row[2]} wasn't there in slot {slot}"
@@ -214,10 +216,10 @@ class Opened(Made):
             for width, height in ((718, 1047), (740, 980)):  # what their margins leave, in points of a screen
                 self.browser.size(width, height, media="print")
                 self.open("#line=20")
-                ends = self.browser.value("[...document.querySelectorAll('#panels > section, #panels')].map((one) => one.getBoundingClientRect().bottom)")
-                self.assertLess(max(ends), height)
+                self.assertLess(self.browser.value(f"Math.max(...[...document.querySelectorAll('#panels, #panels > section')].map({BOTTOM}))"),
+                                height)
                 self.assertTrue(self.text("term").endswith(last))
-                term, end = self.browser.value("['term', 'end'].map((one) => document.getElementById(one).getBoundingClientRect().bottom)")
+                term, end = self.browser.value(f"[...document.querySelectorAll('#term, #end')].map({BOTTOM})")
                 self.assertAlmostEqual(term, end, delta=1)
             pdf = self.browser.printed()
             self.assertEqual((pdf[:5], len(re.findall(rb"/Type\s*/Page\b", pdf))), (b"%PDF-", 1))

@@ -233,6 +233,15 @@ class Traces(Case):
             ["5", "[1]", "times(01), and ends by signal 12"]])
 
     @unittest.skipUnless(HAS_MEMORY, "v6 has no command memory yet")
+    def test_an_answer_that_goes_round(self):
+        """The first two bytes of a program, 0407, go to the last address and to 0, where a call stands that is done already."""
+        source = self.put("round.s", b"\tsys\topen; 1f; 0\n\tsys\tread; 177777; 2\n\tsys\tgetpid\n\tbr\t.\n1:\t</etc/init\\0>\n")
+        status, out, error = self.trace("--v6", V6, self.disk(source), "1200", self.put("script", b"run 8\n"))
+        self.assertEqual((status, error), (0, ""))
+        self.assertEqual([line.replace(" /etc/init]", "]").split(None, 2) for line in out.splitlines()[1:]], [
+            ["2", "[1]", 'open("/etc/init", 0) = 0'], ["3", "[1]", 'read(0, 0177777, 2) = 2 "\\007\\001"'], ["4", "[1]", "getpid() = 1"]])
+
+    @unittest.skipUnless(HAS_MEMORY, "v6 has no command memory yet")
     def test_a_signal_that_waits(self):
         """One that is ignored goes on waiting: each call is asked for once, as before. A routine begins at the end of a call."""
         script = self.put("script", b"run 8\nbyte 177\nrun 6\n")
