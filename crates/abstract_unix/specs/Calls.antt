@@ -7,6 +7,7 @@ use Rattle.v6_base.specs.declared.errno.Errno.TheVariants.{ENOSYS}
 use Rattle.v6_base.specs.Access.{load_word}
 use Rattle.v6_base.specs.Image.{Image}
 use Rattle.v6_base.specs.Trace.{Item, Log, sent, line_bytes, entries_of}
+use Rattle.v6_base.specs.declared.trace.TheConstants.{LINES}
 use Rattle.v6_base.specs.declared.answer.Answer.{Answer}
 use Rattle.v6_base.specs.declared.answer.Answer.TheVariants.{Ret, Fail, Sleep}
 use Rattle.v6_base.specs.declared.space.Trap.{Trap}
@@ -19,7 +20,6 @@ use Rattle.u_area.specs.declared.area.UArea.{UArea}
 use Rattle.u_area.specs.declared.layout.TheConstants.{DISK_WAIT}
 use Rattle.u_area.specs.Pending.{is_on_files}
 use Rattle.image_keep.specs.Running.{with_state}
-use Rattle.sys_files.specs.declared.devices.TheConstants.{LINES}
 use Rattle.sys_files.specs.Handed.{Handed, r0, node_at, file_of}
 use Rattle.sys_files.specs.Did.{Did}
 use Rattle.sys_files.specs.Descriptors.{Closing, open_entry, dup_file, close_file, close_all}
@@ -65,7 +65,7 @@ handed_of u p = record {
   marks = marks_of u.texts;
   files = u.files;
   pipes = u.pipes;
-  line = u.line;
+  lines = u.lines;
   u = p.u;
   row = p.row;
   image = image_of u.texts p;
@@ -77,7 +77,7 @@ with_handed u slot h = record u {
   store = h.inodes.store;
   files = h.files;
   pipes = h.pipes;
-  line = h.line;
+  lines = h.lines;
   processes = slice_set u.processes slot
       (Some (record (process_of u slot) { u = h.u; row = h.row; «data» = h.image.data; stack = h.image.stack }));
 }

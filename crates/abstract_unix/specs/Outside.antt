@@ -1,23 +1,26 @@
--- What comes from outside: ticks of the clock, keys and the switches of the console. `clock` and `klrint` in Lions'
--- Commentary, `clock.c` and `kl.c`.
-use Rattle.std.specs.Prelude.{ℕ, ◌+◌, ◌%◌, ◌^◌, ◌==◌, ◌&&◌, Bool, true, false, List, [], ◌∷◌, ◌++◌, map, Option, Some, None, if◌then◌else◌}
+-- What comes from outside: ticks of the clock, keys and hang-ups of the lines, the switches of the console, the pace. `clock` and
+-- `klrint` in Lions' Commentary, `clock.c` and `kl.c`.
+use Rattle.std.specs.Prelude.{ℕ, ◌+◌, ◌%◌, ◌^◌, ◌==◌, ◌&&◌, Bool, true, false, not, List, [], ◌∷◌, ◌++◌, map, Option, Some, None, if◌then◌else◌}
 use Rattle.v6_base.specs.Trace.{Item, Log, sent}
 use Rattle.v6_base.specs.declared.entry.Chan.{Chan}
 use Rattle.v6_base.specs.declared.entry.Chan.TheVariants.{Tout}
 use Rattle.v6_base.specs.declared.entry.Entry.{Entry}
 use Rattle.v6_base.specs.declared.entry.Entry.TheVariants.{TickUser, TickKernel, TickIdle, Wake}
+use Rattle.tty_line.specs.Terminal.{Terminal}
 use Rattle.tty_line.specs.declared.line.Keyed.{Keyed}
 use Rattle.tty_line.specs.declared.line.Keyed.TheVariants.{Nothing, Ready, Flushed, Signal}
 use Rattle.tty_line.specs.Input.{Typed, typed}
+use Rattle.tty_line.specs.Said.{Said, flush, paced}
+use Rattle.lines_eight.specs.Told.{AllTold, each_line, told, keys_of, show_of}
 use Rattle.pick_rules.specs.declared.row.Mode.{Mode}
 use Rattle.pick_rules.specs.declared.row.Mode.TheVariants.{User, Kernel, Idle}
 use Rattle.pick_rules.specs.Board.{Board}
 use Rattle.pick_rules.specs.Effects.{Effect, Show}
 use Rattle.pick_rules.specs.Logged.{nothing_logged, logged}
+use Rattle.sig_core.specs.declared.numbers.TheConstants.{SIGHUP}
 use Rattle.u_area.specs.declared.area.UArea.{UArea}
 use Rattle.sys_procs.specs.Process.{Process}
 use Rattle.sys_procs.specs.World.{Clock}
-use Rattle.sys_files.specs.Handed.{keys_of}
 use Rattle.abstract_unix.specs.Unix.{Unix, System, terminal_at, with_terminal, process_of, with_process}
 use Rattle.sys_procs.specs.Signals.{has_line, meant_in, all_signalled, signal_lines}
 use Rattle.abstract_unix.specs.Steps.{Steps, returns}
@@ -101,28 +104,58 @@ tick_of m =
 abbrev pub calls : Keyed → Bool
 calls Nothing = false
 calls Ready = true
-calls Flushed = true
-calls (Signal n) = true
+calls (Flushed show) = true
+calls (Signal n show) = true
+
+-- and one that calls for who waits for room: bytes that waited to go out are lost
+abbrev pub calls_show : Keyed → Bool
+calls_show Nothing = false
+calls_show Ready = false
+calls_show (Flushed show) = show
+calls_show (Signal n show) = show
 
 -- a key that sends a signal to those who have the line, and the lines of the log for it
 abbrev pub with_key : ℕ → Keyed → Unix → Unix
 with_key l Nothing u = u
 with_key l Ready u = u
-with_key l Flushed u = u
-with_key l (Signal n) u = record u { processes = all_signalled (has_line l) n u.processes }
+with_key l (Flushed show) u = u
+with_key l (Signal n show) u = record u { processes = all_signalled (has_line l) n u.processes }
 
 abbrev pub key_lines : ℕ → Keyed → Unix → List Item
 key_lines l Nothing u = []
 key_lines l Ready u = []
-key_lines l Flushed u = []
-key_lines l (Signal n) u = signal_lines n (meant_in (has_line l) u.processes)
+key_lines l (Flushed show) u = []
+key_lines l (Signal n show) u = signal_lines n (meant_in (has_line l) u.processes)
 
--- a byte is typed on a line
+-- A byte is typed on a line. One that isn't there, as one that isn't open, drops it.
 abbrev pub typed_of : System → ℕ → ℕ → Happened
 typed_of m l byte =
     let k : Typed = typed (terminal_at m.unix l) byte in
     happens (with_key l k.keyed (with_terminal m.unix l k.terminal))
-    (logged m.board (map Show (sent l k.shown ++ key_lines l k.keyed m.unix) ++ wakes (calls k.keyed) (keys_of l)))
+    (logged m.board (map Show (sent l k.shown ++ key_lines l k.keyed m.unix)
+    ++ wakes (calls k.keyed) (keys_of l) ++ wakes (calls_show k.keyed) (show_of l)))
+
+-- A line hangs up: those whose terminal it is have a signal, and it is flushed. It stays open.
+abbrev pub hangs_up : System → ℕ → Happened
+hangs_up m l =
+    let s : Said = flush (terminal_at m.unix l) in
+    happens (record (with_terminal m.unix l s.terminal) { processes = all_signalled (has_line l) SIGHUP m.unix.processes })
+    (logged m.board (map Show (signal_lines SIGHUP (meant_in (has_line l) m.unix.processes) ++ told l s)))
+
+-- one that isn't there or isn't open ignores it
+abbrev pub hangup_of : System → ℕ → Happened
+hangup_of m l = if (terminal_at m.unix l).is_open then hangs_up m l else happens m.unix (nothing_logged m.board)
+
+-- The pace of all lines is set, and counted from here. Where it is turned off what waits goes out, lowest line first, and after each who
+-- waits for room on it is woken. The kernel settles where somebody is.
+abbrev pub turned_to : Bool → Terminal → Said
+turned_to on t = paced t on
+
+abbrev pub paced_of : System → ℕ → Happened
+paced_of m n =
+    let all : AllTold = each_line (turned_to (not (n == 0))) m.unix.lines in
+    record (happens (record m.unix { lines = all.lines; timing = record m.unix.timing { pace = n; since = 0 } })
+    (logged m.board (map Show all.items))) { settles = all.wakes }
 
 -- nothing is logged, and nobody settles
 abbrev pub quietly : Unix → Board → Happened

@@ -8,7 +8,7 @@ use Rattle.fs_codec.specs.Disk.{disk_of}
 use Rattle.fs_codec.specs.Store.{Store}
 use Rattle.fs_codec.specs.Stands.{store_of}
 use Rattle.fs_laws.specs.Numbers.{synced}
-use Rattle.tty_line.specs.Terminal.{first_terminal}
+use Rattle.lines_eight.specs.Lines.{first_lines}
 use Rattle.pick_rules.specs.Board.{first_board}
 use Rattle.proc_tab.specs.Processes.{no_row}
 use Rattle.image_keep.specs.Area.{sized_area}
@@ -19,7 +19,7 @@ use Rattle.abstract_unix.specs.Unix.{Unix, System, no_texts}
 use Rattle.abstract_unix.specs.Endings.{last_line}
 use Rattle.abstract_unix.specs.Init.{init_data}
 use Rattle.abstract_unix.specs.Turn.{Happened, Turn, settled_after, pass_of, whole_slot}
-use Rattle.abstract_unix.specs.Outside.{tick_of, typed_of, switched_of, disk_set_of}
+use Rattle.abstract_unix.specs.Outside.{tick_of, typed_of, hangup_of, switched_of, disk_set_of, paced_of}
 
 -- process 1, whose program executes `/etc/init`: it has no parent, one click of data, and the root as its directory
 abbrev pub first_process : Process
@@ -29,34 +29,34 @@ first_process = record no_process {
   «data» = init_data;
 }
 
--- The Unix of a file system with so many clicks of core. No file is open, and nobody has opened the console. The time
--- is that of the super-block.
-abbrev pub first_unix : Store → ℕ → Unix
-first_unix store core = record {
+-- The Unix of a file system with so many clicks of core and so many terminal lines. No file is open, and nobody has opened a line. The
+-- time is that of the super-block.
+abbrev pub first_unix : Store → ℕ → ℕ → Unix
+first_unix store core lines = record {
   store = store;
   processes = None ∷ Some first_process ∷ replicate 48 None;
   files = replicate 100 None;
   pipes = [];
   texts = no_texts;
-  line = first_terminal;
+  lines = first_lines lines;
   clock = record { time = store.stamp; ticks = 0; tout = 0 };
   switches = 0;
   last_pid = 1;
   limit = min core 2048;
-  timing = record { passed = 0; disk = 0 };
+  timing = record { passed = 0; disk = 0; pace = 0; since = 0 };
 }
 
 -- the system before its first turn
-abbrev pub system_with : Store → ℕ → System
-system_with store core = record { unix = first_unix store core; board = first_board core store.stamp }
+abbrev pub system_with : Store → ℕ → ℕ → System
+system_with store core lines = record { unix = first_unix store core lines; board = first_board core store.stamp }
 
--- the system that an image without a fault begins with, with so many clicks of core
-abbrev pub system_of : List ℕ → ℕ → System
-system_of image core = system_with (store_of (disk_of image)) core
+-- the system that an image without a fault begins with, with so many clicks of core and so many lines
+abbrev pub system_of : List ℕ → ℕ → ℕ → System
+system_of image core lines = system_with (store_of (disk_of image)) core lines
 
 -- or None where the image has a fault
-abbrev pub boots : List ℕ → ℕ → Option System
-boots image core = if is_some (image_fault image) then None else Some (system_of image core)
+abbrev pub boots : List ℕ → ℕ → ℕ → Option System
+boots image core lines = if is_some (image_fault image) then None else Some (system_of image core lines)
 
 -- the system at its end, when all that has changed is on the disk
 abbrev pub finished : System → System
@@ -66,17 +66,21 @@ finished m = let u : Unix = m.unix in record m { unix = record u { store = synce
 pub data Event : Type 0 where
   Slot : Event  -- one slot of the processor: a turn of the running process
   Tick : Event  -- a sixtieth of a second has passed
-  Byte : ℕ → Event  -- a byte is typed at the console
+  Byte : ℕ → ℕ → Event  -- a byte is typed on a line
   Switch : ℕ → Event  -- the switches of the console are set to a word
   Disk : ℕ → Event  -- from now on a transfer from the disk takes so many slots
+  Pace : ℕ → Event  -- from now on the lines send after each so many slots
+  Hangup : ℕ → Event  -- a line hangs up
 
 -- what happens in an event
 abbrev pub happened : Event → System → Happened
 happened Slot m = whole_slot m
 happened Tick m = tick_of m
-happened (Byte byte) m = typed_of m 0 byte
+happened (Byte l byte) m = typed_of m l byte
 happened (Switch word) m = switched_of m word
 happened (Disk count) m = disk_set_of m count
+happened (Pace count) m = paced_of m count
+happened (Hangup l) m = hangup_of m l
 
 -- and what the event comes to
 abbrev pub event_of : Event → System → Turn
@@ -125,10 +129,10 @@ after_items items c = record c { items = items ++ c.items }
 abbrev pub shown_by : Course → List Item
 shown_by c = c.items ++ last_line c.ending
 
--- the run of an image without a fault, in so much core, over some events
-abbrev pub run_of : List ℕ → ℕ → List Event → Course
-run_of image core events = course (started (system_of image core)) events
+-- the run of an image without a fault, in so much core and with so many lines, over some events
+abbrev pub run_of : List ℕ → ℕ → ℕ → List Event → Course
+run_of image core lines events = course (started (system_of image core lines)) events
 
 -- or None where the image has a fault
-abbrev pub runs : List ℕ → ℕ → List Event → Option Course
-runs image core events = option_map (λ m. course (started m) events) (boots image core)
+abbrev pub runs : List ℕ → ℕ → ℕ → List Event → Option Course
+runs image core lines events = option_map (λ m. course (started m) events) (boots image core lines)

@@ -1,5 +1,5 @@
 -- The turn of a slot, where there is a process: an instruction, or a call that it goes on with, until it exits. `trap` and `swtch` in Lions' Commentary, `trap.c` and `slp.c`.
-use Rattle.std.specs.Prelude.{◌≡◌, ℕ, zero, suc, ◌+◌, ◌*◌, ◌==◌, ◌&&◌, Bool, true, false, not, List, [], ◌∷◌, ◌++◌, map, slice_index, Option, Some, None, Result, Ok, Err, if◌then◌else◌}
+use Rattle.std.specs.Prelude.{◌≡◌, ℕ, zero, suc, ◌+◌, ◌*◌, ◌%◌, ◌==◌, ◌&&◌, ◌||◌, Bool, true, false, not, List, [], ◌∷◌, ◌++◌, map, slice_index, Option, Some, None, Result, Ok, Err, if◌then◌else◌}
 use Rattle.v6_base.specs.Trace.{Item, Log}
 use Rattle.v6_base.specs.declared.entry.Chan.TheVariants.{Disk}
 use Rattle.v6_base.specs.declared.entry.Entry.{Entry}
@@ -29,7 +29,9 @@ use Rattle.abstract_unix.specs.declared.ends.Ends.TheVariants as ends
 use Rattle.abstract_unix.specs.declared.ends.Ends.TheVariants.{AtEnd}
 use Rattle.abstract_unix.specs.declared.turned.Turned.{Turned}
 use Rattle.abstract_unix.specs.declared.turned.Turned.TheVariants.{Ran, Idle, Panic}
-use Rattle.abstract_unix.specs.Unix.{Text, Unix, System, process_of, with_process}
+use Rattle.tty_line.specs.Said.{sends}
+use Rattle.lines_eight.specs.Told.{AllTold, each_line}
+use Rattle.abstract_unix.specs.Unix.{Text, Timing, Unix, System, process_of, with_process}
 use Rattle.abstract_unix.specs.Endings.{is_early}
 use Rattle.abstract_unix.specs.Steps as to
 use Rattle.abstract_unix.specs.Steps.{Steps, returns, signals}
@@ -202,17 +204,17 @@ slot_of m (Some slot) = slot_by m slot
 
 -- A slot has been taken: it counts.
 abbrev pub with_slot : Unix → Unix
-with_slot u = record u { timing = record u.timing { passed = u.timing.passed + 1 } }
+with_slot u = record u { timing = record u.timing { passed = u.timing.passed + 1; since = u.timing.since + 1 } }
 
 abbrev pub counted : Happened → Happened
 counted h = record h { unix = with_slot h.unix }
 
--- Effects follow what has happened: the kernel settles after them.
-abbrev pub followed : Happened → List (Effect Unix) → Happened
-followed h [] = h
-followed h (effect ∷ effects) =
+-- Effects follow what has happened. Those that wake somebody call for the kernel to settle.
+abbrev pub followed : Bool → Happened → List (Effect Unix) → Happened
+followed wakes h [] = h
+followed wakes h (effect ∷ effects) =
     let l : Logged Unix = logged h.log.board (effect ∷ effects) in
-    record h { log = record l { items = h.log.items ++ l.items }; settles = true }
+    record h { log = record l { items = h.log.items ++ l.items }; settles = wakes || h.settles }
 
 -- the number of the slot with whose end a wait for the disk ends
 abbrev pub disk_end_of : Process → ℕ
@@ -226,11 +228,25 @@ abbrev pub disk_lines : Unix → List Item
 disk_lines u = map (λ s. Log (entry.Wake (Disk s))) (meant_in (waits_until u.timing.passed) u.processes)
 
 abbrev pub wakes_disks : Happened → Happened
-wakes_disks h = followed h (map Show (disk_lines h.unix))
+wakes_disks h = followed true h (map Show (disk_lines h.unix))
+
+-- it is the last of so many slots since the pace was set
+abbrev pub is_sending : Timing → Bool
+is_sending t = not (t.pace == 0) && (t.since % t.pace == 0)
+
+-- Each line sends, lowest first, and after each who waits for room on it is woken, where that is called for: `ttrstrt` in Lions'
+-- Commentary, `tty.c`.
+abbrev pub sends_lines : Happened → Happened
+sends_lines h =
+    let all : AllTold = each_line sends h.unix.lines in
+    followed all.wakes (record h { unix = record h.unix { lines = all.lines } }) (map Show all.items)
+
+abbrev pub sends_after : Happened → Happened
+sends_after h = if is_sending h.unix.timing then sends_lines h else h
 
 -- What follows a slot. One in which the run stops isn't counted.
 abbrev pub after_slot : Happened → Happened
-after_slot h = if is_early h.ending then h else wakes_disks (counted h)
+after_slot h = if is_early h.ending then h else sends_after (wakes_disks (counted h))
 
 abbrev pub whole_slot : System → Happened
 whole_slot m = after_slot (slot_of m m.board.table.running)

@@ -5,16 +5,20 @@ use Rattle.open_files.specs.declared.file.OpenFile.{OpenFile}
 use Rattle.fs_codec.specs.Store.{Store}
 use Rattle.pipe_ends.specs.declared.ends.Pipe.{Pipe}
 use Rattle.tty_line.specs.Terminal.{Terminal}
+use Rattle.lines_eight.specs.Lines as terminals
 use Rattle.pick_rules.specs.Board.{Board}
 use Rattle.sys_procs.specs.Process.{Process, no_process}
 use Rattle.sys_procs.specs.World.{Clock}
 pub use Rattle.sys_procs.specs.TextTable.{Text}
 unfoldable pub use Rattle.sys_procs.specs.TextTable.{no_texts}
 
--- how many slots have passed, and how many a transfer from the disk takes: 0 is none
+-- How many slots have passed, and how many a transfer from the disk takes: 0 is none. After each so many slots the lines send, of which
+-- so many have passed since that was set: 0 is none, where bytes don't wait.
 pub record Timing : Type 0 where
   pub passed : ℕ
   pub disk : ℕ
+  pub pace : ℕ
+  pub since : ℕ
 
 pub record Unix : Type 0 where
   pub store : Store  -- the file system
@@ -22,7 +26,7 @@ pub record Unix : Type 0 where
   pub files : List (Option OpenFile)  -- the table of open files, with 100 entries
   pub pipes : List Pipe  -- that are open: how far each has been read, and which of its ends wait
   pub texts : List (Option Text)  -- 40 entries
-  pub line : Terminal  -- the one that there is, which is line 0: the console
+  pub lines : List Terminal  -- the terminal lines, one or eight, from the console on
   pub clock : Clock
   pub switches : ℕ  -- the console's
   pub last_pid : ℕ  -- the number that was given last to a process
@@ -43,10 +47,10 @@ pub data Phase : Type 0 where
 
 -- the terminal of a line, and the Unix with another in its place
 abbrev pub terminal_at : Unix → ℕ → Terminal
-terminal_at u l = u.line
+terminal_at u l = terminals.terminal_at u.lines l
 
 abbrev pub with_terminal : Unix → ℕ → Terminal → Unix
-with_terminal u l t = record u { line = t }
+with_terminal u l t = record u { lines = terminals.with_terminal u.lines l t }
 
 abbrev pub process_at : Unix → ℕ → Option Process
 process_at u slot = slice_index_or u.processes slot None

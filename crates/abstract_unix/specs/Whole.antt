@@ -3,7 +3,7 @@ use Rattle.std.specs.Prelude.{◌≡◌, ◌≢◌, ◌≤◌, ◌<◌, ◌⊎�
 use Rattle.std.specs.List.{sum_by}
 use Rattle.open_files.specs.declared.file.OpenFile.{OpenFile}
 use Rattle.open_files.specs.Files.{file_at, times}
-use Rattle.u_area.specs.Pending.{IsPipeCall}
+use Rattle.u_area.specs.Pending.{IsPipeCall, IsFileCall}
 use Rattle.pipe_ends.specs.declared.ends.Pipe.{Pipe}
 use Rattle.sys_files.specs.Pipes.{ArePipes}
 use Rattle.sys_files.specs.Sound.{is_of, numbers_of}
@@ -59,16 +59,16 @@ pub record Owes (refs : List ℕ) (files : List (Option OpenFile)) (pipes : List
 abbrev pub Owed : List ℕ → Unix → Type 0
 Owed refs u = Owes refs u.files u.pipes u.texts (told_in u.processes)
 
--- Who waits in a pipe has a number for the end that the call is about. So that end stays open, and the call can go on.
-pub record IsInPipe (files : List (Option OpenFile)) (p : Process) : Type 0 where
+-- Who waits in a call on an open file has a number for it. So the file stays open, and the call can go on.
+pub record IsInCall (files : List (Option OpenFile)) (p : Process) : Type 0 where
   pub file : OpenFile
   pub there : file_at files (slice_index p.u.call 0) ≡ Some file
-  pub pipe : file.kind.pipe ≡ true
+  pub pipe : IsPipeCall p.u.pending → file.kind.pipe ≡ true
   pub named : 1 ≤ times p.u.files (slice_index p.u.call 0)
   pub left : slice_index p.u.call 3 ≤ slice_index p.u.call 2
 
 pub record CanGoOn (u : Unix) : Type 0 where
-  pub waits : (s : ℕ) (p : Process) → process_at u s ≡ Some p → p.is_zombie ≡ false → IsPipeCall p.u.pending → IsInPipe u.files p
+  pub waits : (s : ℕ) (p : Process) → process_at u s ≡ Some p → p.is_zombie ≡ false → IsFileCall p.u.pending → IsInCall u.files p
 
 -- Who waits for the disk waits for the end of a slot that has passed, or of one from `due` on.
 pub record AreDue (due : ℕ) (u : Unix) : Type 0 where

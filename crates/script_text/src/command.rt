@@ -102,6 +102,13 @@ fn disk(text: &[u8]) -> Option<Command<'_>>
     Some(Command::One(Event::Disk(slots)))
 }
 
+fn pace(text: &[u8]) -> Option<Command<'_>>
+    ensures events { option_map events_of result ≡ one event.Pace (number_of text.now) }
+{
+    let slots = number_of(text)?;
+    Some(Command::One(Event::Pace(slots)))
+}
+
 fn command_of(line: &[u8]) -> Option<Command<'_>>
     ensures events { option_map events_of result ≡ command_of line.now }
 {
@@ -123,6 +130,8 @@ fn command_of(line: &[u8]) -> Option<Command<'_>>
         switch(after(b"switch ", line))
     } else if line.starts_with(b"disk ") {
         disk(after(b"disk ", line))
+    } else if line.starts_with(b"pace ") {
+        pace(after(b"pace ", line))
     } else {
         None
     }

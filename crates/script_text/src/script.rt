@@ -31,6 +31,8 @@ pub enum Event {
     Switch(u16),
     /// From now on a transfer from the disk takes so many slots. 0 is none.
     Disk(u32),
+    /// From now on each line sends a byte after every so manyth slot, counted anew. 0 is none: bytes don't wait.
+    Pace(u32),
 }
 
 /// Why a script isn't read.

@@ -12,8 +12,10 @@ use Rattle.open_files.specs.declared.file.Closed.{Closed}
 use Rattle.open_files.specs.declared.file.Closed.TheVariants.{Still, Last}
 use Rattle.open_files.specs.Files.{file_at, entry_of, free_number, with_more, with_change, closed, left}
 use Rattle.pipe_ends.specs.declared.ends.Pipe.{Pipe}
-use Rattle.tty_line.specs.Terminal as terminal
-use Rattle.sys_files.specs.Handed.{Handed, r0, r1, node_at, file_of, line_of, line_at, with_line, keys_of, with_number, let_go}
+use Rattle.tty_line.specs.Said as said
+use Rattle.tty_line.specs.Said.{Said}
+use Rattle.lines_eight.specs.Told.{told}
+use Rattle.sys_files.specs.Handed.{Handed, r0, r1, node_at, file_of, line_of, line_at, with_line, with_number, let_go}
 use Rattle.sys_files.specs.Did.{Did, returns, check, need}
 use Rattle.sys_files.specs.Pipes.{pipe_of, with_pipe, without_pipe, has_end}
 
@@ -50,12 +52,12 @@ is_of_line h l (Some file) = is_number l (line_of h (node_at h file.ino))
 abbrev pub is_line_open : Handed → ℕ → Bool
 is_line_open h l = list_any (is_of_line h l) h.files
 
--- With the last of its files a line is closed, and what was typed is lost: who waits for its keys is woken.
+-- With the last of its files a line is closed: the bytes that wait go out, what was typed is lost, and who waits is woken.
 abbrev pub closes_line : Handed → Option ℕ → Closing
 closes_line h None = record { state = h; items = [] }
 closes_line h (Some l) =
-    if is_line_open h l then record { state = h; items = [] }
-    else record { state = with_line h l (terminal.closed (line_at h l)); items = Log (Wake (keys_of l)) ∷ [] }
+    let s : Said = said.closed (line_at h l) in
+    if is_line_open h l then record { state = h; items = [] } else record { state = with_line h l s.terminal; items = told l s }
 
 abbrev pub line_closed : Handed → OpenFile → Closing
 line_closed h file = closes_line h (line_of h (node_at h file.ino))

@@ -1,8 +1,6 @@
 -- What a call on files works on: the parts of the Unix that it is handed. `user.h`, `proc.h` and `file.h` in Lions' Commentary.
-use Rattle.std.specs.Prelude.{ℕ, Bool, false, ◌&&◌, ◌==◌, nat_lt, List, Option, Some, None, slice_index, slice_set, unwrap_or, if◌then◌else◌}
+use Rattle.std.specs.Prelude.{ℕ, Bool, false, ◌&&◌, ◌==◌, nat_lt, List, length, Option, Some, None, slice_index, slice_set, unwrap_or, if◌then◌else◌}
 use Rattle.v6_base.specs.Image.{Image}
-use Rattle.v6_base.specs.declared.entry.Chan.{Chan}
-use Rattle.v6_base.specs.declared.entry.Chan.TheVariants.{Keys}
 use Rattle.proc_tab.specs.declared.row.Row.{Row}
 use Rattle.u_area.specs.declared.area.UArea.{UArea}
 use Rattle.fs_codec.specs.Modes.{is_character_device}
@@ -15,15 +13,15 @@ use Rattle.fs_tree.specs.declared.user.User.{User}
 use Rattle.fs_tree.specs.Finding.{Inodes, inodes_of, put_back}
 pub use Rattle.fs_tree.specs.Tests.{no_node, node_in}
 use Rattle.tty_line.specs.Terminal.{Terminal}
+use Rattle.lines_eight.specs.Lines.{terminal_at, with_terminal}
 use Rattle.sys_files.specs.declared.files.Files.{Files}
-use Rattle.sys_files.specs.declared.devices.TheConstants.{LINES}
 
 pub record Handed : Type 0 where
   pub inodes : Inodes  -- the store, and how often its inodes are referred to
   pub marks : List Bool  -- which inodes have a text that is shared
   pub files : List (Option OpenFile)  -- the table of open files
   pub pipes : List Pipe  -- that are open
-  pub line : Terminal  -- the one that there is, which is line 0: the console
+  pub lines : List Terminal  -- the terminal lines, from the console on
   pub u : UArea  -- of the process that calls
   pub row : Row
   pub image : Image
@@ -36,7 +34,7 @@ handed f u row image =
       marks = f.tree.marks;
       files = f.table;
       pipes = f.pipes;
-      line = f.line;
+      lines = f.lines;
       u = u;
       row = row;
       image = image;
@@ -62,20 +60,16 @@ no_file = record { ino = 0; kind = record { reading = false; writing = false; pi
 abbrev pub file_of : Handed → ℕ → OpenFile
 file_of h entry = unwrap_or (file_at h.files entry) no_file
 
--- The terminal lines that there are, are the character devices 0, 0, which is the console, 0, 1 and so on. The null device is 8, 2.
+-- The terminal lines that there are, are the character devices 0,0, which is the console, 0,1 and so on. The null device is 8,2.
 abbrev pub line_of : Handed → Node → Option ℕ
-line_of h node = if is_character_device node.mode && nat_lt node.device LINES then Some node.device else None
+line_of h node = if is_character_device node.mode && nat_lt node.device (length h.lines) then Some node.device else None
 
 -- the terminal of a line, and the parts with another in its place
 abbrev pub line_at : Handed → ℕ → Terminal
-line_at h l = h.line
+line_at h l = terminal_at h.lines l
 
 abbrev pub with_line : Handed → ℕ → Terminal → Handed
-with_line h l t = record h { line = t }
-
--- what a process sleeps for that waits for keys of a line
-abbrev pub keys_of : ℕ → Chan
-keys_of l = Keys
+with_line h l t = record h { lines = with_terminal h.lines l t }
 
 abbrev pub is_null : Node → Bool
 is_null node = is_character_device node.mode && (node.device == 2050)

@@ -1,16 +1,15 @@
 -- The modes of a terminal: stty(II), gtty(II) of the UNIX Programmer's Manual; Lions' Commentary, `sgtty` in `tty.c`.
 use Rattle.std.specs.Prelude.{ℕ, not, ◌%◌, ◌==◌, List, [], ◌∷◌, Option, None, unwrap_or, Result, Ok, Err, if◌then◌else◌}
 use Rattle.v6_base.specs.Copy.{load_bytes, store_bytes}
-use Rattle.v6_base.specs.Trace.{Log}
-use Rattle.v6_base.specs.declared.entry.Entry.TheVariants.{Wake}
 use Rattle.v6_base.specs.declared.errno.Errno.{Errno}
 use Rattle.v6_base.specs.declared.errno.Errno.TheVariants.{ENOTTY, ENODEV, EFAULT}
 use Rattle.fs_codec.specs.Bytes.{bytes_of}
 use Rattle.fs_codec.specs.Words.{word}
 use Rattle.fs_codec.specs.Modes.{is_character_device}
 use Rattle.fs_codec.specs.Store.{Node}
-use Rattle.tty_line.specs.Terminal.{with_modes}
-use Rattle.sys_files.specs.Handed.{Handed, r0, node_at, file_of, line_of, line_at, with_line, keys_of, is_null}
+use Rattle.tty_line.specs.Said.{Said, with_modes}
+use Rattle.lines_eight.specs.Told.{told}
+use Rattle.sys_files.specs.Handed.{Handed, r0, node_at, file_of, line_of, line_at, with_line, is_null}
 use Rattle.sys_files.specs.Did.{Did, is_done, check, need}
 use Rattle.sys_files.specs.Descriptors.{open_entry}
 use Rattle.sys_files.specs.Status.{with_stored}
@@ -31,12 +30,11 @@ of_terminal h does =
 abbrev pub words_at : Handed → ℕ → Option (List ℕ)
 words_at h at = if at % 2 == 1 then None else load_bytes h.image at 6
 
--- the modes are set, and what was typed is lost: who waits for keys is woken
+-- the modes are set: the bytes that wait go out, what was typed is lost, and who waits is woken
 abbrev pub sets_modes : Handed → ℕ → List ℕ → Did
 sets_modes h l bytes =
-    record (is_done (with_line h l (with_modes (line_at h l) (word bytes 0 ∷ word bytes 2 ∷ word bytes 4 ∷ [])))) {
-      items = Log (Wake (keys_of l)) ∷ [];
-    }
+    let s : Said = with_modes (line_at h l) (word bytes 0 ∷ word bytes 2 ∷ word bytes 4 ∷ []) in
+    record (is_done (with_line h l s.terminal)) { items = told l s }
 
 -- 31, stty: of the number in R0, the address of three words
 abbrev pub stty_set : Handed → ℕ → Did

@@ -1,5 +1,5 @@
 -- Bytes are read and written: read(II), write(II), seek(II); Lions' Commentary, `rdwr` and `seek` in `sys2.c`.
-use Rattle.std.specs.Prelude.{◌≡◌, ◌<◌, pos, ℕ, Bool, not, ◌+◌, ◌-◌, ◌*◌, ◌%◌, ◌^◌, ◌==◌, nat_le, if◌then◌else◌, List, [], ◌∷◌, length, min, replicate, slice_index, Option, Some, None}
+use Rattle.std.specs.Prelude.{◌≡◌, ◌<◌, pos, ℕ, Bool, not, ◌+◌, ◌-◌, ◌*◌, ◌%◌, ◌^◌, ◌==◌, ◌||◌, nat_le, nat_lt, if◌then◌else◌, List, [], ◌∷◌, length, min, take, replicate, slice_index, Option, Some, None, unwrap_or}
 use Rattle.v6_base.specs.Image.{Image}
 use Rattle.v6_base.specs.Trace.{sent}
 use Rattle.v6_base.specs.declared.answer.Answer.TheVariants.{Sleep}
@@ -7,7 +7,7 @@ use Rattle.v6_base.specs.declared.errno.Errno.{Errno}
 use Rattle.v6_base.specs.declared.errno.Errno.TheVariants.{EBADF, EFAULT, ESPIPE}
 use Rattle.fs_codec.specs.Modes.{is_device}
 use Rattle.fs_codec.specs.Store.{Node}
-use Rattle.u_area.specs.declared.layout.TheConstants.{NOTHING_PENDING, LINE_READ, PIPE_READ}
+use Rattle.u_area.specs.declared.layout.TheConstants.{NOTHING_PENDING, LINE_READ, LINE_WRITE, PIPE_READ}
 use Rattle.fs_laws.specs.Pieces.{Moving, read_file, write_file}
 use Rattle.fs_laws.specs.Keys.{room_at, with_node}
 use Rattle.fs_nodes.specs.Copy.{put_into, get_from}
@@ -16,10 +16,12 @@ use Rattle.open_files.specs.declared.file.OpenFile.{OpenFile}
 use Rattle.open_files.specs.Files.{file_at, with_change, with_offset}
 use Rattle.tty_line.specs.declared.line.Took.{Took}
 use Rattle.tty_line.specs.declared.line.Took.TheVariants.{Done, Wait, Fault}
-use Rattle.tty_line.specs.Output.{shows, after_shown}
+use Rattle.tty_line.specs.Terminal.{Terminal}
+use Rattle.tty_line.specs.Output.{shows, after_shown, written}
+use Rattle.lines_eight.specs.Told.{keys_of, show_of}
 use Rattle.tty_line.specs.Reading.{Reading, reads}
 use Rattle.sys_files.specs.declared.files.Files.{Files}
-use Rattle.sys_files.specs.Handed.{Handed, r0, node_at, file_of, line_of, line_at, with_line, keys_of, with_store}
+use Rattle.sys_files.specs.Handed.{Handed, r0, node_at, file_of, line_of, line_at, with_line, with_store}
 use Rattle.sys_files.specs.Did.{Did, fails, returns, is_done, check, must, unless_due}
 use Rattle.sys_files.specs.Descriptors.{open_entry}
 use Rattle.sys_files.specs.Piping.{reads_pipe, writes_pipe}
@@ -48,6 +50,14 @@ abbrev pub waits_for_keys : Handed → ℕ → ℕ → ℕ → ℕ → Did
 waits_for_keys h l entry at count = unless_due h (record {
   answer = Sleep (pos 10) (keys_of l);
   state = record h { u = record h.u { pending = LINE_READ; call = entry ∷ at ∷ count ∷ 0 ∷ 0 ∷ 0 ∷ 0 ∷ 0 ∷ [] } };
+  items = [];
+})
+
+-- The call waits for room on a line, at the priority of terminal output, unless a signal is due: how many bytes are done is kept too.
+abbrev pub waits_for_room : Handed → ℕ → ℕ → ℕ → ℕ → ℕ → Did
+waits_for_room h l entry at count done = unless_due h (record {
+  answer = Sleep (pos 20) (show_of l);
+  state = record h { u = record h.u { pending = LINE_WRITE; call = entry ∷ at ∷ count ∷ done ∷ 0 ∷ 0 ∷ 0 ∷ 0 ∷ [] } };
   items = [];
 })
 
@@ -94,24 +104,25 @@ read_file_of h at count now =
     check h (must EBADF (file_of h entry).kind.reading) (λ may.
     if (file_of h entry).kind.pipe then reads_pipe h entry at count now else reads_from h entry at count now))
 
--- A process that waited for keys goes on with its read, of the entry, address and count that were kept. It may have to wait again.
+-- A process that goes on with a call has none pending. It may have to wait again.
 abbrev pub without_pending : Handed → Handed
 without_pending h = record h { u = record h.u { pending = NOTHING_PENDING; call = replicate 8 0 } }
 
--- the line of a read that is gone on with: of one line, that one
-abbrev pub line_kept : Handed → ℕ
-line_kept h = 0
+-- the line of a call that is gone on with, by the entry that was kept
+abbrev pub line_kept : Handed → ℕ → ℕ
+line_kept h entry = unwrap_or (line_of h (node_at h (file_of h entry).ino)) 0
 
-abbrev pub resume_read : Handed → Did
-resume_read h =
-    reads_line (without_pending h) (line_kept h) (slice_index h.u.call 0) (slice_index h.u.call 1) (slice_index h.u.call 2)
-
--- What is written to a line is shown byte by byte, up to the first that cannot be read.
-abbrev pub writes_line : Handed → ℕ → ℕ → List ℕ → Did
-writes_line h l count bytes =
-    let after : Handed = with_line h l (after_shown (line_at h l) bytes) in
-    record (if length bytes == count then returns after count else fails after EFAULT) {
-      items = sent l (shows (line_at h l) bytes);
+-- What is written to a line is shown byte by byte, from the first that isn't done yet up to the first that cannot be read. Before a
+-- byte that can be read there may be no room: then the process waits with it.
+abbrev pub writes_line : Handed → ℕ → ℕ → ℕ → ℕ → ℕ → Did
+writes_line h l entry at count done =
+    let t : Terminal = line_at h l in
+    let bytes : List ℕ = readable h.image ((at + done) % 65536) (count - done) in
+    let n : ℕ = written t bytes in
+    let after : Handed = with_line h l (after_shown t (take n bytes)) in
+    record (if nat_lt n (length bytes) then waits_for_room after l entry at count (done + n)
+    else (if done + n == count then returns after count else fails after EFAULT)) {
+      items = sent l (shows t (take n bytes));
     }
 
 -- what a write of an entry comes to
@@ -121,15 +132,15 @@ write_of h entry at count now =
     write_file (get_from h.image at) (node_at h file.ino) (room_at h.inodes.store file.ino) tt file.offset count now
 
 -- The null device takes all.
-abbrev pub writes_by : Handed → Option ℕ → Bool → ℕ → ℕ → Moving (Unit {0}) → Did
-writes_by h None device at count m = gives_count h (if device then count else m.done) m.error
-writes_by h (Some l) device at count m = writes_line h l count (readable h.image at count)
+abbrev pub writes_by : Handed → Option ℕ → Bool → ℕ → ℕ → ℕ → Moving (Unit {0}) → Did
+writes_by h None device entry at count m = gives_count h (if device then count else m.done) m.error
+writes_by h (Some l) device entry at count m = writes_line h l entry at count 0
 
 abbrev pub writes_to : Handed → ℕ → ℕ → ℕ → ℕ → Did
 writes_to h entry at count now =
     let node : Node = node_at h (file_of h entry).ino in
     let m : Moving (Unit {0}) = write_of h entry at count now in
-    writes_by (with_moved h entry m) (line_of h node) (is_device node.mode) at count m
+    writes_by (with_moved h entry m) (line_of h node) (is_device node.mode) entry at count m
 
 -- 4, write: of the number in R0, of a buffer's address and a number of bytes. R0 takes the number of bytes written. A process that
 -- writes to a pipe which nobody reads has a signal, by its slot.
@@ -139,17 +150,25 @@ write_file_of h slot at count now =
     check h (must EBADF (file_of h entry).kind.writing) (λ may.
     if (file_of h entry).kind.pipe then writes_pipe h slot entry at count count now else writes_to h entry at count now))
 
--- A process goes on with the call in which it slept, unless a signal is due: with a read of a line, or with a read or a write of a
--- pipe.
+-- A process goes on with the call in which it slept, unless a signal is due: with a read or a write of a line, the write at the byte
+-- where it stood, or with a read or a write of a pipe.
+abbrev pub goes_on_line : Handed → ℕ → List ℕ → Did
+goes_on_line h pending call =
+    let l = line_kept h (slice_index call 0) in
+    if pending == LINE_READ then reads_line h l (slice_index call 0) (slice_index call 1) (slice_index call 2)
+    else writes_line h l (slice_index call 0) (slice_index call 1) (slice_index call 2) (slice_index call 3)
+
+abbrev pub goes_on_pipe : Handed → ℕ → ℕ → List ℕ → ℕ → Did
+goes_on_pipe h slot pending call now =
+    if pending == PIPE_READ then reads_pipe h (slice_index call 0) (slice_index call 1) (slice_index call 2) now
+    else writes_pipe h slot (slice_index call 0) (slice_index call 1) (slice_index call 2) (slice_index call 3) now
+
 abbrev pub goes_on : Handed → ℕ → ℕ → Did
 goes_on h slot now =
     let rest : Handed = without_pending h in
-    let entry = slice_index h.u.call 0 in
-    let at = slice_index h.u.call 1 in
-    let count = slice_index h.u.call 2 in
-    if h.u.pending == LINE_READ then resume_read h
-    else (if h.u.pending == PIPE_READ then reads_pipe rest entry at count now
-    else writes_pipe rest slot entry at count (slice_index h.u.call 3) now)
+    let pending = h.u.pending in
+    if (pending == LINE_READ) || (pending == LINE_WRITE) then goes_on_line rest pending h.u.call
+    else goes_on_pipe rest slot pending h.u.call now
 
 abbrev pub resumes : Handed → ℕ → ℕ → Did
 resumes h slot now = unless_due (without_pending h) (goes_on h slot now)

@@ -13,6 +13,7 @@ use Rattle.fs_tree.specs.Permission.{permission, access}
 use Rattle.fs_tree.specs.Finding.{with_reference}
 use Rattle.tty_line.specs.Terminal as terminal
 use Rattle.tty_line.specs.Terminal.{Terminal}
+use Rattle.lines_eight.specs.Lines.{with_terminal}
 use Rattle.sys_files.specs.Handed.{Handed, node_at, user_of, line_of, line_at, is_null, with_number}
 use Rattle.sys_files.specs.Did.{Did, returns, check, must, need, finds}
 
@@ -47,15 +48,16 @@ open_tests marks ino node user mode =
 abbrev pub can_open : Handed → Node → Bool
 can_open h node = not (is_device node.mode) || is_some (line_of h node) || is_null node
 
--- A process without a terminal that opens a line has it as its terminal from then on, by one more than the line's number.
+-- A process without a terminal that opens a line has it as its terminal from then on, which its row tells as one more than the
+-- line's number.
 abbrev pub with_tty : Row → Option ℕ → Row
 with_tty row None = row
 with_tty row (Some l) = if row.tty == 0 then record row { tty = l + 1 } else row
 
 -- A line is opened with the first of its files.
-abbrev pub line_opened : Handed → Option ℕ → Terminal
-line_opened h None = h.line
-line_opened h (Some l) = terminal.opened (line_at h l)
+abbrev pub lines_opened : Handed → Option ℕ → List Terminal
+lines_opened h None = h.lines
+lines_opened h (Some l) = with_terminal h.lines l (terminal.opened (line_at h l))
 
 abbrev pub with_opened : Handed → ℕ → FileKind → ℕ → ℕ → Handed
 with_opened h ino kind fd entry = record h {
@@ -63,7 +65,7 @@ with_opened h ino kind fd entry = record h {
   files = slice_set h.files entry (Some (opened ino kind));
   u = with_number h.u fd (entry + 1);
   row = with_tty h.row (line_of h (node_at h ino));
-  line = line_opened h (line_of h (node_at h ino));
+  lines = lines_opened h (line_of h (node_at h ino));
 }
 
 -- The opening itself: a number, an entry, and then the device. R0 takes the number.

@@ -1,9 +1,8 @@
 -- What holds of the parts that a call is handed, and what every call keeps.
-use Rattle.std.specs.Prelude.{◌≡◌, ◌⊎◌, ℕ, Bool, true, false, ◌+◌, ◌<◌, ◌≤◌, ◌==◌, if◌then◌else◌, List, Option, Some, None, count_by, slice_index}
+use Rattle.std.specs.Prelude.{◌≡◌, ℕ, Bool, true, false, ◌+◌, ◌<◌, ◌≤◌, ◌==◌, if◌then◌else◌, List, Option, Some, None, count_by, slice_index}
 use Rattle.open_files.specs.declared.file.OpenFile.{OpenFile}
 use Rattle.open_files.specs.Files.{file_at, times, AreOpen, HaveRoom}
-use Rattle.u_area.specs.declared.layout.TheConstants.{LINE_READ}
-use Rattle.u_area.specs.Pending.{IsPipeCall}
+use Rattle.u_area.specs.Pending.{IsPipeCall, IsFileCall}
 use Rattle.sys_files.specs.Handed.{Handed}
 use Rattle.sys_files.specs.Pipes.{ArePipes}
 
@@ -29,16 +28,14 @@ pub record IsSound (h : Handed) : Type 0 where
   pub few : (ino : ℕ) → slice_index h.inodes.references ino ≤ 65500
   pub pipes : ArePipes h.files h.pipes
 
--- A process waits in a pipe: the entry of which it was told is in use and an end of one, and no more bytes are left than there were.
-pub record IsInPipe (h : Handed) : Type 0 where
+-- The call in which a process slept can go on: the entry that it keeps is in use, no more bytes are done, or left in a write of a pipe,
+-- than there were, and a call on a pipe has one.
+pub record CanGoOn (h : Handed) : Type 0 where
+  pub which : IsFileCall h.u.pending
   pub file : OpenFile
   pub there : file_at h.files (slice_index h.u.call 0) ≡ Some file
-  pub pipe : file.kind.pipe ≡ true
-  pub left : slice_index h.u.call 3 ≤ slice_index h.u.call 2
-
--- The call in which a process slept can go on.
-abbrev pub CanGoOn : Handed → Type 0
-CanGoOn h = (h.u.pending ≡ LINE_READ) ⊎ (IsPipeCall h.u.pending × IsInPipe h)
+  pub pipe : IsPipeCall h.u.pending → file.kind.pipe ≡ true
+  pub within : slice_index h.u.call 3 ≤ slice_index h.u.call 2
 
 -- A file of which another process has a number too stays open in its entry, of the same inode and kind.
 pub record StaysOpen (files : List (Option OpenFile)) (entry : ℕ) (file : OpenFile) : Type 0 where

@@ -15,9 +15,10 @@ ghost use Rattle.sys_files.specs.Does.{Does};
 ghost use Rattle.sys_files.specs.Pipes.{is_end_of, has_end, place_of};
 ghost use Rattle.sys_files.specs.Descriptors.{open_entry, dup_file, is_of_line, is_line_open, line_closed, with_roused, pipe_roused, with_gone, released, told_by, dropped, then_closes, close_file, close_all, AreReferred};
 
-use crate::devices::{keys_of, line_at};
+use crate::devices::line_at;
 use crate::files::Files;
 use fs_tree::let_go;
+use lines_eight::tell_flushed;
 use open_files::{Closed, OpenFile, OpenTable};
 use proc_tab::Row;
 use u_area::UArea;
@@ -104,7 +105,7 @@ fn is_of_line(f: &Files, line: u8, entry: u8) -> bool
     if !f.table.in_use(entry) {
         return false;
     }
-    match line_at(&f.tree.nodes, f.table.file(entry).ino) {
+    match line_at(&f.tree.nodes, &f.lines, f.table.file(entry).ino) {
         Some(other) => other == line,
         None => false,
     }
@@ -124,7 +125,8 @@ fn is_line_open(f: &Files, line: u8) -> bool
     false
 }
 
-/// Closes a line with the last of its files, which was this one. What was typed is lost, and who waits for its keys is woken.
+/// Closes a line with the last of its files, which was this one. The bytes that wait go out, what was typed is lost, and who waits
+/// is woken.
 fn close_line<T: Trace>(f: &mut Files, file: OpenFile, trace: &mut T)
     requires referenced { 0 < slice_index f.old.tree.nodes.references file.ino }
     requires others { AreReferred f.old.table f.old.tree.nodes.references }
@@ -135,13 +137,13 @@ fn close_line<T: Trace>(f: &mut Files, file: OpenFile, trace: &mut T)
         → Took (T.taken trace.old) (line_closed (handed f.old u row image) file).items (T.taken trace.new) }
     ensures frame { T.leads_to trace.old trace.new }
 {
-    let line = match line_at(&f.tree.nodes, file.ino) {
+    let line = match line_at(&f.tree.nodes, &f.lines, file.ino) {
         Some(line) => line,
         None => return,
     };
     if !is_line_open(f, line) {
-        f.line.closed();
-        trace.entry(Entry::Wake(keys_of(line)));
+        let show = f.lines.closed(line, trace);
+        tell_flushed(line, show, trace);
     }
 }
 

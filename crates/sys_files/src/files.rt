@@ -1,14 +1,14 @@
 //! What the calls on files share.
 use crate::pipes::Pipes;
 use fs_tree::Tree;
+use lines_eight::Lines;
 use open_files::OpenTable;
-use tty_line::Line;
 
-/// The tree of names, the table of open files, the terminal line and the pipes.
+/// The tree of names, the table of open files, the terminal lines and the pipes.
 #[derive(Drop)]
 pub struct Files {
     pub tree: Tree,
     pub table: OpenTable,
-    pub line: Line,
+    pub lines: Lines,
     pub pipes: Pipes,
 }

@@ -23,7 +23,6 @@ mod status;
 pub use crate::core_file::write_core;
 pub use crate::creating::creat_file;
 pub use crate::descriptors::{close_all, close_file, dup_file};
-pub use crate::devices::LINES;
 pub use crate::files::Files;
 pub use crate::linking::{link_file, unlink_file};
 pub use crate::making::mknod_at;

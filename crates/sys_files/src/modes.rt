@@ -1,14 +1,15 @@
 //! The modes of a terminal: `gtty`, `stty` and `sgtty` in Lions' Commentary, `tty.c`.
-ghost use Rattle.std.specs.Prelude.{◌≡◌, ◌<◌, ℕ, [], ◌∷◌, slice_index};
+ghost use Rattle.std.specs.Prelude.{◌≡◌, ◌<◌, ℕ, [], ◌∷◌, IfOk, length, slice_index};
 ghost use Rattle.v6_base.specs.Image.{Image};
-ghost use Rattle.v6_base.specs.Trace.{Took, Log};
-ghost use Rattle.v6_base.specs.declared.entry.Entry.TheVariants.{Wake};
+ghost use Rattle.v6_base.specs.Trace.{Took};
 ghost use Rattle.proc_tab.specs.declared.row.Row.{Row};
 ghost use Rattle.fs_codec.specs.Bytes.{bytes_of};
 ghost use Rattle.fs_codec.specs.Words.{word};
 ghost use Rattle.fs_nodes.specs.FileSystem.{SameRest};
-ghost use Rattle.tty_line.specs.Terminal.{with_modes};
-ghost use Rattle.sys_files.specs.Handed.{Handed, handed, node_in, keys_of};
+ghost use Rattle.tty_line.specs.Said.{with_modes};
+ghost use Rattle.lines_eight.specs.Lines.{terminal_at, with_terminal};
+ghost use Rattle.lines_eight.specs.Told.{told};
+ghost use Rattle.sys_files.specs.Handed.{Handed, handed, node_in};
 ghost use Rattle.sys_files.specs.Did.{Did, check};
 ghost use Rattle.sys_files.specs.Modes.{terminal_line, of_terminal, words_at, sets_modes, tells_modes, stty_set, gtty_get};
 ghost use Rattle.sys_files.specs.Sound.{IsSound};
@@ -17,25 +18,26 @@ ghost use Rattle.sys_files.specs.Entering.{did_with};
 
 use crate::answers::done;
 use crate::descriptors::{file_of, open_entry};
-use crate::devices::{is_null, keys_of, line_of};
+use crate::devices::{is_null, line_of};
 use crate::files::Files;
 use crate::inodes::inode_of;
 use crate::status::see_bytes;
 use fs_codec::{is_character_device, put_words, word_at};
 use fs_nodes::Nodes;
+use lines_eight::{Lines, tell_flushed};
 use proc_tab::Row;
-use tty_line::Line;
 use u_area::UArea;
-use v6_base::{Answer, Entry, Errno, Slot, Space, Trace};
+use v6_base::{Answer, Errno, Slot, Space, Trace};
 
 /// The line that the file of an inode is, which is referred to. It has to be a terminal.
 ///
 /// # Errors
 ///
 /// `ENOTTY`: it is no character device. `ENODEV`: it is the null device.
-fn terminal_line(nodes: &Nodes, ino: u16) -> Result<u8, Errno>
+fn terminal_line(nodes: &Nodes, lines: &Lines, ino: u16) -> Result<u8, Errno>
     requires referenced { 0 < slice_index nodes.now.references ino }
-    ensures { (h : Handed) → result ≡ terminal_line h (node_in nodes.now.store ino) }
+    ensures line { (h : Handed) → h.lines ≡ lines.now → result ≡ terminal_line h (node_in nodes.now.store ino) }
+    ensures there { IfOk result (λ l. l < length lines.now) }
 {
     let inode = inode_of(nodes, ino);
     if !is_character_device(inode.mode) {
@@ -44,7 +46,7 @@ fn terminal_line(nodes: &Nodes, ino: u16) -> Result<u8, Errno>
     if is_null(&inode) {
         return Err(Errno::ENODEV);
     }
-    Ok(line_of(&inode).unwrap_or(0))
+    Ok(line_of(lines, &inode).unwrap_or(0))
 }
 
 /// The line of the terminal that the number in R0 has to name.
@@ -54,12 +56,13 @@ fn terminal_line(nodes: &Nodes, ino: u16) -> Result<u8, Errno>
 /// `EBADF`: the number is not open. Else those of `terminal_line`.
 fn line_named(f: &Files, u: &UArea) -> Result<u8, Errno>
     requires sound { (row : Row) (image : Image) → IsSound (handed f.now u.now row image) }
-    ensures { (row : Row) (image : Image) (does : ℕ → Did) → of_terminal (handed f.now u.now row image) does
+    ensures line { (row : Row) (image : Image) (does : ℕ → Did) → of_terminal (handed f.now u.now row image) does
         ≡ check (handed f.now u.now row image) result does }
+    ensures there { IfOk result (λ l. l < length f.now.lines) }
 {
     let entry = open_entry(f, u, u.r[0])?;
     let file = file_of(f, entry);
-    terminal_line(&f.tree.nodes, file.ino)
+    terminal_line(&f.tree.nodes, &f.lines, file.ino)
 }
 
 /// The bytes of three words at an even address.
@@ -73,14 +76,19 @@ fn words_at<S: Space>(space: &S, at: u16) -> Option<[u8; 6]>
     Some(bytes)
 }
 
-/// Sets the modes of a line, from the bytes of three words. What was typed is lost, and who waits for keys is woken.
-fn set_modes<T: Trace>(line: &mut Line, number: u8, bytes: &[u8; 6], trace: &mut T)
-    ensures line { line.new ≡ with_modes line.old (word bytes.now 0 ∷ word bytes.now 2 ∷ word bytes.now 4 ∷ []) }
-    ensures items { Took (T.taken trace.old) (Log (Wake (keys_of number)) ∷ []) (T.taken trace.new) }
+/// Sets the modes of a line, from the bytes of three words. The bytes that wait go out, what was typed is lost, and who waits is woken.
+fn set_modes<T: Trace>(lines: &mut Lines, l: u8, bytes: &[u8; 6], trace: &mut T)
+    requires there { l < length lines.old }
+    ensures line { lines.new ≡ with_terminal lines.old l
+        (with_modes (terminal_at lines.old l) (word bytes.now 0 ∷ word bytes.now 2 ∷ word bytes.now 4 ∷ [])).terminal }
+    ensures items { Took (T.taken trace.old)
+        (told l (with_modes (terminal_at lines.old l) (word bytes.now 0 ∷ word bytes.now 2 ∷ word bytes.now 4 ∷ [])))
+        (T.taken trace.new) }
     ensures frame { T.leads_to trace.old trace.new }
 {
-    line.set_modes([word_at(bytes, 0), word_at(bytes, 2), word_at(bytes, 4)]);
-    trace.entry(Entry::Wake(keys_of(number)));
+    let modes = [word_at(bytes, 0), word_at(bytes, 2), word_at(bytes, 4)];
+    let show = lines.set_modes(l, modes, trace);
+    tell_flushed(l, show, trace);
 }
 
 /// The bytes of three words.
@@ -94,19 +102,21 @@ fn bytes_of(modes: [u16; 3]) -> [u8; 6]
 }
 
 /// Puts the modes of a line to an even address, all three words or none.
-fn put_modes<S: Space>(line: &Line, u: &UArea, space: &mut S, at: u16) -> Answer
-    ensures did { (h : Handed) (l : ℕ) → h.line ≡ line.now → h.u ≡ u.now → h.image ≡ S.image space.old
+fn put_modes<S: Space>(lines: &Lines, l: u8, u: &UArea, space: &mut S, at: u16) -> Answer
+    requires there { l < length lines.now }
+    ensures did { (h : Handed) → h.lines ≡ lines.now → h.u ≡ u.now → h.image ≡ S.image space.old
         → tells_modes h l at ≡ did_with (record h { image = S.image space.new }) result }
     ensures memory { S.rest space.new ≡ S.rest space.old }
 {
-    if at % 2 == 1 || !space.copy_out(at, &bytes_of(line.modes())) {
+    if at % 2 == 1 || !space.copy_out(at, &bytes_of(lines.modes(l))) {
         return Answer::Fail(Errno::EFAULT);
     }
     done(u)
 }
 
 /// 31, stty(II): sets the modes of the terminal that the number in R0 names, from three words at an address, `args[0]`: the
-/// speeds; the character that erases, in the low byte, and the one that kills; the flags. What was typed is lost.
+/// speeds; the character that erases, in the low byte, and the one that kills; the flags. The bytes that wait go out, and what was typed is
+/// lost.
 ///
 /// # Errors
 ///
@@ -137,7 +147,7 @@ pub fn stty_set<S: Space, T: Trace>(
     let Some(bytes) = words_at(space, args[0]) else {
         return Answer::Fail(Errno::EFAULT);
     };
-    set_modes(&mut f.line, line, &bytes, trace);
+    set_modes(&mut f.lines, line, &bytes, trace);
     done(u)
 }
 
@@ -165,8 +175,9 @@ pub fn gtty_get<S: Space, T: Trace>(
     ensures memory { S.rest space.new ≡ S.rest space.old }
     ensures blocks { SameRest f.old.tree.nodes f.new.tree.nodes }
 {
-    if let Err(e) = line_named(f, u) {
-        return Answer::Fail(e);
-    }
-    put_modes(&f.line, u, space, args[0])
+    let line = match line_named(f, u) {
+        Ok(line) => line,
+        Err(e) => return Answer::Fail(e),
+    };
+    put_modes(&f.lines, line, u, space, args[0])
 }

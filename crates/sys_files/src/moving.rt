@@ -1,5 +1,5 @@
 //! Bytes are read and written: `rdwr` and `seek` in Lions' Commentary, `sys2.c`.
-ghost use Rattle.std.specs.Prelude.{◌≡◌, ◌<◌, ◌≤◌, ◌+◌, ◌%◌, ◌^◌, ℕ, IsSome, ◌==◌, length, if◌then◌else◌, slice_index, take};
+ghost use Rattle.std.specs.Prelude.{◌≡◌, ◌<◌, ◌≤◌, ◌+◌, ◌%◌, ◌^◌, ℕ, IfSome, IsSome, ◌==◌, length, if◌then◌else◌, slice_index, take};
 ghost use Rattle.v6_base.specs.Trace.{Took, sent};
 ghost use Rattle.proc_tab.specs.declared.row.Row.{Row};
 ghost use Rattle.u_area.specs.declared.area.UArea.{UArea};
@@ -8,29 +8,33 @@ ghost use Rattle.fs_codec.specs.Modes.{is_device};
 ghost use Rattle.fs_nodes.specs.FileSystem.{SameRest};
 ghost use Rattle.fs_tree.specs.Name.{readable};
 ghost use Rattle.sys_files.specs.Handed.{Handed, handed, node_in};
-ghost use Rattle.tty_line.specs.Output.{shows, after_shown};
-ghost use Rattle.sys_files.specs.Moving.{IsFileOf, with_moved, gives_count, waits_for_keys, read_of, with_read, reads_from, reads_line, read_file_of};
-ghost use Rattle.sys_files.specs.Moving.{write_of, writes_line, writes_to, write_file_of, resumes};
+ghost use Rattle.tty_line.specs.Output.{shows, after_shown, written};
+ghost use Rattle.lines_eight.specs.Lines.{terminal_at, with_terminal};
+ghost use Rattle.sys_files.specs.Moving.{IsFileOf, with_moved, gives_count, waits_for_keys, waits_for_room, line_kept, read_of, with_read, reads_from, reads_line, read_file_of};
+ghost use Rattle.sys_files.specs.Moving.{write_of, writes_line, writes_to, write_file_of, goes_on_line, resumes};
 ghost use Rattle.sys_files.specs.Moving.{extended, seek_mode, seek_base, seek_move, sought, seek_to};
 ghost use Rattle.sys_files.specs.Sound.{IsSound, CanGoOn};
 ghost use Rattle.sys_files.specs.Does.{Does};
 ghost use Rattle.sys_files.specs.Entering.{did_with};
 
 use crate::descriptors::{file_of, open_entry};
-use crate::devices::{keys_of, line_at};
+use crate::devices::line_at;
 use crate::files::Files;
 use crate::piping::{Transfer, read_pipe, write_pipe};
 use fs_codec::is_device;
 use fs_nodes::{Moved, Nodes};
+use lines_eight::{Lines, keys_of, show_of};
 use open_files::{OpenFile, OpenTable};
 use proc_tab::Row;
 use sig_core::due;
-use tty_line::Line;
-use u_area::{LINE_READ, NOTHING_PENDING, PIPE_READ, UArea};
+use u_area::{LINE_READ, LINE_WRITE, NOTHING_PENDING, PIPE_READ, UArea};
 use v6_base::{Answer, Errno, Slot, Space, Trace};
 
 /// The priority at which a process waits for keys: `TTIPRI` in Lions' Commentary, `tty.h`.
 const TTIPRI: i8 = 10;
+
+/// The priority at which a process waits for room in what goes out: `TTOPRI` there.
+const TTOPRI: i8 = 20;
 
 /// Says where the next read or write of an open file begins, when some bytes from its place on are done.
 fn move_on(table: &mut OpenTable, entry: u8, file: &OpenFile, done: u16)
@@ -69,10 +73,34 @@ fn wait_for_keys(line: u8, u: &mut UArea, row: &Row, entry: u16, at: u16, count:
     }
 }
 
+/// Lets the process wait for room on a line, with what it needs to go on and with how many bytes are done, unless a signal is due.
+fn wait_for_room(
+    line: u8,
+    u: &mut UArea,
+    row: &Row,
+    entry: u16,
+    at: u16,
+    count: u16,
+    done: u16,
+) -> Answer
+    ensures { (h : Handed) → h.u ≡ u.old → h.row ≡ row.now
+        → waits_for_room h line entry at count done ≡ did_with (record h { u = u.new }) result }
+{
+    if due(row, u).is_some() {
+        return Answer::Fail(Errno::EINTR);
+    }
+    u.pending = LINE_WRITE;
+    u.call = [entry, at, count, done, 0, 0, 0, 0];
+    Answer::Sleep {
+        pri: TTOPRI,
+        chan: show_of(line),
+    }
+}
+
 /// Reads bytes that were typed on a line, or waits for keys.
 fn read_line<S: Space>(
-    line: &mut Line,
-    number: u8,
+    lines: &mut Lines,
+    l: u8,
     entry: u16,
     u: &mut UArea,
     row: &Row,
@@ -80,14 +108,15 @@ fn read_line<S: Space>(
     at: u16,
     count: u16,
 ) -> Answer
-    ensures did { (h : Handed) → h.line ≡ line.old → h.u ≡ u.old → h.row ≡ row.now → h.image ≡ S.image space.old
-        → reads_line h number entry at count
-        ≡ did_with (record h { line = line.new; u = u.new; image = S.image space.new }) result }
+    requires there { l < length lines.old }
+    ensures did { (h : Handed) → h.lines ≡ lines.old → h.u ≡ u.old → h.row ≡ row.now → h.image ≡ S.image space.old
+        → reads_line h l entry at count
+        ≡ did_with (record h { lines = lines.new; u = u.new; image = S.image space.new }) result }
     ensures memory { S.rest space.new ≡ S.rest space.old }
 {
-    match line.read(space, at, count) {
+    match lines.read(l, space, at, count) {
         tty_line::Took::Done(n) => Answer::Ret { r0: n, r1: u.r[1] },
-        tty_line::Took::Wait => wait_for_keys(number, u, row, entry, at, count),
+        tty_line::Took::Wait => wait_for_keys(l, u, row, entry, at, count),
         tty_line::Took::Fault => Answer::Fail(Errno::EFAULT),
     }
 }
@@ -140,10 +169,13 @@ fn read_from<S: Space>(
     ensures memory { S.rest space.new ≡ S.rest space.old }
     ensures blocks { SameRest f.old.tree.nodes f.new.tree.nodes }
 {
-    let line = line_at(&f.tree.nodes, file.ino);
+    let line = line_at(&f.tree.nodes, &f.lines, file.ino);
     let moved = read_bytes(f, entry, file, space, at, count, now);
     match line {
-        Some(l) => read_line(&mut f.line, l, u16::from(entry), u, row, space, at, count),
+        Some(l) => {
+            let entry = u16::from(entry);
+            read_line(&mut f.lines, l, entry, u, row, space, at, count)
+        }
         None => give_count(u, moved.done, moved.error),
     }
 }
@@ -203,8 +235,57 @@ pub fn read_file<S: Space, T: Trace>(
     read_from(f, entry, &file, u, row, space, args[0], args[1], now)
 }
 
-/// Takes up a call again in which a process slept, as the per-process area keeps it: a read of a line, or a read or a write of a
-/// pipe. It may wait again.
+/// The line of a call that is gone on with, by the entry that was kept.
+fn line_kept(f: &Files, entry: u16) -> u8
+    requires used { IsSome (file_at f.now.table entry) }
+    requires referred { (file : OpenFile) → file_at f.now.table entry ≡ Some file
+        → 0 < slice_index f.now.tree.nodes.references file.ino }
+    ensures line { (h : Handed) → h.files ≡ f.now.table → h.lines ≡ f.now.lines → h.inodes.store ≡ f.now.tree.nodes.store
+        → result ≡ line_kept h entry }
+    ensures there { result < length f.now.lines }
+{
+    let file = file_of(f, entry as u8);
+    line_at(&f.tree.nodes, &f.lines, file.ino).unwrap_or(0)
+}
+
+/// Goes on with a read or a write of a line.
+fn resume_line<S: Space, T: Trace>(
+    f: &mut Files,
+    pending: u8,
+    call: [u16; 8],
+    u: &mut UArea,
+    row: &Row,
+    space: &mut S,
+    trace: &mut T,
+) -> Answer
+    requires used { IsSome (file_at f.old.table (slice_index call 0)) }
+    requires referred { (file : OpenFile) → file_at f.old.table (slice_index call 0) ≡ Some file
+        → 0 < slice_index f.old.tree.nodes.references file.ino }
+    requires within { pending ≡ LINE_WRITE → slice_index call 3 ≤ slice_index call 2 }
+    ensures answer { (h : Handed) → h.u ≡ u.old → h.row ≡ row.now → h.files ≡ f.old.table → h.lines ≡ f.old.lines
+        → h.inodes.store ≡ f.old.tree.nodes.store → h.image ≡ S.image space.old
+        → result ≡ (goes_on_line h pending call).answer }
+    ensures state { (h : Handed) → h.u ≡ u.old → h.row ≡ row.now → h.files ≡ f.old.table → h.lines ≡ f.old.lines
+        → h.inodes.store ≡ f.old.tree.nodes.store → h.image ≡ S.image space.old
+        → record h { lines = f.new.lines; u = u.new; image = S.image space.new } ≡ (goes_on_line h pending call).state }
+    ensures items { (h : Handed) → h.u ≡ u.old → h.row ≡ row.now → h.files ≡ f.old.table → h.lines ≡ f.old.lines
+        → h.inodes.store ≡ f.old.tree.nodes.store → h.image ≡ S.image space.old
+        → Took (T.taken trace.old) (goes_on_line h pending call).items (T.taken trace.new) }
+    ensures frame { T.leads_to trace.old trace.new }
+    ensures memory { S.rest space.new ≡ S.rest space.old }
+    ensures tree { f.new.tree ≡ f.old.tree }
+    ensures table { f.new.table ≡ f.old.table }
+    ensures pipes { f.new.pipes ≡ f.old.pipes }
+{
+    let l = line_kept(f, call[0]);
+    if pending == LINE_READ {
+        return read_line(&mut f.lines, l, call[0], u, row, space, call[1], call[2]);
+    }
+    write_line(&mut f.lines, l, call[0], u, row, space, call[1], call[2], call[3], trace)
+}
+
+/// Takes up a call again in which a process slept, as the per-process area keeps it: a read or a write of a line, the write at the
+/// byte where it stood, or a read or a write of a pipe. It may wait again.
 ///
 /// # Errors
 ///
@@ -235,8 +316,8 @@ pub fn resume_file<S: Space, T: Trace>(
     if due(row, u).is_some() {
         return Answer::Fail(Errno::EINTR);
     }
-    if pending == LINE_READ {
-        return read_line(&mut f.line, 0, call[0], u, row, space, call[1], call[2]);
+    if pending == LINE_READ || pending == LINE_WRITE {
+        return resume_line(f, pending, call, u, row, space, trace);
     }
     let transfer = Transfer {
         entry: call[0],
@@ -286,79 +367,98 @@ fn read_front<S: Space>(space: &S, at: u16, into: &mut [u8]) -> usize
     into.len()
 }
 
-/// Shows bytes of a memory on a line, a piece of them from an address on, up to the first that cannot be read, and says how many.
+/// Shows bytes of a memory on a line, a piece of them from an address on, up to the first that cannot be read or for which there is no
+/// room, and says how many.
 fn show_piece<S: Space, T: Trace>(
-    line: &mut Line,
+    lines: &mut Lines,
+    l: u8,
     space: &S,
     at: u16,
     count: u16,
     trace: &mut T,
 ) -> u16
-    requires { count ≤ PIECE }
-    ensures count { result ≡ length (readable (S.image space.now) at count) }
-    ensures line { line.new ≡ after_shown line.old (readable (S.image space.now) at count) }
-    ensures items { Took (T.taken trace.old) (sent 0 (shows line.old (readable (S.image space.now) at count)))
-        (T.taken trace.new) }
+    requires there { l < length lines.old }
+    requires few { count ≤ PIECE }
+    ensures taken { result ≡ written (terminal_at lines.old l) (readable (S.image space.now) at count) }
+    ensures line { lines.new ≡ with_terminal lines.old l
+        (after_shown (terminal_at lines.old l) (take result (readable (S.image space.now) at count))) }
+    ensures items { Took (T.taken trace.old)
+        (sent l (shows (terminal_at lines.old l) (take result (readable (S.image space.now) at count)))) (T.taken trace.new) }
     ensures frame { T.leads_to trace.old trace.new }
 {
     let mut piece = [0; PIECE as usize];
     let part = &mut piece[..usize::from(count)];
     let got = read_front(space, at, part);
-    line.write(&part[..got], trace);
-    got as u16
+    lines.write(l, &part[..got], trace)
 }
 
-/// Shows bytes of a memory, so many from an address on, one after another, up to the first that cannot be read. The answer
-/// says whether all could be. Addresses wrap round.
+/// Shows bytes of a memory on a line, so many from an address on, one after another, up to the first that cannot be read or for which
+/// there is no room, and says how many. Addresses wrap round.
 fn show_all<S: Space, T: Trace>(
-    line: &mut Line,
+    lines: &mut Lines,
+    l: u8,
     space: &S,
     at: u16,
     count: u16,
     trace: &mut T,
-) -> bool
-    ensures all { result ≡ (length (readable (S.image space.now) at count) == count) }
-    ensures line { line.new ≡ after_shown line.old (readable (S.image space.now) at count) }
-    ensures items { Took (T.taken trace.old) (sent 0 (shows line.old (readable (S.image space.now) at count)))
-        (T.taken trace.new) }
+) -> u16
+    requires there { l < length lines.old }
+    ensures taken { result ≡ written (terminal_at lines.old l) (readable (S.image space.now) at count) }
+    ensures line { lines.new ≡ with_terminal lines.old l
+        (after_shown (terminal_at lines.old l) (take result (readable (S.image space.now) at count))) }
+    ensures items { Took (T.taken trace.old)
+        (sent l (shows (terminal_at lines.old l) (take result (readable (S.image space.now) at count)))) (T.taken trace.new) }
     ensures frame { T.leads_to trace.old trace.new }
+    ensures most { result ≤ count }
 {
     let mut shown: u16 = 0;
     while shown < count {
         let most = PIECE.min(count - shown);
-        if show_piece(line, space, at.wrapping_add(shown), most, trace) < most {
-            return false;
+        let taken = show_piece(lines, l, space, at.wrapping_add(shown), most, trace);
+        shown += taken;
+        if taken < most {
+            return shown;
         }
-        shown += most;
     }
-    true
+    shown
 }
 
-/// Shows bytes of a memory on a line.
+/// Shows bytes of a memory on a line, of which so many are done, or waits until there is room.
 fn write_line<S: Space, T: Trace>(
-    line: &mut Line,
-    u: &UArea,
+    lines: &mut Lines,
+    l: u8,
+    entry: u16,
+    u: &mut UArea,
+    row: &Row,
     space: &S,
     at: u16,
     count: u16,
+    done: u16,
     trace: &mut T,
 ) -> Answer
-    ensures answer { (h : Handed) (l : ℕ) → h.u ≡ u.now → result
-        ≡ (writes_line h l count (readable (S.image space.now) at count)).answer }
-    ensures state { (h : Handed) (l : ℕ) → h.line ≡ line.old → record h { line = line.new }
-        ≡ (writes_line h l count (readable (S.image space.now) at count)).state }
-    ensures items { Took (T.taken trace.old) (sent 0 (shows line.old (readable (S.image space.now) at count)))
-        (T.taken trace.new) }
+    requires there { l < length lines.old }
+    requires within { done ≤ count }
+    ensures answer { (h : Handed) → h.lines ≡ lines.old → h.u ≡ u.old → h.row ≡ row.now → h.image ≡ S.image space.now
+        → result ≡ (writes_line h l entry at count done).answer }
+    ensures state { (h : Handed) → h.lines ≡ lines.old → h.u ≡ u.old → h.row ≡ row.now → h.image ≡ S.image space.now
+        → record h { lines = lines.new; u = u.new } ≡ (writes_line h l entry at count done).state }
+    ensures items { (h : Handed) → h.lines ≡ lines.old → h.image ≡ S.image space.now
+        → Took (T.taken trace.old) (writes_line h l entry at count done).items (T.taken trace.new) }
     ensures frame { T.leads_to trace.old trace.new }
 {
-    if show_all(line, space, at, count, trace) {
-        Answer::Ret {
+    let from = at.wrapping_add(done);
+    let left = count - done;
+    let taken = show_all(lines, l, space, from, left, trace);
+    if taken == left {
+        return Answer::Ret {
             r0: count,
             r1: u.r[1],
-        }
-    } else {
-        Answer::Fail(Errno::EFAULT)
+        };
     }
+    if space.load_byte(from.wrapping_add(taken)).is_err() {
+        return Answer::Fail(Errno::EFAULT);
+    }
+    wait_for_room(l, u, row, entry, at, count, done + taken)
 }
 
 /// Writes bytes of a memory into an open file, from its place on.
@@ -395,7 +495,8 @@ fn write_to<S: Space, T: Trace>(
     f: &mut Files,
     entry: u8,
     file: &OpenFile,
-    u: &UArea,
+    u: &mut UArea,
+    row: &Row,
     space: &S,
     at: u16,
     count: u16,
@@ -403,36 +504,38 @@ fn write_to<S: Space, T: Trace>(
     trace: &mut T,
 ) -> Answer
     requires file { IsFileOf f.old entry file.now }
-    ensures answer { (row : Row) → result
-        ≡ (writes_to (handed f.old u.now row (S.image space.now)) entry at count now).answer }
-    ensures state { (row : Row) → handed f.new u.now row (S.image space.now)
-        ≡ (writes_to (handed f.old u.now row (S.image space.now)) entry at count now).state }
-    ensures items { (row : Row)
-        → Took (T.taken trace.old) (writes_to (handed f.old u.now row (S.image space.now)) entry at count now).items
-        (T.taken trace.new) }
+    ensures answer { result ≡ (writes_to (handed f.old u.old row.now (S.image space.now)) entry at count now).answer }
+    ensures state { handed f.new u.new row.now (S.image space.now)
+        ≡ (writes_to (handed f.old u.old row.now (S.image space.now)) entry at count now).state }
+    ensures items { Took (T.taken trace.old)
+        (writes_to (handed f.old u.old row.now (S.image space.now)) entry at count now).items (T.taken trace.new) }
     ensures frame { T.leads_to trace.old trace.new }
     ensures blocks { SameRest f.old.tree.nodes f.new.tree.nodes }
 {
-    let line = line_at(&f.tree.nodes, file.ino);
+    let line = line_at(&f.tree.nodes, &f.lines, file.ino);
     let device = is_device_at(&f.tree.nodes, file.ino);
     let moved = write_bytes(f, entry, file, space, at, count, now);
     match line {
-        Some(_) => write_line(&mut f.line, u, space, at, count, trace),
+        Some(l) => {
+            let entry = u16::from(entry);
+            write_line(&mut f.lines, l, entry, u, row, space, at, count, 0, trace)
+        }
         None => give_count(u, taken(device, count, moved.done), moved.error),
     }
 }
 
 /// 4, write(II): of the number in R0, from a buffer. The arguments are its address and how many bytes are to be
 /// written. R0 takes the number of bytes that were written. The file grows where it must. What is written to a
-/// terminal line is shown byte by byte, up to the first that cannot be read; the null device takes all. A write to a pipe waits until
-/// all is written. The next read or write begins after what was written, also after an error.
+/// terminal line is shown byte by byte, up to the first that cannot be read; with a pace the process waits before a byte where more
+/// than 50 wait to go out, or until a signal comes. The null device takes all. A write to a pipe waits until all is written. The next
+/// read or write begins after what was written, also after an error.
 ///
 /// # Errors
 ///
 /// `EBADF`: the number is not open, or not for writing. `EPIPE`: nobody can read the pipe any more; the process also has a signal.
 /// Of each piece of a file, in this order. `EFBIG`: it would end
 /// past byte 16,777,215, or in a directory past byte 65,520 and its present size. `ENOSPC`: no block is free. `EFAULT`:
-/// an address of the buffer cannot be read.
+/// an address of the buffer cannot be read. `EINTR`: the process would wait, and a signal is due.
 #[tactic(auto, using(v6_base::proofs::Took::takes))]
 pub fn write_file<S: Space, T: Trace>(
     f: &mut Files,
@@ -464,7 +567,7 @@ pub fn write_file<S: Space, T: Trace>(
         let transfer = transfer_of(entry, args);
         return write_pipe(f, slot, u, row, space, transfer, now, trace);
     }
-    write_to(f, entry, &file, u, space, args[0], args[1], now, trace)
+    write_to(f, entry, &file, u, row, space, args[0], args[1], now, trace)
 }
 
 /// A word with its sign, modulo 2^32.

@@ -10,7 +10,7 @@ ghost use Rattle.proc_tab.specs.declared.row.Row.{Row};
 ghost use Rattle.open_files.specs.Files.{AreOpen, opened};
 ghost use Rattle.sys_files.specs.Did.{check, must, fails, returns};
 ghost use Rattle.sys_files.specs.Handed.{Handed, handed, line_of, node_in, node_at, user_of, with_number};
-ghost use Rattle.sys_files.specs.Opening.{opens_to_read, opens_to_write, or_earlier, last_failure, open_tests, can_open, with_tty, line_opened, with_opened, opens, opens_named, open_file};
+ghost use Rattle.sys_files.specs.Opening.{opens_to_read, opens_to_write, or_earlier, last_failure, open_tests, can_open, with_tty, lines_opened, with_opened, opens, opens_named, open_file};
 ghost use Rattle.sys_files.specs.Sound.{IsSound};
 ghost use Rattle.sys_files.specs.Does.{Does};
 
@@ -21,9 +21,9 @@ use crate::naming::{find_name, user_of};
 use fs_codec::{is_device, is_directory};
 use fs_nodes::Nodes;
 use fs_tree::{Tree, User, Want, let_go, refer_again};
+use lines_eight::Lines;
 use open_files::FileKind;
 use proc_tab::Row;
-use tty_line::Line;
 use u_area::UArea;
 use v6_base::{Answer, Errno, Slot, Space, Trace};
 
@@ -89,23 +89,23 @@ fn test_opening(tree: &Tree, ino: u16, who: User, mode: u16) -> Result<(), Errno
 }
 
 /// Whether the file of an inode can be opened: of the devices the terminal lines and null alone.
-fn can_open(nodes: &Nodes, ino: u16) -> bool
+fn can_open(nodes: &Nodes, lines: &Lines, ino: u16) -> bool
     requires { 0 < slice_index nodes.now.references ino }
-    ensures { (h : Handed) → result ≡ can_open h (node_in nodes.now.store ino) }
+    ensures { (h : Handed) → h.lines ≡ lines.now → result ≡ can_open h (node_in nodes.now.store ino) }
 {
     let inode = inode_of(nodes, ino);
     if !is_device(inode.mode) {
         return true;
     }
-    is_line(&inode) || is_null(&inode)
+    is_line(lines, &inode) || is_null(&inode)
 }
 
 /// Makes a line the terminal of a process that opens it and has none.
-fn take_terminal(nodes: &Nodes, row: &mut Row, ino: u16)
+fn take_terminal(nodes: &Nodes, lines: &Lines, row: &mut Row, ino: u16)
     requires { 0 < slice_index nodes.now.references ino }
-    ensures { (h : Handed) → row.new ≡ with_tty row.old (line_of h (node_in nodes.now.store ino)) }
+    ensures { (h : Handed) → h.lines ≡ lines.now → row.new ≡ with_tty row.old (line_of h (node_in nodes.now.store ino)) }
 {
-    let line = match line_at(nodes, ino) {
+    let line = match line_at(nodes, lines, ino) {
         Some(line) => line,
         None => return,
     };
@@ -115,12 +115,12 @@ fn take_terminal(nodes: &Nodes, row: &mut Row, ino: u16)
 }
 
 /// Opens a line with the first of its files.
-fn open_line(nodes: &Nodes, line: &mut Line, ino: u16)
+fn open_line(nodes: &Nodes, lines: &mut Lines, ino: u16)
     requires { 0 < slice_index nodes.now.references ino }
-    ensures { (h : Handed) → h.line ≡ line.old → line.new ≡ line_opened h (line_of h (node_in nodes.now.store ino)) }
+    ensures { (h : Handed) → h.lines ≡ lines.old → lines.new ≡ lines_opened h (line_of h (node_in nodes.now.store ino)) }
 {
-    if line_at(nodes, ino).is_some() {
-        line.opened();
+    if let Some(line) = line_at(nodes, lines, ino) {
+        lines.opened(line);
     }
 }
 
@@ -141,11 +141,11 @@ fn add_number(f: &mut Files, u: &mut UArea, ino: u16, kind: FileKind) -> Result<
         (λ e. (f.new.table ≡ f.old.table) × (u.new ≡ u.old) × ((row : Row) (image : Image)
         → opens (handed f.old u.old row image) ino kind ≡ fails (handed f.old u.old row image) e)) }
     ensures tree { f.new.tree ≡ f.old.tree }
-    ensures line { f.new.line ≡ f.old.line }
+    ensures lines { f.new.lines ≡ f.old.lines }
     ensures pipes { f.new.pipes ≡ f.old.pipes }
 {
     let fd = f.table.add(&mut u.files, ino, kind)?;
-    if can_open(&f.tree.nodes, ino) {
+    if can_open(&f.tree.nodes, &f.lines, ino) {
         return Ok(fd);
     }
     let _ = f.table.drop_one(&mut u.files, u16::from(fd));
@@ -176,8 +176,8 @@ pub(crate) fn open_found(
 {
     match add_number(f, u, ino, kind) {
         Ok(fd) => {
-            take_terminal(&f.tree.nodes, row, ino);
-            open_line(&f.tree.nodes, &mut f.line, ino);
+            take_terminal(&f.tree.nodes, &f.lines, row, ino);
+            open_line(&f.tree.nodes, &mut f.lines, ino);
             refer_again(&mut f.tree.nodes, ino);
             Answer::Ret {
                 r0: u16::from(fd),

@@ -74,7 +74,7 @@ fn add_ends(f: &mut Files, u: &mut UArea, ino: u16) -> Result<(u8, u8), Errno>
         → opens_ends (handed f.old u.old row image) ino ≡ fails (handed f.old u.old row image) e)) }
     ensures room { IfOk result (λ fds. (entry : ℕ) × (free_entry f.old.table ≡ Some entry)) }
     ensures tree { f.new.tree ≡ f.old.tree }
-    ensures line { f.new.line ≡ f.old.line }
+    ensures lines { f.new.lines ≡ f.old.lines }
     ensures pipes { f.new.pipes ≡ f.old.pipes }
 {
     let reading = f.table.add(&mut u.files, ino, READING)?;

@@ -1,8 +1,10 @@
 -- What is shown of bytes one after another.
-use Rattle.std.proofs.Common.{◌≡◌, ℕ, List, [], ◌∷◌, ◌++◌, ◌+◌, refl, sym, ◌∙◌, ap, append_assoc, replicate}
-use Rattle.std.proofs.lemmas.List.{replicate-append-replicate, append-nil}
+use Rattle.std.proofs.Common.{◌≡◌, ◌<◌, ◌≤◌, ℕ, suc, Bool, true, false, cond, Option, Some, None, List, [], ◌∷◌, ◌++◌, ◌+◌, ◌-◌, ◌%◌, ◌&&◌, length, take, drop, get_or, refl, sym, ◌∙◌, ap, append_assoc, replicate, nat_lt, nat_le, arith}
+use Rattle.std.proofs.lemmas.Bool.{lt-ltb, le-ltb}
+use Rattle.std.proofs.lemmas.List.{replicate-append-replicate, append-nil, length-replicate, take_more, drop_more}
 use Rattle.std.proofs.lemmas.List.Sums.{fold-append}
-use Rattle.tty_line.specs.Output.{column_after, column_after_all, shown_byte, shown_bytes}
+use Rattle.tty_line.specs.Terminal.{Terminal, flags}
+use Rattle.tty_line.specs.Output.{escaped, in_capitals, column_after, column_after_all, shown_byte, shown_bytes, forms, shows, after_shown, is_stopped, written}
 
 pub replicate_more : (n x : ℕ) → replicate n x ++ x ∷ [] ≡ replicate (n + 1) x
 replicate_more n x = replicate-append-replicate n 1 x
@@ -32,3 +34,87 @@ shown_bytes_then word column xs x =
     shown_bytes-append word column xs (x ∷ [])
     ∙ ap (λ l. shown_bytes word column xs ++ l)
     (append-nil (shown_byte word (column_after_all column (shown_bytes word column xs)) x))
+
+-- What a byte becomes that is shown are at most 8.
+few_in_capitals : (o : Option ℕ) (byte : ℕ) → length (in_capitals o byte) ≤ 8
+few_in_capitals (Some mark) byte = omega arith
+few_in_capitals None byte = by (nat_le 0o141 byte && nat_le byte 0o172) where
+  by : (small : Bool) → length {A = ℕ} (cond small ((byte - 0o040) ∷ []) (byte ∷ [])) ≤ 8
+  by true = omega arith
+  by false = omega arith
+
+few_letters : (byte : ℕ) (capitals : Bool)
+    → length {A = ℕ} (cond capitals (in_capitals (escaped byte) byte) (byte ∷ [])) ≤ 8
+few_letters byte true = few_in_capitals (escaped byte) byte
+few_letters byte false = omega arith
+
+few_by : (column byte : ℕ) (quiet tab line capitals : Bool)
+    → length {A = ℕ} (cond quiet [] (cond tab (replicate (8 - column % 8) 0o040) (cond line (0o015 ∷ 0o012 ∷ [])
+    (cond capitals (in_capitals (escaped byte) byte) (byte ∷ []))))) ≤ 8
+few_by column byte true tab line capitals = omega arith
+few_by column byte false true line capitals =
+    let spaces : List ℕ = replicate (8 - column % 8) 0o040 in
+    let long : length spaces ≡ 8 - column % 8 = length-replicate (8 - column % 8) 0o040 in
+    omega (arith, long)
+few_by column byte false false true capitals = omega arith
+few_by column byte false false false capitals = few_letters byte capitals
+
+pub few_shown : (word column byte : ℕ) → length (shown_byte word column byte) ≤ 8
+few_shown word column byte = few_by column (byte % 128) _ _ _ _
+
+-- What is shown of bytes in two parts, one after the other: where they wait, they wait one after the other.
+pub after_shown-append : (t : Terminal) (xs ys : List ℕ) → after_shown (after_shown t xs) ys ≡ after_shown t (xs ++ ys)
+after_shown-append t xs ys = after_by t.is_paced where
+  bytes : forms t xs ++ forms (after_shown t xs) ys ≡ forms t (xs ++ ys)
+  bytes = sym (shown_bytes-append (flags t) t.column xs ys)
+  column : column_after_all (column_after_all t.column (forms t xs)) (forms (after_shown t xs) ys)
+      ≡ column_after_all t.column (forms t (xs ++ ys))
+  column = sym (column_after_all-append t.column (forms t xs) (forms (after_shown t xs) ys)) ∙ ap (column_after_all t.column) bytes
+  with_parts : ℕ → List ℕ → Terminal
+  with_parts column output = record t { column = column; output = output }
+  after_by : (b : Bool) →
+      with_parts (column_after_all (column_after_all t.column (forms t xs)) (forms (after_shown t xs) ys))
+      (cond b (cond b (t.output ++ forms t xs) t.output ++ forms (after_shown t xs) ys) (cond b (t.output ++ forms t xs) t.output))
+      ≡ with_parts (column_after_all t.column (forms t (xs ++ ys))) (cond b (t.output ++ forms t (xs ++ ys)) t.output)
+  after_by true = ap (λ k. with_parts k ((t.output ++ forms t xs) ++ forms (after_shown t xs) ys)) column
+      ∙ ap (with_parts (column_after_all t.column (forms t (xs ++ ys))))
+      (append_assoc t.output (forms t xs) (forms (after_shown t xs) ys) ∙ ap (λ l. t.output ++ l) bytes)
+  after_by false = ap (λ k. with_parts k t.output) column
+
+-- without a pace a write takes all
+pub written-all : (t : Terminal) (bytes : List ℕ) → t.is_paced ≡ false → written t bytes ≡ length bytes
+written-all t [] is = refl
+written-all t (byte ∷ bytes) is =
+    ap (λ b. cond (b && nat_lt 50 (length t.output)) 0 (suc (written (after_shown t (byte ∷ [])) bytes))) is
+    ∙ ap suc (written-all (after_shown t (byte ∷ [])) bytes is)
+
+-- what a write takes of all, after some that it took
+pub written_more : (t : Terminal) (bytes : List ℕ) (i : ℕ) → i < length bytes
+    → written t bytes ≡ i + written (after_shown t (take i bytes)) (drop i bytes)
+    → is_stopped (after_shown t (take i bytes)) ≡ false
+    → written t bytes ≡ (i + 1) + written (after_shown t (take (i + 1) bytes)) (drop (i + 1) bytes)
+written_more t bytes i within so_far goes =
+    let byte : ℕ = get_or bytes i 0 in
+    let now : Terminal = after_shown t (take i bytes) in
+    let rest : List ℕ = drop (i + 1) bytes in
+    let front : drop i bytes ≡ byte ∷ rest = drop_more bytes i 0 within in
+    let next : after_shown now (byte ∷ []) ≡ after_shown t (take (i + 1) bytes) =
+    after_shown-append t (take i bytes) (byte ∷ []) ∙ ap (after_shown t) (sym (take_more bytes i 0 within)) in
+    let one : written now (byte ∷ rest) ≡ suc (written (after_shown now (byte ∷ [])) rest) =
+    ap (λ b. cond b 0 (suc (written (after_shown now (byte ∷ [])) rest))) goes in
+    let all = so_far ∙ ap (λ l. i + written now l) front ∙ ap (λ n. i + n) (one ∙ ap (λ u. suc (written u rest)) next) in
+    omega (arith, all)
+
+-- with a pace nothing is shown at once
+pub shows_nothing : (t : Terminal) (bytes : List ℕ) → t.is_paced ≡ true → shows t bytes ≡ []
+shows_nothing t bytes is = ap (λ (b : Bool). cond b [] (forms t bytes)) is
+
+pub stopped : (t : Terminal) → t.is_paced ≡ true → 50 < length t.output → is_stopped t ≡ true
+stopped t is more = ap (λ b. b && nat_lt 50 (length t.output)) is ∙ lt-ltb 50 (length t.output) more
+
+pub not_stopped : (t : Terminal) → t.is_paced ≡ true → length t.output ≤ 50 → is_stopped t ≡ false
+not_stopped t is few = ap (λ b. b && nat_lt 50 (length t.output)) is ∙ le-ltb 50 (length t.output) few
+
+pub written_stopped : (t : Terminal) (bytes : List ℕ) → is_stopped t ≡ true → written t bytes ≡ 0
+written_stopped t [] is = refl
+written_stopped t (byte ∷ bytes) is = ap (λ b. cond b 0 (suc (written (after_shown t (byte ∷ [])) bytes))) is

@@ -1,15 +1,18 @@
 //! A terminal's line.
-ghost use Rattle.std.specs.Prelude.{◌≡◌, ◌≤◌, drop, length};
+ghost use Rattle.std.specs.Prelude.{◌≡◌, ◌≤◌, take, drop, length};
 ghost use Rattle.v6_base.specs.Trace as items;
 ghost use Rattle.v6_base.specs.Trace.{sent};
-ghost use Rattle.tty_line.specs.Terminal.{first_terminal, opened, closed, with_modes};
-ghost use Rattle.tty_line.specs.Output.{shows, after_shown};
+ghost use Rattle.tty_line.specs.Terminal.{first_terminal, opened};
+ghost use Rattle.tty_line.specs.Said.{flush, closed, with_modes, sends, paced};
+ghost use Rattle.tty_line.specs.Output.{shows, after_shown, written};
 ghost use Rattle.tty_line.specs.Input.{typed};
 ghost use Rattle.tty_line.specs.Reading.{reads};
+ghost use Rattle.tty_line.specs.Shape.{most_waiting};
 
 use crate::flags::{CRMOD, ECHO, LCASE, XTABS};
 use crate::input::key_of;
 use crate::output;
+use crate::queue::Queue;
 use arrayvec::ArrayVec;
 use std::marker::Model;
 use v6_base::{Space, Trace};
@@ -19,6 +22,15 @@ pub(crate) const MOST_RAW: usize = 256;
 
 /// How many keys there is room for: a delimiter may stand after the last one.
 pub(crate) const RAW_ROOM: usize = 257;
+
+/// With more bytes than so many that wait to go out, one more is written only later: `tty.h` in Lions' Commentary.
+pub(crate) const TTHIWAT: usize = 50;
+
+/// With so many bytes left that wait to go out, and with none, who waits to write is woken.
+pub(crate) const TTLOWAT: usize = 30;
+
+/// With more bytes than so many that wait to go out, a key isn't shown.
+pub(crate) const MOST_ECHOED: usize = 1000;
 
 /// The most bytes of a line.
 pub(crate) const MOST_CANONICAL: usize = 254;
@@ -36,11 +48,12 @@ pub enum Keyed {
     Nothing,
     /// It ends a line: who waits for keys is to be woken.
     Ready,
-    /// There was no room for it, and all that was typed is lost: who waits for keys is to be woken.
-    Flushed,
-    /// It makes this signal, 2 or 3, for those who have the terminal, and all that was typed is lost: who waits for
-    /// keys is to be woken then.
-    Signal(u8),
+    /// There was no room for it, and all that was typed is lost: who waits for keys is to be woken, and with `show` who waits for
+    /// room, since bytes that waited to go out are lost too.
+    Flushed { show: bool },
+    /// It makes this signal, 2 or 3, for those who have the terminal, and all that was typed is lost: who waits for keys is to be
+    /// woken then, and with `show` who waits for room.
+    Signal { sig: u8, show: bool },
 }
 
 /// What a read comes to.
@@ -59,28 +72,39 @@ pub enum Took {
 pub struct Line {
     pub(crate) raw: ArrayVec<u8, RAW_ROOM>,
     pub(crate) canonical: ArrayVec<u8, MOST_CANONICAL>,
+    pub(crate) output: Queue,
     pub(crate) delimiters: u16,
     pub(crate) column: u8,
     pub(crate) modes: [u16; 3],
     pub(crate) is_open: bool,
+    pub(crate) is_paced: bool,
 }
 
 impl Model for Line {
+    ghost use Rattle.std.specs.Prelude.{◌≤◌, length};
     ghost use Rattle.tty_line.specs.Terminal.{Terminal};
-    ghost use Rattle.tty_line.specs.Shape.{IsLine};
+    ghost use Rattle.tty_line.specs.Shape.{IsLine, most_waiting};
 
     ghost Value = { Terminal };
 
     ghost view = { λ l. record {
       raw = l.raw.items;
       canonical = l.canonical.items;
+      output = l.output;
       delimiters = l.delimiters;
       column = l.column;
       modes = l.modes;
       is_open = l.is_open;
+      is_paced = l.is_paced;
     } };
 
-    ghost invariant = { λ l. IsLine l.raw.items l.canonical.items l.delimiters };
+    ghost invariant = { λ l. IsLine l.raw.items l.canonical.items l.delimiters × (length l.output ≤ most_waiting) };
+}
+
+impl Default for Line {
+    fn default() -> Line {
+        Line::new()
+    }
 }
 
 /// Takes so many bytes off the front.
@@ -99,10 +123,12 @@ impl Line {
         Line {
             raw: ArrayVec::new(),
             canonical: ArrayVec::new(),
+            output: Queue::new(),
             delimiters: 0,
             column: 0,
             modes: [0; 3],
             is_open: false,
+            is_paced: false,
         }
     }
 
@@ -124,12 +150,64 @@ impl Line {
         }
     }
 
-    /// Closes the line. What was typed is lost. Lions' Commentary, `klclose` in `kl.c`.
-    pub fn closed(&mut self)
-        ensures { self.new ≡ closed self.old }
+    /// Closes the line. The bytes that wait go out, and what was typed is lost. The answer says whether bytes waited: then who waits
+    /// for room is to be woken, after who waits for keys. Lions' Commentary, `klclose` in `kl.c`.
+    pub fn closed<T: Trace>(&mut self, trace: &mut T) -> bool
+        ensures line { self.new ≡ (closed self.old).terminal }
+        ensures show { result ≡ (closed self.old).show }
+        ensures items { items.Took (T.taken trace.old) (sent 0 (closed self.old).shown) (T.taken trace.new) }
+        ensures frame { T.leads_to trace.old trace.new }
     {
-        self.flush();
+        output::send_all(self.output.as_slice(), trace);
         self.is_open = false;
+        self.flush()
+    }
+
+    /// Loses all that was typed and the bytes that wait to go out: `flushtty`. The answer says whether bytes waited.
+    pub fn flush(&mut self) -> bool
+        ensures line { self.new ≡ (flush self.old).terminal }
+        ensures show { result ≡ (flush self.old).show }
+    {
+        let held = self.output.len() > 0;
+        self.raw.clear();
+        self.canonical.clear();
+        self.output.clear();
+        self.delimiters = 0;
+        held
+    }
+
+    /// Sends the first of the bytes that wait, if there is one. The answer says whether who waits for room is to be woken: none or
+    /// 30 are left.
+    pub fn send<T: Trace>(&mut self, trace: &mut T) -> bool
+        ensures line { self.new ≡ (sends self.old).terminal }
+        ensures show { result ≡ (sends self.old).show }
+        ensures items { items.Took (T.taken trace.old) (sent 0 (sends self.old).shown) (T.taken trace.new) }
+        ensures frame { T.leads_to trace.old trace.new }
+    {
+        if self.output.len() == 0 {
+            return false;
+        }
+        trace.out(self.output.pop());
+        let left = self.output.len();
+        left == 0 || left == TTLOWAT
+    }
+
+    /// Turns the pace on, with which bytes wait to be sent, or off. Where it is turned off, those that wait go out, and the answer says
+    /// whether there were any.
+    pub fn set_pace<T: Trace>(&mut self, on: bool, trace: &mut T) -> bool
+        ensures line { self.new ≡ (paced self.old on).terminal }
+        ensures show { result ≡ (paced self.old on).show }
+        ensures items { items.Took (T.taken trace.old) (sent 0 (paced self.old on).shown) (T.taken trace.new) }
+        ensures frame { T.leads_to trace.old trace.new }
+    {
+        self.is_paced = on;
+        if on {
+            return false;
+        }
+        let held = self.output.len() > 0;
+        output::send_all(self.output.as_slice(), trace);
+        self.output.clear();
+        held
     }
 
     /// Takes a byte that is typed, whose low seven bits are a key, and shows it where the flags say so. Lions'
@@ -137,6 +215,7 @@ impl Line {
     pub fn typed<T: Trace>(&mut self, b: u8, trace: &mut T) -> Keyed
         ensures line { self.new ≡ (typed self.old b).terminal }
         ensures keyed { result ≡ (typed self.old b).keyed }
+        ensures most { length self.new.output ≤ most_waiting }
         ensures items { items.Took (T.taken trace.old) (sent 0 (typed self.old b).shown) (T.taken trace.new) }
         ensures frame { T.leads_to trace.old trace.new }
     {
@@ -163,13 +242,21 @@ impl Line {
         self.hand_out(space, at, count)
     }
 
-    /// Shows bytes, one after another. Lions' Commentary, `ttwrite` and `ttyoutput` in `tty.c`; tty(IV) of the manual.
-    pub fn write<T: Trace>(&mut self, bytes: &[u8], trace: &mut T)
-        ensures line { self.new ≡ after_shown self.old bytes.now }
-        ensures items { items.Took (T.taken trace.old) (sent 0 (shows self.old bytes.now)) (T.taken trace.new) }
+    /// Shows bytes, one after another, and says how many were taken: fewer than all where the line is paced and too many wait to go
+    /// out. Lions' Commentary, `ttwrite` and `ttyoutput` in `tty.c`; tty(IV) of the manual.
+    pub fn write<T: Trace>(&mut self, bytes: &[u8], trace: &mut T) -> u16
+        requires { length bytes.now ≤ 65535 }
+        ensures taken { result ≡ written self.old bytes.now }
+        ensures line { self.new ≡ after_shown self.old (take result bytes.now) }
+        ensures most { length self.new.output ≤ most_waiting }
+        ensures items { items.Took (T.taken trace.old) (sent 0 (shows self.old (take result bytes.now))) (T.taken trace.new) }
         ensures frame { T.leads_to trace.old trace.new }
     {
+        if self.is_paced {
+            return self.let_wait(bytes);
+        }
         self.column = output::show_all(self.modes[2], self.column, bytes, trace);
+        bytes.len() as u16
     }
 
     /// The modes of the line, which are three words: the speeds; the character that erases, in the low byte, and the
@@ -180,11 +267,16 @@ impl Line {
         self.modes
     }
 
-    /// Sets the modes of the line. What was typed is lost. stty(II) of the manual.
-    pub fn set_modes(&mut self, v: [u16; 3])
-        ensures { self.new ≡ with_modes self.old v }
+    /// Sets the modes of the line. The bytes that wait go out, and what was typed is lost. The answer says whether bytes waited.
+    /// stty(II) of the manual.
+    pub fn set_modes<T: Trace>(&mut self, v: [u16; 3], trace: &mut T) -> bool
+        ensures line { self.new ≡ (with_modes self.old v).terminal }
+        ensures show { result ≡ (with_modes self.old v).show }
+        ensures items { items.Took (T.taken trace.old) (sent 0 (with_modes self.old v).shown) (T.taken trace.new) }
+        ensures frame { T.leads_to trace.old trace.new }
     {
-        self.flush();
+        output::send_all(self.output.as_slice(), trace);
         self.modes = v;
+        self.flush()
     }
 }

@@ -1,7 +1,8 @@
 -- What a call on files has shown, as the kernel's tape tells it.
-use Rattle.std.specs.Prelude.{◌≡◌, ◌<◌, ℕ, Bool, false, slice_index_or, List, ◌++◌, map, fold, if◌then◌else◌}
+use Rattle.std.specs.Prelude.{◌≡◌, ◌<◌, ℕ, zero, suc, Bool, false, slice_index_or, List, [], ◌++◌, map, fold, if◌then◌else◌}
 use Rattle.v6_base.specs.Trace.{Item, Log, sent}
-use Rattle.v6_base.specs.Tape.{Recording}
+use Rattle.v6_base.specs.Tape.{Recording, bytes_of}
+use Rattle.v6_base.specs.declared.trace.TheConstants.{LINES}
 use Rattle.v6_base.specs.declared.entry.Chan.{Chan}
 use Rattle.v6_base.specs.declared.entry.Entry.{Entry}
 use Rattle.v6_base.specs.declared.entry.Entry.TheVariants.{Wake, Signal, Idle}
@@ -49,6 +50,11 @@ HaveSlots entries = (i : ℕ) → HasSlot (slice_index_or entries i Idle)
 abbrev pub all_woken : Table → List Entry → Table
 all_woken t entries = fold woken_by t entries
 
--- the bytes, and then the lines
+-- the bytes of so many lines, from one on
+abbrev pub bytes_shown : ℕ → ℕ → Recording → List Item
+bytes_shown l zero r = []
+bytes_shown l (suc count) r = sent l (bytes_of r l) ++ bytes_shown (suc l) count r
+
+-- the bytes, lowest line first, and then the lines of the log
 abbrev pub shown_by : Recording → List Item
-shown_by r = sent 0 r.bytes ++ map Log r.entries
+shown_by r = bytes_shown 0 LINES r ++ map Log r.entries

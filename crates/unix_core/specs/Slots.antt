@@ -1,10 +1,10 @@
 -- How a kernel counts the slots that have been taken, and who waits for the disk.
-use Rattle.std.specs.Prelude.{◌≡◌, ◌≢◌, ◌<◌, ◌≤◌, ◌⊎◌, ℕ, ◌+◌, ◌-◌, Bool, true, List, map, Option, Some, None, slice_index_or, replicate}
+use Rattle.std.specs.Prelude.{◌≡◌, ◌≢◌, ◌<◌, ◌≤◌, ◌⊎◌, ℕ, ◌+◌, ◌-◌, Bool, true, false, List, map, Option, Some, None, slice_index_or, replicate}
 use Rattle.v6_base.specs.Trace.{Item, Log}
 use Rattle.v6_base.specs.declared.entry.Chan.TheVariants.{Disk}
 use Rattle.v6_base.specs.declared.entry.Entry.TheVariants as entry
 use Rattle.abstract_unix.specs.Unix.{Timing, Unix}
-use Rattle.abstract_unix.specs.Turn.{disk_end_of, waits_until}
+use Rattle.abstract_unix.specs.Turn.{disk_end_of, waits_until, is_sending}
 use Rattle.abstract_unix.specs.Whole.{AreDue, NoGraveWaits}
 use Rattle.u_area.specs.declared.layout.TheConstants.{NOTHING_PENDING, DISK_WAIT}
 use Rattle.u_area.specs.declared.area.UArea.{UArea}
@@ -19,12 +19,19 @@ abbrev pub passed_in : Slots → ℕ
 passed_in slots = slots.due - slots.left
 
 abbrev pub timing_in : Slots → Timing
-timing_in slots = record { passed = passed_in slots; disk = slots.disk }
+timing_in slots = record { passed = passed_in slots; disk = slots.disk; pace = slots.pace; since = passed_in slots - slots.set_at }
+
+-- No line sends with the end of a slot between that of number `n` and the one that is due.
+abbrev pub NoneSend : ℕ → Slots → Type 0
+NoneSend n slots = (m : ℕ) → n < m → m < slots.due → is_sending (record (timing_in slots) { since = m - slots.set_at }) ≡ false
 
 -- What is so of the count between two events.
 pub record IsCounted (slots : Slots) (u : Unix) : Type 0 where
   pub within : slots.left ≤ slots.due
   pub disk : slots.disk ≤ 999999999
+  pub pace : slots.pace ≤ 999999999
+  pub set : slots.set_at ≤ passed_in slots
+  pub sends : NoneSend (passed_in slots) slots
   pub due : AreDue slots.due u
   pub graves : NoGraveWaits u
 

@@ -1,5 +1,5 @@
 //! What a kernel begins with.
-ghost use Rattle.std.specs.Prelude.{◌≡◌, ℕ, ◌≤◌, ◌+◌, IfOk, IfErr, Some, None, replicate, length};
+ghost use Rattle.std.specs.Prelude.{◌≡◌, ◌⊎◌, ℕ, ◌≤◌, ◌+◌, IfOk, IfErr, Some, None, replicate, length};
 ghost use Rattle.fs_codec.specs.Disk.{disk_of};
 ghost use Rattle.fs_codec.specs.Faults.{image_fault};
 ghost use Rattle.fs_codec.specs.Stands.{store_of};
@@ -15,7 +15,7 @@ use fs_nodes::Nodes;
 use image_keep::Images;
 use pdp_decode::Dispatch;
 use std::alloc::{AllocError, Global};
-use v6_base::Tape;
+use v6_base::{LINES, Tape};
 
 /// The room of the tape for what a call on files shows: none has so many lines, or so many bytes.
 const TAPE_ENTRIES: usize = 64;
@@ -80,13 +80,12 @@ impl Kernel {
     ghost use Rattle.abstract_unix.specs.Unix.{New};
     ghost use Rattle.abstract_unix.specs.Runs.{boots};
 
-    /// Makes the kernel for a disk image and so many clicks of core, before the start of its run.
-    ///
-    /// It keeps a disk of its own, and takes all the memory that it will ever use.
-    pub fn boot(alloc: Global, image: &[u8], core: u16) -> Result<Kernel, BootFault>
+    /// Makes the kernel for a disk image, so many clicks of core and so many terminal lines.
+    fn boot_with(alloc: Global, image: &[u8], core: u16, lines: u8) -> Result<Kernel, BootFault>
         requires least { 64 ≤ core }
         requires most { core ≤ 3968 }
-        ensures system { IfOk result (λ kernel. boots image.now core ≡ Some kernel.system) }
+        requires lines { (lines ≡ 1) ⊎ (lines ≡ 8) }
+        ensures system { IfOk result (λ kernel. boots image.now core lines ≡ Some kernel.system) }
         ensures blocks { IfOk result (λ kernel. kernel.blocks ≡ blocks_of image.now) }
         ensures stored { IfOk result (λ kernel. kernel.stored ≡ blocks_of image.now) }
         ensures phase { IfOk result (λ kernel. kernel.phase ≡ New) }
@@ -111,6 +110,34 @@ impl Kernel {
         let Ok(dispatch) = Dispatch::new(alloc) else {
             return Err(BootFault::NoMemory);
         };
-        Ok(Kernel::new(images, tape, nodes, time, core, dispatch))
+        Ok(Kernel::new(images, tape, nodes, time, core, lines, dispatch))
+    }
+
+    /// Makes the kernel for a disk image and so many clicks of core, before the start of its run. It has one terminal line, the console.
+    ///
+    /// It keeps a disk of its own, and takes all the memory that it will ever use.
+    pub fn boot(alloc: Global, image: &[u8], core: u16) -> Result<Kernel, BootFault>
+        requires least { 64 ≤ core }
+        requires most { core ≤ 3968 }
+        ensures system { IfOk result (λ kernel. boots image.now core 1 ≡ Some kernel.system) }
+        ensures blocks { IfOk result (λ kernel. kernel.blocks ≡ blocks_of image.now) }
+        ensures stored { IfOk result (λ kernel. kernel.stored ≡ blocks_of image.now) }
+        ensures phase { IfOk result (λ kernel. kernel.phase ≡ New) }
+        ensures refused { IfErr result (RefusesBoot image.now) }
+    {
+        Kernel::boot_with(alloc, image, core, 1)
+    }
+
+    /// The same with eight terminal lines, of which line 0 is the console: `klopen` in Lions' Commentary, `kl.c`.
+    pub fn boot8(alloc: Global, image: &[u8], core: u16) -> Result<Kernel, BootFault>
+        requires least { 64 ≤ core }
+        requires most { core ≤ 3968 }
+        ensures system { IfOk result (λ kernel. boots image.now core LINES ≡ Some kernel.system) }
+        ensures blocks { IfOk result (λ kernel. kernel.blocks ≡ blocks_of image.now) }
+        ensures stored { IfOk result (λ kernel. kernel.stored ≡ blocks_of image.now) }
+        ensures phase { IfOk result (λ kernel. kernel.phase ≡ New) }
+        ensures refused { IfErr result (RefusesBoot image.now) }
+    {
+        Kernel::boot_with(alloc, image, core, LINES)
     }
 }

@@ -1,6 +1,7 @@
 //! The kernel, which takes one event a call.
 ghost use Rattle.std.specs.Prelude.{◌≡◌, ◌≢◌, ◌⊎◌, ◌==◌, ◌<◌, ◌≤◌, ℕ, [], slice_index, slice_set, if◌then◌else◌, true, false};
 ghost use Rattle.v6_base.specs.Trace.{Took};
+ghost use Rattle.v6_base.specs.Tape.{blank};
 ghost use Rattle.fs_codec.specs.Disk.{head};
 ghost use Rattle.fs_codec.specs.Stands.{StandsFor};
 ghost use Rattle.fs_codec.specs.declared.layout.TheConstants.{SWAP_START};
@@ -25,6 +26,7 @@ use fs_codec::DISK_BLOCKS;
 use fs_nodes::Nodes;
 use fs_tree::Tree;
 use image_keep::Images;
+use lines_eight::Lines;
 use open_files::OpenTable;
 use pdp_decode::Dispatch;
 use pdp_step::Outcome;
@@ -34,8 +36,7 @@ use seg_regs::Proto;
 use std::marker::Model;
 use sys_files::{Files, Pipes};
 use sys_procs::Procs;
-use tty_line::Line;
-use v6_base::{Entry, PanicKind, Slot, Tape, Trace};
+use v6_base::{Entry, LINES, PanicKind, Slot, Tape, Trace};
 
 /// The slot of process 1.
 const SLOT: Slot = 1;
@@ -92,7 +93,7 @@ impl Kernel {
     ghost use Rattle.abstract_unix.specs.Unix.{New, Started, Stopped, Finished};
     ghost use Rattle.abstract_unix.specs.Endings.{phase_after};
     ghost use Rattle.unix_core.specs.Memory.{kept_in};
-    ghost use Rattle.abstract_unix.specs.Runs.{Slot, Tick, Byte, Switch, Disk, start_of, event_of, system_with, finished};
+    ghost use Rattle.abstract_unix.specs.Runs.{Slot, Tick, Byte, Switch, Disk, Pace, Hangup, start_of, event_of, system_with, finished};
 
     /// A kernel with a file system, whose process 1 is about to execute `/etc/init`, with images and a tape of which nothing
     /// is used. Inode 1 is referred to as the root and as a directory.
@@ -102,15 +103,17 @@ impl Kernel {
         nodes: Nodes,
         time: u32,
         core: u16,
+        lines: u8,
         dispatch: Dispatch,
     ) -> Self
         requires least { 64 ≤ core }
         requires most { core ≤ 3968 }
         requires images { images.kept ≡ first_kept core }
-        requires tape { tape ≡ record { entries = []; bytes = []; entry_room = 64; byte_room = 524288 } }
+        requires tape { tape ≡ blank 64 524288 }
         requires referred { (ino : ℕ) → slice_index nodes.references ino ≡ (if ino == 1 then 2 else 0) }
         requires time { time ≡ nodes.store.stamp }
-        ensures system { result.system ≡ system_with nodes.store core }
+        requires lines { (lines ≡ 1) ⊎ (lines ≡ 8) }
+        ensures system { result.system ≡ system_with nodes.store core lines }
         ensures blocks { result.blocks ≡ nodes.blocks }
         ensures stored { result.stored ≡ nodes.stored }
         ensures phase { result.phase ≡ New }
@@ -120,7 +123,7 @@ impl Kernel {
         let files = Files {
             tree,
             table: OpenTable::new(),
-            line: Line::new(),
+            lines: Lines::new(lines),
             pipes: Pipes::new(),
         };
         let mut procs = Procs {
@@ -217,19 +220,68 @@ impl Kernel {
         self.machine.tick(trace)
     }
 
-    /// Takes a byte that is typed on line 0, the console: `klrint` in Lions' Commentary, `kl.c`; tty(IV) of the manual. A key that makes a
-    /// signal, 0177 or 034 by the low seven bits, sends it to all that have line 0.
+    /// Takes a byte that is typed on line 0, the console, as `typed_on`.
     pub fn typed<T: Trace>(&mut self, b: u8, trace: &mut T)
         requires { self.old.phase ≡ Started }
         ensures phase { self.new.phase ≡ Started }
-        ensures next { self.new.system ≡ (event_of (Byte b) self.old.system).next }
+        ensures next { self.new.system ≡ (event_of (Byte 0 b) self.old.system).next }
         ensures private { AllUndisturbed self.old.system self.new.system }
         ensures texts { AllTextsStay self.old.system self.new.system }
         ensures rest { KeepsRest self.old self.new }
-        ensures items { Took (T.taken trace.old) (event_of (Byte b) self.old.system).items (T.taken trace.new) }
+        ensures items { Took (T.taken trace.old) (event_of (Byte 0 b) self.old.system).items (T.taken trace.new) }
         ensures frame { T.leads_to trace.old trace.new }
     {
-        self.machine.typed(b, trace);
+        self.typed_on(0, b, trace);
+    }
+
+    /// Takes a byte that is typed on a terminal line: `klrint` in Lions' Commentary, `kl.c`; tty(IV) of the manual. A key that makes a
+    /// signal, 0177 or 034 by the low seven bits, sends it to all that have the line. A line that isn't open or isn't there drops it.
+    pub fn typed_on<T: Trace>(&mut self, l: u8, b: u8, trace: &mut T)
+        requires started { self.old.phase ≡ Started }
+        requires line { l < LINES }
+        ensures phase { self.new.phase ≡ Started }
+        ensures next { self.new.system ≡ (event_of (Byte l b) self.old.system).next }
+        ensures private { AllUndisturbed self.old.system self.new.system }
+        ensures texts { AllTextsStay self.old.system self.new.system }
+        ensures rest { KeepsRest self.old self.new }
+        ensures items { Took (T.taken trace.old) (event_of (Byte l b) self.old.system).items (T.taken trace.new) }
+        ensures frame { T.leads_to trace.old trace.new }
+    {
+        self.machine.typed(l, b, trace);
+    }
+
+    /// Takes the hang-up of a terminal line: all that have it as their terminal have signal 1, and what was typed and what waits to go
+    /// out is lost. The line stays open. One that isn't open or isn't there ignores it. signal(II) of the manual.
+    pub fn hangup<T: Trace>(&mut self, l: u8, trace: &mut T)
+        requires started { self.old.phase ≡ Started }
+        requires line { l < LINES }
+        ensures phase { self.new.phase ≡ Started }
+        ensures next { self.new.system ≡ (event_of (Hangup l) self.old.system).next }
+        ensures private { AllUndisturbed self.old.system self.new.system }
+        ensures texts { AllTextsStay self.old.system self.new.system }
+        ensures rest { KeepsRest self.old self.new }
+        ensures items { Took (T.taken trace.old) (event_of (Hangup l) self.old.system).items (T.taken trace.new) }
+        ensures frame { T.leads_to trace.old trace.new }
+    {
+        self.machine.hangup(l, trace);
+    }
+
+    /// From now on what goes out on a terminal line waits, and with the end of each so many slots, counted from here, each line sends one
+    /// byte, the lowest line first. 0 is none, as at the start: what waits goes out then, and each byte at once. `ttstart` in Lions'
+    /// Commentary, `tty.c`.
+    pub fn set_pace<T: Trace>(&mut self, n: u32, trace: &mut T)
+        requires started { self.old.phase ≡ Started }
+        requires most { n ≤ 999999999 }
+        requires fresh { self.old.system.unix.timing.passed ≤ 3000000001 }
+        ensures phase { self.new.phase ≡ Started }
+        ensures next { self.new.system ≡ (event_of (Pace n) self.old.system).next }
+        ensures private { AllUndisturbed self.old.system self.new.system }
+        ensures texts { AllTextsStay self.old.system self.new.system }
+        ensures rest { KeepsRest self.old self.new }
+        ensures items { Took (T.taken trace.old) (event_of (Pace n) self.old.system).items (T.taken trace.new) }
+        ensures frame { T.leads_to trace.old trace.new }
+    {
+        self.machine.set_pace(n, trace);
     }
 
     /// Sets the switches of the console, 16 bits: csw(II) of the manual tells them.

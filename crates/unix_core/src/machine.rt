@@ -10,7 +10,7 @@ ghost use Rattle.abstract_unix.specs.declared.ends.Ends.TheVariants.{AtEnd};
 ghost use Rattle.abstract_unix.specs.Unix.{Unix, System, Started, process_of};
 ghost use Rattle.abstract_unix.specs.Endings.{is_early};
 ghost use Rattle.abstract_unix.specs.Turn.{Happened, after_slot, turned, ticked_by, turned_by, ending_of, turn, turn_of, settled, settled_after, pass_of};
-ghost use Rattle.abstract_unix.specs.Outside.{calls, charged, mode_of, tick_entry, timed_area, is_user_mode, tick_of, with_key, key_lines, typed_of};
+ghost use Rattle.abstract_unix.specs.Outside.{calls, calls_show, charged, mode_of, tick_entry, timed_area, is_user_mode, tick_of, with_key, key_lines, typed_of, hangs_up, hangup_of, paced_of};
 ghost use Rattle.unix_core.specs.Slots.{IsCounted};
 ghost use Rattle.unix_core.specs.Parts.{unix_of, board_in, system_at, turn_at, turn_end, phase_of, slot_in, one_before, is_over, IsGood, IsReady, IsUser, IsRunning, IsCovered, IsKernel, IsKnown, IsStill, HasCome, HasStepped, Takes, delivers_where};
 
@@ -18,12 +18,14 @@ use crate::delivery::{deliver_after, deliver_due};
 use crate::files::see_procs;
 use crate::process::{come_to, resume};
 use crate::settling::{end_turn, settle, wake};
-use crate::slots::{count, reach};
+use crate::slots::{count, reach, set_pace};
 use crate::world::World;
 use abstract_unix::{Ending, Turned};
 use image_keep::Fixed;
+use lines_eight::{keys_of, show_of};
 use pdp_step::Outcome;
 use pick_rules::{Mode, Second};
+use sig_core::SIGHUP;
 use swap_sched::pass;
 use sys_procs::signal_line;
 use tty_line::Keyed;
@@ -112,7 +114,17 @@ fn calls(keyed: Keyed) -> bool
 {
     match keyed {
         Keyed::Nothing => false,
-        Keyed::Ready | Keyed::Flushed | Keyed::Signal(_) => true,
+        Keyed::Ready | Keyed::Flushed { .. } | Keyed::Signal { .. } => true,
+    }
+}
+
+/// Whether a key calls for those who wait for room, as bytes that waited to go out are lost.
+fn calls_show(keyed: Keyed) -> bool
+    ensures { result ≡ calls_show keyed }
+{
+    match keyed {
+        Keyed::Nothing | Keyed::Ready => false,
+        Keyed::Flushed { show } | Keyed::Signal { show, .. } => show,
     }
 }
 
@@ -541,36 +553,94 @@ impl Machine {
         }
     }
 
-    /// Sends the signal that a key of line 0 makes, if it makes one, to all that have the line.
-    fn send_key<T: Trace>(&mut self, keyed: Keyed, trace: &mut T)
+    /// Sends the signal that a key of a line makes, if it makes one, to all that have the line.
+    fn send_key<T: Trace>(&mut self, l: u8, keyed: Keyed, trace: &mut T)
         requires { IsGood self.old.world }
         ensures good { IsGood self.new.world }
-        ensures unix { unix_of self.new.world ≡ with_key 0 keyed (unix_of self.old.world) }
+        ensures unix { unix_of self.new.world ≡ with_key l keyed (unix_of self.old.world) }
         ensures board { board_in self.new.world
-            ≡ (logged {W = Unix} (board_in self.old.world) (map Show (key_lines 0 keyed (unix_of self.old.world)))).board }
-        ensures items { Took (T.taken trace.old) (key_lines 0 keyed (unix_of self.old.world)) (T.taken trace.new) }
+            ≡ (logged {W = Unix} (board_in self.old.world) (map Show (key_lines l keyed (unix_of self.old.world)))).board }
+        ensures items { Took (T.taken trace.old) (key_lines l keyed (unix_of self.old.world)) (T.taken trace.new) }
         ensures frame { T.leads_to trace.old trace.new }
         ensures files { self.new.world.files ≡ self.old.world.files }
         ensures slots { self.new.world.slots ≡ self.old.world.slots }
     {
-        if let Keyed::Signal(sig) = keyed {
-            signal_line(&mut self.world.procs, 0, sig, trace);
+        if let Keyed::Signal { sig, .. } = keyed {
+            signal_line(&mut self.world.procs, l, sig, trace);
         }
     }
 
-    /// Takes a byte that is typed on line 0, and sends the signal that it makes.
-    pub(crate) fn typed<T: Trace>(&mut self, byte: u8, trace: &mut T)
+    /// Takes a byte that is typed on a line, and sends the signal that it makes. A line that isn't there drops it.
+    pub(crate) fn typed<T: Trace>(&mut self, l: u8, byte: u8, trace: &mut T)
         requires kernel { IsKernel self.old.stage self.old.world }
         requires started { phase_of self.old.stage ≡ Started }
-        ensures takes { Takes (settled_after (typed_of (system_at self.old.world) 0 byte)) self.new.stage self.new.world }
+        requires line { l < LINES }
+        ensures takes { Takes (settled_after (typed_of (system_at self.old.world) l byte)) self.new.stage self.new.world }
         ensures rest { SameRest self.old.world.files.tree.nodes self.new.world.files.tree.nodes }
         ensures items { Took (T.taken trace.old)
-            (settled_after (typed_of (system_at self.old.world) 0 byte)).items (T.taken trace.new) }
+            (settled_after (typed_of (system_at self.old.world) l byte)).items (T.taken trace.new) }
         ensures frame { T.leads_to trace.old trace.new }
     {
-        let keyed = self.world.files.line.typed(byte, trace);
-        self.send_key(keyed, trace);
-        wake(&mut self.world.procs.table, calls(keyed), Chan::Keys, trace);
+        if l < self.world.files.lines.count() {
+            let keyed = self.world.files.lines.typed(l, byte, trace);
+            self.send_key(l, keyed, trace);
+            let table = &mut self.world.procs.table;
+            wake(table, calls(keyed), keys_of(l), trace);
+            wake(table, calls_show(keyed), show_of(l), trace);
+        }
         self.settle(trace);
+    }
+
+    /// Those whose terminal is a line that is open have a signal, and it is flushed: who waits for it is woken.
+    fn hang_up<T: Trace>(&mut self, l: u8, trace: &mut T)
+        requires good { IsGood self.old.world }
+        requires there { l < length self.old.world.files.lines }
+        ensures good { IsGood self.new.world }
+        ensures unix { unix_of self.new.world ≡ (hangs_up (system_at self.old.world) l).unix }
+        ensures board { board_in self.new.world ≡ (hangs_up (system_at self.old.world) l).log.board }
+        ensures items { Took (T.taken trace.old) (hangs_up (system_at self.old.world) l).log.items (T.taken trace.new) }
+        ensures frame { T.leads_to trace.old trace.new }
+        ensures tree { self.new.world.files.tree ≡ self.old.world.files.tree }
+        ensures slots { self.new.world.slots ≡ self.old.world.slots }
+    {
+        signal_line(&mut self.world.procs, l, SIGHUP, trace);
+        let show = self.world.files.lines.flush(l);
+        let table = &mut self.world.procs.table;
+        wake(table, true, keys_of(l), trace);
+        wake(table, show, show_of(l), trace);
+    }
+
+    /// Takes the hang-up of a line. One that isn't there or isn't open ignores it.
+    pub(crate) fn hangup<T: Trace>(&mut self, l: u8, trace: &mut T)
+        requires kernel { IsKernel self.old.stage self.old.world }
+        requires started { phase_of self.old.stage ≡ Started }
+        requires line { l < LINES }
+        ensures takes { Takes (settled_after (hangup_of (system_at self.old.world) l)) self.new.stage self.new.world }
+        ensures rest { SameRest self.old.world.files.tree.nodes self.new.world.files.tree.nodes }
+        ensures items { Took (T.taken trace.old)
+            (settled_after (hangup_of (system_at self.old.world) l)).items (T.taken trace.new) }
+        ensures frame { T.leads_to trace.old trace.new }
+    {
+        if l < self.world.files.lines.count() && self.world.files.lines.is_open(l) {
+            self.hang_up(l, trace);
+        }
+        self.settle(trace);
+    }
+
+    /// Sets after how many slots the lines send, counted from now on. The kernel settles where somebody is woken.
+    pub(crate) fn set_pace<T: Trace>(&mut self, n: u32, trace: &mut T)
+        requires kernel { IsKernel self.old.stage self.old.world }
+        requires started { phase_of self.old.stage ≡ Started }
+        requires few { n ≤ 999999999 }
+        requires fresh { (unix_of self.old.world).timing.passed ≤ 3000000001 }
+        ensures takes { Takes (settled_after (paced_of (system_at self.old.world) n)) self.new.stage self.new.world }
+        ensures rest { SameRest self.old.world.files.tree.nodes self.new.world.files.tree.nodes }
+        ensures items { Took (T.taken trace.old)
+            (settled_after (paced_of (system_at self.old.world) n)).items (T.taken trace.new) }
+        ensures frame { T.leads_to trace.old trace.new }
+    {
+        if set_pace(&mut self.world, n, trace) {
+            self.settle(trace);
+        }
     }
 }

@@ -1,5 +1,5 @@
-//! The slots that have been taken, and who waits for the disk up to one of them: `iowait` and `iodone` in Lions' Commentary,
-//! `bio.c`.
+//! The slots that have been taken, who waits for the disk up to one of them, and with which of them the lines send: `iowait` and
+//! `iodone` in Lions' Commentary, `bio.c`; `ttstart` and `ttrstrt` there, `tty.c`.
 ghost use Rattle.std.specs.Prelude.{◌≡◌, ◌≢◌, ◌<◌, ◌≤◌, ◌+◌, ◌*◌, ◌==◌, ◌||◌, ℕ, true, false, not, length, map, min, None, slice_index, slice_index_or};
 ghost use Rattle.v6_base.specs.Trace.{Took};
 ghost use Rattle.pick_rules.specs.Effects.{Show};
@@ -22,7 +22,8 @@ ghost use Rattle.unix_core.specs.declared.slots.TheConstants.{NEVER};
 use crate::settling::wake;
 use crate::world::World;
 use abstract_unix::Ending;
-use pick_rules::Stat;
+use lines_eight::{Lines, show_of};
+use pick_rules::{Stat, Table};
 use sys_procs::Procs;
 use u_area::{DISK_WAIT, NOTHING_PENDING, UArea};
 use v6_base::{Chan, Slot, Trace};
@@ -38,22 +39,31 @@ const PRIBIO: i8 = -50;
 pub(crate) struct Slots {
     /// A call that has read the disk waits for so many slots. 0 is none.
     pub(crate) disk: u32,
+    /// The lines send with the end of each so many slots. 0 is none: bytes don't wait.
+    pub(crate) pace: u32,
+    /// So many slots had been taken when that was set.
+    pub(crate) set_at: u32,
     /// So many slots are left up to the one that is due, with that one.
     pub(crate) left: u32,
-    /// The number of the slot that is due, the first of a run being 1: a wait for the disk ends with it. `NEVER` is none.
+    /// The number of the slot that is due, the first of a run being 1: before it no wait for the disk ends, and no line sends. `NEVER`
+    /// is none.
     pub(crate) due: u32,
 }
 
 impl Slots {
-    /// No slot has been taken, and a transfer takes none.
+    /// No slot has been taken, a transfer takes none, and bytes don't wait.
     pub(crate) fn new() -> Slots
         ensures disk { result.disk ≡ 0 }
+        ensures pace { result.pace ≡ 0 }
+        ensures set { result.set_at ≡ 0 }
         ensures passed { passed_in result ≡ 0 }
         ensures within { result.left ≤ result.due }
         ensures due { 3000000001 < result.due }
     {
         Slots {
             disk: 0,
+            pace: 0,
+            set_at: 0,
             left: NEVER,
             due: NEVER,
         }
@@ -78,7 +88,7 @@ impl Slots {
         self.passed() + 1 + self.disk
     }
 
-    /// A wait ends with the slot of this number.
+    /// Something is due with the slot of this number.
     fn add(&mut self, end: u32)
         requires within { self.old.left ≤ self.old.due }
         requires ahead { passed_in self.old < end }
@@ -90,11 +100,43 @@ impl Slots {
         ensures passed { passed_in self.new ≡ passed_in self.old }
         ensures within { self.new.left ≤ self.new.due }
         ensures disk { self.new.disk ≡ self.old.disk }
+        ensures pace { self.new.pace ≡ self.old.pace }
+        ensures set { self.new.set_at ≡ self.old.set_at }
     {
         if end < self.due {
             self.left -= self.due - end;
             self.due = end;
         }
+    }
+
+    /// Sets after how many slots the lines send, counted from now on.
+    pub(crate) fn set_pace(&mut self, n: u32)
+        requires within { self.old.left ≤ self.old.due }
+        requires fresh { passed_in self.old ≤ 3000000001 }
+        requires before { passed_in self.old < self.old.due }
+        requires few { n ≤ 999999999 }
+        ensures timing { timing_in self.new ≡ record (timing_in self.old) { pace = n; since = 0 } }
+        ensures within { self.new.left ≤ self.new.due }
+        ensures sooner { self.new.due ≤ self.old.due }
+        ensures later { passed_in self.new < self.new.due }
+        ensures sends { n ≢ 0 → self.new.due ≤ passed_in self.old + n }
+        ensures set { self.new.set_at ≤ passed_in self.new }
+    {
+        self.pace = n;
+        self.set_at = self.passed();
+        if n != 0 {
+            self.add(self.set_at + n);
+        }
+    }
+
+    /// How many slots the last send lies back, when the slot of this number has been taken.
+    fn behind(&self, passed: u32) -> u32
+        requires set { self.now.set_at ≤ passed }
+        requires paced { self.now.pace ≢ 0 }
+        ensures behind { result ≡ (passed - self.now.set_at) % self.now.pace }
+        ensures few { result < self.now.pace }
+    {
+        (passed - self.set_at) % self.pace
     }
 }
 
@@ -271,7 +313,78 @@ fn wake_disks<T: Trace>(procs: &mut Procs, passed: u32, trace: &mut T) -> Woken
     woken
 }
 
-/// The slot that was due has been taken: who has waited for the disk up to its end is woken. Tells whether anybody is.
+/// The lines send, the lowest first, and after each who waits for room on it is woken, where that is called for. Tells whether anybody
+/// is.
+fn send_lines<T: Trace>(lines: &mut Lines, table: &mut Table, trace: &mut T) -> bool
+    requires table { IsTable table.old }
+    ensures lines { lines.new ≡ (each_line sends lines.old).lines }
+    ensures any { result ≡ (each_line sends lines.old).wakes }
+    ensures good { IsTable table.new }
+    ensures table { table.new ≡ all_woken table.old (entries_of (each_line sends lines.old).items) }
+    ensures same { result ≡ false → table.new ≡ table.old }
+    ensures items { Took (T.taken trace.old) (each_line sends lines.old).items (T.taken trace.new) }
+    ensures frame { T.leads_to trace.old trace.new }
+{
+    let mut any = false;
+    for l in 0..lines.count() {
+        let show = lines.send(l, trace);
+        wake(table, show, show_of(l), trace);
+        any = any || show;
+    }
+    any
+}
+
+/// Turns the pace of all lines on or off, the lowest first, and after each wakes who waits for room on it, where that is called for.
+/// Tells whether anybody is woken.
+fn turn_lines<T: Trace>(lines: &mut Lines, on: bool, table: &mut Table, trace: &mut T) -> bool
+    requires table { IsTable table.old }
+    ensures lines { lines.new ≡ (each_line (turned on) lines.old).lines }
+    ensures any { result ≡ (each_line (turned on) lines.old).wakes }
+    ensures good { IsTable table.new }
+    ensures table { table.new ≡ all_woken table.old (entries_of (each_line (turned on) lines.old).items) }
+    ensures same { result ≡ false → table.new ≡ table.old }
+    ensures items { Took (T.taken trace.old) (each_line (turned on) lines.old).items (T.taken trace.new) }
+    ensures frame { T.leads_to trace.old trace.new }
+{
+    let mut any = false;
+    for l in 0..lines.count() {
+        let show = lines.set_pace(l, on, trace);
+        wake(table, show, show_of(l), trace);
+        any = any || show;
+    }
+    any
+}
+
+/// Sets after how many slots the lines send, counted from now on: 0 is none. Where bytes waited then they go out, and who waits for room
+/// is woken. Tells whether anybody is.
+pub(crate) fn set_pace<T: Trace>(world: &mut World, n: u32, trace: &mut T) -> bool
+{
+    world.slots.set_pace(n);
+    turn_lines(
+        &mut world.files.lines,
+        n != 0,
+        &mut world.procs.table,
+        trace,
+    )
+}
+
+/// The lines send with the end of the slot of this number, where it is one of those with which they do. Tells whether anybody is woken.
+fn send_after<T: Trace>(world: &mut World, passed: u32, trace: &mut T) -> bool
+{
+    if world.slots.pace == 0 {
+        return false;
+    }
+    let behind = world.slots.behind(passed);
+    let next = passed + (world.slots.pace - behind);
+    world.slots.add(next);
+    if behind != 0 {
+        return false;
+    }
+    send_lines(&mut world.files.lines, &mut world.procs.table, trace)
+}
+
+/// The slot that was due has been taken: who has waited for the disk up to its end is woken, and where the lines send with its end they
+/// do. Tells whether anybody is woken.
 #[cold]
 #[inline(never)]
 pub(crate) fn reach<T: Trace>(world: &mut World, trace: &mut T) -> bool
@@ -295,10 +408,12 @@ pub(crate) fn reach<T: Trace>(world: &mut World, trace: &mut T) -> bool
     let woken = wake_disks(&mut world.procs, passed, trace);
     world.slots.due = woken.next;
     world.slots.left = woken.next - passed;
-    woken.any
+    let sent = send_after(world, passed, trace);
+    woken.any || sent
 }
 
-/// Counts a slot that has been taken, and wakes who has waited for the disk up to its end. Tells whether anybody is woken.
+/// Counts a slot that has been taken, wakes who has waited for the disk up to its end, and lets the lines send where they do with its
+/// end. Tells whether anybody is woken.
 #[inline(always)]
 pub(crate) fn count<T: Trace>(world: &mut World, trace: &mut T) -> bool
     requires good { IsGood world.old }

@@ -5,7 +5,7 @@ use sys_files::Files;
 use sys_procs::Procs;
 use v6_base::Tape;
 
-/// The files with the console, the processes with their images and the table, and a tape for what a call on files shows.
+/// The files with the terminal lines, the processes with their images and the table, and a tape for what a call on files shows.
 #[derive(Drop)]
 pub(crate) struct World {
     pub(crate) files: Files,
@@ -13,6 +13,6 @@ pub(crate) struct World {
     pub(crate) tape: Tape,
     /// The clicks of core.
     pub(crate) core: u16,
-    /// The slots that have been taken, and how long a transfer from the disk takes.
+    /// The slots that have been taken, how long a transfer from the disk takes, and how often the lines send.
     pub(crate) slots: Slots,
 }

@@ -1,37 +1,40 @@
 //! A trace in memory.
-ghost use Rattle.std.specs.Prelude.{◌≡◌, ◌<◌, ◌≤◌, [], IfOk, length, replicate};
+ghost use Rattle.std.specs.Prelude.{◌≡◌, ◌<◌, ◌++◌, ◌∷◌, [], IfOk, length};
 ghost use Rattle.v6_base.specs.Trace.{Byte, Log};
-ghost use Rattle.v6_base.specs.Tape.{is_full, taken_on, recorded};
+ghost use Rattle.v6_base.specs.Tape.{blank, bytes_of, is_full, taken_on, recorded};
 
 use crate::entry::Entry;
-use crate::trace::Trace;
+use crate::line_bytes::{LineBytes, clear_all, push_at};
+use crate::trace::{LINES, Trace};
 use std::alloc::{AllocError, Global};
 use std::marker::Model;
 
-/// A trace in memory, with room for so many lines of the log and so many bytes of the terminal. It tells both, and is cut
-/// exactly where one of its two rooms is full.
+/// A trace in memory, with room for so many lines of the log and so many bytes of the terminal lines together. It tells all, and
+/// is cut exactly where one of its two rooms is full.
 #[derive(Drop)]
 pub struct Tape {
     entries: Vec<Entry>,
-    entry_count: usize,
-    bytes: Vec<u8>,
-    byte_count: usize,
+    lines: [LineBytes; LINES as usize],
+    /// How many more bytes there is room for: none where the other room is full, so that one test says whether the tape is cut.
+    left: usize,
+    byte_room: usize,
 }
 
 impl Model for Tape {
-    ghost use Rattle.std.specs.Prelude.{◌≤◌, length, take};
+    ghost use Rattle.std.specs.Prelude.{length, vec_capacity};
     ghost use Rattle.v6_base.specs.Tape.{Recording};
+    ghost use Rattle.v6_base.specs.LineBytes.{HaveRoom, all_bytes};
 
     ghost Value = { Recording };
 
     ghost view = { λ t. record {
-      entries = take t.entry_count t.entries.items;
-      bytes = take t.byte_count t.bytes.items;
-      entry_room = length t.entries.items;
-      byte_room = length t.bytes.items;
+      entries = t.entries.items;
+      lines = all_bytes t.lines;
+      entry_room = vec_capacity t.entries;
+      byte_room = t.byte_room;
     } };
 
-    ghost invariant = { λ t. (t.entry_count ≤ length t.entries.items) × (t.byte_count ≤ length t.bytes.items) };
+    ghost invariant = { λ t. HaveRoom t.lines (length t.entries.items) (vec_capacity t.entries) t.left t.byte_room };
 }
 
 impl Tape {
@@ -40,16 +43,24 @@ impl Tape {
     pub fn new(alloc: Global, entries: usize, bytes: usize) -> Result<Tape, AllocError>
         requires entries { 0 < entries }
         requires bytes { 0 < bytes }
-        ensures { IfOk result (λ tape. tape
-            ≡ record { entries = []; bytes = []; entry_room = entries; byte_room = bytes }) }
+        ensures { IfOk result (λ tape. tape ≡ blank entries bytes) }
     {
-        let entries = vec![in alloc; Entry::Idle; entries]?;
-        let bytes = vec![in alloc; 0; bytes]?;
+        let entries = Vec::with_capacity(alloc, entries)?;
+        let lines = [
+            LineBytes::new(alloc, bytes)?,
+            LineBytes::new(alloc, bytes)?,
+            LineBytes::new(alloc, bytes)?,
+            LineBytes::new(alloc, bytes)?,
+            LineBytes::new(alloc, bytes)?,
+            LineBytes::new(alloc, bytes)?,
+            LineBytes::new(alloc, bytes)?,
+            LineBytes::new(alloc, bytes)?,
+        ];
         Ok(Tape {
             entries,
-            entry_count: 0,
-            bytes,
-            byte_count: 0,
+            lines,
+            left: bytes,
+            byte_room: bytes,
         })
     }
 
@@ -57,29 +68,48 @@ impl Tape {
     pub fn entries(&self) -> &[Entry]
         ensures { result.now ≡ self.now.entries }
     {
-        &self.entries[..self.entry_count]
+        self.entries.as_slice()
     }
 
-    /// The bytes that went out on the terminal, in order.
+    /// The bytes that went out on line 0, in order.
     pub fn bytes(&self) -> &[u8]
-        ensures { result.now ≡ self.now.bytes }
+        ensures { result.now ≡ bytes_of self.now 0 }
     {
-        &self.bytes[..self.byte_count]
+        self.bytes_on(0)
+    }
+
+    /// The bytes that went out on a terminal line, in order.
+    pub fn bytes_on(&self, line: u8) -> &[u8]
+        requires { line < LINES }
+        ensures { result.now ≡ bytes_of self.now line }
+    {
+        self.lines[usize::from(line)].as_slice()
+    }
+
+    /// Whether no byte has gone out on any line, as far as one test tells.
+    pub fn is_silent(&self) -> bool
+        ensures { result ≡ true → (line : ℕ) → bytes_of self.now line ≡ [] }
+    {
+        self.left == self.byte_room
     }
 
     /// Makes the tape empty, so that it isn't cut any more.
+    #[tactic(auto, using(crate::proofs::LineBytesLemmas::clears))]
     pub fn clear(&mut self)
-        ensures { self.new ≡ record self.old { entries = []; bytes = [] } }
+        ensures { self.new ≡ blank self.old.entry_room self.old.byte_room }
     {
-        self.entry_count = 0;
-        self.byte_count = 0;
+        self.entries.clear();
+        if self.left < self.byte_room {
+            clear_all(&mut self.lines);
+            self.left = self.byte_room;
+        }
     }
 
     /// Whether one of the two rooms is full.
     fn is_cut(&self) -> bool
         ensures { result ≡ is_full self.now }
     {
-        self.entries.len() <= self.entry_count || self.bytes.len() <= self.byte_count
+        self.left == 0
     }
 
     fn put_entry(&mut self, entry: Entry)
@@ -88,18 +118,23 @@ impl Tape {
         if self.is_cut() {
             return;
         }
-        self.entries[self.entry_count] = entry;
-        self.entry_count += 1;
+        self.entries.push_reserved(entry);
+        if self.entries.len() == self.entries.capacity() {
+            self.left = 0;
+        }
     }
 
-    fn put_byte(&mut self, byte: u8)
-        ensures { self.new ≡ recorded self.old (Byte 0 byte) }
+    #[tactic(auto, using(crate::proofs::LineBytesLemmas::pushes))]
+    fn put_byte(&mut self, line: u8, byte: u8)
+        requires { line < LINES }
+        ensures taken { self.new ≡ recorded self.old (Byte line byte) }
+        ensures eight { length self.old.lines ≡ LINES }
     {
         if self.is_cut() {
             return;
         }
-        self.bytes[self.byte_count] = byte;
-        self.byte_count += 1;
+        push_at(&mut self.lines, usize::from(line), byte);
+        self.left -= 1;
     }
 }
 
@@ -119,7 +154,7 @@ impl Trace for Tape {
         self.put_entry(e);
     }
 
-    fn out(&mut self, byte: u8) {
-        self.put_byte(byte);
+    fn out_on(&mut self, line: u8, byte: u8) {
+        self.put_byte(line, byte);
     }
 }

@@ -3,7 +3,7 @@ use Rattle.std.specs.Prelude.{ℕ, Bool, not, ◌+◌, ◌%◌, ◌==◌, ◌&&�
 use Rattle.std.specs.List.{range_with_len}
 use Rattle.script_text.specs.declared.script.Event as asked
 use Rattle.script_text.specs.declared.script.Event.TheVariants as ask
-use Rattle.abstract_unix.specs.Runs.{Event, Slot, Tick, Byte, Switch, Disk}
+use Rattle.abstract_unix.specs.Runs.{Event, Slot, Tick, Byte, Switch, Disk, Pace}
 
 -- The clock that a script has set: a tick comes after every so manyth slot, 0 being none, and so many slots have been taken
 -- since it was set.
@@ -34,9 +34,10 @@ abbrev pub happens : Clock → asked.Event → List Event
 happens c (ask.Clock every) = []
 happens c (ask.Run n) = flat_map (slot_numbered c.every) (range_with_len (c.slots + 1) n)
 happens c ask.Tick = Tick ∷ []
-happens c (ask.Byte byte) = Byte byte ∷ []
+happens c (ask.Byte byte) = Byte 0 byte ∷ []
 happens c (ask.Switch word) = Switch word ∷ []
 happens c (ask.Disk count) = Disk count ∷ []
+happens c (ask.Pace count) = Pace count ∷ []
 
 -- A line `clock N` counts slots anew, and a line `run N` goes on with the count.
 abbrev pub clock_after : Clock → asked.Event → Clock
@@ -46,6 +47,7 @@ clock_after c ask.Tick = c
 clock_after c (ask.Byte byte) = c
 clock_after c (ask.Switch word) = c
 clock_after c (ask.Disk count) = c
+clock_after c (ask.Pace count) = c
 
 abbrev pub events_from : Clock → List asked.Event → List Event
 events_from c [] = []

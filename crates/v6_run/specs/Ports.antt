@@ -42,6 +42,10 @@ kept_text _ = []
 abbrev pub of_line_0 : List ℕ → ℕ → List ℕ
 of_line_0 bytes line = if 0 == line then bytes else []
 
+-- bytes are told of line 0 alone, where they are told
+abbrev pub tells_line_0 : Bool → ℕ → Bool
+tells_line_0 tells line = tells && (0 == line)
+
 -- nothing is written any more, or nothing is to be written
 abbrev pub is_silent : Kept → Bool
 is_silent kept.Nothing = false
@@ -68,7 +72,7 @@ is_counted _ = false
 abbrev pub taken_of : Outside → Kept → Taken
 taken_of o k = record {
   cut = is_some (failed_port k);
-  tells_bytes = is_wanted k && o.fixed.tells;
+  tells_bytes = tells_line_0 (is_wanted k && o.fixed.tells);
   bytes = of_line_0 ((term o).bytes ++ kept_byte k);
   tells_entries = false;
   entries = [];
@@ -80,7 +84,7 @@ taken_of o k = record {
 abbrev pub shown_on : List ℕ → Taken
 shown_on bytes = record {
   cut = nat_le SCREEN_ROOM (length bytes);
-  tells_bytes = true;
+  tells_bytes = tells_line_0 true;
   bytes = of_line_0 bytes;
   tells_entries = false;
   entries = [];

@@ -179,7 +179,10 @@ impl<'a, H: Host> Trace for Ports<'a, H> {
         }
     }
 
-    fn out(&mut self, byte: u8) {
+    fn out_on(&mut self, line: u8, byte: u8) {
+        if line != 0 {
+            return;
+        }
         if self.is_silent() {
             keep(&mut self.kept, byte);
             return;

@@ -176,6 +176,10 @@ fn take_event<T: Trace>(kernel: &mut Kernel, clock: &mut Clock, event: Event, tr
             kernel.set_disk(count);
             Ends::AtEnd
         }
+        Event::Pace(count) => {
+            kernel.set_pace(count, trace);
+            Ends::AtEnd
+        }
     }
 }
 
