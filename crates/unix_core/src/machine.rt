@@ -272,13 +272,13 @@ impl Machine {
             (settled_after (pass_of (system_at self.old.world))).items (T.taken trace.new) }
         ensures frame { T.leads_to trace.old trace.new }
     {
-        let passed = pass(
+        let first = pass(
             &mut self.world.procs.table,
             &mut self.world.procs.images,
             trace,
         );
         see_procs(&self.world.procs);
-        match passed {
+        match first {
             Ok(()) => {
                 self.settle(trace);
                 Turned::Ran
