@@ -218,6 +218,7 @@ impl Machine {
         ensures kernel { IsKernel self.new.stage self.new.world }
         ensures started { phase_of self.new.stage ≡ Started }
         ensures system { system_at self.new.world ≡ record (system_at self.old.world) { board = (settled (board_in self.old.world)).board } }
+        ensures files { self.new.world.files ≡ self.old.world.files }
         ensures blocks { self.new.world.files.tree.nodes.blocks ≡ self.old.world.files.tree.nodes.blocks }
         ensures items { Took (T.taken trace.old) (settled (board_in self.old.world)).items (T.taken trace.new) }
         ensures frame { T.leads_to trace.old trace.new }
@@ -283,13 +284,13 @@ impl Machine {
             (settled_after (pass_of (system_at self.old.world))).items (T.taken trace.new) }
         ensures frame { T.leads_to trace.old trace.new }
     {
-        let passed = pass(
+        let first = pass(
             &mut self.world.procs.table,
             &mut self.world.procs.images,
             trace,
         );
         see_procs(&self.world.procs);
-        match passed {
+        match first {
             Ok(()) => {
                 self.settle(trace);
                 Turned::Ran
@@ -365,7 +366,7 @@ impl Machine {
         requires slot { s < 50 }
         requires runs { is_over ending ≡ false → ending ≢ Ending.Ended → self.old.world.procs.table.running ≡ Some s }
         requires counted { is_over ending ≡ false → IsCounted self.old.world.slots (unix_of self.old.world) }
-        requires fresh { (unix_of self.old.world).timing.passed ≤ 3000000000 }
+        requires fresh { is_over ending ≡ false → (unix_of self.old.world).timing.passed ≤ 3000000000 }
         ensures answer { result ≡ turned (turn_end self.old.world s ending) }
         ensures takes { Takes (turn_end self.old.world s ending) self.new.stage self.new.world }
         ensures blocks { self.new.world.files.tree.nodes.blocks ≡ self.old.world.files.tree.nodes.blocks }

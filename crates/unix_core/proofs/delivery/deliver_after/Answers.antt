@@ -1,4 +1,4 @@
-use Rattle.std.proofs.Common.{rules, ◌∙◌, sym, ap, subst}
+use Rattle.std.proofs.Common.{rules, ◌∙◌, refl, sym, ap, subst}
 use Rattle.abstract_unix.specs.declared.ending.Ending.{Ending}
 use Rattle.unix_core.specs.Parts.{HasCome, is_over}
 use Rattle.unix_core.proofs.TurnEnds.{due_come, due_items, other_come, other_items}
@@ -30,4 +30,6 @@ returns-in_default g c = record {
   items = λ b steps start come took. other_items b steps c.args.s c.args.ending c.args.world.now c.in_default.not-Trapped come start _ took;
   frame = search rules;
   rest = search rules;
+  slots = refl;
+  stopped = λ over. refl;
 }

@@ -31,7 +31,8 @@ returns-then-not-file c h is =
 
 pub returns-else-not-file : goal.returns-else-not-file
 returns-else-not-file c h is =
-    ap (λ b. not b && not c.is_device_at-device.result) (sym c.if-not-file.false)
+    ap (λ b. not b) c.if-not-file.false
+    ∙ ap (λ b. not b && not c.is_device_at-device.result) (sym c.if-not-file.false)
     ∙ ap (λ d. not c.file-file.result.now.kind.pipe && not d) c.is_device_at-device.ensures
     ∙ open_of_disk c.args.world.now c.args.s c.requires c.see.ensures c.see_table.ensures c.see_kept.ensures c.area-u.result c.area-u.ensures.u
     c.in-Ok.entry c.in-Ok.ensures c.file-file.result.now c.file-file.ensures

@@ -2,6 +2,7 @@ use Rattle.std.proofs.Common.{◌≡◌, ◌≢◌, ◌∙◌, ◌==◌, ℕ, Bo
 use Rattle.std.proofs.lemmas.Bool.{eq-eqb, ne_eqb}
 use Rattle.u_area.specs.declared.layout.TheConstants.{DISK_WAIT}
 use Rattle.v6_base.specs.Trace.{Took}
+use Rattle.v6_base.proofs.Took.{took_nothing}
 use Rattle.pick_rules.specs.Logged.{logged}
 use Rattle.u_area.specs.declared.area.UArea.{UArea}
 use Rattle.u_area.specs.Pending.{is_on_files}
@@ -46,6 +47,12 @@ returns-then-pending-eq-DISK_WAIT-clause-good g c = c.end_wait.ensures.ready.goo
 
 pub returns-then-pending-eq-DISK_WAIT-clause-runs : goal.returns-then-pending-eq-DISK_WAIT-clause-runs
 returns-then-pending-eq-DISK_WAIT-clause-runs g c = c.end_wait.ensures.ready.runs
+
+pub returns-then-pending-eq-DISK_WAIT-clause-items : goal.returns-then-pending-eq-DISK_WAIT-clause-items
+returns-then-pending-eq-DISK_WAIT-clause-items g c =
+    let w : World = c.args.world.now in
+    took_nothing _ _ (ap (λ (x : Steps). (logged (board_in w) x.effects).items)
+    (sym (resumes_disk (unix_of w) c.args.s (disk w c.args.s c.requires _ true c.pending_of-pending.ensures (eq-eqb _ DISK_WAIT c.if-pending-eq-DISK_WAIT.true)))))
 
 pub go_on_files-requires-clause-pending : goal.go_on_files-requires-clause-pending
 go_on_files-requires-clause-pending g c = ap is_on_files (sym c.pending_of-pending.ensures) ∙ sym c.is_on_files.ensures ∙ c.if-is_on_files.true

@@ -1,6 +1,9 @@
-use Rattle.std.proofs.Common.{◌≡◌, ◌∙◌, refl, ap, sym, subst}
+use Rattle.std.proofs.Common.{◌≡◌, ◌∙◌, ◌≤◌, ℕ, refl, ap, sym, subst}
 use Rattle.v6_base.specs.Trace.{Took}
 use Rattle.unix_core.specs.declared.world.World.{World}
+use Rattle.unix_core.specs.declared.slots.Slots.{Slots}
+use Rattle.unix_core.specs.Slots.{passed_in}
+use Rattle.abstract_unix.specs.Unix.{Timing}
 use Rattle.abstract_unix.specs.Turn.{comes_to, begins_turn, turn, turn_of, turned, after_slot, settled_after}
 use Rattle.unix_core.specs.Parts.{unix_of, board_in, slot_in, HasCome, HasStepped, Takes, IsRunning}
 use Rattle.unix_core.proofs.TurnLemmas.{turn_is, turn_takes, turn_items, stepped_come, stepped_items}
@@ -45,6 +48,13 @@ end-requires-clause-counted g c goes =
     comes_counted w s run.user.ready c.requires.counted o run.user.user first.new.world.slots
     (first.ensures.slots (first_goes first.result last.result last.ensures.stopped goes))
     last.result last.new.world (last.ensures.come (board_in w) (comes_to (unix_of w) s o) first.ensures.come) last.ensures.slots goes
+
+pub end-requires-clause-fresh : goal.end-requires-clause-fresh
+end-requires-clause-fresh g c goes =
+    let first = c.come_to-ending in
+    let last = c.deliver_after-ending in
+    let waited = first.ensures.slots (first_goes first.result last.result last.ensures.stopped goes) in
+    subst (λ (n : ℕ). n ≤ 3000000000) (sym (ap (λ (x : Slots). passed_in x) last.ensures.slots ∙ ap (λ (t : Timing). t.passed) waited.timing)) c.requires.fresh
 
 pub returns-clause-answer : goal.returns-clause-answer
 returns-clause-answer g c p stepped =

@@ -22,6 +22,9 @@ count-requires-clause-counted g c =
     let on = not_over c.args.ending (c.in-Ran.ensures.goes refl) in
     counted_same w.slots (unix_of w) (unix_of (with_table w c.end_turn.new.table)) refl refl (c.requires.counted on)
 
+pub count-requires-clause-fresh : goal.count-requires-clause-fresh
+count-requires-clause-fresh g c = c.requires.fresh (not_over c.args.ending (c.in-Ran.ensures.goes refl))
+
 pub returns-in-Ran-clause-answer : goal.returns-in-Ran-clause-answer
 returns-in-Ran-clause-answer g c = c.in-Ran.ensures.answer ∙ end_answer c.args.self.now.world c.args.s c.args.ending
 
@@ -42,6 +45,10 @@ returns-in-Ran-clause-items g c =
     ended_items w (c.requires.good on) c.args.s c.requires.user c.requires.slot c.args.ending (c.requires.runs on) c.end_turn.new.table c.end_turn.ensures.table c.end_turn.ensures.good
     goes c.count.new.world c.count.ensures.unix c.count.ensures.board (c.end_turn.ensures.board w.procs.images.kept)
     _ _ _ _ (c.end_turn.ensures.items (board_in w)) c.count.ensures.items c.settle.ensures.items
+
+pub returns-in-Ran-clause-frame : goal.returns-in-Ran-clause-frame
+returns-in-Ran-clause-frame g c =
+    g.met.T.Trace.goes_on _ _ _ c.end_turn.ensures.frame (g.met.T.Trace.goes_on _ _ _ c.count.ensures.frame c.settle.ensures.frame)
 
 pub returns-in_default-clause-answer : goal.returns-in_default-clause-answer
 returns-in_default-clause-answer g c = c.turned.ensures.answer ∙ end_answer c.args.self.now.world c.args.s c.args.ending

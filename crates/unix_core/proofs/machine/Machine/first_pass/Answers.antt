@@ -3,42 +3,42 @@ use Rattle.sys_procs.proofs.Places.{agree_matches}
 use Rattle.unix_core.proofs.SwapLemmas.{after_good, after_counted, after_takes, after_items, panic_takes}
 use Rattle.unix_core.proofs.machine.Machine.first_pass.Goals as goal
 
-pub pass-passed-requires-clause-matches : goal.pass-passed-requires-clause-matches
-pass-passed-requires-clause-matches g c =
+pub pass-first-requires-clause-matches : goal.pass-first-requires-clause-matches
+pass-first-requires-clause-matches g c =
     let w : World = c.args.self.now.world in agree_matches w.procs.rows w.procs.table w.procs.images.kept c.requires.good.agree
 
 pub settle-requires-clause-good : goal.settle-requires-clause-good
 settle-requires-clause-good g c =
     let w : World = c.args.self.now.world in
-    let passed = c.pass-passed in
-    after_good w passed.new.table passed.new.images _ _ c.requires.good passed.ensures.does passed.ensures.same c.see_procs.ensures.images
+    let first = c.pass-first in
+    after_good w first.new.table first.new.images _ _ c.requires.good first.ensures.does first.ensures.same c.see_procs.ensures.images
     (c.in-Ok.ensures.sleeps)
 
 pub settle-requires-clause-counted : goal.settle-requires-clause-counted
 settle-requires-clause-counted g c =
     let w : World = c.args.self.now.world in
-    let passed = c.pass-passed in
-    after_counted w passed.new.table passed.new.images _ _ c.requires.good passed.ensures.does passed.ensures.same c.see_procs.ensures.images
+    let first = c.pass-first in
+    after_counted w first.new.table first.new.images _ _ c.requires.good first.ensures.does first.ensures.same c.see_procs.ensures.images
     c.requires.counted
 
 pub returns-in-Ok-clause-takes : goal.returns-in-Ok-clause-takes
 returns-in-Ok-clause-takes g c =
     let w : World = c.args.self.now.world in
-    let passed = c.pass-passed in
+    let first = c.pass-first in
     let last = c.settle.new.self in
-    after_takes w passed.new.table passed.new.images _ _ c.requires.good passed.ensures.does passed.ensures.same c.see_procs.ensures.images
+    after_takes w first.new.table first.new.images _ _ c.requires.good first.ensures.does first.ensures.same c.see_procs.ensures.images
     c.in-Ok.ensures.answer last.stage last.world c.settle.ensures.kernel c.settle.ensures.started c.settle.ensures.system
 
 pub returns-in-Ok-clause-items : goal.returns-in-Ok-clause-items
 returns-in-Ok-clause-items g c =
     let w : World = c.args.self.now.world in
-    let passed = c.pass-passed in
-    after_items w passed.new.table passed.new.images _ _ c.requires.good passed.ensures.does passed.ensures.same c.see_procs.ensures.images
-    c.in-Ok.ensures.answer _ _ passed.ensures.does.items c.settle.ensures.items
+    let first = c.pass-first in
+    after_items w first.new.table first.new.images _ _ c.requires.good first.ensures.does first.ensures.same c.see_procs.ensures.images
+    c.in-Ok.ensures.answer _ _ first.ensures.does.items c.settle.ensures.items
 
 pub returns-in-Err-clause-takes : goal.returns-in-Err-clause-takes
 returns-in-Err-clause-takes g c =
     let w : World = c.args.self.now.world in
-    let passed = c.pass-passed in
-    panic_takes w passed.new.table passed.new.images _ _ c.requires.good passed.ensures.does passed.ensures.same c.see_procs.ensures.images
+    let first = c.pass-first in
+    panic_takes w first.new.table first.new.images _ _ c.requires.good first.ensures.does first.ensures.same c.see_procs.ensures.images
     c.in-Err.kind c.in-Err.ensures.answer c.see_procs.ensures.rows

@@ -1,8 +1,10 @@
-use Rattle.std.proofs.Common.{◌∙◌, ap, sym, subst}
+use Rattle.std.proofs.Common.{◌∙◌, ◌≤◌, ap, sym, subst}
 use Rattle.v6_base.specs.Trace.{Took}
 use Rattle.abstract_unix.specs.Unix.{System}
 use Rattle.abstract_unix.specs.Turn.{Turn, turn, turned}
 use Rattle.unix_core.specs.declared.world.World.{World}
+use Rattle.unix_core.specs.declared.slots.Slots.{Slots}
+use Rattle.unix_core.specs.Slots.{passed_in}
 use Rattle.unix_core.specs.Parts.{system_at, phase_of, goes_on, Takes}
 use Rattle.unix_core.proofs.TurnCounts.{goes_counted}
 use Rattle.unix_core.proofs.PutLemmas.{good_alive}
@@ -22,6 +24,9 @@ end-requires-clause-counted g c goes =
     goes_counted w c.args.s (record { good = paused.good; runs = c.requires.runs; user = c.requires.user })
     (c.requires.kernel.counted (ap (λ t. goes_on (phase_of t)) c.requires.resting)) (paused.calls c.args.s c.requires.runs c.requires.user)
     c.go_on-ending.result c.go_on-ending.new.self.world c.go_on-ending.ensures.come c.go_on-ending.ensures.slots goes
+
+pub end-requires-clause-fresh : goal.end-requires-clause-fresh
+end-requires-clause-fresh g c goes = subst (λ (x : Slots). passed_in x ≤ 3000000000) (sym c.go_on-ending.ensures.slots) c.requires.fresh
 
 pub returns-clause-answer : goal.returns-clause-answer
 returns-clause-answer g c =

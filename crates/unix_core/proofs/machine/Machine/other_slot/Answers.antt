@@ -1,5 +1,6 @@
-use Rattle.std.proofs.Common.{◌∙◌, ℕ, Some, ap, subst}
+use Rattle.std.proofs.Common.{rules, ◌≡◌, ◌∙◌, Some, ap, subst}
 use Rattle.v6_base.specs.Trace.{Took}
+use Rattle.unix_core.specs.declared.world.World.{World}
 use Rattle.abstract_unix.specs.Turn.{Turn, turned}
 use Rattle.unix_core.specs.Parts.{phase_of, goes_on, Takes}
 use Rattle.unix_core.proofs.IdleLemmas.{idle_so, idle_still, idle_turn, idle_told, swap_turn}
@@ -31,15 +32,20 @@ pub swap_slot-requires-clause-counted : goal.swap_slot-requires-clause-counted
 swap_slot-requires-clause-counted g c = c.requires.kernel.counted (ap (λ t. goes_on (phase_of t)) c.requires.resting)
 
 pub returns-in-Some-eq0-clause-answer : goal.returns-in-Some-eq0-clause-answer
-returns-in-Some-eq0-clause-answer g c = c.swap_slot.ensures.answer ∙ ap turned (swap_turn c.args.self.now.world (c.in-Some-eq0.is ∙ ap (λ (n : ℕ). Some n) c.in-Some-eq0.field-0-test))
+returns-in-Some-eq0-clause-answer g c =
+    let w : World = c.args.self.now.world in
+    let runs : w.procs.table.running ≡ Some 0 = search rules in
+    c.swap_slot.ensures.answer ∙ ap turned (swap_turn w runs)
 
 pub returns-in-Some-eq0-clause-takes : goal.returns-in-Some-eq0-clause-takes
 returns-in-Some-eq0-clause-takes g c =
+    let w : World = c.args.self.now.world in
+    let runs : w.procs.table.running ≡ Some 0 = search rules in
     let new = c.swap_slot.new.self in
-    subst (λ (t : Turn). Takes t new.stage new.world)
-    (swap_turn c.args.self.now.world (c.in-Some-eq0.is ∙ ap (λ (n : ℕ). Some n) c.in-Some-eq0.field-0-test)) c.swap_slot.ensures.takes
+    subst (λ (t : Turn). Takes t new.stage new.world) (swap_turn w runs) c.swap_slot.ensures.takes
 
 pub returns-in-Some-eq0-clause-items : goal.returns-in-Some-eq0-clause-items
 returns-in-Some-eq0-clause-items g c =
-    subst (λ (t : Turn). Took (g.T.Trace.taken c.args.trace.now) t.items (g.T.Trace.taken c.swap_slot.new.trace))
-    (swap_turn c.args.self.now.world (c.in-Some-eq0.is ∙ ap (λ (n : ℕ). Some n) c.in-Some-eq0.field-0-test)) c.swap_slot.ensures.items
+    let w : World = c.args.self.now.world in
+    let runs : w.procs.table.running ≡ Some 0 = search rules in
+    subst (λ (t : Turn). Took (g.T.Trace.taken c.args.trace.now) t.items (g.T.Trace.taken c.swap_slot.new.trace)) (swap_turn w runs) c.swap_slot.ensures.items

@@ -52,3 +52,6 @@ returns-clause-items g c h still =
 
 pub returns-then-reach-clause-frame : goal.returns-then-reach-clause-frame
 returns-then-reach-clause-frame g c = g.met.T.Trace.goes_on _ _ _ c.reach.ensures.frame c.settle.ensures.frame
+
+pub returns-then-reach-clause-files : goal.returns-then-reach-clause-files
+returns-then-reach-clause-files g c = c.settle.ensures.files ∙ ap (λ (w : World). w.files) c.reach.ensures.others

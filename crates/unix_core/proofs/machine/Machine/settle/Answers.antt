@@ -45,3 +45,6 @@ returns-clause-system g c =
 
 pub returns-clause-items : goal.returns-clause-items
 returns-clause-items g c = c.settle.ensures.items c.args.self.now.world.procs.images.kept
+
+pub returns-clause-files : goal.returns-clause-files
+returns-clause-files g c = ap (λ (w : World). w.files) c.refresh.ensures.world

@@ -57,7 +57,16 @@ pub settle-requires-clause-counted : goal.settle-requires-clause-counted
 settle-requires-clause-counted g c =
     let w : World = c.args.self.now.world in
     let n = c.charge.new.self in
+    let second = c.tick_ageing-second in
     let then_ : World = with_table n.world c.wake.new.table in
+    let ticked : HasTicked w then_ c.is_as_trap.result =
+    has_ticked w c.mode-mode.result c.mode-mode.ensures n.world c.charge.ensures.good
+    c.charge.ensures.unix c.charge.ensures.table c.charge.ensures.board second.new.self second.ensures.table second.ensures.good
+    c.is_due.result (second_due n.world.procs.table second.result c.is_due.result second.ensures.told c.is_due.ensures.second c.is_due.ensures.within)
+    c.wake.new.table c.wake.ensures.table c.wake.ensures.good (c.wake.ensures.board n.world.procs.images.kept)
+    (λ s. runs_low w s (kernel_good c.args.self.now.stage w c.requires.started c.requires.kernel).agree)
+    c.is_as_trap.result (second_trap c.mode-mode.result n.world.procs.table second.result c.is_as_trap.result second.ensures.told
+    c.is_as_trap.ensures.second c.is_as_trap.ensures.within) in
     let on : is_over c.deliver.result ≡ false = search rules in
     let counted : IsCounted n.world.slots (unix_of n.world) =
     subst (λ (x : Slots). IsCounted x (unix_of n.world)) (sym c.charge.ensures.slots)
@@ -65,7 +74,7 @@ settle-requires-clause-counted g c =
     (charged_counted w.slots (unix_of w) c.mode-mode.result w.procs.table.running (c.requires.kernel.counted (ap goes_on c.requires.started)))) in
     subst (λ (x : Slots). IsCounted x (unix_of c.deliver.new.self.world)) (sym c.deliver.ensures.slots)
     (subst (IsCounted n.world.slots) (sym (taken_unix _ _ c.deliver.result c.deliver.new.self.world c.deliver.ensures.come on))
-    (delivered_counted n.world.slots c.is_as_trap.result (unix_of then_) c.wake.new.table.running (deliver-requires-clause-user g c)
+    (delivered_counted n.world.slots c.is_as_trap.result (unix_of then_) c.wake.new.table.running ticked.user
     (counted_same n.world.slots (unix_of n.world) (unix_of then_) refl refl counted)))
 
 pub returns-in-Panic : goal.returns-in-Panic
