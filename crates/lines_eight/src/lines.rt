@@ -1,5 +1,6 @@
 //! The terminal lines.
-ghost use Rattle.std.specs.Prelude.{◌≡◌, ◌≤◌, ◌<◌, ◌⊎◌, ℕ, length, take};
+ghost use Rattle.std.specs.Prelude.{◌≡◌, ◌≤◌, ◌<◌, ◌⊎◌, length, take};
+ghost use Rattle.std.specs.List.{All};
 ghost use Rattle.v6_base.specs.Trace as items;
 ghost use Rattle.v6_base.specs.Trace.{sent};
 ghost use Rattle.tty_line.specs.Terminal.{opened};
@@ -7,8 +8,7 @@ ghost use Rattle.tty_line.specs.Said.{flush, closed, with_modes, sends, paced};
 ghost use Rattle.tty_line.specs.Output.{shows, after_shown, written};
 ghost use Rattle.tty_line.specs.Input.{typed};
 ghost use Rattle.tty_line.specs.Reading.{reads};
-ghost use Rattle.tty_line.specs.Shape.{most_waiting};
-ghost use Rattle.lines_eight.specs.Lines.{first_lines, terminal_at, with_terminal};
+ghost use Rattle.lines_eight.specs.Lines.{first_lines, terminal_at, with_terminal, HasRoom};
 
 use crate::on_line::on_line;
 use arrayvec::ArrayVec;
@@ -98,7 +98,7 @@ impl Lines {
         ensures count { result ≡ length self.now }
         ensures some { 1 ≤ result }
         ensures eight { result ≤ LINES }
-        ensures most { (l : ℕ) → length (terminal_at self.now l).output ≤ most_waiting }
+        ensures most { All HasRoom self.now }
     {
         self.lines.len() as u8
     }

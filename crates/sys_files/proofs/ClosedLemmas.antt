@@ -114,17 +114,17 @@ kept_still h fd entry file pipes sound named is are =
       others = λ e f at fewer. stays_changed h.files entry file (with_fewer file) is refl refl e f at;
     }
 
--- The last number of a file is closed: its reference to the inode goes, and the line may be another.
-kept_last : (h : Handed) (fd entry : ℕ) (file : OpenFile) (pipes : List Pipe) (line : Terminal) → IsSound h
+-- The last number of a file is closed: its reference to the inode goes, and the lines may be others.
+kept_last : (h : Handed) (fd entry : ℕ) (file : OpenFile) (pipes : List Pipe) (lines : List Terminal) → IsSound h
     → slice_index h.u.files fd ≡ entry + 1 → file_at h.files entry ≡ Some file
     → file.count ≡ 1 → ArePipes (slice_set h.files entry None) pipes
     → IsKept h (let_go (record h {
       files = slice_set h.files entry None;
       u = with_number h.u fd 0;
       pipes = pipes;
-      line = line;
+      lines = lines;
     }) file.ino)
-kept_last h fd entry file pipes line sound named is last are =
+kept_last h fd entry file pipes lines sound named is last are =
     let here = used_low h.files entry file is in
     let count : numbers_of (file_at h.files entry) ≡ file.count = ap numbers_of is in
     let own = taken_times h.u.files fd entry entry named in
@@ -175,7 +175,7 @@ closes_kept h fd sound some = by (file.count == 1) refl
         (kept_last h fd entry file (gone (slice_set h.files entry None) (roused h.pipes (with_fewer file)) (with_fewer file))
         (line_closed (record (dropped_so None) {
           pipes = gone (slice_set h.files entry None) (roused h.pipes (with_fewer file)) (with_fewer file);
-        }) (with_fewer file)).state.line
+        }) (with_fewer file)).state.lines
         sound (omega (arith, some)) is (eqb-true file.count 1 last) pipes)
     by false more =
         let now : List (Option OpenFile) = slice_set h.files entry (Some (with_fewer file)) in

@@ -4,7 +4,7 @@ use Rattle.v6_base.specs.Image.{Image}
 use Rattle.v6_base.specs.declared.answer.Answer.TheVariants.{Sleep}
 use Rattle.v6_base.specs.declared.entry.Chan.{Chan}
 use Rattle.proc_tab.specs.declared.row.Row.{Row}
-use Rattle.u_area.specs.declared.layout.TheConstants.{LINE_READ}
+use Rattle.u_area.specs.declared.layout.TheConstants.{LINE_READ, LINE_WRITE}
 use Rattle.u_area.specs.declared.area.UArea.{UArea}
 use Rattle.u_area.proofs.AreaLemmas.{one_area}
 use Rattle.fs_codec.specs.Store.{Node, Store}
@@ -15,10 +15,11 @@ use Rattle.open_files.specs.declared.file.OpenFile.{OpenFile}
 use Rattle.open_files.specs.Files.{with_change, with_offset}
 use Rattle.fs_tree.specs.Finding.{inodes_of}
 use Rattle.sys_files.specs.declared.files.Files.{Files}
-use Rattle.sys_files.specs.Handed.{handed, Handed, keys_of, node_in, no_node, no_file, file_of}
+use Rattle.sys_files.specs.Handed.{handed, Handed, node_in, no_node, no_file, file_of}
 use Rattle.sig_core.specs.Signals.{due}
 use Rattle.sys_files.specs.Entering.{did_with}
-use Rattle.sys_files.specs.Moving.{IsFileOf, with_moved, waits_for_keys}
+use Rattle.lines_eight.specs.Told.{keys_of, show_of}
+use Rattle.sys_files.specs.Moving.{IsFileOf, with_moved, waits_for_keys, waits_for_room}
 use Rattle.sys_files.proofs.PipingLemmas.{sleeps_on}
 
 -- the file of an entry, to all who are handed the files
@@ -41,6 +42,16 @@ keys_by h l u new row entry at count chan keys area own none kept =
     ∙ ap (λ (x : UArea). did_with (record h { u = x }) (Sleep (pos 10) (keys_of l)))
     (ap (λ (x : UArea). record x { pending = LINE_READ; call = entry ∷ at ∷ count ∷ 0 ∷ 0 ∷ 0 ∷ 0 ∷ 0 ∷ [] }) area ∙ kept)
     ∙ ap (λ (x : Chan). did_with (record h { u = new }) (Sleep (pos 10) x)) (sym keys)
+
+-- or for room
+pub room_by : (h : Handed) (l : ℕ) (u new : UArea) (row : Row) (entry at count done : ℕ) (chan : Chan) → chan ≡ show_of l → h.u ≡ u → h.row ≡ row → is_some (due row u) ≡ false
+    → record u { pending = LINE_WRITE; call = entry ∷ at ∷ count ∷ done ∷ 0 ∷ 0 ∷ 0 ∷ 0 ∷ [] } ≡ new
+    → waits_for_room h l entry at count done ≡ did_with (record h { u = new }) (Sleep (pos 20) chan)
+room_by h l u new row entry at count done chan show area own none kept =
+    sleeps_on h u row _ area own none
+    ∙ ap (λ (x : UArea). did_with (record h { u = x }) (Sleep (pos 20) (show_of l)))
+    (ap (λ (x : UArea). record x { pending = LINE_WRITE; call = entry ∷ at ∷ count ∷ done ∷ 0 ∷ 0 ∷ 0 ∷ 0 ∷ [] }) area ∙ kept)
+    ∙ ap (λ (x : Chan). did_with (record h { u = new }) (Sleep (pos 20) x)) (sym show)
 
 node_by : (o : Option Node) → IsSome o → o ≡ Some (unwrap_or o no_node)
 node_by None used = absurd (cc)

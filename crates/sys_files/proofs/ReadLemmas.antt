@@ -1,11 +1,11 @@
 -- What a read comes to, by its tests, and what it keeps.
-use Rattle.std.proofs.Common.{◌≡◌, ◌+◌, ◌%◌, ◌^◌, ◌==◌, ℕ, Bool, true, false, cond, pos, [], ◌∷◌, replicate, is_some, Option, Some, None, Result, Ok, Err, if◌then◌else◌, slice_index, refl, sym, ap, ◌∙◌, subst}
-use Rattle.std.proofs.lemmas.Bool.{eq-eqb}
+use Rattle.std.proofs.Common.{◌≡◌, ◌+◌, ◌%◌, ◌^◌, ◌==◌, ℕ, Bool, true, false, cond, pos, List, [], ◌∷◌, is_some, Option, Some, None, Result, Ok, Err, if◌then◌else◌, refl, sym, ap, ◌∙◌, subst}
 use Rattle.v6_base.specs.Image.{Image}
 use Rattle.v6_base.specs.declared.answer.Answer.{Answer}
 use Rattle.v6_base.specs.declared.errno.Errno.{Errno}
 use Rattle.v6_base.specs.declared.answer.Answer.TheVariants.{Sleep}
-use Rattle.v6_base.specs.declared.entry.Chan.TheVariants.{Keys}
+use Rattle.lines_eight.specs.Lines.{terminal_at, with_terminal}
+use Rattle.lines_eight.specs.Told.{keys_of}
 use Rattle.v6_base.specs.declared.errno.Errno.TheVariants.{EBADF, EINTR}
 use Rattle.open_files.specs.declared.file.OpenFile.{OpenFile}
 use Rattle.fs_laws.specs.Pieces.{Moving}
@@ -13,20 +13,19 @@ use Rattle.sys_files.specs.Handed.{Handed, r0, node_at, file_of, line_of}
 use Rattle.sig_core.specs.Signals.{due}
 use Rattle.sys_files.specs.Did.{Did, fails, check, must}
 use Rattle.sys_files.specs.Descriptors.{open_entry}
-use Rattle.u_area.specs.declared.layout.TheConstants.{LINE_READ, PIPE_READ, NOTHING_PENDING}
+use Rattle.u_area.specs.declared.layout.TheConstants.{LINE_READ}
 use Rattle.u_area.specs.declared.area.UArea.{UArea}
 use Rattle.tty_line.specs.declared.line.Took.{Took}
 use Rattle.tty_line.specs.declared.line.Took.TheVariants.{Done, Wait, Fault}
 use Rattle.tty_line.specs.Terminal.{Terminal}
 use Rattle.tty_line.specs.Reading.{Reading, reads}
 use Rattle.sys_files.specs.Moving.{gives_count, read_of, with_read, line_read, with_line_read, waits_for_keys, takes_line, reads_line, reads_by, reads_from, read_file_of}
-use Rattle.sys_files.specs.Moving.{without_pending, line_kept, resume_read, resumes}
-use Rattle.sys_files.specs.Piping.{reads_pipe, writes_pipe}
+use Rattle.sys_files.specs.Piping.{reads_pipe}
 use Rattle.sys_files.specs.Sound.{IsSound, IsKept}
 use Rattle.sys_files.specs.Entering.{did_with}
 use Rattle.sys_files.proofs.KeptLemmas.{kept_same}
 use Rattle.sys_files.proofs.OffsetLemmas.{kept_moved}
-use Rattle.sys_files.proofs.PipeKeptLemmas.{pipe_read_kept, pipe_write_kept}
+use Rattle.sys_files.proofs.PipeKeptLemmas.{pipe_read_kept}
 
 -- a count, or an error, leaves the parts as they are, and shows nothing
 pub gives_state : (h : Handed) (count : ℕ) (e : Option Errno) → (gives_count h count e).state ≡ h
@@ -42,20 +41,22 @@ gives_told h count None a is = sym (ap (did_with h) is)
 gives_told h count (Some e) a is = sym (ap (did_with h) is)
 
 -- what a read of a line comes to, by what it took
-pub line_is : (h : Handed) (l : ℕ) (line : Terminal) (image : Image) (entry at count : ℕ) (took : Took) → h.line ≡ line → h.image ≡ image
-    → took ≡ (reads line image at count).took
-    → reads_line h l entry at count ≡ takes_line (with_line_read h l (reads line image at count)) l entry at count took
-line_is h l line image entry at count took line_same image_same is =
+pub line_is : (h : Handed) (l : ℕ) (lines : List Terminal) (image : Image) (entry at count : ℕ) (took : Took) → h.lines ≡ lines → h.image ≡ image
+    → took ≡ (reads (terminal_at lines l) image at count).took
+    → reads_line h l entry at count ≡ takes_line (with_line_read h l (reads (terminal_at lines l) image at count)) l entry at count took
+line_is h l lines image entry at count took lines_same image_same is =
     ap (λ (r : Reading). takes_line (with_line_read h l r) l entry at count r.took)
-    (ap (λ (l : Terminal). reads l h.image at count) line_same ∙ ap (λ (m : Image). reads line m at count) image_same)
-    ∙ sym (ap (takes_line (with_line_read h l (reads line image at count)) l entry at count) is)
+    (ap (λ (ts : List Terminal). reads (terminal_at ts l) h.image at count) lines_same ∙ ap (λ (m : Image). reads (terminal_at lines l) m at count) image_same)
+    ∙ sym (ap (takes_line (with_line_read h l (reads (terminal_at lines l) image at count)) l entry at count) is)
 
 -- the parts after a read of a line, with what it answers
-pub line_left : (h : Handed) (l : ℕ) (r : Reading) (line : Terminal) (image : Image) (u : UArea) (answer : UArea → Answer) → line ≡ r.terminal → image ≡ r.image
-    → h.u ≡ u → did_with (with_line_read h l r) (answer h.u) ≡ did_with (record h { line = line; u = u; image = image }) (answer u)
-line_left h l r line image u answer line_same image_same u_same =
+pub line_left : (h : Handed) (l : ℕ) (r : Reading) (old lines : List Terminal) (image : Image) (u : UArea) (answer : UArea → Answer) → h.lines ≡ old
+    → lines ≡ with_terminal old l r.terminal → image ≡ r.image
+    → h.u ≡ u → did_with (with_line_read h l r) (answer h.u) ≡ did_with (record h { lines = lines; u = u; image = image }) (answer u)
+line_left h l r old lines image u answer old_same lines_same image_same u_same =
     let of_code = sym u_same in
-    sym (λ i. did_with (record h { line = line_same i; u = of_code i; image = image_same i }) (answer (of_code i)))
+    let now : lines ≡ with_terminal h.lines l r.terminal = lines_same ∙ ap (λ (ts : List Terminal). with_terminal ts l r.terminal) (sym old_same) in
+    sym (λ i. did_with (record h { lines = now i; u = of_code i; image = image_same i }) (answer (of_code i)))
 
 abbrev read_as : Handed → ℕ → ℕ → ℕ → ℕ → Option ℕ → Did
 read_as h entry at count now line =
@@ -109,13 +110,13 @@ abbrev read_place : Handed → ℕ → ℕ → ℕ → ℕ → ℕ
 read_place h entry at count now = ((file_of h entry).offset + (read_of h entry at count now).done) % 2 ^ 32
 
 -- A sleep leaves another call that goes on, unless a signal is due.
-kept_waits : (old h : Handed) (l entry at count : ℕ) → IsKept old h
+pub kept_waits : (old h : Handed) (l entry at count : ℕ) → IsKept old h
     → IsKept old (record h { u = record h.u { pending = LINE_READ; call = entry ∷ at ∷ count ∷ 0 ∷ 0 ∷ 0 ∷ 0 ∷ 0 ∷ [] } })
     → IsKept old (waits_for_keys h l entry at count).state
 kept_waits old h l entry at count same waits = by (is_some (due h.row h.u))
   where
     by : (b : Bool) → IsKept old (cond {A = Did} b (fails h EINTR) (record {
-      answer = Sleep (pos 10) Keys;
+      answer = Sleep (pos 10) (keys_of l);
       state = record h { u = record h.u { pending = LINE_READ; call = entry ∷ at ∷ count ∷ 0 ∷ 0 ∷ 0 ∷ 0 ∷ 0 ∷ [] } };
       items = [];
     })).state
@@ -156,62 +157,3 @@ kept_found h at count now (Err e) sound = kept_same h h sound refl refl refl ref
 
 pub read_kept : (h : Handed) (at count now : ℕ) → IsSound h → IsKept h (read_file_of h at count now).state
 read_kept h at count now sound = kept_found h at count now (open_entry h (r0 h)) sound
-
--- A read that is taken up again keeps all that is counted.
-resumed_took : (h : Handed) (l : ℕ) (r : Reading) (entry at count : ℕ) (took : Took) → IsSound h
-    → IsKept h (takes_line (with_line_read (without_pending h) l r) l entry at count took).state
-resumed_took h l r entry at count (Done n) sound = kept_same h _ sound refl refl refl refl refl refl
-resumed_took h l r entry at count Wait sound =
-    kept_waits h (with_line_read (without_pending h) l r) l entry at count (kept_same h _ sound refl refl refl refl refl refl)
-    (kept_same h _ sound refl refl refl refl refl refl)
-resumed_took h l r entry at count Fault sound = kept_same h _ sound refl refl refl refl refl refl
-
-resume_kept : (h : Handed) → IsSound h → IsKept h (resume_read h).state
-resume_kept h sound =
-    let r : Reading = line_read (without_pending h) (line_kept h) (slice_index h.u.call 1) (slice_index h.u.call 2) in
-    resumed_took h (line_kept h) r (slice_index h.u.call 0) (slice_index h.u.call 1) (slice_index h.u.call 2) r.took sound
-
--- So does a call on a pipe, and one that a signal breaks.
-abbrev pub piped_on : Handed → ℕ → ℕ → Bool → Did
-piped_on h slot now reads =
-    let rest : Handed = without_pending h in
-    if reads then reads_pipe rest (slice_index h.u.call 0) (slice_index h.u.call 1) (slice_index h.u.call 2) now
-    else writes_pipe rest slot (slice_index h.u.call 0) (slice_index h.u.call 1) (slice_index h.u.call 2)
-    (slice_index h.u.call 3) now
-
-abbrev on_by : Handed → ℕ → ℕ → Bool → Bool → Did
-on_by h slot now typed reads = if typed then resume_read h else piped_on h slot now reads
-
-abbrev resumed_by : Handed → ℕ → ℕ → Bool → Bool → Bool → Did
-resumed_by h slot now broken typed reads = if broken then fails (without_pending h) EINTR else on_by h slot now typed reads
-
-kept_by : (h : Handed) (slot now : ℕ) (broken typed reads : Bool) → IsSound h
-    → IsKept h (resumed_by h slot now broken typed reads).state
-kept_by h slot now true typed reads sound = kept_same h (without_pending h) sound refl refl refl refl refl refl
-kept_by h slot now false true reads sound = resume_kept h sound
-kept_by h slot now false false true sound = pipe_read_kept h sound NOTHING_PENDING (replicate 8 0) _ _ _ now
-kept_by h slot now false false false sound = pipe_write_kept h sound NOTHING_PENDING (replicate 8 0) slot _ _ _ _ now
-
-pub resumes_kept : (h : Handed) (slot now : ℕ) → IsSound h → IsKept h (resumes h slot now).state
-resumes_kept h slot now sound =
-    kept_by h slot now (is_some (due h.row (without_pending h).u)) (h.u.pending == LINE_READ) (h.u.pending == PIPE_READ) sound
-
--- What a call comes to that is taken up again, by its tests.
-pub resume_broken : (h : Handed) (slot now : ℕ) → is_some (due h.row (without_pending h).u) ≡ true
-    → fails (without_pending h) EINTR ≡ resumes h slot now
-resume_broken h slot now broken = sym (ap (λ b. resumed_by h slot now b (h.u.pending == LINE_READ) (h.u.pending == PIPE_READ)) broken)
-
-module _ (h : Handed) (slot now : ℕ) (calm : is_some (due h.row (without_pending h).u) ≡ false) where
-  resumed_as : (typed reads : Bool) → (h.u.pending == LINE_READ) ≡ typed → (h.u.pending == PIPE_READ) ≡ reads
-      → on_by h slot now typed reads ≡ resumes h slot now
-  resumed_as typed reads first third =
-      sym (ap (λ b. resumed_by h slot now b (h.u.pending == LINE_READ) (h.u.pending == PIPE_READ)) calm ∙ ap
-      (λ b. on_by h slot now b (h.u.pending == PIPE_READ)) first
-      ∙ ap (on_by h slot now typed) third)
-
-  pub resume_typed : h.u.pending ≡ LINE_READ → resume_read h ≡ resumes h slot now
-  resume_typed is = resumed_as true (h.u.pending == PIPE_READ) (eq-eqb h.u.pending LINE_READ is) refl
-
-  pub resume_piped : (reads : Bool) → (h.u.pending == LINE_READ) ≡ false → (h.u.pending == PIPE_READ) ≡ reads
-      → piped_on h slot now reads ≡ resumes h slot now
-  resume_piped reads other is = resumed_as false reads other is

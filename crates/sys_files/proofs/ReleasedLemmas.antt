@@ -4,12 +4,11 @@ use Rattle.open_files.specs.declared.file.OpenFile.{OpenFile}
 use Rattle.open_files.specs.declared.file.Closed.TheVariants.{Still, Last}
 use Rattle.open_files.specs.Files.{file_at, with_fewer, closed}
 use Rattle.pipe_ends.specs.declared.ends.Pipe.{Pipe}
-use Rattle.tty_line.specs.Terminal as terminal
-use Rattle.sys_files.specs.Handed.{Handed, line_of, node_at, let_go}
+use Rattle.tty_line.specs.Said as said
+use Rattle.tty_line.specs.Said.{Said}
+use Rattle.lines_eight.specs.Told.{told}
+use Rattle.sys_files.specs.Handed.{Handed, line_of, line_at, with_line, node_at, let_go}
 use Rattle.sys_files.specs.Pipes.{place_of, pipe_of, with_pipe, without_pipe, has_end, ArePipes}
-use Rattle.v6_base.specs.Trace.{Log}
-use Rattle.v6_base.specs.declared.entry.Chan.TheVariants.{Keys}
-use Rattle.v6_base.specs.declared.entry.Entry.TheVariants.{Wake}
 use Rattle.sys_files.specs.Descriptors.{Closing, is_line_open, closes_line, line_closed, without_marks, with_roused, is_gone_with, with_gone, released}
 use Rattle.sys_files.proofs.PipeLemmas.{pipes_marked, pipes_freed}
 
@@ -44,33 +43,31 @@ gone_is h file = by (is_gone_with h file)
 pub released_still : (h : Handed) (file : OpenFile) → (released h (Still file)).state ≡ record h { pipes = roused h.pipes file }
 released_still h file = roused_is h file
 
--- A line that is closed is another then, and nothing else is.
-pub line_closed_is : (h : Handed) (line : Option ℕ) → (closes_line h line).state ≡ record h { line = (closes_line h line).state.line }
+-- A line that is closed
+abbrev pub shut : Handed → ℕ → Closing
+shut h l = let s : Said = said.closed (line_at h l) in record { state = with_line h l s.terminal; items = told l s }
+
+-- is another then, and nothing else is.
+pub line_closed_is : (h : Handed) (line : Option ℕ) → (closes_line h line).state ≡ record h { lines = (closes_line h line).state.lines }
 line_closed_is h None = refl
 line_closed_is h (Some l) = by (is_line_open h l)
   where
-    shut : Closing
-    shut = record { state = record h { line = terminal.closed h.line }; items = Log (Wake Keys) ∷ [] }
-
-    by : (used : Bool) → (cond used (record { state = h; items = [] }) shut).state
-        ≡ record h { line = (cond used (record { state = h; items = [] }) shut).state.line }
+    by : (used : Bool) → (cond used (record { state = h; items = [] }) (shut h l)).state
+        ≡ record h { lines = (cond used (record { state = h; items = [] }) (shut h l)).state.lines }
     by true = refl
     by false = refl
 
--- It is closed where no file of it is open, and who waits for its keys is woken.
-pub line_shut : (h : Handed) (l : ℕ) → is_line_open h l ≡ false
-    → closes_line h (Some l) ≡ record { state = record h { line = terminal.closed h.line }; items = Log (Wake Keys) ∷ [] }
-line_shut h l is = ap (λ (others : Bool). cond {A = Closing} others (record { state = h; items = [] })
-    (record { state = record h { line = terminal.closed h.line }; items = Log (Wake Keys) ∷ [] })) is
+-- It is closed where no file of it is open.
+pub line_shut : (h : Handed) (l : ℕ) → is_line_open h l ≡ false → closes_line h (Some l) ≡ shut h l
+line_shut h l is = ap (λ (others : Bool). cond {A = Closing} others (record { state = h; items = [] }) (shut h l)) is
 
 pub line_stays : (h : Handed) (l : ℕ) → is_line_open h l ≡ true → closes_line h (Some l) ≡ record { state = h; items = [] }
-line_stays h l is = ap (λ (others : Bool). cond {A = Closing} others (record { state = h; items = [] })
-    (record { state = record h { line = terminal.closed h.line }; items = Log (Wake Keys) ∷ [] })) is
+line_stays h l is = ap (λ (others : Bool). cond {A = Closing} others (record { state = h; items = [] }) (shut h l)) is
 
 -- Where it is freed a line may be another, and a reference goes.
 pub released_last : (h : Handed) (file : OpenFile)
     → let rest : Handed = record h { pipes = gone h.files (roused h.pipes file) file } in
-    (released h (Last file)).state ≡ let_go (record rest { line = (line_closed rest file).state.line }) file.ino
+    (released h (Last file)).state ≡ let_go (record rest { lines = (line_closed rest file).state.lines }) file.ino
 released_last h file =
     let rest : Handed = record h { pipes = gone h.files (roused h.pipes file) file } in
     ap (λ (k : Handed). let_go (line_closed k file).state file.ino)

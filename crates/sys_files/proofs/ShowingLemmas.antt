@@ -1,27 +1,18 @@
 -- What is shown of the bytes of a memory, one after another.
-use Rattle.std.proofs.Common.{◌≡◌, ◌<◌, ◌≤◌, Option, Some, None, ℕ, zero, suc, List, [], ◌∷◌, ◌++◌, ◌+◌, ◌-◌, ◌%◌, ◌==◌, false, length, Result, Ok, Err, refl, sym, ◌∙◌, ap, arith}
-use Rattle.std.proofs.lemmas.Bool.{ne_eqb}
+use Rattle.std.proofs.Common.{◌≡◌, ◌<◌, ◌≤◌, Option, Some, None, ℕ, zero, suc, Bool, true, false, List, [], ◌∷◌, ◌++◌, ◌+◌, ◌-◌, ◌%◌, length, take, nat_lt, Result, Ok, Err, refl, sym, ◌∙◌, ap, arith}
+use Rattle.std.specs.Result.{is_ok}
+use Rattle.std.proofs.Math.Seq.{take-append-add}
+use Rattle.std.proofs.lemmas.Bool.{ltb-true, ltb-false, lt-ltb, le-ltb}
+use Rattle.std.proofs.lemmas.List.{append-nil, length-append, take_all, take-append-le}
 use Rattle.v6_base.specs.Image.{Image}
 use Rattle.v6_base.specs.Access.{load_byte}
 use Rattle.v6_base.specs.Copy.{load_bytes, in_front}
 use Rattle.v6_base.proofs.Copies.{load_wraps}
 use Rattle.v6_base.specs.declared.space.Trap.{Trap}
 use Rattle.fs_tree.specs.Name.{read_then, readable}
-use Rattle.tty_line.specs.Terminal.{Terminal, flags}
-use Rattle.tty_line.specs.Output.{column_after_all, shows, after_shown}
-use Rattle.tty_line.proofs.OutputLemmas.{column_after_all-append, shown_bytes-append}
-
--- bytes that are shown after others
-pub shows_more : (t : Terminal) (xs ys : List ℕ) → shows t xs ++ shows (after_shown t xs) ys ≡ shows t (xs ++ ys)
-shows_more t xs ys = sym (shown_bytes-append (flags t) t.column xs ys)
-
-abbrev with_column : Terminal → ℕ → Terminal
-with_column t column = record t { column = column }
-
-pub after_more : (t : Terminal) (xs ys : List ℕ) → after_shown (after_shown t xs) ys ≡ after_shown t (xs ++ ys)
-after_more t xs ys =
-    ap (λ (k : ℕ). with_column t k)
-    (sym (column_after_all-append t.column (shows t xs) (shows (after_shown t xs) ys)) ∙ ap (column_after_all t.column) (shows_more t xs ys))
+use Rattle.tty_line.specs.Terminal.{Terminal}
+use Rattle.tty_line.specs.Output.{after_shown, written}
+use Rattle.tty_line.proofs.OutputLemmas.{written_few, written_parts, written_short}
 
 -- An address after some others: the first of these, and then the others.
 next_place : (at i : ℕ) → ((at + 1) % 65536 + i) % 65536 ≡ (at + suc i) % 65536
@@ -130,6 +121,130 @@ loaded_readable image at (suc n) bytes low is =
     read_by (load_byte image at) (load_bytes image (at + 1) n) bytes (readable image next n) (ap (λ a. in_front (load_byte image a) (load_bytes image (at + 1) n)) (sym flat) ∙ is)
     (λ l e. loaded_readable image next n l (omega arith) (load_wraps image next (at + 1) n (omega arith) ∙ e))
 
--- They are fewer than were asked for.
-pub are_fewer : (bytes : List ℕ) (n : ℕ) → length bytes < n → false ≡ length bytes == n
-are_fewer bytes n less = sym (ne_eqb (length bytes) n (λ e. omega (arith, less, e)))
+-- Of some bytes a front, and the others: there are none where not all of the front can be read.
+pub readable_front : (image : Image) (at n k : ℕ) → at < 65536 → n ≤ k
+    → (more : List ℕ) × (readable image at k ≡ readable image at n ++ more) × (length (readable image at n) < n → more ≡ [])
+readable_front image at n k low few = by (nat_lt (length (readable image at n)) n) refl
+  where
+    by : (b : Bool) → nat_lt (length (readable image at n)) n ≡ b
+        → (more : List ℕ) × (readable image at k ≡ readable image at n ++ more) × (length (readable image at n) < n → more ≡ [])
+    by true short =
+        let same = readable_short image at n k (ltb-true (length (readable image at n)) n short) few in
+        ([], same ∙ sym (append-nil (readable image at n)), λ less. refl)
+    by false long =
+        let most = readable_few image at n in
+        let least : n ≤ length (readable image at n) = ltb-false (length (readable image at n)) n long in
+        let all : length (readable image at n) ≡ n = omega (arith, most, least) in
+        let parts : k ≡ n + (k - n) = omega (arith, few) in
+        (readable image ((at + n) % 65536) (k - n), ap (readable image at) parts ∙ readable_parts image at n (k - n) low all,
+        λ less. absurd (omega (arith, less, all)))
+
+-- A byte after some that can all be read can be read where one more of them is.
+pub readable_next : (image : Image) (at n k : ℕ) → at < 65536 → length (readable image at n) ≡ n → n < k
+    → is_ok (load_byte image ((at + n) % 65536)) ≡ nat_lt n (length (readable image at k))
+readable_next image at n k low whole more = by (load_byte image ((at + n) % 65536)) refl
+  where
+    by : (r : Result ℕ Trap) → r ≡ load_byte image ((at + n) % 65536) → is_ok r ≡ nat_lt n (length (readable image at k))
+    by (Err trap) is =
+        let stops = readable_stops image at n k trap low whole more is in
+        let long : length (readable image at k) ≡ n = ap length stops ∙ whole in
+        sym (le-ltb n (length (readable image at k)) (omega (arith, long)))
+    by (Ok byte) is =
+        let next = readable_more image at n byte low whole is in
+        let one : length (readable image at (n + 1)) ≡ n + 1 = ap length next ∙ length-append (readable image at n) (byte ∷ []) ∙ ap (λ m. m + 1) whole in
+        let front = readable_front image at (n + 1) k low (omega (arith, more)) in
+        let long = ap length front.1 ∙ length-append (readable image at (n + 1)) front.0 in
+        sym (lt-ltb n (length (readable image at k)) (omega (arith, long, one)))
+
+-- A front of bytes that can be read can be read.
+whole_by : (xs ys more : List ℕ) (n : ℕ) (b : Bool) → nat_lt (length xs) n ≡ b → length xs ≤ n → n ≤ length ys → ys ≡ xs ++ more → (length xs < n → more ≡ [])
+    → length xs ≡ n
+whole_by xs ys more n true short few long is stops =
+    let less = ltb-true (length xs) n short in
+    let none = ap length (stops less) in
+    let all = ap length is ∙ length-append xs more in
+    absurd (omega (arith, less, none, all, long))
+whole_by xs ys more n false least few long is stops = let most = ltb-false (length xs) n least in omega (arith, few, most)
+
+pub readable_whole : (image : Image) (at n k : ℕ) → at < 65536 → n ≤ length (readable image at k) → length (readable image at n) ≡ n
+readable_whole image at n k low long =
+    let few = readable_few image at k in
+    let front = readable_front image at n k low (omega (arith, long, few)) in
+    whole_by (readable image at n) (readable image at k) front.0 n (nat_lt (length (readable image at n)) n) refl (readable_few image at n) long front.1 front.2
+
+-- So many bytes from an address on can be read, and a line has taken them.
+pub record AreTaken (t : Terminal) (image : Image) (at n : ℕ) : Type 0 where
+  pub whole : length (readable image at n) ≡ n
+  pub all : written t (readable image at n) ≡ n
+
+pub taken_none : (t : Terminal) (image : Image) (at : ℕ) → AreTaken t image at 0
+taken_none t image at =
+    let none = readable_none image at in
+    record { whole = ap length none; all = ap (written t) none }
+
+pub taken_all : (t : Terminal) (image : Image) (at n : ℕ) → AreTaken t image at n → take n (readable image at n) ≡ readable image at n
+taken_all t image at n are = take_all n (readable image at n) (let whole = are.whole in omega (arith, whole))
+
+module _ (t : Terminal) (image : Image) (at n most : ℕ) (low : at < 65536) (are : AreTaken t image at n) where
+  read : List ℕ
+  read = readable image at n
+
+  piece : List ℕ
+  piece = readable image ((at + n) % 65536) most
+
+  taken : ℕ
+  taken = written (after_shown t read) piece
+
+  taken_few : taken ≤ length piece
+  taken_few = written_few (after_shown t read) piece
+
+  piece_few : length piece ≤ most
+  piece_few = readable_few image ((at + n) % 65536) most
+
+  pub taken_parts : readable image at (n + most) ≡ read ++ piece
+  taken_parts = readable_parts image at n most low are.whole
+
+  -- a piece that is taken whole
+  pub taken_piece : most ≤ taken → take taken piece ≡ piece
+  taken_piece all = let less = piece_few in take_all taken piece (omega (arith, less, all))
+
+  pub taken_more : most ≤ taken → AreTaken t image at (n + most)
+  taken_more all =
+      let few = taken_few in
+      let less = piece_few in
+      let whole = are.whole in
+      record {
+        whole = ap length taken_parts ∙ length-append read piece ∙ omega (arith, whole, few, less, all);
+        all = ap (written t) taken_parts ∙ written_parts t read piece (are.all ∙ sym are.whole) ∙ omega (arith, whole, few, less, all);
+      }
+
+  -- and one that isn't: no byte after it is taken
+  module _ (k : ℕ) (few : n + most ≤ k) (less : taken < most) where
+    front : (more : List ℕ) × (readable image ((at + n) % 65536) (k - n) ≡ piece ++ more) × (length piece < most → more ≡ [])
+    front = readable_front image ((at + n) % 65536) most (k - n) (omega arith) (omega (arith, few))
+
+    all : readable image at k ≡ read ++ (piece ++ front.0)
+    all =
+        let count : k ≡ n + (k - n) = omega (arith, few) in
+        ap (readable image at) count ∙ readable_parts image at n (k - n) low are.whole ∙ ap (λ l. read ++ l) front.1
+
+    one : written (after_shown t read) (piece ++ front.0) ≡ taken
+    one = by (nat_lt taken (length piece)) refl
+      where
+        by : (b : Bool) → nat_lt taken (length piece) ≡ b → written (after_shown t read) (piece ++ front.0) ≡ taken
+        by true short = written_short (after_shown t read) piece front.0 (ltb-true taken (length piece) short)
+        by false long =
+            let least = ltb-false taken (length piece) long in
+            let most = taken_few in
+            let none : front.0 ≡ [] = front.2 (omega (arith, least, less)) in
+            ap (λ l. written (after_shown t read) (piece ++ l)) none ∙ ap (written (after_shown t read)) (append-nil piece)
+
+    pub taken_stops : written t (readable image at k) ≡ n + taken
+    taken_stops =
+        ap (written t) all ∙ written_parts t read (piece ++ front.0) (are.all ∙ sym are.whole) ∙ (λ i. are.whole i + one i)
+
+    pub taken_front : take (n + taken) (readable image at k) ≡ read ++ take taken piece
+    taken_front =
+        ap (take (n + taken)) all ∙ ap (λ m. take (m + taken) (read ++ (piece ++ front.0))) (sym are.whole)
+        ∙ take-append-add read (piece ++ front.0) taken
+        ∙ ap (λ l. read ++ l) (take-append-le taken piece front.0 taken_few)

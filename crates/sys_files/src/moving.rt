@@ -139,6 +139,7 @@ fn read_bytes<S: Space>(
     ensures state { (u : UArea) (row : Row) → handed f.new u row (S.image space.new)
         ≡ with_read (handed f.old u row (S.image space.old)) entry (read_of (handed f.old u row
         (S.image space.old)) entry at count now) }
+    ensures lines { f.new.lines ≡ f.old.lines }
     ensures memory { S.rest space.new ≡ S.rest space.old }
     ensures blocks { SameRest f.old.tree.nodes f.new.tree.nodes }
 {
@@ -244,8 +245,8 @@ fn line_kept(f: &Files, entry: u16) -> u8
         → result ≡ line_kept h entry }
     ensures there { result < length f.now.lines }
 {
-    let file = file_of(f, entry as u8);
-    line_at(&f.tree.nodes, &f.lines, file.ino).unwrap_or(0)
+    let ino = f.table.file(entry as u8).ino;
+    line_at(&f.tree.nodes, &f.lines, ino).unwrap_or(0)
 }
 
 /// Goes on with a read or a write of a line.
@@ -455,10 +456,10 @@ fn write_line<S: Space, T: Trace>(
             r1: u.r[1],
         };
     }
-    if space.load_byte(from.wrapping_add(taken)).is_err() {
-        return Answer::Fail(Errno::EFAULT);
+    if space.load_byte(from.wrapping_add(taken)).is_ok() {
+        return wait_for_room(l, u, row, entry, at, count, done + taken);
     }
-    wait_for_room(l, u, row, entry, at, count, done + taken)
+    Answer::Fail(Errno::EFAULT)
 }
 
 /// Writes bytes of a memory into an open file, from its place on.
@@ -479,6 +480,7 @@ fn write_bytes<S: Space>(
     ensures state { (u : UArea) (row : Row) → handed f.new u row (S.image space.now)
         ≡ with_moved (handed f.old u row (S.image space.now)) entry (write_of (handed f.old u row
         (S.image space.now)) entry at count now) }
+    ensures lines { f.new.lines ≡ f.old.lines }
     ensures blocks { SameRest f.old.tree.nodes f.new.tree.nodes }
 {
     f.tree.nodes.see();

@@ -119,8 +119,9 @@ fn open_line(nodes: &Nodes, lines: &mut Lines, ino: u16)
     requires { 0 < slice_index nodes.now.references ino }
     ensures { (h : Handed) → h.lines ≡ lines.old → lines.new ≡ lines_opened h (line_of h (node_in nodes.now.store ino)) }
 {
-    if let Some(line) = line_at(nodes, lines, ino) {
-        lines.opened(line);
+    match line_at(nodes, lines, ino) {
+        Some(line) => lines.opened(line),
+        None => {}
     }
 }
 

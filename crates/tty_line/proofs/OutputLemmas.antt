@@ -118,3 +118,64 @@ not_stopped t is few = ap (λ b. b && nat_lt 50 (length t.output)) is ∙ le-ltb
 pub written_stopped : (t : Terminal) (bytes : List ℕ) → is_stopped t ≡ true → written t bytes ≡ 0
 written_stopped t [] is = refl
 written_stopped t (byte ∷ bytes) is = ap (λ b. cond b 0 (suc (written (after_shown t (byte ∷ [])) bytes))) is
+
+-- nothing is shown, and the terminal stays
+pub after_nothing : (t : Terminal) → after_shown t [] ≡ t
+after_nothing t = by t.is_paced where
+  by : (b : Bool) → ◌≡◌ {A = Terminal} (record t { column = t.column; output = cond b (t.output ++ []) t.output }) t
+  by true = ap (λ bytes. record t { output = bytes }) (append-nil t.output)
+  by false = refl
+
+few_by_one : (b : Bool) (n k : ℕ) → n ≤ k → cond b 0 (suc n) ≤ suc k
+few_by_one true n k few = omega arith
+few_by_one false n k few = omega (arith, few)
+
+pub written_few : (t : Terminal) (xs : List ℕ) → written t xs ≤ length xs
+written_few t [] = omega arith
+written_few t (x ∷ xs) = few_by_one (is_stopped t) (written (after_shown t (x ∷ [])) xs) (length xs) (written_few (after_shown t (x ∷ [])) xs)
+
+-- What a write takes of bytes in two parts, of which it takes the first whole.
+pub written_parts : (t : Terminal) (xs ys : List ℕ) → written t xs ≡ length xs
+    → written t (xs ++ ys) ≡ length xs + written (after_shown t xs) ys
+written_parts t [] ys all = sym (ap (λ (u : Terminal). written u ys) (after_nothing t))
+written_parts t (x ∷ xs) ys all = by (is_stopped t) refl (written_parts (after_shown t (x ∷ [])) xs ys) where
+  next : Terminal
+  next = after_shown t (x ∷ [])
+  by : (b : Bool) → is_stopped t ≡ b
+      → (written next xs ≡ length xs → written next (xs ++ ys) ≡ length xs + written (after_shown next xs) ys)
+      → written t (x ∷ xs ++ ys) ≡ suc (length xs) + written (after_shown t (x ∷ xs)) ys
+  by true is later =
+      let none : written t (x ∷ xs) ≡ 0 = ap (λ b. cond b 0 (suc (written next xs))) is in
+      absurd (omega (arith, none, all))
+  by false is later =
+      let goes : written t (x ∷ xs) ≡ suc (written next xs) = ap (λ b. cond b 0 (suc (written next xs))) is in
+      let rest : written next (xs ++ ys) ≡ length xs + written (after_shown t (x ∷ xs)) ys =
+          later (omega (arith, goes, all)) ∙ ap (λ (u : Terminal). length xs + written u ys) (after_shown-append t (x ∷ []) xs) in
+      let one : written t (x ∷ xs ++ ys) ≡ suc (written next (xs ++ ys)) = ap (λ b. cond b 0 (suc (written next (xs ++ ys)))) is in
+      omega (arith, rest, one)
+
+-- Where it stops in the first it takes none of the second.
+pub written_short : (t : Terminal) (xs ys : List ℕ) → written t xs < length xs → written t (xs ++ ys) ≡ written t xs
+written_short t [] ys less = absurd (omega (arith, less))
+written_short t (x ∷ xs) ys less = by (is_stopped t) refl (written_short (after_shown t (x ∷ [])) xs ys) where
+  next : Terminal
+  next = after_shown t (x ∷ [])
+  by : (b : Bool) → is_stopped t ≡ b → (written next xs < length xs → written next (xs ++ ys) ≡ written next xs)
+      → written t (x ∷ xs ++ ys) ≡ written t (x ∷ xs)
+  by true is later = ap (λ b. cond b 0 (suc (written next (xs ++ ys)))) is ∙ sym (ap (λ b. cond b 0 (suc (written next xs))) is)
+  by false is later =
+      let goes : written t (x ∷ xs) ≡ suc (written next xs) = ap (λ b. cond b 0 (suc (written next xs))) is in
+      ap (λ b. cond b 0 (suc (written next (xs ++ ys)))) is ∙ ap suc (later (omega (arith, goes, less))) ∙ sym goes
+
+-- What is shown of bytes in two parts.
+pub shows-append : (t : Terminal) (xs ys : List ℕ) → shows t xs ++ shows (after_shown t xs) ys ≡ shows t (xs ++ ys)
+shows-append t xs ys = by t.is_paced where
+  by : (b : Bool) → cond b [] (forms t xs) ++ cond b [] (forms (after_shown t xs) ys) ≡ cond b [] (forms t (xs ++ ys))
+  by true = refl
+  by false = sym (shown_bytes-append (flags t) t.column xs ys)
+
+pub shows_none : (t : Terminal) → shows t [] ≡ []
+shows_none t = by t.is_paced where
+  by : (b : Bool) → cond {A = List ℕ} b [] [] ≡ []
+  by true = refl
+  by false = refl

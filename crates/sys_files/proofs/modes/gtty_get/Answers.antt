@@ -9,11 +9,11 @@ pub returns-in-Err-clause-does : goal.returns-in-Err-clause-does
 returns-in-Err-clause-does g c =
     let image = g.S.Space.image c.args.space.now in
     let h : Handed = handed c.args.f.now c.args.u.now c.args.row.now image in
-    does_refused (sym (c.in-Err.ensures c.args.row.now image (λ l. tells_modes h l (slice_index c.args.args 0)))) c.requires.sound
+    does_refused (sym (c.in-Err.ensures.line c.args.row.now image (λ l. tells_modes h l (slice_index c.args.args 0)))) c.requires.sound
 
 pub returns-clause-does : goal.returns-clause-does
 returns-clause-does g c =
     let image = g.S.Space.image c.args.space.now in
     let h : Handed = handed c.args.f.now c.args.u.now c.args.row.now image in
-    does_as (c.in_default.ensures c.args.row.now image (λ l. tells_modes h l (slice_index c.args.args 0)) ∙ c.put_modes.ensures.did h 0 refl refl refl)
+    does_as (c.in-Ok.ensures.line c.args.row.now image (λ l. tells_modes h l (slice_index c.args.args 0)) ∙ c.put_modes.ensures.did h refl refl refl)
     (kept_same h _ c.requires.sound refl refl refl refl refl refl)

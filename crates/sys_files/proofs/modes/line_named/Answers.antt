@@ -7,8 +7,8 @@ use Rattle.sys_files.proofs.OffsetLemmas.{referred_there}
 use Rattle.sys_files.proofs.ModesLemmas.{terminal_is, terminal_refused}
 use Rattle.sys_files.proofs.modes.line_named.Goals as goal
 
-pub returns-in_err-entry : goal.returns-in_err-entry
-returns-in_err-entry c = λ row image does.
+pub returns-in_err-entry-clause-line : goal.returns-in_err-entry-clause-line
+returns-in_err-entry-clause-line c = λ row image does.
     let h : Handed = handed c.args.f.now c.args.u.now row image in
     let is : Err c.in_err-entry.field-0.0 ≡ c.from_residual.result = search rules in
     terminal_refused h does c.in_err-entry.field-0.0 (c.in_err-entry.ensures.entry row image)
@@ -25,8 +25,8 @@ terminal_line-requires c =
           (c.in_ok-entry.ensures.used (c.requires.sound any_row any_image).is_open) (c.file_of-file.ensures c.args.u.now any_row any_image);
     }
 
-pub returns : goal.returns
-returns c = λ row image does.
+pub returns-clause-line : goal.returns-clause-line
+returns-clause-line c = λ row image does.
     terminal_is (handed c.args.f.now c.args.u.now row image) does c.in_ok-entry.entry c.file_of-file.result _
     (c.in_ok-entry.ensures.entry row image) (c.file_of-file.ensures c.args.u.now row image)
-    (c.terminal_line.ensures (handed c.args.f.now c.args.u.now row image))
+    (c.terminal_line.ensures.line (handed c.args.f.now c.args.u.now row image) refl)

@@ -42,7 +42,7 @@ returns-clause-does g c =
     (slice_index c.args.args 1) c.args.now c.in-Ok.entry c.file_of-file.result
     (c.in-Ok.ensures.entry c.args.row.now image)
     (c.file_of-file.ensures c.args.u.now c.args.row.now image) c.if-not-file.false c.if-file.false)
-    (c.write_to.ensures.answer c.args.row.now) (c.write_to.ensures.state c.args.row.now) (c.write_to.ensures.items c.args.row.now)
+    c.write_to.ensures.answer c.write_to.ensures.state c.write_to.ensures.items
     (write_kept h c.args.slot (slice_index c.args.args 0) (slice_index c.args.args 1) c.args.now c.requires.sound)
 
 pub write_pipe-requires-clause-pipe : goal.write_pipe-requires-clause-pipe

@@ -12,7 +12,7 @@ returns-then-can_open-clause-outcome c =
       a.1,
       a.3,
       numbers_changed c.args.u.now _ _ ∙ ap (λ (l : List ℕ). record c.args.u.now { files = l }) a.4,
-      λ row image. opens_is (handed c.args.f.now c.args.u.now row image) c.args.ino c.args.kind c.in_ok-fd.fd a.1 a.0 a.2 (sym (c.can_open.ensures (handed c.args.f.now c.args.u.now row image)) ∙ c.if-can_open.true),
+      λ row image. opens_is (handed c.args.f.now c.args.u.now row image) c.args.ino c.args.kind c.in_ok-fd.fd a.1 a.0 a.2 (sym (c.can_open.ensures (handed c.args.f.now c.args.u.now row image) refl) ∙ c.if-can_open.true),
     )
 
 pub returns-clause-outcome : goal.returns-clause-outcome
@@ -24,5 +24,5 @@ returns-clause-outcome c =
     let back = undone c.args.f.now.table c.add.new.self c.drop_one.new.self c.args.u.now.files c.add.new.mine c.drop_one.new.mine (opened c.args.ino c.args.kind) c.in_ok-fd.fd c.drop_one.result refl a (subst P c.from.ensures c.drop_one.ensures) in (
       back.0,
       numbers_changed c.args.u.now _ _ ∙ ap (λ (l : List ℕ). record c.args.u.now { files = l }) back.1,
-      λ row image. opens_not (handed c.args.f.now c.args.u.now row image) c.args.ino c.args.kind c.in_ok-fd.fd a.1 a.0 a.2 (sym (c.can_open.ensures (handed c.args.f.now c.args.u.now row image)) ∙ c.if-can_open.false),
+      λ row image. opens_not (handed c.args.f.now c.args.u.now row image) c.args.ino c.args.kind c.in_ok-fd.fd a.1 a.0 a.2 (sym (c.can_open.ensures (handed c.args.f.now c.args.u.now row image) refl) ∙ c.if-can_open.false),
     )

@@ -1,13 +1,14 @@
-use Rattle.std.proofs.Common.{is_some, sym, ap, ◌∙◌}
+use Rattle.std.proofs.Common.{List, sym, ap, ◌∙◌}
 use Rattle.tty_line.specs.Terminal as terminal
-use Rattle.sys_files.proofs.LineLemmas.{line_opens, line_as_it_was}
+use Rattle.tty_line.specs.Terminal.{Terminal}
+use Rattle.lines_eight.specs.Lines.{terminal_at, with_terminal}
+use Rattle.sys_files.specs.Opening.{lines_opened}
 use Rattle.sys_files.proofs.opening.open_line.Goals as goal
 
-pub returns-then-is_some : goal.returns-then-is_some
-returns-then-is_some c = λ h same.
-    c.opened.ensures ∙ ap terminal.opened (sym same)
-    ∙ sym (line_opens h _ (sym (ap is_some (c.line_at.ensures.line h)) ∙ sym c.is_some.ensures ∙ c.if-is_some.true))
+pub returns-in-Some : goal.returns-in-Some
+returns-in-Some c = λ h same.
+    c.opened.ensures ∙ ap (λ (ts : List Terminal). with_terminal ts c.in-Some.line (terminal.opened (terminal_at ts c.in-Some.line))) (sym same)
+    ∙ ap (lines_opened h) (sym c.in-Some.is ∙ c.line_at.ensures.line h same)
 
-pub returns-else-is_some : goal.returns-else-is_some
-returns-else-is_some c = λ h same.
-    sym same ∙ sym (line_as_it_was h _ (sym (ap is_some (c.line_at.ensures.line h)) ∙ sym c.is_some.ensures ∙ c.if-is_some.false))
+pub returns-in-None : goal.returns-in-None
+returns-in-None c = λ h same. sym same ∙ ap (lines_opened h) (sym c.in-None.is ∙ c.line_at.ensures.line h same)
