@@ -1,7 +1,8 @@
 -- What a call of one line makes of all.
-use Rattle.std.proofs.Common.{◌≡◌, ◌≤◌, ◌<◌, ◌==◌, ℕ, Bool, true, false, cond, List, drop, length, arith}
+use Rattle.std.proofs.Common.{◌≡◌, ◌≤◌, ◌<◌, ◌==◌, ℕ, Bool, true, false, cond, List, drop, length, nat_lt, sym, subst, refl, arith}
 use Rattle.std.specs.List.{All}
-use Rattle.std.proofs.lemmas.List.{length-set, length-drop, length-replicate, get_or-set_same, set-get_or, set-set}
+use Rattle.std.proofs.lemmas.Bool.{ltb-true, ltb-false}
+use Rattle.std.proofs.lemmas.List.{length-set, length-drop, length-replicate, get_or-set_same, get_or_past, set-get_or, set-set}
 use Rattle.std.proofs.lemmas.List.Elements.{All-set, All-get_or, All-replicate}
 use Rattle.v6_base.specs.Image.{Image}
 use Rattle.tty_line.specs.Terminal.{Terminal, first_terminal, opened}
@@ -24,6 +25,15 @@ lines_with lines l t are room =
 
 pub room_at : (lines : List Terminal) (l : ℕ) → AreLines lines → l < length lines → HasRoom (terminal_at lines l)
 room_at lines l are there = All-get_or HasRoom lines l first_terminal there are.most
+
+-- a line that isn't there has room too
+pub room_any : (lines : List Terminal) (l : ℕ) → All HasRoom lines → HasRoom (terminal_at lines l)
+room_any lines l all = by (nat_lt l (length lines)) refl where
+  by : (b : Bool) → nat_lt l (length lines) ≡ b → HasRoom (terminal_at lines l)
+  by true there = All-get_or HasRoom lines l first_terminal (ltb-true l (length lines) there) all
+  by false past =
+      let none : HasRoom first_terminal = omega arith in
+      subst HasRoom (sym (get_or_past lines l first_terminal (ltb-false l (length lines) past))) none
 
 -- at first nothing waits
 pub first_are : (count : ℕ) → 1 ≤ count → count ≤ 8 → AreLines (first_lines count)

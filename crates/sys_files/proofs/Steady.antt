@@ -1,30 +1,38 @@
 -- What a call on files leaves as it is: who its process is, its registers, times and handlers, and the sizes of its image.
 -- `user.h` and `proc.h` in Lions' Commentary.
-use Rattle.std.proofs.Common.{◌≡◌, ◌+◌, ◌*◌, ◌≤◌, ◌==◌, ◌++◌, ◌&&◌, ℕ, suc, Bool, true, false, not, cond, List, [], ◌∷◌, length, replicate, fold, slice_index, refl, arith, slice_set, Option, Some, None}
-use Rattle.std.specs.List.{range_with_len}
+use Rattle.std.proofs.Common.{◌≡◌, ◌+◌, ◌*◌, ◌≤◌, ◌==◌, ◌++◌, ◌&&◌, ℕ, suc, Bool, true, false, not, cond, List, [], ◌∷◌, length, map, replicate, fold, slice_index, refl, sym, subst, ◌∙◌, inl, arith, slice_set, Option, Some, None}
+use Rattle.std.specs.List.{All, range_with_len}
+use Rattle.std.proofs.lemmas.Bool.{eqb-false}
+use Rattle.std.proofs.lemmas.List.Elements.{All-nil, All-cons, All-set}
 use Rattle.std.proofs.lemmas.List.FromFn.{length-range_with_len}
-use Rattle.v6_base.specs.Trace.{Log}
+use Rattle.v6_base.specs.Trace.{Log, sent}
+use Rattle.v6_base.specs.declared.entry.Chan.{Chan}
 use Rattle.sig_core.specs.declared.numbers.TheConstants.{SIGPIPE, SIGKIL}
 use Rattle.sig_core.specs.Signals.{is_signal, posted}
-use Rattle.v6_base.specs.declared.entry.Chan.TheVariants.{Keys, Read, Write}
+use Rattle.v6_base.specs.declared.entry.Chan.TheVariants.{Read, Write}
 use Rattle.v6_base.specs.declared.entry.Entry.TheVariants.{Wake}
 use Rattle.v6_base.proofs.Copies.{SameLengths, then_lengths, same_lengths}
 use Rattle.proc_tab.specs.declared.row.Row.{Row}
-use Rattle.u_area.specs.declared.layout.TheConstants.{LINE_READ, NOTHING_PENDING}
+use Rattle.u_area.specs.declared.layout.TheConstants.{LINE_READ, LINE_WRITE, NOTHING_PENDING}
 use Rattle.u_area.specs.declared.area.UArea.{UArea}
 use Rattle.u_area.proofs.AreaLemmas.{one_area}
 use Rattle.open_files.specs.declared.file.Closed.{Closed}
 use Rattle.open_files.specs.declared.file.Closed.TheVariants.{Still, Last}
-use Rattle.sys_files.specs.Handed.{Handed, line_of, line_at, with_line, keys_of, node_at}
+use Rattle.sys_files.specs.Handed.{Handed, line_of, line_at, node_at}
 use Rattle.sys_files.specs.Did.{Did}
-use Rattle.sys_files.specs.Descriptors.{with_roused, pipe_roused, with_gone, is_line_open, Closing, closes_line, released, told_by, dropped, closes, then_closes, close_all}
+use Rattle.sys_files.specs.Descriptors.{without_marks, with_roused, pipe_roused, is_gone_with, with_gone, is_line_open, Closing, closes_line, released, told_by, dropped, closes, then_closes, close_all}
 use Rattle.sys_files.specs.Moving.{resumes}
 use Rattle.sys_files.specs.Piping.{words_of}
-use Rattle.sys_files.proofs.Bounds.{Fits, fits_none, fits_lines, fits_shown, AreWakes, none_wakes, one_wakes, more_wakes, wakes_up_to, fits_wakes}
-use Rattle.sys_files.proofs.Walks.{Walks, IsAwaiting, walk_closes, walk_resume, closes_all}
+use Rattle.sys_files.specs.Pipes.{pipe_of, with_pipe, without_pipe}
+use Rattle.lines_eight.specs.Lines.{HasRoom}
+use Rattle.lines_eight.specs.Told.{keys_of, show_of, wakes_if}
+use Rattle.lines_eight.proofs.LinesLemmas.{room_any}
+use Rattle.sys_files.proofs.Bounds.{IsOfFiles, IsOfCall, keys_of_files, show_of_files, AreFew, Fits, most_entries, most_bytes, few_none, few_up_to, few_then, few_sent, few_lines, few_told, fits_none, fits_lines, fits_shown}
+use Rattle.sys_files.proofs.ReleasedLemmas.{shut}
+use Rattle.sys_files.proofs.Walks.{Walks, CanResume, walk_closes, walk_resume}
 use Rattle.open_files.specs.declared.file.OpenFile.{OpenFile}
 use Rattle.open_files.specs.Files.{entry_of}
-use Rattle.tty_line.specs.Terminal as terminal
+use Rattle.tty_line.specs.Said as said
 
 -- What stays of a row of the table of processes. A process gets a terminal with the first one that it opens, and a signal where
 -- it writes to a pipe that nobody reads.
@@ -51,12 +59,13 @@ pub record SameArea (old new : UArea) : Type 0 where
   pub status : new.status ≡ old.status
   pub handlers : new.handlers ≡ old.handlers
 
--- What stays of the parts that a call is handed.
+-- What stays of the parts that a call is handed; and no more bytes wait on a line than there is room for.
 pub record Steady (old new : Handed) : Type 0 where
   pub row : SameRow old.row new.row
   pub area : SameArea old.u new.u
   pub image : SameLengths old.image new.image
   pub marks : ◌≡◌ {A = List Bool} new.marks old.marks
+  pub room : All HasRoom new.lines
 
 -- A call that shows little, and leaves as it is what has to stay.
 pub record Confined (slot : ℕ) (old : Handed) (did : Did) : Type 0 where
@@ -86,8 +95,8 @@ same_area u = record {
   handlers = refl;
 }
 
-pub steady_same : (h : Handed) → Steady h h
-steady_same h = record { row = same_row h.row; area = same_area h.u; image = same_lengths h.image; marks = refl }
+pub steady_same : (h : Handed) → All HasRoom h.lines → Steady h h
+steady_same h room = record { row = same_row h.row; area = same_area h.u; image = same_lengths h.image; marks = refl; room = room }
 
 -- The open files, the directory and the call that goes on are others.
 area_changed : (old u : UArea) (files : List ℕ) (dir pending : ℕ) (call : List ℕ) → SameArea old u
@@ -118,6 +127,7 @@ steady_pending old h pending call s = record {
   area = area_changed old.u h.u h.u.files h.u.dir pending call s.area;
   image = s.image;
   marks = s.marks;
+  room = s.room;
 }
 
 -- And with other open files and another directory.
@@ -128,6 +138,7 @@ steady_moved old h files numbers dir s = record {
   area = area_changed old.u h.u numbers dir h.u.pending h.u.call s.area;
   image = s.image;
   marks = s.marks;
+  room = s.room;
 }
 
 -- Another signal waits of a process.
@@ -146,19 +157,28 @@ confined_walks old slot = record {
   done = λ h a b s. record { fits = fits_none slot; steady = s };
   lets_go = λ ino d c. record {
     fits = c.fits;
-    steady = record { row = c.steady.row; area = c.steady.area; image = c.steady.image; marks = c.steady.marks };
+    steady = record { row = c.steady.row; area = c.steady.area; image = c.steady.image; marks = c.steady.marks; room = c.steady.room };
   };
-  waits = λ h entry at count s. record {
+  waits = λ h l entry at count calling s. record {
     fits = fits_none slot;
     steady = steady_pending old h LINE_READ (entry ∷ at ∷ count ∷ 0 ∷ 0 ∷ 0 ∷ 0 ∷ 0 ∷ []) s;
+  };
+  waits_for_room = λ h l entry at count done calling s. record {
+    fits = fits_none slot;
+    steady = steady_pending old h LINE_WRITE (entry ∷ at ∷ count ∷ done ∷ 0 ∷ 0 ∷ 0 ∷ 0 ∷ []) s;
   };
   waits_in_pipe = λ h chan pending entry at count left which of awaits s. record {
     fits = fits_none slot;
     steady = steady_pending old h pending (words_of entry at count left) s;
   };
   tells = λ entries d few all quiet c. record { fits = fits_lines slot entries (omega (arith, few)) all; steady = c.steady };
-  showing = λ line image at count d few c. record { fits = fits_shown slot line image at count few; steady = c.steady };
-  inodes = λ h inodes same s. record { row = s.row; area = s.area; image = s.image; marks = s.marks };
+  lets_out = λ h l front back d few first second s quiet c. record {
+    fits = few_up_to slot 4 1008 most_entries most_bytes (map Log front ++ sent l (line_at h l).output ++ map Log back) (omega arith) (omega arith)
+        (few_told slot l front back (line_at h l).output few (room_any h.lines l s.room) first second);
+    steady = c.steady;
+  };
+  showing = λ l line bytes count d long few c. record { fits = fits_shown slot l line bytes (omega (arith, long, few)); steady = c.steady };
+  inodes = λ h inodes same s. record { row = s.row; area = s.area; image = s.image; marks = s.marks; room = s.room };
   opened = λ h ino kind fd entry plain number free moves s. steady_moved old h _ (slice_set h.u.files fd (entry + 1)) h.u.dir s;
   ends = λ h ino fd entry next_fd next_entry above within number free next_number next_free moves s. record {
     row = s.row;
@@ -166,88 +186,138 @@ confined_walks old slot = record {
         h.u.pending h.u.call s.area;
     image = s.image;
     marks = s.marks;
+    room = s.room;
   };
   given = λ h fd free named number moves s.
       steady_moved old h _ (slice_set h.u.files free (entry_of h.u.files fd + 1)) h.u.dir s;
-  offset = λ h entry offset s. record { row = s.row; area = s.area; image = s.image; marks = s.marks };
+  offset = λ h entry offset s. record { row = s.row; area = s.area; image = s.image; marks = s.marks; room = s.room };
   dropped = λ h fd named moves s. steady_moved old h _ (slice_set h.u.files fd 0) h.u.dir s;
-  marked = λ h pipe s. record { row = s.row; area = s.area; image = s.image; marks = s.marks };
-  gone = λ h ino none s. record { row = s.row; area = s.area; image = s.image; marks = s.marks };
+  marked = λ h pipe s. record { row = s.row; area = s.area; image = s.image; marks = s.marks; room = s.room };
+  gone = λ h ino none s. record { row = s.row; area = s.area; image = s.image; marks = s.marks; room = s.room };
   known = λ h entry is s. (tt, tt);
-  typewriter = λ h typewriter s. record { row = s.row; area = s.area; image = s.image; marks = s.marks };
+  typewriter = λ h l t kept s. record {
+    row = s.row;
+    area = s.area;
+    image = s.image;
+    marks = s.marks;
+    room = All-set HasRoom h.lines l t (kept (room_any h.lines l s.room)) s.room;
+  };
   enters = λ h dir moves s. steady_moved old h h.files h.u.files dir s;
   terminal = λ h tty s. record {
     row = record { pid = s.row.pid; ppid = s.row.ppid; uid = s.row.uid };
     area = s.area;
     image = s.image;
     marks = s.marks;
+    room = s.room;
   };
-  signalled = λ h s. record { row = signal_stays old.row h.row s.row; area = s.area; image = s.image; marks = s.marks };
+  signalled = λ h s. record { row = signal_stays old.row h.row s.row; area = s.area; image = s.image; marks = s.marks; room = s.room };
   stored = λ h m same s. record {
     row = s.row;
     area = s.area;
     image = then_lengths old.image h.image m m s.image same refl;
     marks = s.marks;
+    room = s.room;
   };
 }
 
 -- A call goes on in which a process slept.
-pub resume_confined : (h : Handed) (slot now : ℕ)
-    → ((h.u.pending == LINE_READ) ≡ false → IsAwaiting h (slice_index h.u.call 0) (slice_index h.u.call 2) (slice_index h.u.call 3))
-    → Confined slot h (resumes h slot now)
-resume_confined h slot now waiting =
-    walk_resume (confined_walks h slot) h now waiting (steady_pending h h NOTHING_PENDING (replicate 8 0) (steady_same h))
+pub resume_confined : (h : Handed) (slot now : ℕ) → All HasRoom h.lines → CanResume (λ count. count ≤ 65535) h → Confined slot h (resumes h slot now)
+resume_confined h slot now room can =
+    walk_resume (confined_walks h slot) h now can (steady_pending h h NOTHING_PENDING (replicate 8 0) (steady_same h room))
 
--- A number lets its file go: three times at most is somebody woken, who waits for a pipe or for keys.
-roused_wakes : (ino : ℕ) (pipe : Bool) → AreWakes 2 (cond pipe (Log (Wake (Write ino)) ∷ Log (Wake (Read ino)) ∷ []) [])
-roused_wakes ino true =
-    more_wakes 1 1 (Log (Wake (Write ino)) ∷ []) (Log (Wake (Read ino)) ∷ []) (one_wakes (Write ino) tt) (one_wakes (Read ino) tt)
-roused_wakes ino false = wakes_up_to 0 2 [] (omega arith) none_wakes
+-- A number lets its file go: four times at most is somebody woken, who waits for a pipe or for a line, and what waits on a line goes out.
+roused_few : (slot ino : ℕ) (pipe : Bool) → AreFew slot 2 0 (cond pipe (Log (Wake (Write ino)) ∷ Log (Wake (Read ino)) ∷ []) [])
+roused_few slot ino true =
+    few_lines slot (Wake (Write ino) ∷ Wake (Read ino) ∷ [])
+    (All-cons (IsOfCall slot) (Wake (Write ino)) (Wake (Read ino) ∷ []) (inl (Write ino, refl, tt))
+    (All-cons (IsOfCall slot) (Wake (Read ino)) [] (inl (Read ino, refl, tt)) (All-nil (IsOfCall slot))))
+roused_few slot ino false = few_up_to slot 0 0 2 0 [] (omega arith) (omega arith) (few_none slot)
 
-line_wakes : (h : Handed) (line : Option ℕ) → AreWakes 1 (closes_line h line).items
-line_wakes h None = wakes_up_to 0 1 [] (omega arith) none_wakes
-line_wakes h (Some l) = by (is_line_open h l)
+woken_few : (slot : ℕ) (chan : Chan) (b : Bool) → IsOfFiles (λ ino. Unit {0}) chan → AreFew slot 1 0 (wakes_if b chan)
+woken_few slot chan true of =
+    few_lines slot (Wake chan ∷ []) (All-cons (IsOfCall slot) (Wake chan) [] (inl (chan, refl, of)) (All-nil (IsOfCall slot)))
+woken_few slot chan false of = few_up_to slot 0 0 1 0 [] (omega arith) (omega arith) (few_none slot)
+
+line_few : (slot : ℕ) (h : Handed) (line : Option ℕ) → All HasRoom h.lines → AreFew slot 2 1008 (closes_line h line).items
+line_few slot h None room = few_up_to slot 0 0 2 1008 [] (omega arith) (omega arith) (few_none slot)
+line_few slot h (Some l) room = by (is_line_open h l)
   where
-    by : (used : Bool) → AreWakes 1 (cond {A = Closing} used (record { state = h; items = [] })
-        (record { state = with_line h l (terminal.closed (line_at h l)); items = Log (Wake (keys_of l)) ∷ [] })).items
-    by true = wakes_up_to 0 1 [] (omega arith) none_wakes
-    by false = one_wakes Keys tt
+    out : List ℕ
+    out = (line_at h l).output
 
-released_wakes : (h : Handed) (told : Closed) → AreWakes 3 (released h told).items
-released_wakes h (Still file) = wakes_up_to 2 3 (pipe_roused file) (omega arith) (roused_wakes file.ino file.kind.pipe)
-released_wakes h (Last file) =
+    by : (used : Bool) → AreFew slot 2 1008 (cond {A = Closing} used (record { state = h; items = [] }) (shut h l)).items
+    by true = few_up_to slot 0 0 2 1008 [] (omega arith) (omega arith) (few_none slot)
+    by false =
+        let few = room_any h.lines l room in
+        few_up_to slot (0 + (1 + 1)) (length out + (0 + 0)) 2 1008 (shut h l).items (omega arith) (omega (arith, few))
+        (few_then slot 0 (length out) (1 + 1) (0 + 0) (sent l out) _ (few_sent slot l out)
+        (few_then slot 1 0 1 0 (wakes_if true (keys_of l)) (wakes_if (said.closed (line_at h l)).show (show_of l))
+        (woken_few slot (keys_of l) true (keys_of_files (λ ino. Unit {0}) l))
+        (woken_few slot (show_of l) (said.closed (line_at h l)).show (show_of_files (λ ino. Unit {0}) l))))
+
+rest_lines : (h : Handed) (file : OpenFile) → (with_gone (with_roused h file) file).lines ≡ h.lines
+rest_lines h file = gone (is_gone_with (with_roused h file) file) ∙ roused file.kind.pipe
+  where
+    k : Handed
+    k = with_roused h file
+
+    gone : (b : Bool) → (cond {A = Handed} b (record k { pipes = without_pipe k.pipes file.ino }) k).lines ≡ k.lines
+    gone true = refl
+    gone false = refl
+
+    roused : (b : Bool) → (cond {A = Handed} b (record h { pipes = with_pipe h.pipes (without_marks (pipe_of h.pipes file.ino)) }) h).lines ≡ h.lines
+    roused true = refl
+    roused false = refl
+
+released_few : (slot : ℕ) (h : Handed) (told : Closed) → All HasRoom h.lines → AreFew slot 4 1008 (released h told).items
+released_few slot h (Still file) room =
+    few_up_to slot 2 0 4 1008 (pipe_roused file) (omega arith) (omega arith) (roused_few slot file.ino file.kind.pipe)
+released_few slot h (Last file) room =
     let rest : Handed = with_gone (with_roused h file) file in
-    more_wakes 2 1 (pipe_roused file) (closes_line rest (line_of rest (node_at rest file.ino))).items
-    (roused_wakes file.ino file.kind.pipe) (line_wakes rest (line_of rest (node_at rest file.ino)))
+    few_up_to slot (2 + 2) (0 + 1008) 4 1008 _ (omega arith) (omega arith)
+    (few_then slot 2 0 2 1008 (pipe_roused file) (closes_line rest (line_of rest (node_at rest file.ino))).items
+    (roused_few slot file.ino file.kind.pipe)
+    (line_few slot rest (line_of rest (node_at rest file.ino)) (subst (All HasRoom) (sym (rest_lines h file)) room)))
 
--- The numbers of a process let their files go, one after another.
-more_closing : (n : ℕ) (c : Closing) (fd : ℕ) → AreWakes n c.items → AreWakes (n + 3) (then_closes c fd).items
-more_closing n c fd wakes = by (slice_index c.state.u.files fd == 0) where
-  by : (none : Bool) → AreWakes (n + 3) (cond {A = Closing} none c
-      (record { state = (closes c.state fd).state; items = c.items ++ (closes c.state fd).items })).items
-  by true = wakes_up_to n (n + 3) c.items (omega arith) wakes
-  by false = more_wakes n 3 c.items (closes c.state fd).items wakes
-      (released_wakes (dropped c.state fd) (told_by c.state fd))
+-- The numbers of a process let their files go, one after another: each shows so little.
+record Shut (slot : ℕ) (h : Handed) (n : ℕ) (c : Closing) : Type 0 where
+  steady : Steady h c.state
+  few : AreFew slot (4 * n) (1008 * n) c.items
 
-all_closing : (n : ℕ) (c : Closing) (fds : List ℕ) → AreWakes n c.items
-    → AreWakes (n + 3 * length fds) (fold then_closes c fds).items
-all_closing n c [] wakes = wakes_up_to n (n + 3 * 0) c.items (omega arith) wakes
-all_closing n c (fd ∷ fds) wakes =
-    wakes_up_to (n + 3 + 3 * length fds) (n + 3 * suc (length fds)) (fold then_closes c (fd ∷ fds)).items (omega arith)
-    (all_closing (n + 3) (then_closes c fd) fds (more_closing n c fd wakes))
+more_shut : (slot : ℕ) (h : Handed) (n : ℕ) (c : Closing) (fd : ℕ) → Shut slot h n c → Shut slot h (suc n) (then_closes c fd)
+more_shut slot h n c fd shut = by (slice_index c.state.u.files fd == 0) refl
+  where
+    by : (none : Bool) → (slice_index c.state.u.files fd == 0) ≡ none → Shut slot h (suc n) (cond {A = Closing} none c
+        (record { state = (closes c.state fd).state; items = c.items ++ (closes c.state fd).items }))
+    by true is = record {
+      steady = shut.steady;
+      few = few_up_to slot (4 * n) (1008 * n) (4 * suc n) (1008 * suc n) c.items (omega arith) (omega arith) shut.few;
+    }
+    by false is =
+        let some = eqb-false (slice_index c.state.u.files fd) 0 is in
+        record {
+          steady = (walk_closes (confined_walks h slot) c.state fd 0 0 (omega (arith, some)) tt shut.steady).steady;
+          few = few_up_to slot (4 * n + 4) (1008 * n + 1008) (4 * suc n) (1008 * suc n) _ (omega arith) (omega arith)
+              (few_then slot (4 * n) (1008 * n) 4 1008 c.items (closes c.state fd).items shut.few
+              (released_few slot (dropped c.state fd) (told_by c.state fd) shut.steady.room));
+        }
 
--- All numbers of a process let their files go: each wakes three times at most.
-pub close_all_wakes : (h : Handed) → AreWakes 45 (close_all h).items
+all_shut : (slot : ℕ) (h : Handed) (n : ℕ) (c : Closing) (fds : List ℕ) → Shut slot h n c → Shut slot h (n + length fds) (fold then_closes c fds)
+all_shut slot h n c [] shut = subst (λ m. Shut slot h m c) (let same : n ≡ n + 0 = omega arith in same) shut
+all_shut slot h n c (fd ∷ fds) shut =
+    subst (λ m. Shut slot h m (fold then_closes c (fd ∷ fds))) (let same : suc n + length fds ≡ n + suc (length fds) = omega arith in same)
+    (all_shut slot h (suc n) (then_closes c fd) fds (more_shut slot h n c fd shut))
+
+close_all_shut : (slot : ℕ) (h : Handed) → All HasRoom h.lines → Shut slot h 15 (close_all h)
 unfolding close_all
-close_all_wakes h =
-    let long = length-range_with_len 0 15 in
-    wakes_up_to (0 + 3 * length (range_with_len 0 15)) 45 _ (omega (arith, long))
-    (all_closing 0 (record { state = h; items = [] }) (range_with_len 0 15) none_wakes)
+close_all_shut slot h room =
+    let long : 0 + length (range_with_len 0 15) ≡ 15 = length-range_with_len 0 15 in
+    subst (λ m. Shut slot h m (close_all h)) long
+    (all_shut slot h 0 (record { state = h; items = [] }) (range_with_len 0 15) (record { steady = steady_same h room; few = few_none slot }))
 
-pub close_all_fits : (slot : ℕ) (h : Handed) → Fits slot (close_all h).items
-close_all_fits slot h = fits_wakes slot 45 (close_all h).items (omega arith) (close_all_wakes h)
+pub close_all_fits : (slot : ℕ) (h : Handed) → All HasRoom h.lines → Fits slot (close_all h).items
+close_all_fits slot h room =
+    few_up_to slot (4 * 15) (1008 * 15) most_entries most_bytes (close_all h).items (omega arith) (omega arith) (close_all_shut slot h room).few
 
-pub close_all_steady : (h : Handed) → Steady h (close_all h).state
-close_all_steady h =
-    closes_all (λ c. Steady h c.state)
-    (λ c fd named s. (walk_closes (confined_walks h 0) c.state fd 0 0 named tt s).steady) h (steady_same h)
+pub close_all_steady : (h : Handed) → All HasRoom h.lines → Steady h (close_all h).state
+close_all_steady h room = (close_all_shut 0 h room).steady

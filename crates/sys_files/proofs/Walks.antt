@@ -1,23 +1,23 @@
 -- One walk over the rows of calls on files, for each fact that says what stays, what is shown, and which numbers, entries and
 -- pipes a step changes.
-use Rattle.std.proofs.Common.{◌≡◌, ◌<◌, ◌≤◌, ◌∙◌, ◌+◌, ◌-◌, ◌/◌, ◌%◌, ◌^◌, ◌==◌, ◌&&◌, ℕ, Bool, true, false, not, nat_lt, cond, List, [], ◌∷◌, append-nil, length, slice_index, slice_set, pos, is_some, IfSome, Option, Some, None, Result, Ok, Err, if◌then◌else◌, refl, sym, ap, subst, inl, inr, arith, ◌++◌, map, length-append, fold}
+use Rattle.std.proofs.Common.{◌≡◌, ◌<◌, ◌≤◌, ◌∙◌, ◌+◌, ◌-◌, ◌/◌, ◌%◌, ◌^◌, ◌==◌, ◌&&◌, ◌||◌, ℕ, Bool, true, false, not, nat_lt, cond, List, [], ◌∷◌, append-nil, length, take, slice_index, slice_set, pos, is_some, IfSome, Option, Some, None, Result, Ok, Err, if◌then◌else◌, refl, sym, ap, subst, inl, inr, arith, ◌++◌, map, length-append, fold}
 use Rattle.std.proofs.lemmas.Bool.{eqb-false, eq-eqb}
 use Rattle.v6_base.specs.Image.{Image}
 use Rattle.v6_base.specs.Trace.{Log, sent, Item}
 use Rattle.v6_base.specs.Copy.{store_bytes}
 use Rattle.v6_base.specs.declared.answer.Answer.TheVariants.{Ret, Sleep}
 use Rattle.v6_base.specs.declared.entry.Chan.{Chan}
-use Rattle.v6_base.specs.declared.entry.Chan.TheVariants.{Keys}
 use Rattle.v6_base.specs.declared.entry.Chan.TheVariants as chan
 use Rattle.v6_base.specs.declared.entry.Entry.TheVariants.{Wake, Signal}
 use Rattle.v6_base.specs.declared.errno.Errno.{Errno}
 use Rattle.v6_base.specs.declared.errno.Errno.TheVariants.{EINTR, EPERM, EBADF, EFAULT, EEXIST, ENOTDIR, EISDIR, ENFILE, EMFILE, ENXIO, ESPIPE, EMLINK, EPIPE}
 use Rattle.v6_base.proofs.Copies.{SameLengths, same_lengths, bytes_lengths}
 use Rattle.fs_codec.specs.Bytes.{bytes_of}
+use Rattle.fs_codec.specs.Words.{word}
 use Rattle.fs_codec.specs.Modes.{is_device, is_directory}
 use Rattle.fs_codec.specs.Store.{Node}
 use Rattle.fs_codec.specs.declared.modes.TheConstants.{IALLOC}
-use Rattle.u_area.specs.declared.layout.TheConstants.{LINE_READ, PIPE_READ, PIPE_WRITE}
+use Rattle.u_area.specs.declared.layout.TheConstants.{LINE_READ, LINE_WRITE, PIPE_READ, PIPE_WRITE}
 use Rattle.u_area.specs.Pending.{IsPipeCall}
 use Rattle.fs_laws.specs.Pieces.{Moving}
 use Rattle.fs_tree.specs.declared.made.Made.{Made}
@@ -36,7 +36,13 @@ use Rattle.tty_line.specs.Terminal as terminal
 use Rattle.tty_line.specs.Terminal.{Terminal}
 use Rattle.tty_line.specs.declared.line.Took.{Took}
 use Rattle.tty_line.specs.declared.line.Took.TheVariants.{Done, Wait, Fault}
-use Rattle.tty_line.specs.Output.{shows, after_shown}
+use Rattle.tty_line.specs.Said as said
+use Rattle.tty_line.specs.Said.{holds, with_modes}
+use Rattle.tty_line.specs.Output.{shows, after_shown, written}
+use Rattle.tty_line.proofs.OutputLemmas.{written_few, room_written}
+use Rattle.lines_eight.specs.Lines.{HasRoom}
+use Rattle.lines_eight.specs.Told.{keys_of, show_of, wakes_if}
+use Rattle.lines_eight.proofs.LinesLemmas.{room_opened, room_read}
 use Rattle.tty_line.specs.Reading.{Reading}
 use Rattle.sig_core.specs.Signals.{due, posted}
 use Rattle.pipe_ends.specs.declared.ends.Pipe.{Pipe}
@@ -44,35 +50,44 @@ use Rattle.pipe_ends.specs.declared.ends.Piped.{Piped}
 use Rattle.pipe_ends.specs.declared.ends.Piped.TheVariants as piped
 use Rattle.pipe_ends.specs.Reads.{PipeRead}
 use Rattle.pipe_ends.specs.Writes.{PipeWrite}
-use Rattle.sys_files.specs.Handed.{Handed, r0, r1, node_at, file_of, user_of, line_of, line_at, with_line, keys_of, with_inodes, with_store, with_changed, with_number, let_go}
+use Rattle.sys_files.specs.Handed.{Handed, r0, r1, node_at, file_of, user_of, line_of, line_at, with_line, with_inodes, with_store, with_changed, with_number, let_go}
 use Rattle.sys_files.specs.Did.{Did, fails, returns, is_done, check, must, need, unless_due, until_end, then_named, finds, by_made, makes}
 use Rattle.sys_files.specs.Descriptors.{open_entry, dup_file, is_line_open, closes_line, without_marks, with_roused, pipe_roused, with_gone, released, told_by, dropped, closes, close_file, Closing, then_closes, close_all}
-use Rattle.sys_files.specs.Opening.{last_failure, open_tests, can_open, with_tty, with_opened, opens, opens_named, open_file}
+use Rattle.sys_files.specs.Opening.{last_failure, open_tests, can_open, with_tty, lines_opened, with_opened, opens, opens_named, open_file}
 use Rattle.sys_files.specs.Making.{new_in, entry_written, writes_entry, with_links, enters_new, makes_node, opens_for_writing, with_no_blocks, opens_again, makes_file, creat_file, with_device, is_super_user, makes_any, mknod_at, may_link, enters_again, links_to, link_file, empties, removes, unlink_file}
-use Rattle.sys_files.specs.Moving.{with_moved, gives_count, read_of, with_read, line_read, with_line_read, takes_line, reads_line, reads_by, reads_from, read_file_of, without_pending, resume_read, resumes, writes_line, writes_by, write_of, writes_to, write_file_of, seek_to}
+use Rattle.sys_files.specs.Moving.{with_moved, gives_count, read_of, with_read, line_read, with_line_read, takes_line, reads_line, reads_by, reads_from, read_file_of, without_pending, line_kept, resumes, writes_line, writes_by, write_of, writes_to, write_file_of, seek_to}
 use Rattle.sys_files.specs.Pipes.{pipe_of, with_pipe, without_pipe, has_end}
 use Rattle.sys_files.specs.Piping.{reading_end, with_end, with_ends, opens_ends, pipe_new, after, words_of, pipe_at, ends_at, pipe_read, with_pipe_read, ends_read, reads_pipe, pipe_write, with_pipe_write, ends_write, writes_pipe, waits_in_pipe, breaks}
 use Rattle.sys_files.specs.Modes.{terminal_line, of_terminal, words_at, sets_modes, stty_set, tells_modes, gtty_get}
 use Rattle.sys_files.specs.Names.{with_directory, enters_directory, chdir_to, is_owner, changes_mode, chmod_to, chown_to, sync_all}
 use Rattle.sys_files.specs.Status.{status_bytes, with_stored, tells_status, stat_file, stat_open}
 use Rattle.sys_files.proofs.Lengths.{line_lengths, read_lengths}
-use Rattle.sys_files.proofs.LineLemmas.{line_is_0}
+use Rattle.sys_files.proofs.ReleasedLemmas.{shut}
+use Rattle.sys_files.proofs.WriteLemmas.{with_shown, ends_shown, lined_on, piped_on}
 use Rattle.sys_files.proofs.PipedLemmas.{pipe_lengths, left_of, write_leaves, read_leaves}
 use Rattle.std.specs.List.{All, range_with_len}
-use Rattle.std.proofs.lemmas.List.{map-append}
+use Rattle.std.proofs.lemmas.List.{map-append, length-take}
 use Rattle.std.proofs.lemmas.List.Elements.{All-nil, All-cons, All-append}
 use Rattle.v6_base.specs.declared.entry.Entry.{Entry}
 use Rattle.sig_core.specs.declared.numbers.TheConstants.{SIGPIPE}
-use Rattle.sys_files.proofs.Bounds.{IsOfFiles, IsLineOf}
+use Rattle.sys_files.proofs.Bounds.{IsOfFiles, IsLineOf, keys_of_files, show_of_files, few_readable}
 use Rattle.sys_files.proofs.NumberLemmas.{number_low}
 use Rattle.sys_files.proofs.OwedLemmas.{counted}
 use Rattle.sys_files.proofs.NodeCounts.{put_back_count, finding_count, making_count, removing_count, numbered_count, truncated_count, device_count, synced_when, new_within}
 
 -- A read sleeps until keys come: its entry, address and count are kept.
-abbrev pub asleep_for_keys : Handed → ℕ → ℕ → ℕ → Did
-asleep_for_keys h entry at count = record {
-  answer = Sleep (pos 10) Keys;
+abbrev pub asleep_for_keys : Handed → ℕ → ℕ → ℕ → ℕ → Did
+asleep_for_keys h l entry at count = record {
+  answer = Sleep (pos 10) (keys_of l);
   state = record h { u = record h.u { pending = LINE_READ; call = entry ∷ at ∷ count ∷ 0 ∷ 0 ∷ 0 ∷ 0 ∷ 0 ∷ [] } };
+  items = [];
+}
+
+-- A write sleeps until there is room: how many bytes are done is kept too.
+abbrev pub asleep_for_room : Handed → ℕ → ℕ → ℕ → ℕ → ℕ → Did
+asleep_for_room h l entry at count done = record {
+  answer = Sleep (pos 20) (show_of l);
+  state = record h { u = record h.u { pending = LINE_WRITE; call = entry ∷ at ∷ count ∷ done ∷ 0 ∷ 0 ∷ 0 ∷ 0 ∷ [] } };
   items = [];
 }
 
@@ -90,11 +105,22 @@ IsOfPipe Known (chan.Read ino) = Known ino
 IsOfPipe Known (chan.Write ino) = Known ino
 IsOfPipe Known other = ⊥
 
--- A call waits in a pipe: its entry is an end of which the process has a number, and no more bytes are left than there were.
+-- A call waits: the process has a number for its entry, and no more bytes are done, or left in a write of a pipe, than there were.
+pub record IsCalling (h : Handed) (entry count left : ℕ) : Type 0 where
+  pub named : 1 ≤ times h.u.files entry
+  pub few : left ≤ count
+
+-- It waits in a pipe: its entry is an end.
 pub record IsAwaiting (h : Handed) (entry count left : ℕ) : Type 0 where
   pub pipe : (file_of h entry).kind.pipe ≡ true
   pub named : 1 ≤ times h.u.files entry
   pub few : left ≤ count
+
+-- A call in which a process slept can go on.
+pub record CanResume (Few : ℕ → Type 0) (h : Handed) : Type 0 where
+  pub calling : IsCalling h (slice_index h.u.call 0) (slice_index h.u.call 2) (slice_index h.u.call 3)
+  pub pipe : ((h.u.pending == LINE_READ) || (h.u.pending == LINE_WRITE)) ≡ false → (file_of h (slice_index h.u.call 0)).kind.pipe ≡ true
+  pub few : Few (slice_index h.u.call 2 - slice_index h.u.call 3)
 
 -- What has to be shown of the words of which the rows are made, of a fact of the parts and of a fact of what a row of the process
 -- of a slot does. A write shows so many bytes at most as it has to write; the inodes of pipes that are open are known; the
@@ -103,14 +129,19 @@ pub record Walks (P : Handed → Type 0) (Q : Did → Type 0) (Few Known : ℕ �
   pub refused : (h : Handed) (e : Errno) → P h → Q (fails h e)
   pub done : (h : Handed) (a b : ℕ) → P h → Q (record { answer = Ret a b; state = h; items = [] })
   pub lets_go : (ino : ℕ) (d : Did) → Q d → Q (until_end ino d)
-  pub waits : (h : Handed) (entry at count : ℕ) → P h → Q (asleep_for_keys h entry at count)
+  pub waits : (h : Handed) (l entry at count : ℕ) → IsCalling h entry count 0 → P h → Q (asleep_for_keys h l entry at count)
+  pub waits_for_room : (h : Handed) (l entry at count done : ℕ) → IsCalling h entry count done → P h
+      → Q (asleep_for_room h l entry at count done)
   pub waits_in_pipe : (h : Handed) (chan : Chan) (pending entry at count left : ℕ) → IsPipeCall pending
       → IsOfPipe Known chan
       → IsAwaiting h entry count left → P h → Q (asleep_in_pipe h chan pending (words_of entry at count left))
   pub tells : (entries : List Entry) (d : Did) → length entries ≤ 3 → All (IsLineOf Known slot) entries → d.items ≡ [] → Q d
       → Q (record d { items = map Log entries })
-  pub showing : (line : Terminal) (image : Image) (at count : ℕ) (d : Did) → Few count → Q d
-      → Q (record d { items = sent 0 (shows line (readable image at count)) })
+  pub lets_out : (h : Handed) (l : ℕ) (front back : List Entry) (d : Did) → length front + length back ≤ 4 → All (IsLineOf Known slot) front
+      → All (IsLineOf Known slot) back → P h → d.items ≡ [] → Q d
+      → Q (record d { items = map Log front ++ sent l (line_at h l).output ++ map Log back })
+  pub showing : (l : ℕ) (line : Terminal) (bytes : List ℕ) (count : ℕ) (d : Did) → length bytes ≤ count → Few count → Q d
+      → Q (record d { items = sent l (shows line bytes) })
   pub inodes : (h : Handed) (inodes : Inodes) → inodes.store.count ≡ h.inodes.store.count → P h → P (with_inodes h inodes)
   pub opened : (h : Handed) (ino : ℕ) (kind : FileKind) (fd entry : ℕ) → kind.pipe ≡ false → free_number h.u.files ≡ Some fd
       → free_entry h.files ≡ Some entry
@@ -131,7 +162,7 @@ pub record Walks (P : Handed → Type 0) (Q : Did → Type 0) (Few Known : ℕ �
   pub gone : (h : Handed) (ino : ℕ) → has_end h.files ino ≡ false → P h → P (record h { pipes = without_pipe h.pipes ino })
   pub known : (h : Handed) (entry : ℕ) → (file_of h entry).kind.pipe ≡ true → P h
       → Known (file_of h entry).ino × Known (pipe_at h entry).ino
-  pub typewriter : (h : Handed) (typewriter : Terminal) → P h → P (record h { line = typewriter })
+  pub typewriter : (h : Handed) (l : ℕ) (t : Terminal) → (HasRoom (line_at h l) → HasRoom t) → P h → P (with_line h l t)
   pub enters : (h : Handed) (dir : ℕ) → Moves → P h → P (record h { u = record h.u { dir = dir } })
   pub terminal : (h : Handed) (tty : ℕ) → P h → P (record h { row = record h.row { tty = tty } })
   pub signalled : (h : Handed) → P h → P (record h { row = posted h.row SIGPIPE })
@@ -240,17 +271,22 @@ module _ {P : Handed → Type 0} {Q : Did → Type 0} {Few Known : ℕ → Type 
               inodes = with_reference now.inodes ino;
               files = slice_set now.files entry (Some (files.opened ino kind));
               u = with_number now.u fd (entry + 1);
-              line = next.line;
             })
-        entered now number free p = k.typewriter _ next.line (k.opened
-            (with_inodes now (with_reference now.inodes ino)) ino kind fd entry plain number free moves
-            (k.inodes now (with_reference now.inodes ino) refl p))
+        entered now number free p =
+            k.opened (with_inodes now (with_reference now.inodes ino)) ino kind fd entry plain number free moves
+            (k.inodes now (with_reference now.inodes ino) refl p)
 
-        taken : (l : ℕ) (b : Bool) → P (record next { row = cond b (record h.row { tty = l + 1 }) h.row })
-        taken l true = entered (record h { row = record h.row { tty = l + 1 } }) number free (k.terminal h (l + 1) p)
-        taken l false = entered h number free p
+        lined : ℕ → Handed
+        lined l = with_line h l (terminal.opened (line_at h l))
 
-        by : (line : Option ℕ) → P (record next { row = with_tty h.row line })
+        there : (l : ℕ) → P (lined l)
+        there l = k.typewriter h l (terminal.opened (line_at h l)) (room_opened (line_at h l)) p
+
+        taken : (l : ℕ) (b : Bool) → P (record next { row = cond b (record h.row { tty = l + 1 }) h.row; lines = (lined l).lines })
+        taken l true = entered (record (lined l) { row = record h.row { tty = l + 1 } }) number free (k.terminal (lined l) (l + 1) (there l))
+        taken l false = entered (lined l) number free (there l)
+
+        by : (line : Option ℕ) → P (record next { row = with_tty h.row line; lines = lines_opened h line })
         by None = entered h number free p
         by (Some l) = taken l (h.row.tty == 0)
 
@@ -280,21 +316,22 @@ module _ {P : Handed → Type 0} {Q : Did → Type 0} {Few Known : ℕ → Type 
         by true = k.refused h EINTR p
         by false = q
 
-    walk_line : (h : Handed) (l entry at count : ℕ) (took : Took) → P h → Q (takes_line h l entry at count took)
-    walk_line h l entry at count (Done n) p = k.done h n (r1 h) p
-    walk_line h l entry at count Wait p = unless_due_walk h (asleep_for_keys h entry at count) p (k.waits h entry at count p)
-    walk_line h l entry at count Fault p = k.refused h EFAULT p
+    walk_line : (h : Handed) (l entry at count : ℕ) (took : Took) → 1 ≤ times h.u.files entry → P h → Q (takes_line h l entry at count took)
+    walk_line h l entry at count (Done n) named p = k.done h n (r1 h) p
+    walk_line h l entry at count Wait named p =
+        unless_due_walk h (asleep_for_keys h l entry at count) p (k.waits h l entry at count (record { named = named; few = omega arith }) p)
+    walk_line h l entry at count Fault named p = k.refused h EFAULT p
 
-    walk_reads_line : (h : Handed) (l entry at count : ℕ) → P h → Q (reads_line h l entry at count)
-    walk_reads_line h l entry at count p =
+    walk_reads_line : (h : Handed) (l entry at count : ℕ) → 1 ≤ times h.u.files entry → P h → Q (reads_line h l entry at count)
+    walk_reads_line h l entry at count named p =
         let reading : Reading = line_read h l at count in
-        walk_line (with_line_read h l reading) l entry at count reading.took
-        (k.stored (record h { line = reading.terminal }) reading.image (line_lengths h.line h.image at count)
-        (k.typewriter h reading.terminal p))
+        walk_line (with_line_read h l reading) l entry at count reading.took named
+        (k.stored (with_line h l reading.terminal) reading.image (line_lengths (line_at h l) h.image at count)
+        (k.typewriter h l reading.terminal (room_read (line_at h l) h.image at count) p))
 
-    read_by : (h : Handed) (entry at count now : ℕ) (line : Option ℕ) → P h
+    read_by : (h : Handed) (entry at count now : ℕ) (line : Option ℕ) → 1 ≤ times h.u.files entry → P h
         → Q (reads_by (with_read h entry (read_of h entry at count now)) line entry at count (read_of h entry at count now))
-    read_by h entry at count now line p = by line
+    read_by h entry at count now line named p = by line
       where
         m : Moving Image
         m = read_of h entry at count now
@@ -303,31 +340,40 @@ module _ {P : Handed → Type 0} {Q : Did → Type 0} {Few Known : ℕ → Type 
         after = k.stored (with_moved h entry m) m.memory (read_lengths h entry at count now) (after_moved h entry m p)
 
         by : (line : Option ℕ) → Q (reads_by (with_read h entry m) line entry at count m)
-        by (Some l) = walk_reads_line (with_read h entry m) l entry at count after
+        by (Some l) = walk_reads_line (with_read h entry m) l entry at count named after
         by None = walk_count (with_read h entry m) m.done m.error after
 
-    shown_by : (h : Handed) (image : Image) (at count : ℕ) (all : Bool) → Few count → P h
-        → Q (record (cond all (returns (record h { line = after_shown h.line (readable image at count) }) count)
-        (fails (record h { line = after_shown h.line (readable image at count) }) EFAULT)) {
-          items =
-              sent 0 (shows h.line (readable image at count));
-        })
-    shown_by h image at count true few p =
-        let after : Handed = record h { line = after_shown h.line (readable image at count) } in
-        k.showing h.line image at count (returns after count) few (k.done after count (r1 after) (k.typewriter h after.line p))
-    shown_by h image at count false few p =
-        let after : Handed = record h { line = after_shown h.line (readable image at count) } in
-        k.showing h.line image at count (fails after EFAULT) few (k.refused after EFAULT (k.typewriter h after.line p))
+    ended : (after : Handed) (l entry at count done : ℕ) (stopped all : Bool) → IsCalling after entry count done → P after
+        → Q (ends_shown after l entry at count done stopped all)
+    ended after l entry at count done true all calling p =
+        unless_due_walk after (asleep_for_room after l entry at count done) p (k.waits_for_room after l entry at count done calling p)
+    ended after l entry at count done false true calling p = k.done after count (r1 after) p
+    ended after l entry at count done false false calling p = k.refused after EFAULT p
 
-    write_by : (h : Handed) (entry at count now : ℕ) (line : Option ℕ) → ((l : ℕ) → line ≡ Some l → l ≡ 0) → Few count → P h
+    walk_writes_line : (h : Handed) (l entry at count done : ℕ) → Few (count - done) → 1 ≤ times h.u.files entry → done ≤ count → P h
+        → Q (writes_line h l entry at count done)
+    walk_writes_line h l entry at count done few named within p =
+        let t : Terminal = line_at h l in
+        let bytes : List ℕ = readable h.image ((at + done) % 65536) (count - done) in
+        let n : ℕ = written t bytes in
+        let some = written_few t bytes in
+        let most = few_readable h.image ((at + done) % 65536) (count - done) in
+        let long = length-take n bytes in
+        k.showing l t (take n bytes) (count - done)
+        (ends_shown (with_shown h l (take n bytes)) l entry at count (done + n) (nat_lt n (length bytes)) (done + n == count))
+        (omega (arith, long, most)) few
+        (ended (with_shown h l (take n bytes)) l entry at count (done + n) (nat_lt n (length bytes)) (done + n == count)
+        (record { named = named; few = omega (arith, some, most, within) })
+        (k.typewriter h l (after_shown t (take n bytes)) (room_written t bytes) p))
+
+    write_by : (h : Handed) (entry at count now : ℕ) (line : Option ℕ) → Few count → 1 ≤ times h.u.files entry → P h
         → Q (writes_by (with_moved h entry (write_of h entry at count now)) line (is_device (node_at h (file_of h entry).ino).mode)
-        at count (write_of h entry at count now))
-    write_by h entry at count now (Some l) there few p =
-        let after : Handed = with_moved h entry (write_of h entry at count now) in
-        subst (λ n. Q (writes_line after n count (readable h.image at count))) (sym (there l refl))
-        (shown_by after h.image at count (length (readable h.image at count) == count) few
-        (after_moved h entry (write_of h entry at count now) p))
-    write_by h entry at count now None there few p =
+        entry at count (write_of h entry at count now))
+    write_by h entry at count now (Some l) few named p =
+        let all : count - 0 ≡ count = omega arith in
+        walk_writes_line (with_moved h entry (write_of h entry at count now)) l entry at count 0 (subst Few (sym all) few) named (omega arith)
+        (after_moved h entry (write_of h entry at count now) p)
+    write_by h entry at count now None few named p =
         walk_count (with_moved h entry (write_of h entry at count now)) _ _ (after_moved h entry (write_of h entry at count now) p)
 
     -- Bytes are put into the image.
@@ -339,10 +385,11 @@ module _ {P : Handed → Type 0} {Q : Did → Type 0} {Few Known : ℕ → Type 
     walk_status h ino at p =
         walk_stored h _ (bytes_lengths h.image h.image at (status_bytes ino (node_at h ino)) (same_lengths h.image)) p
 
-    walk_told : (h : Handed) (at : ℕ) (odd : Bool) → P h → Q
-        (with_stored h (cond odd None (store_bytes h.image at (bytes_of h.line.modes))))
-    walk_told h at true p = k.refused h EFAULT p
-    walk_told h at false p = walk_stored h _ (bytes_lengths h.image h.image at (bytes_of h.line.modes) (same_lengths h.image)) p
+    walk_told : (h : Handed) (l at : ℕ) (odd : Bool) → P h → Q
+        (with_stored h (cond odd None (store_bytes h.image at (bytes_of (line_at h l).modes))))
+    walk_told h l at true p = k.refused h EFAULT p
+    walk_told h l at false p =
+        walk_stored h _ (bytes_lengths h.image h.image at (bytes_of (line_at h l).modes) (same_lengths h.image)) p
 
     walk_terminal : (h : Handed) (does : ℕ → Did) → P h → ((l : ℕ) → Q (does l)) → Q (of_terminal h does)
     walk_terminal h does p goes =
@@ -361,22 +408,53 @@ module _ {P : Handed → Type 0} {Q : Did → Type 0} {Few Known : ℕ → Type 
     answers h a b entries few all p =
         k.tells entries (record { answer = Ret a b; state = h; items = [] }) few all refl (k.done h a b p)
 
-    closes_by : (h : Handed) (a b ino : ℕ) (pipe last : Bool) → (pipe ≡ true → Known ino) → P h
+    closes_by : (h : Handed) (a b ino : ℕ) (pipe : Bool) → (pipe ≡ true → Known ino) → P h
         → Q (record {
           answer = Ret a b;
           state = h;
-          items = cond pipe
-              (Log (Wake (chan.Write ino)) ∷ Log (Wake (chan.Read ino)) ∷ []) [] ++ cond last (Log (Wake Keys) ∷ []) [];
+          items = cond pipe (Log (Wake (chan.Write ino)) ∷ Log (Wake (chan.Read ino)) ∷ []) [];
         })
-    closes_by h a b ino true true named p =
-        answers h a b (Wake (chan.Write ino) ∷ Wake (chan.Read ino) ∷ Wake Keys ∷ []) (omega arith)
-        (wake_line (chan.Write ino) (Wake (chan.Read ino) ∷ Wake Keys ∷ []) (named refl)
-        (wake_line (chan.Read ino) (Wake Keys ∷ []) (named refl) (wake_line Keys [] tt no_line))) p
-    closes_by h a b ino true false named p =
+    closes_by h a b ino true named p =
         answers h a b (Wake (chan.Write ino) ∷ Wake (chan.Read ino) ∷ []) (omega arith)
         (wake_line (chan.Write ino) (Wake (chan.Read ino) ∷ []) (named refl) (wake_line (chan.Read ino) [] (named refl) no_line)) p
-    closes_by h a b ino false true named p = answers h a b (Wake Keys ∷ []) (omega arith) (wake_line Keys [] tt no_line) p
-    closes_by h a b ino false false named p = k.done h a b p
+    closes_by h a b ino false named p = k.done h a b p
+
+    -- what a line tells that lets out what waits, after an end of a pipe or not
+    told_by_line : (h after : Handed) (a b ino l : ℕ) (pipe show : Bool) → (pipe ≡ true → Known ino) → P h → P after
+        → Q (record {
+          answer = Ret a b;
+          state = after;
+          items = cond pipe (Log (Wake (chan.Write ino)) ∷ Log (Wake (chan.Read ino)) ∷ []) []
+              ++ sent l (line_at h l).output ++ wakes_if true (keys_of l) ++ wakes_if show (show_of l);
+        })
+    told_by_line h after a b ino l pipe show named p q = by pipe show named
+      where
+        told : Did
+        told = record { answer = Ret a b; state = after; items = [] }
+
+        ends : List Entry
+        ends = Wake (chan.Write ino) ∷ Wake (chan.Read ino) ∷ []
+
+        roused : Known ino → All (IsLineOf Known slot) ends
+        roused name = wake_line (chan.Write ino) (Wake (chan.Read ino) ∷ []) name (wake_line (chan.Read ino) [] name no_line)
+
+        keys : All (IsLineOf Known slot) (Wake (keys_of l) ∷ [])
+        keys = wake_line (keys_of l) [] (keys_of_files Known l) no_line
+
+        both : All (IsLineOf Known slot) (Wake (keys_of l) ∷ Wake (show_of l) ∷ [])
+        both = wake_line (keys_of l) (Wake (show_of l) ∷ []) (keys_of_files Known l) (wake_line (show_of l) [] (show_of_files Known l) no_line)
+
+        by : (pipe show : Bool) → (pipe ≡ true → Known ino) → Q (record {
+          answer = Ret a b;
+          state = after;
+          items = cond pipe (Log (Wake (chan.Write ino)) ∷ Log (Wake (chan.Read ino)) ∷ []) []
+              ++ sent l (line_at h l).output ++ wakes_if true (keys_of l) ++ wakes_if show (show_of l);
+        })
+        by true true name =
+            k.lets_out h l ends (Wake (keys_of l) ∷ Wake (show_of l) ∷ []) told (omega arith) (roused (name refl)) both p refl (k.done after a b q)
+        by true false name = k.lets_out h l ends (Wake (keys_of l) ∷ []) told (omega arith) (roused (name refl)) keys p refl (k.done after a b q)
+        by false true name = k.lets_out h l [] (Wake (keys_of l) ∷ Wake (show_of l) ∷ []) told (omega arith) no_line both p refl (k.done after a b q)
+        by false false name = k.lets_out h l [] (Wake (keys_of l) ∷ []) told (omega arith) no_line keys p refl (k.done after a b q)
 
     -- Pipes are read and written. What a call on a pipe comes to has one line of its own at most.
     told_after : (first rest : List Entry) (d : Did) → length first ≤ 1 → length rest ≤ 1 → All (IsLineOf Known slot) first
@@ -491,28 +569,22 @@ module _ {P : Handed → Type 0} {Q : Did → Type 0} {Few Known : ℕ → Type 
         })
     line_closes h a b file line known p = by line
       where
-        shut : ℕ → Handed
-        shut l = with_line h l (terminal.closed (line_at h l))
-
-        closing : ℕ → Bool → Closing
-        closing l used =
-            if used then record { state = h; items = [] }
-            else record { state = shut l; items = Log (Wake (keys_of l)) ∷ [] }
-
         stays : Q (record { answer = Ret a b; state = let_go h file.ino; items = pipe_roused file ++ [] })
-        stays =
-            closes_by (let_go h file.ino) a b file.ino file.kind.pipe false known
-            (k.inodes h (let_go h file.ino).inodes (put_back_count h.inodes file.ino) p)
+        stays = subst (λ (items : List Item). Q (record { answer = Ret a b; state = let_go h file.ino; items = items }))
+            (sym (append-nil (pipe_roused file)))
+            (closes_by (let_go h file.ino) a b file.ino file.kind.pipe known
+            (k.inodes h (let_go h file.ino).inodes (put_back_count h.inodes file.ino) p))
 
         either : (l : ℕ) (used : Bool) → Q (record {
           answer = Ret a b;
-          state = let_go (closing l used).state file.ino;
-          items = pipe_roused file ++ (closing l used).items;
+          state = let_go (cond {A = Closing} used (record { state = h; items = [] }) (shut h l)).state file.ino;
+          items = pipe_roused file ++ (cond {A = Closing} used (record { state = h; items = [] }) (shut h l)).items;
         })
         either l true = stays
         either l false =
-            closes_by (let_go (shut l) file.ino) a b file.ino file.kind.pipe true known
-            (k.inodes (shut l) (let_go h file.ino).inodes (put_back_count h.inodes file.ino) (k.typewriter h (shut l).line p))
+            told_by_line h (let_go (shut h l).state file.ino) a b file.ino l file.kind.pipe (said.closed (line_at h l)).show known p
+            (k.inodes (shut h l).state (let_go h file.ino).inodes (put_back_count h.inodes file.ino)
+            (k.typewriter h l (said.closed (line_at h l)).terminal (λ room. omega arith) p))
 
         by : (line : Option ℕ) → Q (record {
           answer = Ret a b;
@@ -525,8 +597,7 @@ module _ {P : Handed → Type 0} {Q : Did → Type 0} {Few Known : ℕ → Type 
     walk_released : (h : Handed) (a b : ℕ) (told : Closed) → IsNamedBy Known told → P h
         → Q (record { answer = Ret a b; state = (released h told).state; items = (released h told).items })
     walk_released h a b (Still file) known p =
-        subst (λ items. Q (record { answer = Ret a b; state = with_roused h file; items = items })) (append-nil (pipe_roused file))
-        (closes_by (with_roused h file) a b file.ino file.kind.pipe false known (roused h file file.kind.pipe p))
+        closes_by (with_roused h file) a b file.ino file.kind.pipe known (roused h file file.kind.pipe p)
     walk_released h a b (Last file) known p =
         let rest : Handed = with_gone (with_roused h file) file in
         let here : P rest = without_end (with_roused h file) file.ino file.kind.pipe
@@ -547,7 +618,7 @@ module _ {P : Handed → Type 0} {Q : Did → Type 0} {Few Known : ℕ → Type 
         checks h (must EBADF (file_of h entry).kind.reading) _ p (λ may.
         by_kind (file_of h entry).kind.pipe (reads_pipe h entry at count now) (reads_from h entry at count now)
         (λ pipe. walk_reads_pipe h entry at count now pipe (is_named h (r0 h) entry is) p)
-        (read_by h entry at count now (line_of h (node_at h (file_of h entry).ino)) p)))
+        (read_by h entry at count now (line_of h (node_at h (file_of h entry).ino)) (is_named h (r0 h) entry is) p)))
 
     -- 4, write
     pub walk_write : (h : Handed) (at count now : ℕ) → Few count → P h → Q (write_file_of h slot at count now)
@@ -556,8 +627,7 @@ module _ {P : Handed → Type 0} {Q : Did → Type 0} {Few Known : ℕ → Type 
         checks h (must EBADF (file_of h entry).kind.writing) _ p (λ may.
         by_kind (file_of h entry).kind.pipe (writes_pipe h slot entry at count count now) (writes_to h entry at count now)
         (λ pipe. walk_writes_pipe h entry at count count now pipe (is_named h (r0 h) entry is) (omega arith) p)
-        (write_by h entry at count now (line_of h (node_at h (file_of h entry).ino))
-        (line_is_0 h (node_at h (file_of h entry).ino)) few p)))
+        (write_by h entry at count now (line_of h (node_at h (file_of h entry).ino)) few (is_named h (r0 h) entry is) p)))
 
     -- 5, open
     pub walk_open : (h : Handed) (name mode : ℕ) → Moves → P h → Q (open_file h name mode)
@@ -672,11 +742,11 @@ module _ {P : Handed → Type 0} {Q : Did → Type 0} {Few Known : ℕ → Type 
     walk_stty h at p =
         walk_terminal h (λ l. check h (need EFAULT (words_at h at)) (sets_modes h l)) p (λ l.
         checks h (need EFAULT (words_at h at)) (sets_modes h l) p (λ bytes.
-        closes_by (sets_modes h l bytes).state (r0 h) (r1 h) 0 false true (λ none. absurd (cc none))
-        (k.typewriter h (sets_modes h l bytes).state.line p)))
+        told_by_line h (sets_modes h l bytes).state (r0 h) (r1 h) 0 l false (holds (line_at h l)) (λ none. absurd (cc none)) p
+        (k.typewriter h l (with_modes (line_at h l) (word bytes 0 ∷ word bytes 2 ∷ word bytes 4 ∷ [])).terminal (λ room. omega arith) p)))
 
     pub walk_gtty : (h : Handed) (at : ℕ) → P h → Q (gtty_get h at)
-    walk_gtty h at p = walk_terminal h (λ l. tells_modes h l at) p (λ l. walk_told h at (at % 2 == 1) p)
+    walk_gtty h at p = walk_terminal h (λ l. tells_modes h l at) p (λ l. walk_told h l at (at % 2 == 1) p)
 
     -- 36, sync
     pub walk_sync : (h : Handed) (now : ℕ) → P h → Q (sync_all h now)
@@ -717,25 +787,27 @@ module _ {P : Handed → Type 0} {Q : Did → Type 0} {Few Known : ℕ → Type 
         k.lets_go ino (opens_ends (with_inodes h found.inodes) ino)
         (opens_pipe (with_inodes h found.inodes) ino within.0 (subst (λ n. ino ≤ n) (sym same) within.1) moves there))
 
-    -- A call in which a process slept goes on: what it waits for in a pipe is there.
-    pub walk_resume : (h : Handed) (now : ℕ)
-        → ((h.u.pending == LINE_READ) ≡ false → IsAwaiting h (slice_index h.u.call 0) (slice_index h.u.call 2) (slice_index h.u.call 3))
-        → P (without_pending h) → Q (resumes h slot now)
-    walk_resume h now waiting p = unless_due_walk rest _ p (by (h.u.pending == LINE_READ) (h.u.pending == PIPE_READ) refl)
+    -- A call in which a process slept goes on: its file is there, and in a pipe an end.
+    pub walk_resume : (h : Handed) (now : ℕ) → CanResume Few h → P (without_pending h) → Q (resumes h slot now)
+    walk_resume h now can p = unless_due_walk rest _ p
+        (by_call ((h.u.pending == LINE_READ) || (h.u.pending == LINE_WRITE)) (h.u.pending == LINE_READ) (h.u.pending == PIPE_READ) refl)
       where
         rest : Handed
         rest = without_pending h
 
-        word : ℕ → ℕ
-        word i = slice_index h.u.call i
+        call : List ℕ
+        call = h.u.call
 
-        by : (typed reads : Bool) → (h.u.pending == LINE_READ) ≡ typed
-            → Q (cond typed (resume_read h) (cond reads (reads_pipe rest (word 0) (word 1) (word 2) now)
-            (writes_pipe rest slot (word 0) (word 1) (word 2) (word 3) now)))
-        by true reads is = walk_reads_line rest 0 _ _ _ p
-        by false true is = let a = waiting is in walk_reads_pipe rest (word 0) (word 1) (word 2) now a.pipe a.named p
-        by false false is =
-            let a = waiting is in walk_writes_pipe rest (word 0) (word 1) (word 2) (word 3) now a.pipe a.named a.few p
+        by_call : (line first third : Bool) → ((h.u.pending == LINE_READ) || (h.u.pending == LINE_WRITE)) ≡ line
+            → Q (cond line (lined_on rest (line_kept rest (slice_index call 0)) call first) (piped_on rest slot call now third))
+        by_call true true third is = walk_reads_line rest (line_kept rest (slice_index call 0)) _ _ _ can.calling.named p
+        by_call true false third is =
+            walk_writes_line rest (line_kept rest (slice_index call 0)) _ _ _ _ can.few can.calling.named can.calling.few p
+        by_call false first true is =
+            walk_reads_pipe rest (slice_index call 0) (slice_index call 1) (slice_index call 2) now (can.pipe is) can.calling.named p
+        by_call false first false is =
+            walk_writes_pipe rest (slice_index call 0) (slice_index call 1) (slice_index call 2) (slice_index call 3) now (can.pipe is)
+            can.calling.named can.calling.few p
 
 -- All numbers of a process let their files go, one after another.
 pub closes_all : (K : Closing → Type 0)

@@ -1,6 +1,6 @@
 -- What is shown of bytes one after another.
-use Rattle.std.proofs.Common.{◌≡◌, ◌<◌, ◌≤◌, ℕ, suc, Bool, true, false, cond, Option, Some, None, List, [], ◌∷◌, ◌++◌, ◌+◌, ◌-◌, ◌%◌, ◌&&◌, length, take, drop, get_or, refl, sym, ◌∙◌, ap, append_assoc, replicate, nat_lt, nat_le, arith}
-use Rattle.std.proofs.lemmas.Bool.{lt-ltb, le-ltb}
+use Rattle.std.proofs.Common.{◌≡◌, ◌<◌, ◌≤◌, ℕ, suc, Bool, true, false, cond, Option, Some, None, List, [], ◌∷◌, ◌++◌, ◌+◌, ◌-◌, ◌%◌, ◌&&◌, length, take, drop, get_or, refl, sym, ◌∙◌, ap, append_assoc, replicate, nat_lt, nat_le, arith, length-append}
+use Rattle.std.proofs.lemmas.Bool.{lt-ltb, le-ltb, ltb-false}
 use Rattle.std.proofs.lemmas.List.{replicate-append-replicate, append-nil, length-replicate, take_more, drop_more}
 use Rattle.std.proofs.lemmas.List.Sums.{fold-append}
 use Rattle.tty_line.specs.Terminal.{Terminal, flags}
@@ -179,3 +179,33 @@ shows_none t = by t.is_paced where
   by : (b : Bool) → cond {A = List ℕ} b [] [] ≡ []
   by true = refl
   by false = refl
+
+-- A write lets no more bytes wait than there is room for.
+room_nothing : (t : Terminal) → length t.output ≤ 1008 → length (after_shown t []).output ≤ 1008
+room_nothing t room = let same = ap (λ (u : Terminal). length u.output) (after_nothing t) in omega (arith, same, room)
+
+room_one : (t : Terminal) (x : ℕ) → is_stopped t ≡ false → length t.output ≤ 1008 → length (after_shown t (x ∷ [])).output ≤ 1008
+room_one t x goes room = by t.is_paced refl where
+  one : length (forms t (x ∷ [])) ≤ 8
+  one = let few = few_shown (flags t) t.column x in
+      let long = ap (length {A = ℕ}) (append-nil (shown_byte (flags t) t.column x)) in omega (arith, few, long)
+  by : (b : Bool) → t.is_paced ≡ b → length {A = ℕ} (cond b (t.output ++ forms t (x ∷ [])) t.output) ≤ 1008
+  by true is =
+      let few : length t.output ≤ 50 = ltb-false 50 (length t.output) (sym (ap (λ b. b && nat_lt 50 (length t.output)) is) ∙ goes) in
+      let long = length-append t.output (forms t (x ∷ [])) in
+      let most = one in
+      omega (arith, few, long, most)
+  by false is = room
+
+pub room_written : (t : Terminal) (bytes : List ℕ) → length t.output ≤ 1008 → length (after_shown t (take (written t bytes) bytes)).output ≤ 1008
+room_written t [] room = room_nothing t room
+room_written t (x ∷ xs) room = by (is_stopped t) refl (room_written (after_shown t (x ∷ [])) xs) where
+  next : Terminal
+  next = after_shown t (x ∷ [])
+  by : (b : Bool) → is_stopped t ≡ b → (length next.output ≤ 1008 → length (after_shown next (take (written next xs) xs)).output ≤ 1008)
+      → length (after_shown t (take (cond b 0 (suc (written next xs))) (x ∷ xs))).output ≤ 1008
+  by true is later = room_nothing t room
+  by false is later =
+      let same = ap (λ (u : Terminal). length u.output) (after_shown-append t (x ∷ []) (take (written next xs) xs)) in
+      let rest = later (room_one t x is room) in
+      omega (arith, same, rest)
