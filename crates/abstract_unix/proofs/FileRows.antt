@@ -1,5 +1,7 @@
 -- One walk over the rows of the calls on files.
 use Rattle.std.proofs.Common.{◌≡◌, ◌≤◌, ℕ, Bool, true, false, List, slice_index, refl}
+use Rattle.std.specs.List.{All}
+use Rattle.lines_eight.specs.Lines.{HasRoom}
 use Rattle.sys_files.specs.Handed.{Handed}
 use Rattle.sys_files.specs.Did.{Did}
 use Rattle.sys_files.proofs.Steady.{Confined, steady_same, confined_walks}
@@ -19,8 +21,8 @@ moves_area file.Pipe = true
 moves_area call = false
 
 -- A fact that the words of the rows keep holds of what each row comes to.
-pub walk_row : {P : Handed → Type 0} {Q : Did → Type 0} {Few Known : ℕ → Type 0} {Moves : Type 0} {slot : ℕ}
-    → Walks P Q Few Known Moves slot → (call : FileCall) (h : Handed) (args : List ℕ) (now : ℕ)
+pub walk_row : {P : Handed → Type 0} {Q : Did → Type 0} {Few Known Line : ℕ → Type 0} {Moves : Type 0} {slot : ℕ}
+    → Walks P Q Few Known Line Moves slot → (call : FileCall) (h : Handed) (args : List ℕ) (now : ℕ)
     → Few (slice_index args 1) → (moves_area call ≡ true → Moves) → P h → Q (file_row call h slot args now)
 walk_row k file.Read h a now few moves p = walk_read k h (slice_index a 0) (slice_index a 1) now p
 walk_row k file.Write h a now few moves p = walk_write k h (slice_index a 0) (slice_index a 1) now few p
@@ -42,7 +44,7 @@ walk_row k file.Sync h a now few moves p = walk_sync k h now p
 walk_row k file.Dup h a now few moves p = walk_dup k h (moves refl) p
 walk_row k file.Pipe h a now few moves p = walk_pipe k h now (moves refl) p
 
--- What a call on files does is confined, where its second argument is a word.
-pub row_confined : (call : FileCall) (h : Handed) (slot : ℕ) (args : List ℕ) (now : ℕ) → slice_index args 1 ≤ 65535
+-- What a call on files does is confined, where its second argument is a word and no more bytes wait on a line than there is room for.
+pub row_confined : (call : FileCall) (h : Handed) (slot : ℕ) (args : List ℕ) (now : ℕ) → slice_index args 1 ≤ 65535 → All HasRoom h.lines
     → Confined slot h (file_row call h slot args now)
-row_confined call h slot args now few = walk_row (confined_walks h slot) call h args now few (λ moves. tt) (steady_same h)
+row_confined call h slot args now few room = walk_row (confined_walks h slot) call h args now few (λ moves. tt) (steady_same h room)

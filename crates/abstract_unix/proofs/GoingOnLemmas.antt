@@ -9,7 +9,7 @@ use Rattle.open_files.specs.declared.file.OpenFile.{OpenFile}
 use Rattle.open_files.specs.declared.file.FileKind.{FileKind}
 use Rattle.open_files.specs.Files.{file_at, times, changed, with_more, shared}
 use Rattle.u_area.specs.declared.layout.TheConstants.{NOTHING_PENDING, LINE_READ, DISK_WAIT}
-use Rattle.u_area.specs.Pending.{is_on_files, IsPipeCall}
+use Rattle.u_area.specs.Pending.{is_on_files, IsPipeCall, IsFileCall}
 use Rattle.u_area.proofs.PendingLemmas.{on_files_cases}
 use Rattle.sys_files.specs.Handed.{Handed}
 use Rattle.sys_files.specs.Sound.{numbers_of, StaysOpen, IsKept}
@@ -21,30 +21,30 @@ use Rattle.abstract_unix.specs.Calls.{handed_of, with_handed, with_world, shares
 use Rattle.abstract_unix.specs.Whole.{Told, told_of, told_in, names, all_names, Owed, CanGoOn}
 use Rattle.abstract_unix.proofs.Owing.{told_at, some_within, names_set}
 use Rattle.abstract_unix.proofs.Sharing.{shared_at}
-use Rattle.abstract_unix.proofs.PendingRows.{never_in_pipe, HasEnd, IsAtEnd, Pends}
+use Rattle.abstract_unix.proofs.PendingRows.{never_in_call, HasFile, IsAtFile, Pends}
 
--- Who lives in a slot and waits in a pipe is at an end of it.
-abbrev pub HoldsEnd : List (Option OpenFile) → Option Process → Type 0
-HoldsEnd files o = (p : Process) → o ≡ Some p → p.is_zombie ≡ false → IsPipeCall p.u.pending → IsAtEnd files p.u
+-- Who lives in a slot and waits in a call on an open file has a number for it.
+abbrev pub HoldsFile : List (Option OpenFile) → Option Process → Type 0
+HoldsFile files o = (p : Process) → o ≡ Some p → p.is_zombie ≡ false → IsFileCall p.u.pending → IsAtFile files p.u
 
-pub end_held : (u : Unix) (s : ℕ) → CanGoOn u → HoldsEnd u.files (process_at u s)
-end_held u s can p is lives waits =
+pub file_held : (u : Unix) (s : ℕ) → CanGoOn u → HoldsFile u.files (process_at u s)
+file_held u s can p is lives waits =
     let own = can.waits s p is lives waits in
     record { end = record { file = own.file; there = own.there; pipe = own.pipe; named = own.named }; left = own.left }
 
-pub goes_on_by : (u : Unix) → ((s : ℕ) → HoldsEnd u.files (process_at u s)) → CanGoOn u
+pub goes_on_by : (u : Unix) → ((s : ℕ) → HoldsFile u.files (process_at u s)) → CanGoOn u
 goes_on_by u each = record {
   waits = λ s p is lives waits.
       let own = each s p is lives waits in
       record { file = own.end.file; there = own.end.there; pipe = own.end.pipe; named = own.end.named; left = own.left };
 }
 
--- a pending call that is a wait in a pipe, or for the disk
+-- a pending call that is a wait on an open file, or for the disk
 abbrev pub Waiting : ℕ → Type 0
-Waiting n = IsPipeCall n ⊎ (n ≡ DISK_WAIT)
+Waiting n = IsFileCall n ⊎ (n ≡ DISK_WAIT)
 
 pub never_waiting : {P : Type 0} (n : ℕ) → n ≡ NOTHING_PENDING → Waiting n → P
-never_waiting n free (inl pipe) = never_in_pipe n free pipe
+never_waiting n free (inl pipe) = never_in_call n free pipe
 never_waiting n free (inr disk) = absurd (omega (arith, free, disk))
 
 -- Who waits so in a slot waited in it before, in the same call and with the same numbers.
@@ -120,18 +120,18 @@ all_waited_put ps s o own r q is waits = elim (cases_eq r s) [
 ]
 
 -- 1. Processes change, and the table of open files doesn't.
-waited_end : (files : List (Option OpenFile)) (old new : Option Process) → HoldsEnd files old → WaitedIn old new
-    → HoldsEnd files new
-waited_end files old new held waited q is lives waits =
+waited_file : (files : List (Option OpenFile)) (old new : Option Process) → HoldsFile files old → WaitedIn old new
+    → HoldsFile files new
+waited_file files old new held waited q is lives waits =
     let was = waited q is (inl waits) in
-    let own = held was.before was.there (was.dead ∙ lives) (subst IsPipeCall (sym was.pending) waits) in
+    let own = held was.before was.there (was.dead ∙ lives) (subst IsFileCall (sym was.pending) waits) in
     let call : was.before.u.call ≡ q.u.call = was.call in
     let entry : slice_index was.before.u.call 0 ≡ slice_index q.u.call 0 = ap (λ l. slice_index l 0) call in
     record {
       end = record {
         file = own.end.file;
         there = ap (file_at files) (sym entry) ∙ own.end.there;
-        pipe = own.end.pipe;
+        pipe = λ piped. own.end.pipe (subst IsPipeCall (sym was.pending) piped);
         named = subst (λ l. 1 ≤ times l (slice_index q.u.call 0)) was.files (subst (λ n. 1 ≤ times was.before.u.files n) entry own.end.named);
       };
       left = subst (λ l. slice_index l 3 ≤ slice_index l 2) call own.left;
@@ -139,56 +139,47 @@ waited_end files old new held waited q is lives waits =
 
 pub waited_goes_on : (u v : Unix) → CanGoOn u → AllWaited u.processes v.processes → v.files ≡ u.files → CanGoOn v
 waited_goes_on u v can waited files =
-    goes_on_by v (λ s. subst (λ f. HoldsEnd f (process_at v s)) (sym files) (waited_end u.files (process_at u s) (process_at v s) (end_held u s can) (waited s)))
+    goes_on_by v (λ s. subst (λ f. HoldsFile f (process_at v s)) (sym files) (waited_file u.files (process_at u s) (process_at v s) (file_held u s can) (waited s)))
 
 pub put_goes_on : (u : Unix) (s : ℕ) (q : Process) → CanGoOn u → WaitedIn (process_at u s) (Some q) → CanGoOn (with_process u s q)
 put_goes_on u s q can waited = waited_goes_on u (with_process u s q) can (all_waited_put u.processes s (Some q) waited) refl
 
--- A process in a slot is another, and waits in no pipe.
-pub moved_goes_on : (u : Unix) (s : ℕ) (q : Process) → CanGoOn u → s < length u.processes → (IsPipeCall q.u.pending → ⊥)
+-- A process in a slot is another, and waits in no call on a file.
+pub moved_goes_on : (u : Unix) (s : ℕ) (q : Process) → CanGoOn u → s < length u.processes → (IsFileCall q.u.pending → ⊥)
     → CanGoOn (with_process u s q)
 moved_goes_on u s q can low never = goes_on_by (with_process u s q) each
   where
-    own : HoldsEnd u.files (Some q)
+    own : HoldsFile u.files (Some q)
     own r same living waits =
-        let eq : q ≡ r = cc same in absurd (never (subst (λ (x : Process). IsPipeCall x.u.pending) (sym eq) waits))
+        let eq : q ≡ r = cc same in absurd (never (subst (λ (x : Process). IsFileCall x.u.pending) (sym eq) waits))
 
-    each : (r : ℕ) → HoldsEnd u.files (get_or (set u.processes s (Some q)) r None)
+    each : (r : ℕ) → HoldsFile u.files (get_or (set u.processes s (Some q)) r None)
     each r = elim (cases_eq r s) [
-      | inl here ↦ subst (HoldsEnd u.files) (sym (ap (λ n. get_or (set u.processes s (Some q)) n None) here ∙ get_or-set_same u.processes s (Some q) None low)) own
-      | inr other ↦ subst (HoldsEnd u.files) (sym (get_or-set_other u.processes s r (Some q) None other)) (end_held u r can)
+      | inl here ↦ subst (HoldsFile u.files) (sym (ap (λ n. get_or (set u.processes s (Some q)) n None) here ∙ get_or-set_same u.processes s (Some q) None low)) own
+      | inr other ↦ subst (HoldsFile u.files) (sym (get_or-set_other u.processes s r (Some q) None other)) (file_held u r can)
     ]
 
 pub world_goes_on : (u : Unix) (w : World) → CanGoOn u → AllWaited u.processes w.processes → CanGoOn (with_world u w)
 world_goes_on u w can waited = waited_goes_on u (with_world u w) can waited refl
 
--- nobody waits in a pipe
+-- nobody waits in a call on a file
 pub none_goes_on : (u : Unix) → ((s : ℕ) (p : Process) → process_at u s ≡ Some p → p.u.pending ≡ NOTHING_PENDING) → CanGoOn u
-none_goes_on u none = goes_on_by u (λ s p is lives waits. never_in_pipe p.u.pending (none s p is) waits)
+none_goes_on u none = goes_on_by u (λ s p is lives waits. never_in_call p.u.pending (none s p is) waits)
 
 -- What the process of a slot is handed waits at an end,
 pub handed_pends : (u : Unix) (s : ℕ) → CanGoOn u → get_or u.processes s None ≡ Some (process_of u s)
     → (process_of u s).is_zombie ≡ false
     → Pends (handed_of u (process_of u s))
-handed_pends u s can is lives waits = end_held u s can (process_of u s) is lives waits
+handed_pends u s can is lives waits = file_held u s can (process_of u s) is lives waits
 
 -- and so its call can go on.
 pub handed_goes_on : (u : Unix) (s : ℕ) → CanGoOn u → get_or u.processes s None ≡ Some (process_of u s)
     → (process_of u s).is_zombie ≡ false
     → is_on_files (process_of u s).u.pending ≡ true → sound.CanGoOn (handed_of u (process_of u s))
-handed_goes_on u s can is lives on = by (on_files_cases n on)
-  where
-    n : ℕ
-    n = (process_of u s).u.pending
-
-    at : (waits : IsPipeCall n) → sound.IsInPipe (handed_of u (process_of u s))
-    at waits =
-        let own = handed_pends u s can is lives waits in
-        record { file = own.end.file; there = own.end.there; pipe = own.end.pipe; left = own.left }
-
-    by : (n ≡ LINE_READ) ⊎ IsPipeCall n → sound.CanGoOn (handed_of u (process_of u s))
-    by (inl line) = inl line
-    by (inr waits) = inr (waits, at waits)
+handed_goes_on u s can is lives on =
+    let which = on_files_cases (process_of u s).u.pending on in
+    let own = handed_pends u s can is lives which in
+    record { which = which; file = own.end.file; there = own.end.there; pipe = own.end.pipe; within = own.left }
 
 -- 2. A call on files of the process of a slot. An entry that another process names has one number more at least.
 pub named_twice : (ts : List (Option Told)) (s r : ℕ) (t x : Told) (entry : ℕ) → get_or ts s None ≡ Some t
@@ -220,14 +211,14 @@ handed_back_goes_on u s h counted can is lives others pends = goes_on_by (with_h
     ps : List (Option Process)
     ps = u.processes
 
-    own : HoldsEnd h.files (Some q)
+    own : HoldsFile h.files (Some q)
     own r same living waits =
         let eq : q ≡ r = cc same in
-        subst (λ (x : Process). IsAtEnd h.files x.u) eq (pends (subst (λ (x : Process). IsPipeCall x.u.pending) (sym eq) waits))
+        subst (λ (x : Process). IsAtFile h.files x.u) eq (pends (subst (λ (x : Process). IsFileCall x.u.pending) (sym eq) waits))
 
-    stays : (r : ℕ) → r ≢ s → HoldsEnd h.files (get_or ps r None)
+    stays : (r : ℕ) → r ≢ s → HoldsFile h.files (get_or ps r None)
     stays r other x there living waits =
-        let held = end_held u r can x there living waits in
+        let held = file_held u r can x there living waits in
         let entry : ℕ = slice_index x.u.call 0 in
         let both = named_twice (told_in ps) s r (told_of p) (told_of x) entry (told_at ps s p is lives) (told_at ps r x there living) other in
         let count = counted entry in
@@ -238,18 +229,18 @@ handed_back_goes_on u s h counted can is lives others pends = goes_on_by (with_h
           end = record {
             file = now.now;
             there = now.there;
-            pipe = ap (λ (k : FileKind). k.pipe) now.kind ∙ held.end.pipe;
+            pipe = λ piped. ap (λ (k : FileKind). k.pipe) now.kind ∙ held.end.pipe piped;
             named = more;
           };
           left = held.left;
         }
 
-    each : (r : ℕ) → HoldsEnd h.files (get_or (set ps s (Some q)) r None)
+    each : (r : ℕ) → HoldsFile h.files (get_or (set ps s (Some q)) r None)
     each r = elim (cases_eq r s) [
       | inl here ↦
           let low = some_within ps s p is in
-          subst (HoldsEnd h.files) (sym (ap (λ n. get_or (set ps s (Some q)) n None) here ∙ get_or-set_same ps s (Some q) None low)) own
-      | inr other ↦ subst (HoldsEnd h.files) (sym (get_or-set_other ps s r (Some q) None other)) (stays r other)
+          subst (HoldsFile h.files) (sym (ap (λ n. get_or (set ps s (Some q)) n None) here ∙ get_or-set_same ps s (Some q) None low)) own
+      | inr other ↦ subst (HoldsFile h.files) (sym (get_or-set_other ps s r (Some q) None other)) (stays r other)
     ]
 
 pub file_goes_on : (refs : List ℕ) (u : Unix) (s : ℕ) (h : Handed) → Owed refs u → CanGoOn u
@@ -258,8 +249,8 @@ pub file_goes_on : (refs : List ℕ) (u : Unix) (s : ℕ) (h : Handed) → Owed 
 file_goes_on refs u s h owed can is lives kept pends = handed_back_goes_on u s h owed.numbers can is lives kept.others pends
 
 -- 3. fork(II): files that are shared stay open, of the same kind.
-shared_end : (files : List (Option OpenFile)) (mine more : List ℕ) (entry : ℕ) → HasEnd files mine entry
-    → HasEnd (shared files more) mine entry
+shared_end : (files : List (Option OpenFile)) (mine more : List ℕ) (entry : ℕ) → HasFile files mine entry
+    → HasFile (shared files more) mine entry
 shared_end files mine more entry end =
     let low = some_within files entry end.file end.there in
     record {
@@ -271,7 +262,7 @@ shared_end files mine more entry end =
 
 pub shared_goes_on : (u : Unix) (more : List ℕ) → CanGoOn u → CanGoOn (record u { files = shared u.files more })
 shared_goes_on u more can = goes_on_by (record u { files = shared u.files more }) (λ s p is lives waits.
-    let own = end_held u s can p is lives waits in
+    let own = file_held u s can p is lives waits in
     record { end = shared_end u.files p.u.files more (slice_index p.u.call 0) own.end; left = own.left })
 
 pub shares_goes_on : (u : Unix) (more : List ℕ) (answer : Answer) → CanGoOn u

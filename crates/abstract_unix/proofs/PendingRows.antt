@@ -1,14 +1,14 @@
--- What a call on files leaves of the call in which its process waits: who waits in a pipe has a number for the end.
-use Rattle.std.proofs.Common.{◌≡◌, ◌≤◌, ◌==◌, ◌∙◌, ℕ, Bool, true, false, List, Option, Some, None, slice_index, refl, inl, inr, arith, [], ap}
+-- What a call on files leaves of the call in which its process waits: who waits has a number for its file.
+use Rattle.std.proofs.Common.{◌≡◌, ◌≤◌, ◌∙◌, ℕ, Bool, true, false, List, Option, Some, None, is_some, slice_index, refl, inl, inr, arith, [], ap}
 use Rattle.std.specs.Prelude.{unwrap_or}
 use Rattle.v6_base.specs.declared.answer.Answer.{Answer}
 use Rattle.v6_base.specs.declared.answer.Answer.TheVariants.{Ret, Fail, Sleep}
 use Rattle.open_files.specs.declared.file.OpenFile.{OpenFile}
 use Rattle.open_files.specs.Files.{file_at, times}
-use Rattle.u_area.specs.declared.layout.TheConstants.{NOTHING_PENDING, LINE_READ}
+use Rattle.u_area.specs.declared.layout.TheConstants.{NOTHING_PENDING, LINE_READ, LINE_WRITE}
 use Rattle.u_area.specs.declared.area.UArea.{UArea}
-use Rattle.u_area.specs.Pending.{is_on_files, IsPipeCall}
-use Rattle.u_area.proofs.PendingLemmas.{on_pipe}
+use Rattle.u_area.specs.Pending.{is_on_files, IsLineCall, IsPipeCall, IsFileCall}
+use Rattle.u_area.proofs.PendingLemmas.{on_files_cases, on_pipe}
 use Rattle.pipe_ends.specs.Writes.{waits}
 use Rattle.sys_files.specs.Handed.{Handed, no_file}
 use Rattle.sys_files.specs.Did.{Did, fails}
@@ -19,27 +19,29 @@ use Rattle.abstract_unix.specs.declared.calls.FileCall.{FileCall}
 use Rattle.abstract_unix.specs.declared.calls.FileCall.TheVariants as file
 use Rattle.abstract_unix.specs.Calls.{file_row}
 use Rattle.abstract_unix.proofs.FileRows.{walk_row}
-use Rattle.sys_files.proofs.Walks.{Walks, IsAwaiting, walk_closes, walk_resume, closes_all}
+use Rattle.sys_files.proofs.Walks.{Walks, IsCalling, IsAwaiting, CanResume, walk_closes, walk_resume, closes_all}
 use Rattle.sys_files.proofs.CoreLemmas.{core_keeps}
 
-pub never_in_pipe : {P : Type 0} (n : ℕ) → n ≡ NOTHING_PENDING → IsPipeCall n → P
-never_in_pipe n free (inl three) = absurd (omega (arith, free, three))
-never_in_pipe n free (inr four) = absurd (omega (arith, free, four))
+pub never_in_call : {P : Type 0} (n : ℕ) → n ≡ NOTHING_PENDING → IsFileCall n → P
+never_in_call n free (inl (inl one)) = absurd (omega (arith, free, one))
+never_in_call n free (inl (inr two)) = absurd (omega (arith, free, two))
+never_in_call n free (inr (inl three)) = absurd (omega (arith, free, three))
+never_in_call n free (inr (inr four)) = absurd (omega (arith, free, four))
 
--- An entry is an end of a pipe, and one of these numbers at least names it.
-pub record HasEnd (files : List (Option OpenFile)) (mine : List ℕ) (entry : ℕ) : Type 0 where
+-- An entry is in use, of a pipe where the call is one's, and one of these numbers at least names it.
+pub record HasFile (files : List (Option OpenFile)) (mine : List ℕ) (pending entry : ℕ) : Type 0 where
   pub file : OpenFile
   pub there : file_at files entry ≡ Some file
-  pub pipe : file.kind.pipe ≡ true
+  pub pipe : IsPipeCall pending → file.kind.pipe ≡ true
   pub named : 1 ≤ times mine entry
 
--- Who waits in a pipe has a number for the end that the call is about, and no more bytes are left than there were.
-pub record IsAtEnd (files : List (Option OpenFile)) (u : UArea) : Type 0 where
-  pub end : HasEnd files u.files (slice_index u.call 0)
+-- Who waits in a call on an open file has a number for it, and no more bytes are done, or left, than there were.
+pub record IsAtFile (files : List (Option OpenFile)) (u : UArea) : Type 0 where
+  pub end : HasFile files u.files u.pending (slice_index u.call 0)
   pub left : slice_index u.call 3 ≤ slice_index u.call 2
 
 abbrev pub Pends : Handed → Type 0
-Pends h = IsPipeCall h.u.pending → IsAtEnd h.files h.u
+Pends h = IsFileCall h.u.pending → IsAtFile h.files h.u
 
 -- a call whose answer is that its process sleeps
 abbrev pub is_sleep : Answer → Bool
@@ -47,44 +49,60 @@ is_sleep (Ret a b) = false
 is_sleep (Fail e) = false
 is_sleep (Sleep pri chan) = true
 
--- What a call leaves: who waits in a pipe is at an end of it, and who doesn't sleep waits for nothing.
+-- What a call leaves: who waits has a number for its file, and who doesn't sleep waits for nothing.
 pub record Holds (d : Did) : Type 0 where
   pub pends : Pends d.state
   pub user : is_sleep d.answer ≡ false → d.state.u.pending ≡ NOTHING_PENDING
 
 holds_free : (d : Did) → d.state.u.pending ≡ NOTHING_PENDING → Holds d
-holds_free d free = record { pends = never_in_pipe d.state.u.pending free; user = λ awake. free }
+holds_free d free = record { pends = never_in_call d.state.u.pending free; user = λ awake. free }
 
-never_in_pipe_for_keys : {P : Type 0} → IsPipeCall LINE_READ → P
-never_in_pipe_for_keys (inl three) = absurd (omega (arith, three))
-never_in_pipe_for_keys (inr four) = absurd (omega (arith, four))
+never_in_pipe_on_line : {P : Type 0} (n : ℕ) → IsLineCall n → IsPipeCall n → P
+never_in_pipe_on_line n (inl one) (inl three) = absurd (omega (arith, one, three))
+never_in_pipe_on_line n (inl one) (inr four) = absurd (omega (arith, one, four))
+never_in_pipe_on_line n (inr two) (inl three) = absurd (omega (arith, two, three))
+never_in_pipe_on_line n (inr two) (inr four) = absurd (omega (arith, two, four))
 
--- An awaited end is one of the process.
-end_awaited : (h : Handed) (entry count left : ℕ) → IsAwaiting h entry count left → HasEnd h.files h.u.files entry
-end_awaited h entry count left awaits = by (file_at h.files entry) refl awaits.pipe
+-- An awaited end is one of the process,
+end_awaited : (h : Handed) (pending entry count left : ℕ) → IsAwaiting h entry count left → HasFile h.files h.u.files pending entry
+end_awaited h pending entry count left awaits = by (file_at h.files entry) refl awaits.pipe
   where
     by : (o : Option OpenFile) → file_at h.files entry ≡ o → (unwrap_or o no_file).kind.pipe ≡ true
-        → HasEnd h.files h.u.files entry
+        → HasFile h.files h.u.files pending entry
     by None is e = absurd (cc e)
-    by (Some file) is e = record { file = file; there = is; pipe = e; named = awaits.named }
+    by (Some file) is e = record { file = file; there = is; pipe = λ on. e; named = awaits.named }
+
+-- and so is the file of a line.
+file_called : (h : Handed) (pending entry count left : ℕ) → IsLineCall pending → IsCalling h entry count left
+    → HasFile h.files h.u.files pending entry
+file_called h pending entry count left on calling = by (file_at h.files entry) refl calling.there
+  where
+    by : (o : Option OpenFile) → file_at h.files entry ≡ o → is_some o ≡ true → HasFile h.files h.u.files pending entry
+    by None is e = absurd (cc e)
+    by (Some file) is e = record { file = file; there = is; pipe = λ piped. never_in_pipe_on_line pending on piped; named = calling.named }
 
 -- Each row of a call on files leaves it so, of a process that waits for nothing.
 pending_walks : (slot : ℕ)
-    → Walks (λ h. h.u.pending ≡ NOTHING_PENDING) Holds (λ count. Unit {0}) (λ ino. Unit {0}) (Unit {0}) slot
+    → Walks (λ h. h.u.pending ≡ NOTHING_PENDING) Holds (λ count. Unit {0}) (λ ino. Unit {0}) (λ line. Unit {0}) (Unit {0}) slot
 pending_walks slot = record {
   refused = λ h e free. holds_free (fails h e) free;
   done = λ h a b free. holds_free (record { answer = Ret a b; state = h; items = [] }) free;
   lets_go = λ ino d holds. record { pends = holds.pends; user = holds.user };
-  waits = λ h entry at count free. record {
-    pends = λ waits. never_in_pipe_for_keys waits;
+  waits = λ h l entry at count calling line free. record {
+    pends = λ waits. record { end = file_called h LINE_READ entry count 0 (inl refl) calling; left = calling.few };
+    user = λ awake. absurd (cc awake);
+  };
+  waits_for_room = λ h l entry at count done calling line free. record {
+    pends = λ waits. record { end = file_called h LINE_WRITE entry count done (inr refl) calling; left = calling.few };
     user = λ awake. absurd (cc awake);
   };
   waits_in_pipe = λ h chan pending entry at count left which of awaits free. record {
-    pends = λ waits. record { end = end_awaited h entry count left awaits; left = awaits.few };
+    pends = λ waits. record { end = end_awaited h pending entry count left awaits; left = awaits.few };
     user = λ awake. absurd (cc awake);
   };
   tells = λ entries d few all none holds. record { pends = holds.pends; user = holds.user };
-  showing = λ line image at count d few holds. record { pends = holds.pends; user = holds.user };
+  lets_out = λ h l front back d few first second free none holds. record { pends = holds.pends; user = holds.user };
+  showing = λ l line bytes count d long few holds. record { pends = holds.pends; user = holds.user };
   inodes = λ h inodes same free. free;
   opened = λ h ino kind fd entry plain number none moves free. free;
   ends = λ h ino fd entry next_fd next_entry above within number none next_number next_none moves free. free;
@@ -94,7 +112,8 @@ pending_walks slot = record {
   marked = λ h pipe free. free;
   gone = λ h ino none free. free;
   known = λ h entry is free. (tt, tt);
-  typewriter = λ h typewriter free. free;
+  numbered = λ h l other there free. tt;
+  typewriter = λ h l t kept free. free;
   enters = λ h dir moves free. free;
   terminal = λ h tty free. free;
   signalled = λ h free. free;
@@ -116,19 +135,19 @@ pub row_user : (call : FileCall) (h : Handed) (slot : ℕ) (args : List ℕ) (no
     → (file_row call h slot args now).state.u.pending ≡ NOTHING_PENDING
 row_user call h slot args now free awake = (row_holds call h slot args now free).user awake
 
--- A process goes on with a call on files: one that is no read of a line waits at an end that is there.
-pub awaited : (h : Handed) → is_on_files h.u.pending ≡ true → Pends h → (h.u.pending == LINE_READ) ≡ false
-    → IsAwaiting h (slice_index h.u.call 0) (slice_index h.u.call 2) (slice_index h.u.call 3)
-awaited h on pends other =
-    let held = pends (on_pipe h.u.pending on other) in
+-- A process goes on with a call on files: its file is there, and an end where the call is a pipe's.
+pub can_resume : (h : Handed) → is_on_files h.u.pending ≡ true → Pends h → CanResume (λ count. Unit {0}) h
+can_resume h on pends =
+    let which = on_files_cases h.u.pending on in
+    let held = pends which in
     record {
-      pipe = ap (λ o. (unwrap_or o no_file).kind.pipe) held.end.there ∙ held.end.pipe;
-      named = held.end.named;
-      few = held.left;
+      calling = record { there = ap is_some held.end.there; named = held.end.named; few = held.left };
+      pipe = λ other. ap (λ o. (unwrap_or o no_file).kind.pipe) held.end.there ∙ held.end.pipe (on_pipe h.u.pending which other);
+      few = tt;
     }
 
 resume_holds : (h : Handed) (slot now : ℕ) → is_on_files h.u.pending ≡ true → Pends h → Holds (resumes h slot now)
-resume_holds h slot now on pends = walk_resume (pending_walks slot) h now (awaited h on pends) refl
+resume_holds h slot now on pends = walk_resume (pending_walks slot) h now (can_resume h on pends) refl
 
 pub resume_pends : (h : Handed) (slot now : ℕ) → is_on_files h.u.pending ≡ true → Pends h → Pends (resumes h slot now).state
 resume_pends h slot now on pends = (resume_holds h slot now on pends).pends
@@ -148,7 +167,7 @@ pub core_user : (h : Handed) (now : ℕ) → h.u.pending ≡ NOTHING_PENDING →
 core_user h now free = (core_keeps (λ l. l.u.pending ≡ NOTHING_PENDING) (λ l inodes same is. is) h now free).state
 
 pub close_pends : (h : Handed) → h.u.pending ≡ NOTHING_PENDING → Pends (close_all h).state
-close_pends h free = never_in_pipe (close_all h).state.u.pending (close_user h free)
+close_pends h free = never_in_call (close_all h).state.u.pending (close_user h free)
 
 pub core_pends : (h : Handed) (now : ℕ) → h.u.pending ≡ NOTHING_PENDING → Pends (core_file h now).state
-core_pends h now free = never_in_pipe (core_file h now).state.u.pending (core_user h now free)
+core_pends h now free = never_in_call (core_file h now).state.u.pending (core_user h now free)

@@ -63,7 +63,7 @@ quiet_lines s (Log e ∷ items) q = (q.0, quiet_lines s items q.1)
 
 pub quiet_in_order : (s : ℕ) (items : List Item) → AreQuiet s items → AreQuiet s (in_order items)
 quiet_in_order s items q =
-    quiet_append s (bytes_from 0 1 items) (map Log (entries_of items)) (quiet_bytes s 0 1 items) (quiet_lines s items q)
+    quiet_append s (bytes_from 0 8 items) (map Log (entries_of items)) (quiet_bytes s 0 8 items) (quiet_lines s items q)
 
 -- the image has the same size
 pub record SameSize (old new : UArea) : Type 0 where
@@ -93,6 +93,7 @@ EndsIn old new (Sleep pri chan) = Waits old new pri chan
 -- The numbers of nodes are words, and those of pipes that are open are numbers of inodes.
 pub record HasNumbers (h : Handed) : Type 0 where
   pub count : h.inodes.store.count ≤ 65535
+  pub eight : length h.lines ≤ 8
   pub pipes : HavePipes h.files h.pipes
 
 -- So it is in a call, of a process that waits in a call or not as before,
@@ -110,12 +111,12 @@ same_call_in p = record { size = record { «data» = p.same.size.data; stack = p
 
 pub other_inodes : (h : Handed) (inodes : Inodes) → inodes.store.count ≡ h.inodes.store.count → HasNumbers h
     → HasNumbers (with_inodes h inodes)
-other_inodes h inodes same n = record { count = subst (λ c. c ≤ 65535) (sym same) n.count; pipes = n.pipes }
+other_inodes h inodes same n = record { count = subst (λ c. c ≤ 65535) (sym same) n.count; pipes = n.pipes; eight = n.eight }
 
 dropped_calm : (old : UArea) (h : Handed) (fd : ℕ) → InCalm old h → InCalm old (dropped h fd)
 dropped_calm old h fd p = record {
   same = same_call_in p;
-  numbers = record { count = p.numbers.count; pipes = pipes_left h (entry_of h.u.files fd) p.numbers.pipes };
+  numbers = record { count = p.numbers.count; pipes = pipes_left h (entry_of h.u.files fd) p.numbers.pipes; eight = p.numbers.eight };
 }
 
 not_user : (n pending : ℕ) → IsPipeCall pending → n ≡ pending → (n == NOTHING_PENDING) ≡ false
@@ -128,7 +129,7 @@ pub record Calm (old : UArea) (s : ℕ) (did : Did) : Type 0 where
   pub ends : EndsIn old did.state.u did.answer
   pub numbers : HasNumbers did.state
 
-line_quiet : (s : ℕ) (chan : Chan) → IsOfFiles IsInode chan → IsQuiet s (Wake chan)
+line_quiet : (s : ℕ) (chan : Chan) → IsOfFiles IsInode IsLine chan → IsQuiet s (Wake chan)
 line_quiet s RunIn of = absurd of
 line_quiet s RunOut of = absurd of
 line_quiet s Tout of = absurd of
@@ -136,17 +137,17 @@ line_quiet s Keys of = inl (Keys, refl, tt)
 line_quiet s (Wait slot) of = absurd of
 line_quiet s (Read ino) of = inl (Read ino, refl, of)
 line_quiet s (Write ino) of = inl (Write ino, refl, of)
-line_quiet s Show of = absurd of
+line_quiet s Show of = inl (Show, refl, tt)
 line_quiet s (Disk slot) of = absurd of
-line_quiet s (KeysOf line) of = absurd of
-line_quiet s (ShowOf line) of = absurd of
+line_quiet s (KeysOf line) of = inl (KeysOf line, refl, of)
+line_quiet s (ShowOf line) of = inl (ShowOf line, refl, of)
 
-lines_quiet : (s : ℕ) (entries : List Entry) → All (IsLineOf IsInode s) entries → AreQuiet s (map Log entries)
+lines_quiet : (s : ℕ) (entries : List Entry) → All (IsLineOf IsInode IsLine s) entries → AreQuiet s (map Log entries)
 lines_quiet s [] all = tt
 lines_quiet s (e ∷ entries) all =
-    (by (All-head (IsLineOf IsInode s) e entries all), lines_quiet s entries (All-tail (IsLineOf IsInode s) e entries all))
+    (by (All-head (IsLineOf IsInode IsLine s) e entries all), lines_quiet s entries (All-tail (IsLineOf IsInode IsLine s) e entries all))
   where
-    by : IsLineOf IsInode s e → IsQuiet s e
+    by : IsLineOf IsInode IsLine s e → IsQuiet s e
     by (inl (chan, is, of)) = subst (IsQuiet s) (sym is) (line_quiet s chan of)
     by (inr is) = inr is
 
@@ -175,8 +176,41 @@ sleeps_so old new pending (Write ino) same which is of = record {
   on = of;
 }
 
+-- It waits for keys of a line, or for room on it.
+waits_for_keys : (old new : UArea) (l : ℕ) → SameSize old new → new.pending ≡ LINE_READ → (l ≢ 0 → IsLine l) → Waits old new (pos 10) (keys_of l)
+waits_for_keys old new l same which range = record {
+  size = same;
+  pending = ap (λ m. m == NOTHING_PENDING) which;
+  at = λ s. at (l == 0) s;
+  on = on (l == 0) refl;
+}
+  where
+    at : (b : Bool) (s : ℕ) → IsSleep s (cond b Keys (KeysOf l)) (pos 10)
+    at true s = refl
+    at false s = refl
+
+    on : (b : Bool) → (l == 0) ≡ b → IsChannel (cond b Keys (KeysOf l))
+    on true is = tt
+    on false other = range (eqb-false l 0 other)
+
+waits_for_show : (old new : UArea) (l : ℕ) → SameSize old new → new.pending ≡ LINE_WRITE → (l ≢ 0 → IsLine l) → Waits old new (pos 20) (show_of l)
+waits_for_show old new l same which range = record {
+  size = same;
+  pending = ap (λ m. m == NOTHING_PENDING) which;
+  at = λ s. at (l == 0) s;
+  on = on (l == 0) refl;
+}
+  where
+    at : (b : Bool) (s : ℕ) → IsSleep s (cond b Show (ShowOf l)) (pos 20)
+    at true s = refl
+    at false s = refl
+
+    on : (b : Bool) → (l == 0) ≡ b → IsChannel (cond b Show (ShowOf l))
+    on true is = tt
+    on false other = range (eqb-false l 0 other)
+
 -- Each row of a call on files is calm.
-pub calm_walks : (old : UArea) (s : ℕ) → Walks (InCalm old) (Calm old s) (λ count. Unit {0}) IsInode (Unit {0}) s
+pub calm_walks : (old : UArea) (s : ℕ) → Walks (InCalm old) (Calm old s) (λ count. Unit {0}) IsInode IsLine (Unit {0}) s
 calm_walks old s = record {
   refused = λ h e p. record { quiet = tt; ends = p.same; numbers = p.numbers };
   done = λ h a b p. record { quiet = tt; ends = p.same; numbers = p.numbers };
@@ -185,26 +219,33 @@ calm_walks old s = record {
     ends = c.ends;
     numbers = other_inodes d.state (let_go d.state ino).inodes (put_back_count d.state.inodes ino) c.numbers;
   };
-  waits = λ h entry at count p. record {
+  waits = λ h l entry at count calling line p. record {
     quiet = tt;
-    ends = record { size = same_size p; pending = refl; at = λ s. refl; on = tt };
-    numbers = record { count = p.numbers.count; pipes = p.numbers.pipes };
+    ends = waits_for_keys old (record h.u { pending = LINE_READ; call = entry ∷ at ∷ count ∷ 0 ∷ 0 ∷ 0 ∷ 0 ∷ 0 ∷ [] }) l (same_size p) refl line;
+    numbers = record { count = p.numbers.count; pipes = p.numbers.pipes; eight = p.numbers.eight };
+  };
+  waits_for_room = λ h l entry at count done calling line p. record {
+    quiet = tt;
+    ends = waits_for_show old (record h.u { pending = LINE_WRITE; call = entry ∷ at ∷ count ∷ done ∷ 0 ∷ 0 ∷ 0 ∷ 0 ∷ [] }) l (same_size p) refl line;
+    numbers = record { count = p.numbers.count; pipes = p.numbers.pipes; eight = p.numbers.eight };
   };
   waits_in_pipe = λ h chan pending entry at count left which of awaits p. record {
     quiet = tt;
     ends = sleeps_so old (record h.u { pending = pending; call = words_of entry at count left }) pending chan (same_size p) which refl of;
-    numbers = record { count = p.numbers.count; pipes = p.numbers.pipes };
+    numbers = record { count = p.numbers.count; pipes = p.numbers.pipes; eight = p.numbers.eight };
   };
   tells = λ entries d few all none c. record { quiet = lines_quiet s entries all; ends = c.ends; numbers = c.numbers };
-  showing = λ line image at count d few c. record {
-    quiet = quiet_sent s 0 (shows line (readable image at count));
+  lets_out = λ h l front back d few first second p none c. record {
+    quiet = quiet_append s (map Log front) (sent l (line_at h l).output ++ map Log back) (lines_quiet s front first)
+        (quiet_append s (sent l (line_at h l).output) (map Log back) (quiet_sent s l (line_at h l).output) (lines_quiet s back second));
     ends = c.ends;
     numbers = c.numbers;
   };
+  showing = λ l line bytes count d long few c. record { quiet = quiet_sent s l (shows line bytes); ends = c.ends; numbers = c.numbers };
   inodes = λ h inodes same p. record { same = p.same; numbers = other_inodes h inodes same p.numbers };
   opened = λ h ino kind fd entry plain number free moves p. record {
     same = same_call_in p;
-    numbers = record { count = p.numbers.count; pipes = pipes_opened h.files h.pipes entry ino kind plain p.numbers.pipes };
+    numbers = record { count = p.numbers.count; pipes = pipes_opened h.files h.pipes entry ino kind plain p.numbers.pipes; eight = p.numbers.eight };
   };
   ends = λ h ino fd entry next_fd next_entry above within number free next_number next_free moves p. record {
     same = same_call_in p;
@@ -212,6 +253,7 @@ calm_walks old s = record {
       count = p.numbers.count;
       pipes = pipes_ends h.files h.pipes ino entry next_entry
           (above, (let few = p.numbers.count in omega (arith, within, few))) p.numbers.pipes;
+      eight = p.numbers.eight;
     };
   };
   given = λ h fd free named number moves p. record {
@@ -219,6 +261,7 @@ calm_walks old s = record {
     numbers = record {
       count = p.numbers.count;
       pipes = pipes_change h.files h.pipes (entry_of h.u.files fd) (with_more 1) (λ file. refl) (λ file. refl) p.numbers.pipes;
+      eight = p.numbers.eight;
     };
   };
   offset = λ h entry offset p. record {
@@ -226,33 +269,40 @@ calm_walks old s = record {
     numbers = record {
       count = p.numbers.count;
       pipes = pipes_change h.files h.pipes entry (with_offset offset) (λ file. refl) (λ file. refl) p.numbers.pipes;
+      eight = p.numbers.eight;
     };
   };
   dropped = λ h fd named moves p. dropped_calm old h fd p;
   marked = λ h pipe p. record {
     same = p.same;
-    numbers = record { count = p.numbers.count; pipes = pipes_marked h.files h.pipes pipe p.numbers.pipes };
+    numbers = record { count = p.numbers.count; pipes = pipes_marked h.files h.pipes pipe p.numbers.pipes; eight = p.numbers.eight };
   };
   gone = λ h ino none p. record {
     same = p.same;
-    numbers = record { count = p.numbers.count; pipes = pipes_gone h.files h.pipes ino none p.numbers.pipes };
+    numbers = record { count = p.numbers.count; pipes = pipes_gone h.files h.pipes ino none p.numbers.pipes; eight = p.numbers.eight };
   };
   known = λ h entry is p. end_known h entry p.numbers.pipes is;
-  typewriter = λ h t p. record { same = p.same; numbers = record { count = p.numbers.count; pipes = p.numbers.pipes } };
-  enters = λ h dir moves p. record { same = same_call_in p; numbers = record { count = p.numbers.count; pipes = p.numbers.pipes } };
-  terminal = λ h tty p. record { same = p.same; numbers = record { count = p.numbers.count; pipes = p.numbers.pipes } };
-  signalled = λ h p. record { same = p.same; numbers = record { count = p.numbers.count; pipes = p.numbers.pipes } };
-  stored = λ h m same p. record { same = p.same; numbers = record { count = p.numbers.count; pipes = p.numbers.pipes } };
+  numbered = λ h l other there p. (omega (arith, other), let few = p.numbers.eight in omega (arith, few, there));
+  typewriter = λ h l t kept p. record {
+    same = p.same;
+    numbers = record {
+      count = p.numbers.count;
+      pipes = p.numbers.pipes;
+      eight = let few = p.numbers.eight in let long = length-set h.lines l t in omega (arith, few, long);
+    };
+  };
+  enters = λ h dir moves p. record { same = same_call_in p; numbers = record { count = p.numbers.count; pipes = p.numbers.pipes; eight = p.numbers.eight } };
+  terminal = λ h tty p. record { same = p.same; numbers = record { count = p.numbers.count; pipes = p.numbers.pipes; eight = p.numbers.eight } };
+  signalled = λ h p. record { same = p.same; numbers = record { count = p.numbers.count; pipes = p.numbers.pipes; eight = p.numbers.eight } };
+  stored = λ h m same p. record { same = p.same; numbers = record { count = p.numbers.count; pipes = p.numbers.pipes; eight = p.numbers.eight } };
 }
 
 -- A call in which a process slept goes on: until it sleeps again no call is waited in.
-pub resume_calm : (h : Handed) (s now : ℕ)
-    → ((h.u.pending == LINE_READ) ≡ false → IsAwaiting h (slice_index h.u.call 0) (slice_index h.u.call 2) (slice_index h.u.call 3))
-    → HasNumbers h
+pub resume_calm : (h : Handed) (s now : ℕ) → CanResume (λ count. Unit {0}) h → HasNumbers h
     → Calm (without_pending h).u s (resumes h s now)
 resume_calm h s now has numbers =
     walk_resume (calm_walks (without_pending h).u s) h now has
-    (record { same = same_call (without_pending h).u; numbers = record { count = numbers.count; pipes = numbers.pipes } })
+    (record { same = same_call (without_pending h).u; numbers = record { count = numbers.count; pipes = numbers.pipes; eight = numbers.eight } })
 
 -- Numbers let their files go.
 pub record CalmClosing (old : UArea) (s : ℕ) (c : Closing) : Type 0 where

@@ -1,8 +1,8 @@
 -- What a call on files shows is little: lines of the log that wake somebody or send a signal, and bytes of terminal lines. `wakeup`,
 -- `psignal` and `ttyoutput` in Lions' Commentary, `slp.c`, `sig.c` and `tty.c`.
-use Rattle.std.proofs.Common.{◌≡◌, ◌⊎◌, inl, ◌+◌, ◌*◌, ◌%◌, ◌≤◌, ◌<◌, ◌==◌, ◌||◌, ℕ, zero, suc, Bool, true, false, cond, List, [], ◌∷◌, ◌++◌, length, map, get_or, sum_by, Option, Some, None, Result, Ok, Err, nat_le, refl, sym, ap, ◌∙◌, subst, arith, length-append}
+use Rattle.std.proofs.Common.{◌≡◌, ◌≢◌, ◌⊎◌, inl, ◌+◌, ◌*◌, ◌%◌, ◌≤◌, ◌<◌, ◌==◌, ◌||◌, ℕ, zero, suc, Bool, true, false, cond, List, [], ◌∷◌, ◌++◌, length, map, get_or, sum_by, Option, Some, None, Result, Ok, Err, nat_le, refl, sym, ap, ◌∙◌, subst, arith, length-append}
 use Rattle.std.specs.List.{All}
-use Rattle.std.proofs.lemmas.Bool.{lt-leb, eqb-true, ne_eqb}
+use Rattle.std.proofs.lemmas.Bool.{lt-leb, eqb-true, eqb-false, ne_eqb}
 use Rattle.std.proofs.lemmas.List.{append-nil}
 use Rattle.std.proofs.lemmas.List.Elements.{All-nil, All-cons, All-append}
 use Rattle.v6_base.specs.Image.{Image}
@@ -30,40 +30,41 @@ most_entries = 60
 abbrev pub most_bytes : ℕ
 most_bytes = 524280
 
--- A channel on which a call on files wakes, or in a pipe sleeps: of a terminal line, or of a pipe's inode of which this is so.
-abbrev pub IsOfFiles : (ℕ → Type 0) → Chan → Type 0
-IsOfFiles Named RunIn = ⊥
-IsOfFiles Named RunOut = ⊥
-IsOfFiles Named Tout = ⊥
-IsOfFiles Named Keys = Unit {0}
-IsOfFiles Named (channel.Wait slot) = ⊥
-IsOfFiles Named (Read ino) = Named ino
-IsOfFiles Named (channel.Write ino) = Named ino
-IsOfFiles Named Show = Unit {0}
-IsOfFiles Named (channel.Disk slot) = ⊥
-IsOfFiles Named (KeysOf line) = Unit {0}
-IsOfFiles Named (ShowOf line) = Unit {0}
+-- A channel on which a call on files wakes, or in a pipe sleeps: of a terminal line other than the console of which this is so, or of a
+-- pipe's inode of which that is.
+abbrev pub IsOfFiles : (ℕ → Type 0) → (ℕ → Type 0) → Chan → Type 0
+IsOfFiles Named Line RunIn = ⊥
+IsOfFiles Named Line RunOut = ⊥
+IsOfFiles Named Line Tout = ⊥
+IsOfFiles Named Line Keys = Unit {0}
+IsOfFiles Named Line (channel.Wait slot) = ⊥
+IsOfFiles Named Line (Read ino) = Named ino
+IsOfFiles Named Line (channel.Write ino) = Named ino
+IsOfFiles Named Line Show = Unit {0}
+IsOfFiles Named Line (channel.Disk slot) = ⊥
+IsOfFiles Named Line (KeysOf line) = Line line
+IsOfFiles Named Line (ShowOf line) = Line line
 
-pub keys_of_files : (Named : ℕ → Type 0) (l : ℕ) → IsOfFiles Named (keys_of l)
-keys_of_files Named l = by (l == 0) where
-  by : (b : Bool) → IsOfFiles Named (cond b Keys (KeysOf l))
-  by true = tt
-  by false = tt
+pub keys_of_files : (Named Line : ℕ → Type 0) (l : ℕ) → (l ≢ 0 → Line l) → IsOfFiles Named Line (keys_of l)
+keys_of_files Named Line l line = by (l == 0) refl where
+  by : (b : Bool) → (l == 0) ≡ b → IsOfFiles Named Line (cond b Keys (KeysOf l))
+  by true is = tt
+  by false other = line (eqb-false l 0 other)
 
-pub show_of_files : (Named : ℕ → Type 0) (l : ℕ) → IsOfFiles Named (show_of l)
-show_of_files Named l = by (l == 0) where
-  by : (b : Bool) → IsOfFiles Named (cond b Show (ShowOf l))
-  by true = tt
-  by false = tt
+pub show_of_files : (Named Line : ℕ → Type 0) (l : ℕ) → (l ≢ 0 → Line l) → IsOfFiles Named Line (show_of l)
+show_of_files Named Line l line = by (l == 0) refl where
+  by : (b : Bool) → (l == 0) ≡ b → IsOfFiles Named Line (cond b Show (ShowOf l))
+  by true is = tt
+  by false other = line (eqb-false l 0 other)
 
--- A line of a call on files of the process of a slot: somebody is woken, or this process has the signal of a pipe that nobody
+-- A line of the log by a call on files of the process of a slot: somebody is woken, or this process has the signal of a pipe that nobody
 -- reads.
-abbrev pub IsLineOf : (ℕ → Type 0) → ℕ → Entry → Type 0
-IsLineOf Named slot entry = ((chan : Chan) × (entry ≡ Wake chan) × IsOfFiles Named chan) ⊎ (entry ≡ Signal slot SIGPIPE)
+abbrev pub IsLineOf : (ℕ → Type 0) → (ℕ → Type 0) → ℕ → Entry → Type 0
+IsLineOf Named Line slot entry = ((chan : Chan) × (entry ≡ Wake chan) × IsOfFiles Named Line chan) ⊎ (entry ≡ Signal slot SIGPIPE)
 
--- the same of any inodes
+-- the same of any inodes and lines
 abbrev pub IsOfCall : ℕ → Entry → Type 0
-IsOfCall slot entry = IsLineOf (λ ino. Unit {0}) slot entry
+IsOfCall slot entry = IsLineOf (λ ino. Unit {0}) (λ line. Unit {0}) slot entry
 
 -- how many bytes are shown, on all terminal lines
 abbrev pub bytes_in : List Item → ℕ

@@ -1,11 +1,47 @@
 -- The terminal lines that there are.
-use Rattle.std.proofs.Common.{◌≡◌, ◌≢◌, ◌+◌, ℕ, ◌||◌, Bool, true, false, not, cond, Some, is_some, refl, ap}
-use Rattle.std.proofs.lemmas.Bool.{eq-eqb, ne_eqb}
-use Rattle.fs_codec.specs.Modes.{is_device}
+use Rattle.std.proofs.Common.{◌≡◌, ◌≢◌, ◌<◌, ◌+◌, ◌&&◌, ◌||◌, ◌∙◌, ℕ, Bool, true, false, not, cond, Option, Some, None, Result, Ok, Err, is_some, unwrap_or, length, nat_lt, refl, sym, ap, subst}
+use Rattle.std.proofs.lemmas.Bool.{ltb-true, eq-eqb, ne_eqb}
+use Rattle.v6_base.specs.declared.errno.Errno.TheVariants.{ENOTTY, ENODEV}
+use Rattle.fs_codec.specs.Modes.{is_device, is_character_device}
 use Rattle.fs_codec.specs.Store.{Node}
 use Rattle.proc_tab.specs.declared.row.Row.{Row}
 use Rattle.sys_files.specs.Handed.{Handed, line_of, is_null}
+use Rattle.sys_files.specs.Modes.{terminal_line}
 use Rattle.sys_files.specs.Opening.{can_open, with_tty}
+
+-- a line that an inode is, is there
+pub line_there : (h : Handed) (node : Node) (l : ℕ) → line_of h node ≡ Some l → l < length h.lines
+line_there h node l = by (is_character_device node.mode) (nat_lt node.device (length h.lines)) refl
+  where
+    by : (device low : Bool) → nat_lt node.device (length h.lines) ≡ low → cond (device && low) (Some node.device) None ≡ Some l
+        → l < length h.lines
+    by true true few is =
+        let same : node.device ≡ l = cc is in
+        subst (λ n. n < length h.lines) same (ltb-true node.device (length h.lines) few)
+    by true false few is = absurd (cc is)
+    by false low few is = absurd (cc is)
+
+-- and so is one that a terminal is, unless it is the console
+pub terminal_there : (h : Handed) (node : Node) (l : ℕ) → terminal_line h node ≡ Ok l → l ≢ 0 → l < length h.lines
+terminal_there h node l = by (not (is_character_device node.mode)) (is_null node) (line_of h node) refl
+  where
+    by : (other null : Bool) (o : Option ℕ) → line_of h node ≡ o
+        → cond other (Err ENOTTY) (cond null (Err ENODEV) (Ok (unwrap_or o 0))) ≡ Ok l → l ≢ 0 → l < length h.lines
+    by true null o line is some = absurd (cc is)
+    by false true o line is some = absurd (cc is)
+    by false false (Some n) line is some =
+        let same : n ≡ l = cc is in
+        line_there h node l (line ∙ ap Some same)
+    by false false None line is some =
+        let same : 0 ≡ l = cc is in
+        absurd (some (sym same))
+
+pub kept_there : (h : Handed) (node : Node) → unwrap_or (line_of h node) 0 ≢ 0 → unwrap_or (line_of h node) 0 < length h.lines
+kept_there h node some = by (line_of h node) refl some
+  where
+    by : (o : Option ℕ) → line_of h node ≡ o → unwrap_or o 0 ≢ 0 → unwrap_or o 0 < length h.lines
+    by (Some l) is other = line_there h node l is
+    by None is other = absurd (other refl)
 
 -- what an opening makes of the terminal of the process
 pub tty_taken : (row : Row) (l : ℕ) → row.tty ≡ 0 → with_tty row (Some l) ≡ record row { tty = l + 1 }

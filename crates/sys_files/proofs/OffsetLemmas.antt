@@ -16,7 +16,7 @@ use Rattle.sys_files.proofs.PipeLemmas.{pipes_with_change}
 use Rattle.sys_files.proofs.StayingLemmas.{stays_with_change}
 
 -- what does not depend on an offset is the same in each entry
-entry_same : {X : Type 0} (q : Option OpenFile → X) (files : List (Option OpenFile)) (entry n e : ℕ)
+pub entry_same : {X : Type 0} (q : Option OpenFile → X) (files : List (Option OpenFile)) (entry n e : ℕ)
     → ((o : Option OpenFile) → q (changed (with_offset n) o) ≡ q o) → q (file_at (with_change files entry (with_offset n)) e) ≡ q (file_at files e)
 entry_same q files entry n e same =
     let o : Option OpenFile = changed (with_offset n) (file_at files entry) in

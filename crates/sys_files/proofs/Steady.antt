@@ -151,7 +151,7 @@ signal_stays old row s = by (is_signal SIGPIPE && not (row.sig == SIGKIL))
 
 -- Each row of a call on files is confined, and a write is while its number of bytes is a word.
 pub confined_walks : (old : Handed) (slot : ℕ)
-    → Walks (Steady old) (Confined slot old) (λ count. count ≤ 65535) (λ ino. Unit {0}) (Unit {0}) slot
+    → Walks (Steady old) (Confined slot old) (λ count. count ≤ 65535) (λ ino. Unit {0}) (λ line. Unit {0}) (Unit {0}) slot
 confined_walks old slot = record {
   refused = λ h e s. record { fits = fits_none slot; steady = s };
   done = λ h a b s. record { fits = fits_none slot; steady = s };
@@ -159,11 +159,11 @@ confined_walks old slot = record {
     fits = c.fits;
     steady = record { row = c.steady.row; area = c.steady.area; image = c.steady.image; marks = c.steady.marks; room = c.steady.room };
   };
-  waits = λ h l entry at count calling s. record {
+  waits = λ h l entry at count calling line s. record {
     fits = fits_none slot;
     steady = steady_pending old h LINE_READ (entry ∷ at ∷ count ∷ 0 ∷ 0 ∷ 0 ∷ 0 ∷ 0 ∷ []) s;
   };
-  waits_for_room = λ h l entry at count done calling s. record {
+  waits_for_room = λ h l entry at count done calling line s. record {
     fits = fits_none slot;
     steady = steady_pending old h LINE_WRITE (entry ∷ at ∷ count ∷ done ∷ 0 ∷ 0 ∷ 0 ∷ 0 ∷ []) s;
   };
@@ -195,6 +195,7 @@ confined_walks old slot = record {
   marked = λ h pipe s. record { row = s.row; area = s.area; image = s.image; marks = s.marks; room = s.room };
   gone = λ h ino none s. record { row = s.row; area = s.area; image = s.image; marks = s.marks; room = s.room };
   known = λ h entry is s. (tt, tt);
+  numbered = λ h l other there s. tt;
   typewriter = λ h l t kept s. record {
     row = s.row;
     area = s.area;
@@ -233,7 +234,7 @@ roused_few slot ino true =
     (All-cons (IsOfCall slot) (Wake (Read ino)) [] (inl (Read ino, refl, tt)) (All-nil (IsOfCall slot))))
 roused_few slot ino false = few_up_to slot 0 0 2 0 [] (omega arith) (omega arith) (few_none slot)
 
-woken_few : (slot : ℕ) (chan : Chan) (b : Bool) → IsOfFiles (λ ino. Unit {0}) chan → AreFew slot 1 0 (wakes_if b chan)
+woken_few : (slot : ℕ) (chan : Chan) (b : Bool) → IsOfFiles (λ ino. Unit {0}) (λ line. Unit {0}) chan → AreFew slot 1 0 (wakes_if b chan)
 woken_few slot chan true of =
     few_lines slot (Wake chan ∷ []) (All-cons (IsOfCall slot) (Wake chan) [] (inl (chan, refl, of)) (All-nil (IsOfCall slot)))
 woken_few slot chan false of = few_up_to slot 0 0 1 0 [] (omega arith) (omega arith) (few_none slot)
@@ -252,8 +253,8 @@ line_few slot h (Some l) room = by (is_line_open h l)
         few_up_to slot (0 + (1 + 1)) (length out + (0 + 0)) 2 1008 (shut h l).items (omega arith) (omega (arith, few))
         (few_then slot 0 (length out) (1 + 1) (0 + 0) (sent l out) _ (few_sent slot l out)
         (few_then slot 1 0 1 0 (wakes_if true (keys_of l)) (wakes_if (said.closed (line_at h l)).show (show_of l))
-        (woken_few slot (keys_of l) true (keys_of_files (λ ino. Unit {0}) l))
-        (woken_few slot (show_of l) (said.closed (line_at h l)).show (show_of_files (λ ino. Unit {0}) l))))
+        (woken_few slot (keys_of l) true (keys_of_files (λ ino. Unit {0}) (λ line. Unit {0}) l (λ other. tt)))
+        (woken_few slot (show_of l) (said.closed (line_at h l)).show (show_of_files (λ ino. Unit {0}) (λ line. Unit {0}) l (λ other. tt)))))
 
 rest_lines : (h : Handed) (file : OpenFile) → (with_gone (with_roused h file) file).lines ≡ h.lines
 rest_lines h file = gone (is_gone_with (with_roused h file) file) ∙ roused file.kind.pipe

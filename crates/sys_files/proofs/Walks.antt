@@ -1,6 +1,6 @@
 -- One walk over the rows of calls on files, for each fact that says what stays, what is shown, and which numbers, entries and
 -- pipes a step changes.
-use Rattle.std.proofs.Common.{◌≡◌, ◌<◌, ◌≤◌, ◌∙◌, ◌+◌, ◌-◌, ◌/◌, ◌%◌, ◌^◌, ◌==◌, ◌&&◌, ◌||◌, ℕ, Bool, true, false, not, nat_lt, cond, List, [], ◌∷◌, append-nil, length, take, slice_index, slice_set, pos, is_some, IfSome, Option, Some, None, Result, Ok, Err, if◌then◌else◌, refl, sym, ap, subst, inl, inr, arith, ◌++◌, map, length-append, fold}
+use Rattle.std.proofs.Common.{◌≡◌, ◌≢◌, ◌<◌, ◌≤◌, ◌∙◌, ◌+◌, ◌-◌, ◌/◌, ◌%◌, ◌^◌, ◌==◌, ◌&&◌, ◌||◌, ℕ, Bool, true, false, not, nat_lt, cond, List, [], ◌∷◌, append-nil, length, take, slice_index, slice_set, pos, is_some, unwrap_or, IfSome, Option, Some, None, Result, Ok, Err, if◌then◌else◌, refl, sym, ap, subst, inl, inr, arith, ◌++◌, map, length-append, fold}
 use Rattle.std.proofs.lemmas.Bool.{eqb-false, eq-eqb}
 use Rattle.v6_base.specs.Image.{Image}
 use Rattle.v6_base.specs.Trace.{Log, sent, Item}
@@ -50,7 +50,7 @@ use Rattle.pipe_ends.specs.declared.ends.Piped.{Piped}
 use Rattle.pipe_ends.specs.declared.ends.Piped.TheVariants as piped
 use Rattle.pipe_ends.specs.Reads.{PipeRead}
 use Rattle.pipe_ends.specs.Writes.{PipeWrite}
-use Rattle.sys_files.specs.Handed.{Handed, r0, r1, node_at, file_of, user_of, line_of, line_at, with_line, with_inodes, with_store, with_changed, with_number, let_go}
+use Rattle.sys_files.specs.Handed.{Handed, no_file, r0, r1, node_at, file_of, user_of, line_of, line_at, with_line, with_inodes, with_store, with_changed, with_number, let_go}
 use Rattle.sys_files.specs.Did.{Did, fails, returns, is_done, check, must, need, unless_due, until_end, then_named, finds, by_made, makes}
 use Rattle.sys_files.specs.Descriptors.{open_entry, dup_file, is_line_open, closes_line, without_marks, with_roused, pipe_roused, with_gone, released, told_by, dropped, closes, close_file, Closing, then_closes, close_all}
 use Rattle.sys_files.specs.Opening.{last_failure, open_tests, can_open, with_tty, lines_opened, with_opened, opens, opens_named, open_file}
@@ -62,6 +62,7 @@ use Rattle.sys_files.specs.Modes.{terminal_line, of_terminal, words_at, sets_mod
 use Rattle.sys_files.specs.Names.{with_directory, enters_directory, chdir_to, is_owner, changes_mode, chmod_to, chown_to, sync_all}
 use Rattle.sys_files.specs.Status.{status_bytes, with_stored, tells_status, stat_file, stat_open}
 use Rattle.sys_files.proofs.Lengths.{line_lengths, read_lengths}
+use Rattle.sys_files.proofs.LineLemmas.{line_there, terminal_there, kept_there}
 use Rattle.sys_files.proofs.ReleasedLemmas.{shut}
 use Rattle.sys_files.proofs.WriteLemmas.{with_shown, ends_shown, lined_on, piped_on}
 use Rattle.sys_files.proofs.PipedLemmas.{pipe_lengths, left_of, write_leaves, read_leaves}
@@ -73,6 +74,7 @@ use Rattle.sig_core.specs.declared.numbers.TheConstants.{SIGPIPE}
 use Rattle.sys_files.proofs.Bounds.{IsOfFiles, IsLineOf, keys_of_files, show_of_files, few_readable}
 use Rattle.sys_files.proofs.NumberLemmas.{number_low}
 use Rattle.sys_files.proofs.OwedLemmas.{counted}
+use Rattle.sys_files.proofs.OffsetLemmas.{entry_same}
 use Rattle.sys_files.proofs.NodeCounts.{put_back_count, finding_count, making_count, removing_count, numbered_count, truncated_count, device_count, synced_when, new_within}
 
 -- A read sleeps until keys come: its entry, address and count are kept.
@@ -105,8 +107,9 @@ IsOfPipe Known (chan.Read ino) = Known ino
 IsOfPipe Known (chan.Write ino) = Known ino
 IsOfPipe Known other = ⊥
 
--- A call waits: the process has a number for its entry, and no more bytes are done, or left in a write of a pipe, than there were.
+-- A call waits: its entry is in use, the process has a number for it, and no more bytes are done, or left in a write of a pipe, than there were.
 pub record IsCalling (h : Handed) (entry count left : ℕ) : Type 0 where
+  pub there : is_some (files.file_at h.files entry) ≡ true
   pub named : 1 ≤ times h.u.files entry
   pub few : left ≤ count
 
@@ -123,22 +126,23 @@ pub record CanResume (Few : ℕ → Type 0) (h : Handed) : Type 0 where
   pub few : Few (slice_index h.u.call 2 - slice_index h.u.call 3)
 
 -- What has to be shown of the words of which the rows are made, of a fact of the parts and of a fact of what a row of the process
--- of a slot does. A write shows so many bytes at most as it has to write; the inodes of pipes that are open are known; the
+-- of a slot does. A write shows so many bytes at most as it has to write; the inodes of pipes that are open are known,
+-- and so are the numbers of the lines that there are; the
 -- numbers and the directory of the process change in calls that may move them.
-pub record Walks (P : Handed → Type 0) (Q : Did → Type 0) (Few Known : ℕ → Type 0) (Moves : Type 0) (slot : ℕ) : Type 0 where
+pub record Walks (P : Handed → Type 0) (Q : Did → Type 0) (Few Known Line : ℕ → Type 0) (Moves : Type 0) (slot : ℕ) : Type 0 where
   pub refused : (h : Handed) (e : Errno) → P h → Q (fails h e)
   pub done : (h : Handed) (a b : ℕ) → P h → Q (record { answer = Ret a b; state = h; items = [] })
   pub lets_go : (ino : ℕ) (d : Did) → Q d → Q (until_end ino d)
-  pub waits : (h : Handed) (l entry at count : ℕ) → IsCalling h entry count 0 → P h → Q (asleep_for_keys h l entry at count)
-  pub waits_for_room : (h : Handed) (l entry at count done : ℕ) → IsCalling h entry count done → P h
+  pub waits : (h : Handed) (l entry at count : ℕ) → IsCalling h entry count 0 → (l ≢ 0 → Line l) → P h → Q (asleep_for_keys h l entry at count)
+  pub waits_for_room : (h : Handed) (l entry at count done : ℕ) → IsCalling h entry count done → (l ≢ 0 → Line l) → P h
       → Q (asleep_for_room h l entry at count done)
   pub waits_in_pipe : (h : Handed) (chan : Chan) (pending entry at count left : ℕ) → IsPipeCall pending
       → IsOfPipe Known chan
       → IsAwaiting h entry count left → P h → Q (asleep_in_pipe h chan pending (words_of entry at count left))
-  pub tells : (entries : List Entry) (d : Did) → length entries ≤ 3 → All (IsLineOf Known slot) entries → d.items ≡ [] → Q d
+  pub tells : (entries : List Entry) (d : Did) → length entries ≤ 3 → All (IsLineOf Known Line slot) entries → d.items ≡ [] → Q d
       → Q (record d { items = map Log entries })
-  pub lets_out : (h : Handed) (l : ℕ) (front back : List Entry) (d : Did) → length front + length back ≤ 4 → All (IsLineOf Known slot) front
-      → All (IsLineOf Known slot) back → P h → d.items ≡ [] → Q d
+  pub lets_out : (h : Handed) (l : ℕ) (front back : List Entry) (d : Did) → length front + length back ≤ 4 → All (IsLineOf Known Line slot) front
+      → All (IsLineOf Known Line slot) back → P h → d.items ≡ [] → Q d
       → Q (record d { items = map Log front ++ sent l (line_at h l).output ++ map Log back })
   pub showing : (l : ℕ) (line : Terminal) (bytes : List ℕ) (count : ℕ) (d : Did) → length bytes ≤ count → Few count → Q d
       → Q (record d { items = sent l (shows line bytes) })
@@ -162,6 +166,7 @@ pub record Walks (P : Handed → Type 0) (Q : Did → Type 0) (Few Known : ℕ �
   pub gone : (h : Handed) (ino : ℕ) → has_end h.files ino ≡ false → P h → P (record h { pipes = without_pipe h.pipes ino })
   pub known : (h : Handed) (entry : ℕ) → (file_of h entry).kind.pipe ≡ true → P h
       → Known (file_of h entry).ino × Known (pipe_at h entry).ino
+  pub numbered : (h : Handed) (l : ℕ) → l ≢ 0 → l < length h.lines → P h → Line l
   pub typewriter : (h : Handed) (l : ℕ) (t : Terminal) → (HasRoom (line_at h l) → HasRoom t) → P h → P (with_line h l t)
   pub enters : (h : Handed) (dir : ℕ) → Moves → P h → P (record h { u = record h.u { dir = dir } })
   pub terminal : (h : Handed) (tty : ℕ) → P h → P (record h { row = record h.row { tty = tty } })
@@ -192,6 +197,19 @@ is_named h fd entry is =
     (counted (λ number. number == entry_of h.u.files fd + 1) h.u.files fd 0 (number_low h.u.files fd some)
     (eq-eqb (slice_index h.u.files fd) (entry_of h.u.files fd + 1) (omega (arith, some))))
 
+-- A test that was passed, and what is so of a file that is in use alone.
+must_true : (e : Errno) (b : Bool) {u : Unit {0}} → must e b ≡ Ok u → b ≡ true
+must_true e true is = refl
+must_true e false is = absurd (cc is)
+
+file_there : (h : Handed) (entry : ℕ) (so : OpenFile → Bool) → so (file_of h entry) ≡ true → so no_file ≡ false
+    → is_some (files.file_at h.files entry) ≡ true
+file_there h entry so is never = by (files.file_at h.files entry) is
+  where
+    by : (o : Option OpenFile) → so (unwrap_or o no_file) ≡ true → is_some o ≡ true
+    by (Some file) e = refl
+    by None e = let never_so : true ≡ false = sym e ∙ never in absurd (cc never_so)
+
 -- The inode of a pipe that is told of is known.
 abbrev IsNamedBy : (ℕ → Type 0) → Closed → Type 0
 IsNamedBy Known (Still file) = file.kind.pipe ≡ true → Known file.ino
@@ -204,8 +222,8 @@ named_told Known file named = by (file.count == 1)
     by true = named
     by false = named
 
-module _ {P : Handed → Type 0} {Q : Did → Type 0} {Few Known : ℕ → Type 0} {Moves : Type 0} {slot : ℕ}
-    (k : Walks P Q Few Known Moves slot)
+module _ {P : Handed → Type 0} {Q : Did → Type 0} {Few Known Line : ℕ → Type 0} {Moves : Type 0} {slot : ℕ}
+    (k : Walks P Q Few Known Line Moves slot)
   where
     checks : {A : Type 0} (h : Handed) (test : Result A Errno) (next : A → Did) → P h → ((a : A) → Q (next a))
         → Q (check h test next)
@@ -316,22 +334,31 @@ module _ {P : Handed → Type 0} {Q : Did → Type 0} {Few Known : ℕ → Type 
         by true = k.refused h EINTR p
         by false = q
 
-    walk_line : (h : Handed) (l entry at count : ℕ) (took : Took) → 1 ≤ times h.u.files entry → P h → Q (takes_line h l entry at count took)
-    walk_line h l entry at count (Done n) named p = k.done h n (r1 h) p
-    walk_line h l entry at count Wait named p =
-        unless_due_walk h (asleep_for_keys h l entry at count) p (k.waits h l entry at count (record { named = named; few = omega arith }) p)
-    walk_line h l entry at count Fault named p = k.refused h EFAULT p
+    walk_line : (h : Handed) (l entry at count : ℕ) (took : Took) → IsCalling h entry count 0 → (l ≢ 0 → Line l) → P h → Q (takes_line h l entry at count took)
+    walk_line h l entry at count (Done n) calling line p = k.done h n (r1 h) p
+    walk_line h l entry at count Wait calling line p =
+        unless_due_walk h (asleep_for_keys h l entry at count) p (k.waits h l entry at count calling line p)
+    walk_line h l entry at count Fault calling line p = k.refused h EFAULT p
 
-    walk_reads_line : (h : Handed) (l entry at count : ℕ) → 1 ≤ times h.u.files entry → P h → Q (reads_line h l entry at count)
-    walk_reads_line h l entry at count named p =
+    walk_reads_line : (h : Handed) (l entry at count : ℕ) → IsCalling h entry count 0 → (l ≢ 0 → Line l) → P h → Q (reads_line h l entry at count)
+    walk_reads_line h l entry at count calling line p =
         let reading : Reading = line_read h l at count in
-        walk_line (with_line_read h l reading) l entry at count reading.took named
+        walk_line (with_line_read h l reading) l entry at count reading.took
+        (record { there = calling.there; named = calling.named; few = calling.few }) line
         (k.stored (with_line h l reading.terminal) reading.image (line_lengths (line_at h l) h.image at count)
         (k.typewriter h l reading.terminal (room_read (line_at h l) h.image at count) p))
 
-    read_by : (h : Handed) (entry at count now : ℕ) (line : Option ℕ) → 1 ≤ times h.u.files entry → P h
+    moved_there : (h : Handed) (entry place : ℕ) → is_some (files.file_at h.files entry) ≡ true
+        → is_some (files.file_at (with_change h.files entry (with_offset place)) entry) ≡ true
+    moved_there h entry place there = entry_same is_some h.files entry place entry changed_some ∙ there
+      where
+        changed_some : (o : Option OpenFile) → is_some (files.changed (with_offset place) o) ≡ is_some o
+        changed_some None = refl
+        changed_some (Some file) = refl
+
+    read_by : (h : Handed) (entry at count now : ℕ) (line : Option ℕ) → ((l : ℕ) → line ≡ Some l → l < length h.lines) → IsCalling h entry count 0 → P h
         → Q (reads_by (with_read h entry (read_of h entry at count now)) line entry at count (read_of h entry at count now))
-    read_by h entry at count now line named p = by line
+    read_by h entry at count now line lies calling p = by line lies
       where
         m : Moving Image
         m = read_of h entry at count now
@@ -339,41 +366,46 @@ module _ {P : Handed → Type 0} {Q : Did → Type 0} {Few Known : ℕ → Type 
         after : P (with_read h entry m)
         after = k.stored (with_moved h entry m) m.memory (read_lengths h entry at count now) (after_moved h entry m p)
 
-        by : (line : Option ℕ) → Q (reads_by (with_read h entry m) line entry at count m)
-        by (Some l) = walk_reads_line (with_read h entry m) l entry at count named after
-        by None = walk_count (with_read h entry m) m.done m.error after
+        by : (line : Option ℕ) → ((l : ℕ) → line ≡ Some l → l < length h.lines) → Q (reads_by (with_read h entry m) line entry at count m)
+        by (Some l) lies = walk_reads_line (with_read h entry m) l entry at count
+            (record { there = moved_there h entry _ calling.there; named = calling.named; few = calling.few })
+            (λ other. k.numbered h l other (lies l refl) p) after
+        by None lies = walk_count (with_read h entry m) m.done m.error after
 
-    ended : (after : Handed) (l entry at count done : ℕ) (stopped all : Bool) → IsCalling after entry count done → P after
+    ended : (after : Handed) (l entry at count done : ℕ) (stopped all : Bool) → IsCalling after entry count done → (l ≢ 0 → Line l) → P after
         → Q (ends_shown after l entry at count done stopped all)
-    ended after l entry at count done true all calling p =
-        unless_due_walk after (asleep_for_room after l entry at count done) p (k.waits_for_room after l entry at count done calling p)
-    ended after l entry at count done false true calling p = k.done after count (r1 after) p
-    ended after l entry at count done false false calling p = k.refused after EFAULT p
+    ended after l entry at count done true all calling line p =
+        unless_due_walk after (asleep_for_room after l entry at count done) p (k.waits_for_room after l entry at count done calling line p)
+    ended after l entry at count done false true calling line p = k.done after count (r1 after) p
+    ended after l entry at count done false false calling line p = k.refused after EFAULT p
 
-    walk_writes_line : (h : Handed) (l entry at count done : ℕ) → Few (count - done) → 1 ≤ times h.u.files entry → done ≤ count → P h
+    walk_writes_line : (h : Handed) (l entry at count done : ℕ) → Few (count - done) → IsCalling h entry count done → (l ≢ 0 → Line l) → P h
         → Q (writes_line h l entry at count done)
-    walk_writes_line h l entry at count done few named within p =
+    walk_writes_line h l entry at count done few calling line p =
         let t : Terminal = line_at h l in
         let bytes : List ℕ = readable h.image ((at + done) % 65536) (count - done) in
         let n : ℕ = written t bytes in
         let some = written_few t bytes in
         let most = few_readable h.image ((at + done) % 65536) (count - done) in
         let long = length-take n bytes in
+        let within = calling.few in
         k.showing l t (take n bytes) (count - done)
         (ends_shown (with_shown h l (take n bytes)) l entry at count (done + n) (nat_lt n (length bytes)) (done + n == count))
         (omega (arith, long, most)) few
         (ended (with_shown h l (take n bytes)) l entry at count (done + n) (nat_lt n (length bytes)) (done + n == count)
-        (record { named = named; few = omega (arith, some, most, within) })
+        (record { there = calling.there; named = calling.named; few = omega (arith, some, most, within) }) line
         (k.typewriter h l (after_shown t (take n bytes)) (room_written t bytes) p))
 
-    write_by : (h : Handed) (entry at count now : ℕ) (line : Option ℕ) → Few count → 1 ≤ times h.u.files entry → P h
+    write_by : (h : Handed) (entry at count now : ℕ) (line : Option ℕ) → ((l : ℕ) → line ≡ Some l → l < length h.lines) → Few count
+        → IsCalling h entry count 0 → P h
         → Q (writes_by (with_moved h entry (write_of h entry at count now)) line (is_device (node_at h (file_of h entry).ino).mode)
         entry at count (write_of h entry at count now))
-    write_by h entry at count now (Some l) few named p =
+    write_by h entry at count now (Some l) lies few calling p =
         let all : count - 0 ≡ count = omega arith in
-        walk_writes_line (with_moved h entry (write_of h entry at count now)) l entry at count 0 (subst Few (sym all) few) named (omega arith)
-        (after_moved h entry (write_of h entry at count now) p)
-    write_by h entry at count now None few named p =
+        walk_writes_line (with_moved h entry (write_of h entry at count now)) l entry at count 0 (subst Few (sym all) few)
+        (record { there = moved_there h entry _ calling.there; named = calling.named; few = calling.few })
+        (λ other. k.numbered h l other (lies l refl) p) (after_moved h entry (write_of h entry at count now) p)
+    write_by h entry at count now None lies few calling p =
         walk_count (with_moved h entry (write_of h entry at count now)) _ _ (after_moved h entry (write_of h entry at count now) p)
 
     -- Bytes are put into the image.
@@ -391,19 +423,20 @@ module _ {P : Handed → Type 0} {Q : Did → Type 0} {Few Known : ℕ → Type 
     walk_told h l at false p =
         walk_stored h _ (bytes_lengths h.image h.image at (bytes_of (line_at h l).modes) (same_lengths h.image)) p
 
-    walk_terminal : (h : Handed) (does : ℕ → Did) → P h → ((l : ℕ) → Q (does l)) → Q (of_terminal h does)
+    walk_terminal : (h : Handed) (does : ℕ → Did) → P h → ((l : ℕ) → (l ≢ 0 → l < length h.lines) → Q (does l)) → Q (of_terminal h does)
     walk_terminal h does p goes =
         checks h (open_entry h (r0 h)) _ p (λ entry.
-        checks h (terminal_line h (node_at h (file_of h entry).ino)) does p goes)
+        checks_so h (terminal_line h (node_at h (file_of h entry).ino)) does p (λ l is.
+        goes l (terminal_there h (node_at h (file_of h entry).ino) l is)))
 
-    wake_line : (chan : Chan) (entries : List Entry) → IsOfFiles Known chan → All (IsLineOf Known slot) entries
-        → All (IsLineOf Known slot) (Wake chan ∷ entries)
-    wake_line chan entries named all = All-cons (IsLineOf Known slot) (Wake chan) entries (inl (chan, refl, named)) all
+    wake_line : (chan : Chan) (entries : List Entry) → IsOfFiles Known Line chan → All (IsLineOf Known Line slot) entries
+        → All (IsLineOf Known Line slot) (Wake chan ∷ entries)
+    wake_line chan entries named all = All-cons (IsLineOf Known Line slot) (Wake chan) entries (inl (chan, refl, named)) all
 
-    no_line : All (IsLineOf Known slot) []
-    no_line = All-nil (IsLineOf Known slot)
+    no_line : All (IsLineOf Known Line slot) []
+    no_line = All-nil (IsLineOf Known Line slot)
 
-    answers : (h : Handed) (a b : ℕ) (entries : List Entry) → length entries ≤ 3 → All (IsLineOf Known slot) entries → P h
+    answers : (h : Handed) (a b : ℕ) (entries : List Entry) → length entries ≤ 3 → All (IsLineOf Known Line slot) entries → P h
         → Q (record { answer = Ret a b; state = h; items = map Log entries })
     answers h a b entries few all p =
         k.tells entries (record { answer = Ret a b; state = h; items = [] }) few all refl (k.done h a b p)
@@ -420,29 +453,32 @@ module _ {P : Handed → Type 0} {Q : Did → Type 0} {Few Known : ℕ → Type 
     closes_by h a b ino false named p = k.done h a b p
 
     -- what a line tells that lets out what waits, after an end of a pipe or not
-    told_by_line : (h after : Handed) (a b ino l : ℕ) (pipe show : Bool) → (pipe ≡ true → Known ino) → P h → P after
+    told_by_line : (h after : Handed) (a b ino l : ℕ) (pipe show : Bool) → (pipe ≡ true → Known ino) → (l ≢ 0 → l < length h.lines) → P h → P after
         → Q (record {
           answer = Ret a b;
           state = after;
           items = cond pipe (Log (Wake (chan.Write ino)) ∷ Log (Wake (chan.Read ino)) ∷ []) []
               ++ sent l (line_at h l).output ++ wakes_if true (keys_of l) ++ wakes_if show (show_of l);
         })
-    told_by_line h after a b ino l pipe show named p q = by pipe show named
+    told_by_line h after a b ino l pipe show named there p q = by pipe show named
       where
         told : Did
         told = record { answer = Ret a b; state = after; items = [] }
 
+        line : l ≢ 0 → Line l
+        line other = k.numbered h l other (there other) p
+
         ends : List Entry
         ends = Wake (chan.Write ino) ∷ Wake (chan.Read ino) ∷ []
 
-        roused : Known ino → All (IsLineOf Known slot) ends
+        roused : Known ino → All (IsLineOf Known Line slot) ends
         roused name = wake_line (chan.Write ino) (Wake (chan.Read ino) ∷ []) name (wake_line (chan.Read ino) [] name no_line)
 
-        keys : All (IsLineOf Known slot) (Wake (keys_of l) ∷ [])
-        keys = wake_line (keys_of l) [] (keys_of_files Known l) no_line
+        keys : All (IsLineOf Known Line slot) (Wake (keys_of l) ∷ [])
+        keys = wake_line (keys_of l) [] (keys_of_files Known Line l line) no_line
 
-        both : All (IsLineOf Known slot) (Wake (keys_of l) ∷ Wake (show_of l) ∷ [])
-        both = wake_line (keys_of l) (Wake (show_of l) ∷ []) (keys_of_files Known l) (wake_line (show_of l) [] (show_of_files Known l) no_line)
+        both : All (IsLineOf Known Line slot) (Wake (keys_of l) ∷ Wake (show_of l) ∷ [])
+        both = wake_line (keys_of l) (Wake (show_of l) ∷ []) (keys_of_files Known Line l line) (wake_line (show_of l) [] (show_of_files Known Line l line) no_line)
 
         by : (pipe show : Bool) → (pipe ≡ true → Known ino) → Q (record {
           answer = Ret a b;
@@ -457,32 +493,32 @@ module _ {P : Handed → Type 0} {Q : Did → Type 0} {Few Known : ℕ → Type 
         by false false name = k.lets_out h l [] (Wake (keys_of l) ∷ []) told (omega arith) no_line keys p refl (k.done after a b q)
 
     -- Pipes are read and written. What a call on a pipe comes to has one line of its own at most.
-    told_after : (first rest : List Entry) (d : Did) → length first ≤ 1 → length rest ≤ 1 → All (IsLineOf Known slot) first
-        → All (IsLineOf Known slot) rest
+    told_after : (first rest : List Entry) (d : Did) → length first ≤ 1 → length rest ≤ 1 → All (IsLineOf Known Line slot) first
+        → All (IsLineOf Known Line slot) rest
         → d.items ≡ map Log rest → Q (record d { items = [] }) → Q (after (map Log first) d)
     told_after first rest d few one all own are q =
         let P' : List Item → Type 0 = λ l. Q (record d { items = l }) in
         let long = length-append first rest in
         subst P' (map-append Log first rest ∙ ap (λ l. map Log first ++ l) (sym are))
         (k.tells (first ++ rest) (record d { items = [] }) (omega (arith, few, one, long))
-        (All-append (IsLineOf Known slot) first rest all own) refl q)
+        (All-append (IsLineOf Known Line slot) first rest all own) refl q)
 
-    told_woken : (woken : Bool) (chan : Chan) (rest : List Entry) (d : Did) → IsOfFiles Known chan → length rest ≤ 1
-        → All (IsLineOf Known slot) rest
+    told_woken : (woken : Bool) (chan : Chan) (rest : List Entry) (d : Did) → IsOfFiles Known Line chan → length rest ≤ 1
+        → All (IsLineOf Known Line slot) rest
         → d.items ≡ map Log rest → Q (record d { items = [] }) → Q (after (cond woken (Log (Wake chan) ∷ []) []) d)
     told_woken true chan rest d named one own are q =
         told_after (Wake chan ∷ []) rest d (omega arith) one (wake_line chan [] named no_line) own are q
     told_woken false chan rest d named one own are q = told_after [] rest d (omega arith) one no_line own are q
 
     -- a call that ends quietly on a pipe, after somebody was woken or not
-    quiet_woken : (woken : Bool) (chan : Chan) (d : Did) → IsOfFiles Known chan → d.items ≡ [] → Q d
+    quiet_woken : (woken : Bool) (chan : Chan) (d : Did) → IsOfFiles Known Line chan → d.items ≡ [] → Q d
         → Q (after (cond woken (Log (Wake chan) ∷ []) []) d)
     quiet_woken woken chan d named none q =
         told_woken woken chan [] d named (omega arith) no_line none
         (subst Q (ap (λ (l : List Item). record { answer = d.answer; state = d.state; items = l }) none) q)
 
     waits_woken : (woken : Bool) (on chan : Chan) (h : Handed) (pending entry at count left : ℕ) → IsPipeCall pending
-        → IsOfFiles Known on → IsOfPipe Known chan → IsAwaiting h entry count left → P h
+        → IsOfFiles Known Line on → IsOfPipe Known chan → IsAwaiting h entry count left → P h
         → Q (after (cond woken (Log (Wake on) ∷ []) []) (waits_in_pipe h chan pending (words_of entry at count left)))
     waits_woken woken on chan h pending entry at count left kind named name awaits p = by (is_some (due h.row h.u))
       where
@@ -513,7 +549,7 @@ module _ {P : Handed → Type 0} {Q : Did → Type 0} {Few Known : ℕ → Type 
         waits_woken woken (chan.Read ino) (chan.Write ino) h PIPE_WRITE entry at count left (inr refl) name name awaits p
     write_ends woken h ino entry at count piped.Broken name awaits p =
         told_woken woken (chan.Read ino) (Signal slot SIGPIPE ∷ []) (breaks h slot) name (omega arith)
-        (All-cons (IsLineOf Known slot) (Signal slot SIGPIPE) [] (inr refl) no_line) refl
+        (All-cons (IsLineOf Known Line slot) (Signal slot SIGPIPE) [] (inr refl) no_line) refl
         (k.refused (record h { row = posted h.row SIGPIPE }) EPIPE (k.signalled h p))
     write_ends woken h ino entry at count (piped.Error e) name awaits p =
         quiet_woken woken (chan.Read ino) (fails h e) name refl (k.refused h e p)
@@ -561,13 +597,14 @@ module _ {P : Handed → Type 0} {Q : Did → Type 0} {Few Known : ℕ → Type 
     without_end h ino true false e p = k.gone h ino e p
     without_end h ino false c e p = p
 
-    line_closes : (h : Handed) (a b : ℕ) (file : OpenFile) (line : Option ℕ) → (file.kind.pipe ≡ true → Known file.ino) → P h
+    line_closes : (h : Handed) (a b : ℕ) (file : OpenFile) (line : Option ℕ) → ((l : ℕ) → line ≡ Some l → l < length h.lines)
+        → (file.kind.pipe ≡ true → Known file.ino) → P h
         → Q (record {
           answer = Ret a b;
           state = let_go (closes_line h line).state file.ino;
           items = pipe_roused file ++ (closes_line h line).items;
         })
-    line_closes h a b file line known p = by line
+    line_closes h a b file line there known p = by line there
       where
         stays : Q (record { answer = Ret a b; state = let_go h file.ino; items = pipe_roused file ++ [] })
         stays = subst (λ (items : List Item). Q (record { answer = Ret a b; state = let_go h file.ino; items = items }))
@@ -575,24 +612,24 @@ module _ {P : Handed → Type 0} {Q : Did → Type 0} {Few Known : ℕ → Type 
             (closes_by (let_go h file.ino) a b file.ino file.kind.pipe known
             (k.inodes h (let_go h file.ino).inodes (put_back_count h.inodes file.ino) p))
 
-        either : (l : ℕ) (used : Bool) → Q (record {
+        either : (l : ℕ) (used : Bool) → l < length h.lines → Q (record {
           answer = Ret a b;
           state = let_go (cond {A = Closing} used (record { state = h; items = [] }) (shut h l)).state file.ino;
           items = pipe_roused file ++ (cond {A = Closing} used (record { state = h; items = [] }) (shut h l)).items;
         })
-        either l true = stays
-        either l false =
-            told_by_line h (let_go (shut h l).state file.ino) a b file.ino l file.kind.pipe (said.closed (line_at h l)).show known p
+        either l true there = stays
+        either l false there =
+            told_by_line h (let_go (shut h l).state file.ino) a b file.ino l file.kind.pipe (said.closed (line_at h l)).show known (λ other. there) p
             (k.inodes (shut h l).state (let_go h file.ino).inodes (put_back_count h.inodes file.ino)
             (k.typewriter h l (said.closed (line_at h l)).terminal (λ room. omega arith) p))
 
-        by : (line : Option ℕ) → Q (record {
+        by : (line : Option ℕ) → ((l : ℕ) → line ≡ Some l → l < length h.lines) → Q (record {
           answer = Ret a b;
           state = let_go (closes_line h line).state file.ino;
           items = pipe_roused file ++ (closes_line h line).items;
         })
-        by None = stays
-        by (Some l) = either l (is_line_open h l)
+        by None there = stays
+        by (Some l) there = either l (is_line_open h l) (there l refl)
 
     walk_released : (h : Handed) (a b : ℕ) (told : Closed) → IsNamedBy Known told → P h
         → Q (record { answer = Ret a b; state = (released h told).state; items = (released h told).items })
@@ -602,7 +639,7 @@ module _ {P : Handed → Type 0} {Q : Did → Type 0} {Few Known : ℕ → Type 
         let rest : Handed = with_gone (with_roused h file) file in
         let here : P rest = without_end (with_roused h file) file.ino file.kind.pipe
         (has_end (with_roused h file).files file.ino) refl (roused h file file.kind.pipe p) in
-        line_closes rest a b file (line_of rest (node_at rest file.ino)) known here
+        line_closes rest a b file (line_of rest (node_at rest file.ino)) (line_there rest (node_at rest file.ino)) known here
 
     pub walk_closes : (h : Handed) (fd a b : ℕ) → 0 < slice_index h.u.files fd → Moves → P h
         → Q (record { answer = Ret a b; state = (closes h fd).state; items = (closes h fd).items })
@@ -615,19 +652,21 @@ module _ {P : Handed → Type 0} {Q : Did → Type 0} {Few Known : ℕ → Type 
     pub walk_read : (h : Handed) (at count now : ℕ) → P h → Q (read_file_of h at count now)
     walk_read h at count now p =
         checks_so h (open_entry h (r0 h)) _ p (λ entry is.
-        checks h (must EBADF (file_of h entry).kind.reading) _ p (λ may.
+        checks_so h (must EBADF (file_of h entry).kind.reading) _ p (λ passed may.
         by_kind (file_of h entry).kind.pipe (reads_pipe h entry at count now) (reads_from h entry at count now)
         (λ pipe. walk_reads_pipe h entry at count now pipe (is_named h (r0 h) entry is) p)
-        (read_by h entry at count now (line_of h (node_at h (file_of h entry).ino)) (is_named h (r0 h) entry is) p)))
+        (read_by h entry at count now (line_of h (node_at h (file_of h entry).ino)) (line_there h (node_at h (file_of h entry).ino))
+        (record { there = file_there h entry (λ file. file.kind.reading) (must_true EBADF _ may) refl; named = is_named h (r0 h) entry is; few = omega arith }) p)))
 
     -- 4, write
     pub walk_write : (h : Handed) (at count now : ℕ) → Few count → P h → Q (write_file_of h slot at count now)
     walk_write h at count now few p =
         checks_so h (open_entry h (r0 h)) _ p (λ entry is.
-        checks h (must EBADF (file_of h entry).kind.writing) _ p (λ may.
+        checks_so h (must EBADF (file_of h entry).kind.writing) _ p (λ passed may.
         by_kind (file_of h entry).kind.pipe (writes_pipe h slot entry at count count now) (writes_to h entry at count now)
         (λ pipe. walk_writes_pipe h entry at count count now pipe (is_named h (r0 h) entry is) (omega arith) p)
-        (write_by h entry at count now (line_of h (node_at h (file_of h entry).ino)) few (is_named h (r0 h) entry is) p)))
+        (write_by h entry at count now (line_of h (node_at h (file_of h entry).ino)) (line_there h (node_at h (file_of h entry).ino)) few
+        (record { there = file_there h entry (λ file. file.kind.writing) (must_true EBADF _ may) refl; named = is_named h (r0 h) entry is; few = omega arith }) p)))
 
     -- 5, open
     pub walk_open : (h : Handed) (name mode : ℕ) → Moves → P h → Q (open_file h name mode)
@@ -740,13 +779,13 @@ module _ {P : Handed → Type 0} {Q : Did → Type 0} {Few Known : ℕ → Type 
     -- 31, stty, and 32, gtty
     pub walk_stty : (h : Handed) (at : ℕ) → P h → Q (stty_set h at)
     walk_stty h at p =
-        walk_terminal h (λ l. check h (need EFAULT (words_at h at)) (sets_modes h l)) p (λ l.
+        walk_terminal h (λ l. check h (need EFAULT (words_at h at)) (sets_modes h l)) p (λ l there.
         checks h (need EFAULT (words_at h at)) (sets_modes h l) p (λ bytes.
-        told_by_line h (sets_modes h l bytes).state (r0 h) (r1 h) 0 l false (holds (line_at h l)) (λ none. absurd (cc none)) p
+        told_by_line h (sets_modes h l bytes).state (r0 h) (r1 h) 0 l false (holds (line_at h l)) (λ none. absurd (cc none)) there p
         (k.typewriter h l (with_modes (line_at h l) (word bytes 0 ∷ word bytes 2 ∷ word bytes 4 ∷ [])).terminal (λ room. omega arith) p)))
 
     pub walk_gtty : (h : Handed) (at : ℕ) → P h → Q (gtty_get h at)
-    walk_gtty h at p = walk_terminal h (λ l. tells_modes h l at) p (λ l. walk_told h l at (at % 2 == 1) p)
+    walk_gtty h at p = walk_terminal h (λ l. tells_modes h l at) p (λ l there. walk_told h l at (at % 2 == 1) p)
 
     -- 36, sync
     pub walk_sync : (h : Handed) (now : ℕ) → P h → Q (sync_all h now)
@@ -798,11 +837,17 @@ module _ {P : Handed → Type 0} {Q : Did → Type 0} {Few Known : ℕ → Type 
         call : List ℕ
         call = h.u.call
 
+        line : line_kept rest (slice_index call 0) ≢ 0 → Line (line_kept rest (slice_index call 0))
+        line other = k.numbered rest (line_kept rest (slice_index call 0)) other (kept_there rest (node_at rest (file_of rest (slice_index call 0)).ino) other) p
+
         by_call : (line first third : Bool) → ((h.u.pending == LINE_READ) || (h.u.pending == LINE_WRITE)) ≡ line
             → Q (cond line (lined_on rest (line_kept rest (slice_index call 0)) call first) (piped_on rest slot call now third))
-        by_call true true third is = walk_reads_line rest (line_kept rest (slice_index call 0)) _ _ _ can.calling.named p
+        by_call true true third is =
+            walk_reads_line rest (line_kept rest (slice_index call 0)) (slice_index call 0) (slice_index call 1) (slice_index call 2)
+            (record { there = can.calling.there; named = can.calling.named; few = omega arith }) line p
         by_call true false third is =
-            walk_writes_line rest (line_kept rest (slice_index call 0)) _ _ _ _ can.few can.calling.named can.calling.few p
+            walk_writes_line rest (line_kept rest (slice_index call 0)) (slice_index call 0) (slice_index call 1) (slice_index call 2) (slice_index call 3) can.few
+            (record { there = can.calling.there; named = can.calling.named; few = can.calling.few }) line p
         by_call false first true is =
             walk_reads_pipe rest (slice_index call 0) (slice_index call 1) (slice_index call 2) now (can.pipe is) can.calling.named p
         by_call false first false is =

@@ -84,10 +84,10 @@ module _ (number : ℕ) (o : Outside) where
   -- the disk has no fault, and the script is read
   module _ (good : image_fault (build_of number) ≡ None) (events : List asked.Event) (read : script_of demo_text ≡ Ok events) where
     abbrev system : System
-    system = system_of (build_of number) DEMO_CORE
+    system = system_of (build_of number) DEMO_CORE 1
 
     abbrev all : Course
-    all = run_of (build_of number) DEMO_CORE (events_of events)
+    all = run_of (build_of number) DEMO_CORE 1 (events_of events)
 
     complete : IsKnownAnd (demo_completion number) (IsComplete (status_at all.ending) o o)
     complete = subst (λ f. IsKnownAnd (fault_completion f (Known (run_completion DEMO_CORE no_writing (build_of number) demo_text))) (IsComplete (status_at all.ending) o o)) (sym good)
@@ -115,7 +115,7 @@ module _ (number : ℕ) (o : Outside) where
     line_so (Err e) outcome = _
 
     -- the system that was booted is that of the disk
-    module _ (booted : System) (boots_is : boots (build_of number) DEMO_CORE ≡ Some booted) where
+    module _ (booted : System) (boots_is : boots (build_of number) DEMO_CORE 1 ≡ Some booted) where
       of_disk : (f : Option codec.ImageFault) → (if is_some f then None else Some system) ≡ Some booted → system ≡ booted
       of_disk None is = cc is
       of_disk (Some f) is = absurd (cc is)

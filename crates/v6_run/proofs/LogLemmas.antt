@@ -14,6 +14,6 @@ whole : (ends : Ends) → is_whole ends ≡ true
 whole AtEnd = refl
 whole (Panic kind) = refl
 
-pub lawful_logs : (image : List ℕ) (core : ℕ) (m : System) → AreBytes image → 64 ≤ core → core ≤ 3968 → boots image core ≡ Some m → HasLawfulLogs m
+pub lawful_logs : (image : List ℕ) (core : ℕ) (m : System) → AreBytes image → 64 ≤ core → core ≤ 3968 → boots image core 1 ≡ Some m → HasLawfulLogs m
 lawful_logs image core m are low high is events =
     (logs_are_lawful image core events (course (started m) events) are low high (ap (option_map (λ n. course (started n) events)) is)).1 (whole _)

@@ -132,11 +132,11 @@ module _ (words : RunWords) (image bytes : List ℕ) (old middle : Outside) (fil
   module _ (events : List asked.Event) (script_is : script_of bytes ≡ Ok events) where
     -- the system that was booted is that of the image
     is_of : (o : Option codec.ImageFault) (system : System)
-        → (if is_some o then None else Some (system_of image words.core)) ≡ Some system → system_of image words.core ≡ system
+        → (if is_some o then None else Some (system_of image words.core 1)) ≡ Some system → system_of image words.core 1 ≡ system
     is_of None system is = cc is
     is_of (Some fault) system is = absurd (cc is)
 
-    boots_as : (system : System) → boots image words.core ≡ Some system
+    boots_as : (system : System) → boots image words.core 1 ≡ Some system
         → bytes_completion words image bytes ≡ course_completion (run_writes words.outputs (disk_of image)) (course (started system) (events_of events))
     boots_as system is =
         ap (λ s. lines_completion words.core (run_writes words.outputs (disk_of image)) image s) script_is
@@ -153,7 +153,7 @@ module _ (words : RunWords) (image bytes : List ℕ) (old middle : Outside) (fil
     with_inputs outputs good told = subst (λ f. AreGood f outputs) files.only.fixed (good (still_tells _ _ _ files.only told))
 
     -- the run, with its files
-    module _ (system : System) (boots_is : boots image words.core ≡ Some system) (new : Outside) (only : OnlyAt (is_output words.outputs) middle new) where
+    module _ (system : System) (boots_is : boots image words.core 1 ≡ Some system) (new : Outside) (only : OnlyAt (is_output words.outputs) middle new) where
       abbrev run : Course
       run = course (started system) (events_of events)
 

@@ -80,7 +80,7 @@ course_completion writes c = record { status = status_at c.ending; writes = writ
 -- in so much core, from an image without a fault, and a script or its first fault
 abbrev pub lines_completion : ℕ → Writing → List ℕ → Result (List Event) ScriptFault → Completion
 lines_completion core writes image (Err fault) = ends_with (status.ScriptFault fault)
-lines_completion core writes image (Ok events) = course_completion writes (run_of image core (events_of events))
+lines_completion core writes image (Ok events) = course_completion writes (run_of image core 1 (events_of events))
 
 abbrev pub run_completion : ℕ → Writing → List ℕ → List ℕ → Completion
 run_completion core writes image bytes = lines_completion core writes image (script_of bytes)
@@ -131,7 +131,7 @@ image_line (Some bytes) = store_line (store_of (disk_of (take IMAGE_LIMIT bytes)
 
 abbrev pub run_line : ℕ → Result (List Event) ScriptFault → List ℕ
 run_line number (Err fault) = []
-run_line number (Ok events) = course_line number (run_of (build_of number) DEMO_CORE (events_of events))
+run_line number (Ok events) = course_line number (run_of (build_of number) DEMO_CORE 1 (events_of events))
 
 abbrev pub done_line : Option Command → Environment → List ℕ
 done_line None fixed = []

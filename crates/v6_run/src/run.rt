@@ -99,7 +99,7 @@ pub(crate) fn boot(alloc: Global, image: &[u8], core: u32) -> Result<Kernel, Run
     requires least { 64 ≤ core }
     requires most { core ≤ 3968 }
     requires good { image_fault image.now ≡ None }
-    ensures system { IfOk result (λ kernel. boots image.now core ≡ Some kernel.system) }
+    ensures system { IfOk result (λ kernel. boots image.now core 1 ≡ Some kernel.system) }
     ensures blocks { IfOk result (λ kernel. kernel.blocks ≡ blocks_of image.now) }
     ensures phase { IfOk result (λ kernel. kernel.phase ≡ New) }
     ensures lawful { IfOk result (λ kernel. HasLawfulLogs kernel.system) }

@@ -37,7 +37,7 @@ returns-clause-answers g c =
     let good = subst (λ l. image_fault l ≡ None) c.in_ok-image.ensures.bytes c.in_ok-image.ensures.good in
     let events = c.in_ok-script.script.events.items in
     let booted = c.in_ok-kernel.kernel.system in
-    let boots_is = subst (λ l. boots l DEMO_CORE ≡ Some booted) (c.deref.ensures.value ∙ c.in_ok-image.ensures.bytes) c.in_ok-kernel.ensures.system in
+    let boots_is = subst (λ l. boots l DEMO_CORE 1 ≡ Some booted) (c.deref.ensures.value ∙ c.in_ok-image.ensures.bytes) c.in_ok-kernel.ensures.system in
     let outcome = subst (λ l. MatchResult c.run_counted.result (EndsCourse number (course (started booted) (events_of l))) (StopsCourse (course (started booted) (events_of l)))) c.deref-2.ensures.value c.run_counted.ensures.outcome in
     subst (λ (n : Outside). Answers (Demo number) (end_of run_status c.run_counted.result) o n) (sym c.run_counted.ensures.outside)
     (demo_answers number o good events c.in_ok-script.ensures.events booted boots_is c.run_counted.result outcome)
@@ -49,6 +49,6 @@ returns-clause-line g c =
     let good = subst (λ l. image_fault l ≡ None) c.in_ok-image.ensures.bytes c.in_ok-image.ensures.good in
     let events = c.in_ok-script.script.events.items in
     let booted = c.in_ok-kernel.kernel.system in
-    let boots_is = subst (λ l. boots l DEMO_CORE ≡ Some booted) (c.deref.ensures.value ∙ c.in_ok-image.ensures.bytes) c.in_ok-kernel.ensures.system in
+    let boots_is = subst (λ l. boots l DEMO_CORE 1 ≡ Some booted) (c.deref.ensures.value ∙ c.in_ok-image.ensures.bytes) c.in_ok-kernel.ensures.system in
     let outcome = subst (λ l. MatchResult c.run_counted.result (EndsCourse number (course (started booted) (events_of l))) (StopsCourse (course (started booted) (events_of l)))) c.deref-2.ensures.value c.run_counted.ensures.outcome in
     demo_tells number o good events c.in_ok-script.ensures.events booted boots_is c.run_counted.result outcome
