@@ -1,11 +1,13 @@
 -- How a kernel counts the slots that have been taken, and who waits for the disk.
-use Rattle.std.specs.Prelude.{◌≡◌, ◌≢◌, ◌<◌, ◌≤◌, ◌⊎◌, ℕ, ◌+◌, ◌-◌, Bool, true, false, List, map, Option, Some, None, slice_index_or, replicate}
+use Rattle.std.specs.Prelude.{◌≡◌, ◌≢◌, ◌<◌, ◌≤◌, ◌⊎◌, ℕ, ◌+◌, ◌-◌, ◌++◌, ◌==◌, ◌||◌, Bool, true, false, not, if◌then◌else◌, List, [], length, map, Option, Some, None, slice_index_or, replicate}
 use Rattle.v6_base.specs.Trace.{Item, Log}
 use Rattle.v6_base.specs.declared.entry.Chan.TheVariants.{Disk}
 use Rattle.v6_base.specs.declared.entry.Entry.TheVariants as entry
 use Rattle.abstract_unix.specs.Unix.{Timing, Unix}
-use Rattle.abstract_unix.specs.Turn.{disk_end_of, waits_until, is_sending}
+use Rattle.abstract_unix.specs.Turn.{disk_end_of, disk_lines, waits_until, is_sending}
 use Rattle.abstract_unix.specs.Whole.{AreDue, NoGraveWaits}
+use Rattle.tty_line.specs.Said.{sends}
+use Rattle.lines_eight.specs.Told.{AllTold, each_line}
 use Rattle.u_area.specs.declared.layout.TheConstants.{NOTHING_PENDING, DISK_WAIT}
 use Rattle.u_area.specs.declared.area.UArea.{UArea}
 use Rattle.sys_procs.specs.Process.{Process}
@@ -71,3 +73,17 @@ NoneInGraves processes = (s : ℕ) (p : Process) → slice_index_or processes s 
 -- the u area of a process whose call is done
 abbrev pub rested_area : UArea → UArea
 rested_area u = record u { pending = NOTHING_PENDING; call = replicate 8 0 }
+
+-- What the lines send with the end of the slot that has been taken, which is nothing where they don't send with it.
+abbrev pub sent_after : Unix → AllTold
+sent_after u = if is_sending u.timing then each_line sends u.lines else record { lines = u.lines; items = []; wakes = false }
+
+abbrev pub with_sent : Unix → Unix
+with_sent u = record u { lines = (sent_after u).lines }
+
+-- what is shown when a slot has been taken, and whether somebody is woken
+abbrev pub slot_items : Unix → List Item
+slot_items u = disk_lines u ++ (sent_after u).items
+
+abbrev pub slot_wakes : Unix → Bool
+slot_wakes u = not (length (disk_lines u) == 0) || (sent_after u).wakes

@@ -1,5 +1,5 @@
 //! The parts of a kernel, and what each event does to them.
-ghost use Rattle.std.specs.Prelude.{◌≡◌, ◌≢◌, ◌<◌, ◌≤◌, ℕ, Bool, IsTrue, true, false, None, Some, map};
+ghost use Rattle.std.specs.Prelude.{◌≡◌, ◌≢◌, ◌<◌, ◌≤◌, ℕ, Bool, IsTrue, true, false, None, Some, length, map};
 ghost use Rattle.v6_base.specs.Trace.{Took};
 ghost use Rattle.fs_nodes.specs.FileSystem.{SameRest};
 ghost use Rattle.pick_rules.specs.Choice.{chosen, settle};
@@ -30,7 +30,7 @@ use swap_sched::pass;
 use sys_procs::signal_line;
 use tty_line::Keyed;
 use u_area::{NOTHING_PENDING, UArea};
-use v6_base::{Chan, Entry, PanicKind, Slot, Trace};
+use v6_base::{Chan, Entry, LINES, PanicKind, Slot, Trace};
 
 /// How far a run has come, and what the next slot finds.
 #[derive(Clone, Copy)]
@@ -236,7 +236,7 @@ impl Machine {
         requires fresh { (unix_of self.old.world).timing.passed ≤ 3000000000 }
         ensures answer { result ≡ answer }
         ensures takes { (h : Happened) → IsStill h self.old.world → Takes (settled_after (after_slot h)) self.new.stage self.new.world }
-        ensures files { self.new.world.files ≡ self.old.world.files }
+        ensures tree { self.new.world.files.tree ≡ self.old.world.files.tree }
         ensures items { (h : Happened) → IsStill h self.old.world
             → Took (T.taken trace.old) (settled_after (after_slot h)).items (T.taken trace.new) }
         ensures frame { T.leads_to trace.old trace.new }
@@ -260,7 +260,7 @@ impl Machine {
         ensures answer { result ≡ answer }
         ensures takes { (h : Happened) → IsStill h (one_before self.old.world)
             → Takes (settled_after (after_slot h)) self.new.stage self.new.world }
-        ensures files { self.new.world.files ≡ self.old.world.files }
+        ensures tree { self.new.world.files.tree ≡ self.old.world.files.tree }
         ensures items { (h : Happened) → IsStill h (one_before self.old.world)
             → Took (T.taken trace.old) (settled_after (after_slot h)).items (T.taken trace.new) }
         ensures frame { T.leads_to trace.old trace.new }

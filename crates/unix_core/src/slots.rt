@@ -1,7 +1,10 @@
 //! The slots that have been taken, who waits for the disk up to one of them, and with which of them the lines send: `iowait` and
 //! `iodone` in Lions' Commentary, `bio.c`; `ttstart` and `ttrstrt` there, `tty.c`.
-ghost use Rattle.std.specs.Prelude.{◌≡◌, ◌≢◌, ◌<◌, ◌≤◌, ◌+◌, ◌*◌, ◌==◌, ◌||◌, ℕ, true, false, not, length, map, min, None, slice_index, slice_index_or};
-ghost use Rattle.v6_base.specs.Trace.{Took};
+ghost use Rattle.std.specs.Prelude.{◌≡◌, ◌≢◌, ◌<◌, ◌≤◌, ◌+◌, ◌-◌, ◌*◌, ◌%◌, ◌==◌, ◌||◌, ℕ, true, false, not, length, map, min, None, slice_index, slice_index_or};
+ghost use Rattle.v6_base.specs.Trace.{Took, entries_of};
+ghost use Rattle.tty_line.specs.Said.{sends};
+ghost use Rattle.lines_eight.specs.Told.{each_line};
+ghost use Rattle.pick_rules.specs.Table.{IsTable};
 ghost use Rattle.pick_rules.specs.Effects.{Show};
 ghost use Rattle.pick_rules.specs.Logged.{logged};
 ghost use Rattle.pick_rules.specs.Priority.{pribio};
@@ -10,13 +13,15 @@ ghost use Rattle.sys_procs.specs.World.{clock_of};
 ghost use Rattle.abstract_unix.specs.Unix.{Unix, process_of, with_process};
 ghost use Rattle.abstract_unix.specs.Steps.{returns};
 ghost use Rattle.abstract_unix.specs.Calls.{waiting_area, waits_for_disk};
-ghost use Rattle.abstract_unix.specs.Turn.{with_slot, waits_until, disk_lines};
+ghost use Rattle.abstract_unix.specs.Turn.{with_slot, waits_until};
+ghost use Rattle.abstract_unix.specs.Outside.{turned_to, paced_of};
 ghost use Rattle.pick_rules.specs.Table.{row_at};
 ghost use Rattle.sys_procs.specs.Agree.{Lives, kind_of_stat, board_of};
 ghost use Rattle.sys_procs.specs.Handed.{AreProcs};
 ghost use Rattle.sys_procs.specs.Signals.{is_meant};
-ghost use Rattle.unix_core.specs.Parts.{unix_of, board_in, one_before, IsGood, IsReady, HasCome};
-ghost use Rattle.unix_core.specs.Slots.{passed_in, CanWait, IsCounted, HasWaited, rested_area, processes_of, woken_with, AreDueFrom, NoneInGraves};
+ghost use Rattle.unix_core.specs.Parts.{unix_of, board_in, system_at, one_before, IsGood, IsReady, HasCome};
+ghost use Rattle.unix_core.specs.Passing.{all_woken};
+ghost use Rattle.unix_core.specs.Slots.{passed_in, timing_in, NoneSend, CanWait, IsCounted, HasWaited, rested_area, processes_of, woken_with, AreDueFrom, NoneInGraves, sent_after, with_sent, slot_items, slot_wakes};
 ghost use Rattle.unix_core.specs.declared.slots.TheConstants.{NEVER};
 
 use crate::settling::wake;
@@ -329,12 +334,12 @@ fn send_lines<T: Trace>(lines: &mut Lines, table: &mut Table, trace: &mut T) -> 
 /// Tells whether anybody is woken.
 fn turn_lines<T: Trace>(lines: &mut Lines, on: bool, table: &mut Table, trace: &mut T) -> bool
     requires table { IsTable table.old }
-    ensures lines { lines.new ≡ (each_line (turned on) lines.old).lines }
-    ensures any { result ≡ (each_line (turned on) lines.old).wakes }
+    ensures lines { lines.new ≡ (each_line (turned_to on) lines.old).lines }
+    ensures any { result ≡ (each_line (turned_to on) lines.old).wakes }
     ensures good { IsTable table.new }
-    ensures table { table.new ≡ all_woken table.old (entries_of (each_line (turned on) lines.old).items) }
+    ensures table { table.new ≡ all_woken table.old (entries_of (each_line (turned_to on) lines.old).items) }
     ensures same { result ≡ false → table.new ≡ table.old }
-    ensures items { Took (T.taken trace.old) (each_line (turned on) lines.old).items (T.taken trace.new) }
+    ensures items { Took (T.taken trace.old) (each_line (turned_to on) lines.old).items (T.taken trace.new) }
     ensures frame { T.leads_to trace.old trace.new }
 {
     let mut any = false;
@@ -349,6 +354,20 @@ fn turn_lines<T: Trace>(lines: &mut Lines, on: bool, table: &mut Table, trace: &
 /// Sets after how many slots the lines send, counted from now on: 0 is none. Where bytes waited then they go out, and who waits for room
 /// is woken. Tells whether anybody is.
 pub(crate) fn set_pace<T: Trace>(world: &mut World, n: u32, trace: &mut T) -> bool
+    requires good { IsGood world.old }
+    requires counted { IsCounted world.old.slots (unix_of world.old) }
+    requires fresh { passed_in world.old.slots ≤ 3000000001 }
+    requires few { n ≤ 999999999 }
+    ensures unix { unix_of world.new ≡ (paced_of (system_at world.old) n).unix }
+    ensures board { board_in world.new ≡ (paced_of (system_at world.old) n).log.board }
+    ensures settles { result ≡ (paced_of (system_at world.old) n).settles }
+    ensures good { IsGood world.new }
+    ensures counted { IsCounted world.new.slots (unix_of world.new) }
+    ensures running { world.new.procs.table.running ≡ world.old.procs.table.running }
+    ensures tree { world.new.files.tree ≡ world.old.files.tree }
+    ensures same { result ≡ false → world.new.procs ≡ world.old.procs }
+    ensures items { Took (T.taken trace.old) (paced_of (system_at world.old) n).log.items (T.taken trace.new) }
+    ensures frame { T.leads_to trace.old trace.new }
 {
     world.slots.set_pace(n);
     turn_lines(
@@ -361,6 +380,29 @@ pub(crate) fn set_pace<T: Trace>(world: &mut World, n: u32, trace: &mut T) -> bo
 
 /// The lines send with the end of the slot of this number, where it is one of those with which they do. Tells whether anybody is woken.
 fn send_after<T: Trace>(world: &mut World, passed: u32, trace: &mut T) -> bool
+    requires good { IsGood world.old }
+    requires passed { passed_in world.old.slots ≡ passed }
+    requires within { world.old.slots.left ≤ world.old.slots.due }
+    requires before { passed < world.old.slots.due }
+    requires fresh { passed ≤ 3000000001 }
+    requires pace { world.old.slots.pace ≤ 999999999 }
+    requires set { world.old.slots.set_at ≤ passed }
+    ensures unix { unix_of world.new ≡ with_sent (unix_of world.old) }
+    ensures board { board_in world.new
+        ≡ (logged {W = Unix} (board_in world.old) (map Show (sent_after (unix_of world.old)).items)).board }
+    ensures any { result ≡ (sent_after (unix_of world.old)).wakes }
+    ensures good { IsGood world.new }
+    ensures timing { timing_in world.new.slots ≡ timing_in world.old.slots }
+    ensures within { world.new.slots.left ≤ world.new.slots.due }
+    ensures sooner { world.new.slots.due ≤ world.old.slots.due }
+    ensures later { passed < world.new.slots.due }
+    ensures set { world.new.slots.set_at ≡ world.old.slots.set_at }
+    ensures sends { NoneSend passed world.new.slots }
+    ensures running { world.new.procs.table.running ≡ world.old.procs.table.running }
+    ensures tree { world.new.files.tree ≡ world.old.files.tree }
+    ensures same { result ≡ false → world.new.procs ≡ world.old.procs }
+    ensures items { Took (T.taken trace.old) (sent_after (unix_of world.old)).items (T.taken trace.new) }
+    ensures frame { T.leads_to trace.old trace.new }
 {
     if world.slots.pace == 0 {
         return false;
@@ -383,16 +425,18 @@ pub(crate) fn reach<T: Trace>(world: &mut World, trace: &mut T) -> bool
     requires good { IsGood (one_before world.old) }
     requires counted { IsCounted (one_before world.old).slots (unix_of (one_before world.old)) }
     requires fresh { world.old.slots.due ≤ 3000000001 }
-    ensures unix { unix_of world.new ≡ unix_of world.old }
+    ensures unix { unix_of world.new ≡ with_sent (unix_of world.old) }
     ensures board { board_in world.new
-        ≡ (logged {W = Unix} (board_in world.old) (map Show (disk_lines (unix_of world.old)))).board }
-    ensures any { result ≡ not (length (disk_lines (unix_of world.old)) == 0) }
+        ≡ (logged {W = Unix} (board_in world.old) (map Show (slot_items (unix_of world.old)))).board }
+    ensures any { result ≡ slot_wakes (unix_of world.old) }
     ensures good { IsGood world.new }
     ensures counted { IsCounted world.new.slots (unix_of world.new) }
     ensures running { world.new.procs.table.running ≡ world.old.procs.table.running }
-    ensures others { world.new ≡ record world.old { procs = world.new.procs; slots = world.new.slots } }
+    ensures tree { world.new.files.tree ≡ world.old.files.tree }
+    ensures others { world.new ≡ record world.old {
+        files = record world.old.files { lines = world.new.files.lines }; procs = world.new.procs; slots = world.new.slots } }
     ensures same { result ≡ false → world.new.procs ≡ world.old.procs }
-    ensures items { Took (T.taken trace.old) (disk_lines (unix_of world.old)) (T.taken trace.new) }
+    ensures items { Took (T.taken trace.old) (slot_items (unix_of world.old)) (T.taken trace.new) }
     ensures frame { T.leads_to trace.old trace.new }
 {
     let passed = world.slots.due;
@@ -410,15 +454,16 @@ pub(crate) fn count<T: Trace>(world: &mut World, trace: &mut T) -> bool
     requires good { IsGood world.old }
     requires counted { IsCounted world.old.slots (unix_of world.old) }
     requires fresh { (unix_of world.old).timing.passed ≤ 3000000000 }
-    ensures unix { unix_of world.new ≡ with_slot (unix_of world.old) }
+    ensures unix { unix_of world.new ≡ with_sent (with_slot (unix_of world.old)) }
     ensures board { board_in world.new
-        ≡ (logged {W = Unix} (board_in world.old) (map Show (disk_lines (with_slot (unix_of world.old))))).board }
-    ensures any { result ≡ not (length (disk_lines (with_slot (unix_of world.old))) == 0) }
+        ≡ (logged {W = Unix} (board_in world.old) (map Show (slot_items (with_slot (unix_of world.old))))).board }
+    ensures any { result ≡ slot_wakes (with_slot (unix_of world.old)) }
     ensures good { IsGood world.new }
     ensures counted { IsCounted world.new.slots (unix_of world.new) }
     ensures running { world.new.procs.table.running ≡ world.old.procs.table.running }
-    ensures others { world.new ≡ record world.old { procs = world.new.procs; slots = world.new.slots } }
-    ensures items { Took (T.taken trace.old) (disk_lines (with_slot (unix_of world.old))) (T.taken trace.new) }
+    ensures others { world.new ≡ record world.old {
+        files = record world.old.files { lines = world.new.files.lines }; procs = world.new.procs; slots = world.new.slots } }
+    ensures items { Took (T.taken trace.old) (slot_items (with_slot (unix_of world.old))) (T.taken trace.new) }
     ensures frame { T.leads_to trace.old trace.new }
 {
     world.slots.left -= 1;
