@@ -1,5 +1,5 @@
 -- Decimal and octal digits, and the number that they write.
-use Rattle.std.proofs.Common.{◌≡◌, ◌≤◌, ◌<◌, ◌+◌, ◌*◌, ◌-◌, ◌^◌, ℕ, true, List, [], ◌∷◌, length, take, get_or, arith}
+use Rattle.std.proofs.Common.{◌≡◌, ◌≤◌, ◌<◌, ◌+◌, ◌*◌, ◌-◌, ◌^◌, ◌==◌, ◌&&◌, nat_le, ℕ, true, List, [], ◌∷◌, length, take, get_or, arith}
 use Rattle.std.proofs.lemmas.Grind.{common_steps}
 use Rattle.std.proofs.lemmas.Int.Digits.{digits_value-lt, digits_value_more}
 use Rattle.std.proofs.lemmas.Str.Parse.{digits_value-take-le, digit_at}
@@ -86,3 +86,7 @@ number_small text is =
     let whole = digits_value-lt 10 text (all_digits text pass) in
     let power : 10 ^ length text ≤ 10 ^ 9 = pow-le-pow_right (omega arith) short in
     omega arith
+
+-- a digit of at most 7
+pub digit_small : (text : List ℕ) → ((length text == 1) && list_all is_octal_digit text && nat_le (digits_value 8 text) 7) ≡ true → digits_value 8 text < 8
+digit_small text is = let few : digits_value 8 text ≤ 7 = grind (arith, nat_tests) in omega (arith, few)

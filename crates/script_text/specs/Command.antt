@@ -4,7 +4,7 @@ use Rattle.std.specs.List.{list_all, starts_with}
 use Rattle.std.specs.Option.{option_map}
 use Rattle.script_text.specs.declared.script.TheConstants.{MAX_LINE}
 use Rattle.script_text.specs.declared.script.Event.{Event}
-use Rattle.script_text.specs.declared.script.Event.TheVariants.{Clock, Run, Tick, Byte, Switch, Disk, Pace}
+use Rattle.script_text.specs.declared.script.Event.TheVariants.{Clock, Run, Tick, Byte, Switch, Disk, Pace, Line, Hangup}
 use Rattle.script_text.specs.Number.{number_of, octal_of}
 
 -- a line is this word alone
@@ -45,8 +45,10 @@ command_of line =
     if begins_with (codes "byte") line then one Byte (octal_of 3 0o377 (after_word (codes "byte") line)) else (
     if begins_with (codes "switch") line then one Switch (octal_of 6 0o177777 (after_word (codes "switch") line)) else (
     if begins_with (codes "disk") line then one Disk (number_of (after_word (codes "disk") line)) else (
-    if begins_with (codes "pace") line then one Pace (number_of (after_word (codes "pace") line))
-    else None)))))))))
+    if begins_with (codes "pace") line then one Pace (number_of (after_word (codes "pace") line)) else (
+    if begins_with (codes "line") line then one Line (octal_of 1 0o7 (after_word (codes "line") line)) else (
+    if begins_with (codes "hangup") line then one Hangup (octal_of 1 0o7 (after_word (codes "hangup") line))
+    else None)))))))))))
 
 -- the events of a line, where it is one
 abbrev pub events_of_line : List ℕ → Option (List Event)

@@ -2,7 +2,7 @@
 use Rattle.std.specs.Prelude.{◌≡◌, ⊤, ℕ, ◌<◌, ◌+◌, nat_lt, if◌then◌else◌, Option, Some, None, Result, Ok, Err, List, [], ◌∷◌, ◌++◌, length, sum_by}
 use Rattle.script_text.specs.declared.script.TheConstants.{MAX_BYTES, MAX_SLOTS}
 use Rattle.script_text.specs.declared.script.Event.{Event}
-use Rattle.script_text.specs.declared.script.Event.TheVariants.{Clock, Run, Tick, Byte, Switch, Disk, Pace}
+use Rattle.script_text.specs.declared.script.Event.TheVariants.{Clock, Run, Tick, Byte, Switch, Disk, Pace, Line, Hangup}
 use Rattle.script_text.specs.declared.script.ScriptFault.{ScriptFault}
 use Rattle.script_text.specs.declared.script.ScriptFault.TheVariants.{TooLong, BadLine, TooManySlots, NoMemory}
 use Rattle.script_text.specs.Lines.{lines_of}
@@ -16,12 +16,16 @@ slots_of (Byte b) = 0
 slots_of (Switch w) = 0
 slots_of (Disk n) = 0
 slots_of (Pace n) = 0
+slots_of (Line l) = 0
+slots_of (Hangup l) = 0
 
--- a transfer from the disk takes less than 10^9 slots, and so does a byte of a line
+-- A transfer from the disk takes less than 10^9 slots, and so does a byte of a line. There are eight lines.
 abbrev pub AreRates : List Event → Type 0
 AreRates [] = ⊤
 AreRates (Disk n ∷ events) = (n < 1000000000) × AreRates events
 AreRates (Pace n ∷ events) = (n < 1000000000) × AreRates events
+AreRates (Line l ∷ events) = (l < 8) × AreRates events
+AreRates (Hangup l ∷ events) = (l < 8) × AreRates events
 AreRates (event ∷ events) = AreRates events
 
 -- the events of a line, and then those of the lines after it, where there is no fault

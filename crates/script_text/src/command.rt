@@ -109,6 +109,20 @@ fn pace(text: &[u8]) -> Option<Command<'_>>
     Some(Command::One(Event::Pace(slots)))
 }
 
+fn on_line(text: &[u8]) -> Option<Command<'_>>
+    ensures events { option_map events_of result ≡ one event.Line (octal_of 1 0o7 text.now) }
+{
+    let number = octal_of(1, 0o7, text)?;
+    Some(Command::One(Event::Line(number as u8)))
+}
+
+fn hangup(text: &[u8]) -> Option<Command<'_>>
+    ensures events { option_map events_of result ≡ one event.Hangup (octal_of 1 0o7 text.now) }
+{
+    let number = octal_of(1, 0o7, text)?;
+    Some(Command::One(Event::Hangup(number as u8)))
+}
+
 fn command_of(line: &[u8]) -> Option<Command<'_>>
     ensures events { option_map events_of result ≡ command_of line.now }
 {
@@ -132,6 +146,10 @@ fn command_of(line: &[u8]) -> Option<Command<'_>>
         disk(after(b"disk ", line))
     } else if line.starts_with(b"pace ") {
         pace(after(b"pace ", line))
+    } else if line.starts_with(b"line ") {
+        on_line(after(b"line ", line))
+    } else if line.starts_with(b"hangup ") {
+        hangup(after(b"hangup ", line))
     } else {
         None
     }

@@ -33,6 +33,10 @@ pub enum Event {
     Disk(u32),
     /// From now on each line sends a byte after every so manyth slot, counted anew. 0 is none: bytes don't wait.
     Pace(u32),
+    /// From now on what is typed is typed on the terminal line of this number, below 8. At first that is line 0.
+    Line(u8),
+    /// The terminal line of this number, below 8, hangs up.
+    Hangup(u8),
 }
 
 /// Why a script isn't read.

@@ -40,6 +40,9 @@ rates_one ask.Tick events all = tt
 rates_one (ask.Byte b) events all = tt
 rates_one (ask.Switch w) events all = tt
 rates_one (ask.Disk n) events all = (all.0, tt)
+rates_one (ask.Pace n) events all = (all.0, tt)
+rates_one (ask.Line l) events all = (all.0, tt)
+rates_one (ask.Hangup l) events all = (all.0, tt)
 
 rates_rest : (event : Event) (events : List Event) → AreRates (event ∷ events) → AreRates events
 rates_rest (ask.Clock n) events all = all
@@ -48,6 +51,9 @@ rates_rest ask.Tick events all = all
 rates_rest (ask.Byte b) events all = all
 rates_rest (ask.Switch w) events all = all
 rates_rest (ask.Disk n) events all = all.1
+rates_rest (ask.Pace n) events all = all.1
+rates_rest (ask.Line l) events all = all.1
+rates_rest (ask.Hangup l) events all = all.1
 
 module _ (m : System) (all : List Event) (i : ℕ) (event d : Event) (inside : i < length all) (is : event ≡ get_or all i d) (can : CanTake m (drop i all)) where
   split : drop i all ≡ event ∷ drop (i + 1) all

@@ -9,7 +9,7 @@ use Rattle.script_text.specs.declared.script.Event.TheVariants as ask
 use Rattle.abstract_unix.specs.declared.ends.Ends.{Ends}
 use Rattle.abstract_unix.specs.declared.ends.Ends.TheVariants.{AtEnd}
 use Rattle.abstract_unix.specs.Unix.{System}
-use Rattle.abstract_unix.specs.Runs.{Event, Slot, Course, begun}
+use Rattle.abstract_unix.specs.Runs.{Event, Slot, Byte, Course, begun}
 use Rattle.v6_run.specs.Events.{Clock, is_ticked, slot_with, slot_numbered, happens, clock_after, events_from, events_of}
 use Rattle.v6_run.specs.Clocks.{TicksAlike}
 use Rattle.v6_run.specs.Courses.{HasRun}
@@ -41,17 +41,23 @@ module _ (c d : Clock) (alike : TicksAlike c d) where
       ap (λ k. flat_map (slot_numbered k) (range_with_len (c.slots + 1) n)) alike.every
       ∙ slots_alike d.every (c.slots + 1) (d.slots + 1) n (λ some. next_alike d.every c.slots d.slots 1 (slots_alike_at some))
   happens_alike ask.Tick = refl
-  happens_alike (ask.Byte byte) = refl
+  happens_alike (ask.Byte byte) = ap (λ l. Byte l byte ∷ []) alike.line
   happens_alike (ask.Switch word) = refl
   happens_alike (ask.Disk count) = refl
+  happens_alike (ask.Pace count) = refl
+  happens_alike (ask.Line l) = refl
+  happens_alike (ask.Hangup l) = refl
 
   after_alike : (event : asked.Event) → TicksAlike (clock_after c event) (clock_after d event)
-  after_alike (ask.Clock every) = record { every = refl; slots = λ _. refl }
-  after_alike (ask.Run n) = record { every = alike.every; slots = λ some. next_alike c.every c.slots d.slots n (alike.slots some) }
+  after_alike (ask.Clock every) = record { every = refl; line = alike.line; slots = λ _. refl }
+  after_alike (ask.Run n) = record { every = alike.every; line = alike.line; slots = λ some. next_alike c.every c.slots d.slots n (alike.slots some) }
   after_alike ask.Tick = alike
   after_alike (ask.Byte byte) = alike
   after_alike (ask.Switch word) = alike
   after_alike (ask.Disk count) = alike
+  after_alike (ask.Pace count) = alike
+  after_alike (ask.Line l) = record { every = alike.every; line = refl; slots = alike.slots }
+  after_alike (ask.Hangup l) = alike
 
 events_alike : (c d : Clock) (events : List asked.Event) → TicksAlike c d → events_from c events ≡ events_from d events
 events_alike c d [] alike = refl

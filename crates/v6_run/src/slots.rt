@@ -134,13 +134,14 @@ fn run_line<T: Trace>(kernel: &mut Kernel, clock: &mut Clock, count: u32, trace:
     ensures frame { T.leads_to trace.old trace.new }
     ensures clock { TicksAlike (clock_after (clock_value clock.old) (Event.Run count)) (clock_value clock.new) }
 {
-    let (every, since) = (clock.every, clock.since);
+    let (every, since, line) = (clock.every, clock.since, clock.line);
     if every == 0 {
         return run_slots(kernel, count, trace);
     }
     *clock = Clock {
         every,
         since: since_after(every, since, count),
+        line,
     };
     run_clocked(kernel, every, since, count, trace)
 }
@@ -159,13 +160,17 @@ fn take_event<T: Trace>(kernel: &mut Kernel, clock: &mut Clock, event: Event, tr
 {
     match event {
         Event::Clock(every) => {
-            *clock = Clock { every, since: 0 };
+            *clock = Clock {
+                every,
+                since: 0,
+                line: clock.line,
+            };
             Ends::AtEnd
         }
         Event::Run(count) => run_line(kernel, clock, count, trace),
         Event::Tick => ends_by(kernel.tick(trace)),
         Event::Byte(byte) => {
-            kernel.typed(byte, trace);
+            kernel.typed_on(clock.line, byte, trace);
             Ends::AtEnd
         }
         Event::Switch(word) => {
@@ -178,6 +183,14 @@ fn take_event<T: Trace>(kernel: &mut Kernel, clock: &mut Clock, event: Event, tr
         }
         Event::Pace(count) => {
             kernel.set_pace(count, trace);
+            Ends::AtEnd
+        }
+        Event::Line(l) => {
+            clock.line = l;
+            Ends::AtEnd
+        }
+        Event::Hangup(l) => {
+            kernel.hangup(l, trace);
             Ends::AtEnd
         }
     }
@@ -193,7 +206,11 @@ fn run_events<T: Trace>(kernel: &mut Kernel, events: &[Event], trace: &mut T) ->
     ensures rest { KeepsRest kernel.old kernel.new }
     ensures frame { T.leads_to trace.old trace.new }
 {
-    let mut clock = Clock { every: 0, since: 0 };
+    let mut clock = Clock {
+        every: 0,
+        since: 0,
+        line: 0,
+    };
     'events: for event in events {
         match take_event(kernel, &mut clock, *event, trace) {
             Ends::AtEnd => {}

@@ -4,7 +4,7 @@ use Rattle.script_text.specs.declared.script.Event as asked
 use Rattle.script_text.specs.declared.script.Event.TheVariants as ask
 use Rattle.script_text.specs.Script.{slots_of, AreRates}
 use Rattle.abstract_unix.specs.Unix.{Timing, System}
-use Rattle.abstract_unix.proofs.Uncounted.{tick_timing, byte_timing}
+use Rattle.abstract_unix.proofs.Uncounted.{tick_timing, byte_timing, hangup_timing, pace_passed}
 use Rattle.abstract_unix.specs.Endings.{phase_after}
 use Rattle.abstract_unix.specs.Runs.{Tick}
 use Rattle.abstract_unix.proofs.RunsLemmas.{tick_told}
@@ -42,6 +42,20 @@ set_disk-requires-clause-most g c =
     let all : AreRates (ask.Disk c.in-Disk.count ∷ []) = subst (λ (e : asked.Event). AreRates (e ∷ [])) c.in-Disk.is c.requires.can.rates in
     let most = all.0 in omega (arith, most)
 
+pub set_pace-requires-clause-most : goal.set_pace-requires-clause-most
+set_pace-requires-clause-most g c =
+    let all : AreRates (ask.Pace c.in-Pace.count ∷ []) = subst (λ (e : asked.Event). AreRates (e ∷ [])) c.in-Pace.is c.requires.can.rates in
+    let most = all.0 in omega (arith, most)
+
+pub set_pace-requires-clause-fresh : goal.set_pace-requires-clause-fresh
+set_pace-requires-clause-fresh g c = let few = c.requires.can.fresh in omega (arith, few)
+
+-- a line's number is below 8
+pub hangup-requires-clause-line : goal.hangup-requires-clause-line
+hangup-requires-clause-line g c =
+    let all : AreRates (ask.Hangup c.in-Hangup.l ∷ []) = subst (λ (e : asked.Event). AreRates (e ∷ [])) c.in-Hangup.is c.requires.can.rates in
+    let few = all.0 in omega (arith, few)
+
 -- How many slots have been taken then.
 pub returns-in-Clock-clause-passed : goal.returns-in-Clock-clause-passed
 returns-in-Clock-clause-passed g c goes = let none = ap slots_of c.in-Clock.is in omega (arith, none)
@@ -64,8 +78,24 @@ returns-in-Tick-clause-passed g c goes =
 pub returns-in-Byte-clause-passed : goal.returns-in-Byte-clause-passed
 returns-in-Byte-clause-passed g c goes =
     let none = ap slots_of c.in-Byte.is in
-    let same = ap (λ (m : System). m.unix.timing.passed) c.typed.ensures.next
-    ∙ ap (λ (t : Timing). t.passed) (byte_timing c.args.kernel.now.system c.in-Byte.byte) in
+    let same = ap (λ (m : System). m.unix.timing.passed) c.typed_on.ensures.next
+    ∙ ap (λ (t : Timing). t.passed) (byte_timing c.args.kernel.now.system c.args.clock.now.line c.in-Byte.byte) in
+    omega (arith, none, same)
+
+pub returns-in-Pace-clause-passed : goal.returns-in-Pace-clause-passed
+returns-in-Pace-clause-passed g c goes =
+    let none = ap slots_of c.in-Pace.is in
+    let same = ap (λ (m : System). m.unix.timing.passed) c.set_pace.ensures.next ∙ pace_passed c.args.kernel.now.system c.in-Pace.count in
+    omega (arith, none, same)
+
+pub returns-in-Line-clause-passed : goal.returns-in-Line-clause-passed
+returns-in-Line-clause-passed g c goes = let none = ap slots_of c.in-Line.is in omega (arith, none)
+
+pub returns-in-Hangup-clause-passed : goal.returns-in-Hangup-clause-passed
+returns-in-Hangup-clause-passed g c goes =
+    let none = ap slots_of c.in-Hangup.is in
+    let same = ap (λ (m : System). m.unix.timing.passed) c.hangup.ensures.next
+    ∙ ap (λ (t : Timing). t.passed) (hangup_timing c.args.kernel.now.system c.in-Hangup.l) in
     omega (arith, none, same)
 
 pub returns-in-Switch-clause-passed : goal.returns-in-Switch-clause-passed
