@@ -52,7 +52,7 @@ module _ (s : ℕ) (seen : Seen) where
       → AptSteps s seen (ends_after u s sig (core_file (handed_of u (process_of u s)) u.clock.time))
   core_ends u sig numbers i =
       exits_apt s (with_handed u s core.state) seen (signal_status u s sig + (if is_written core.answer then dumped else 0))
-      (record { count = kept.state.numbers.count; pipes = kept.state.numbers.pipes })
+      (record { count = kept.state.numbers.count; eight = kept.state.numbers.eight; pipes = kept.state.numbers.pipes })
       (handed_in s u seen false core.state 0 i kept.state.same.size (kept.state.same.pending ∙ no_pending s u seen i))
     where
       core : Did
@@ -96,7 +96,7 @@ module _ (s : ℕ) (seen : Seen) where
   delivers_apt u sig numbers i = by (handler_of (process_of u s).u sig == 0)
     where
       by : (b : Bool) → AptBegun s seen (cond b (ends_by (heeds u s) s sig) (catches (heeds u s) s sig))
-      by true = core_apt (heeds u s) sig (record { count = numbers.count; pipes = numbers.pipes }) (heeded u i)
+      by true = core_apt (heeds u s) sig (record { count = numbers.count; eight = numbers.eight; pipes = numbers.pipes }) (heeded u i)
       by false = routine_apt _ sig refl (grown_or_not_apt s seen (heeds u s) (signal_stack (process_of (heeds u s) s).u) (heeded u i))
 
   pub due_apt : (u : Unix) → HasNumbers (handed_of u (process_of u s)) → Calling s (world_of u) seen → AptBegun s seen (delivers_due u s)

@@ -1,5 +1,5 @@
 -- Each event of a run adds lines that fit, as long as the run goes on: the slots.
-use Rattle.std.proofs.Common.{◌≡◌, ◌∙◌, ◌≤◌, ◌+◌, ◌&&◌, not, cond, inl, inr, ℕ, zero, suc, Bool, true, false, List, [], ◌∷◌, ◌++◌, append-nil, fold, map, filter, get_or, Option, Some, None, refl, sym, ap, subst, arith}
+use Rattle.std.proofs.Common.{◌≡◌, ◌∙◌, ◌≤◌, ◌+◌, ◌&&◌, ◌||◌, not, length, cond, inl, inr, ℕ, zero, suc, Bool, true, false, List, [], ◌∷◌, ◌++◌, append-nil, fold, map, filter, get_or, Option, Some, None, refl, sym, ap, subst, arith}
 use Rattle.std.specs.List.{range_with_len}
 use Rattle.v6_base.specs.declared.entry.Chan.TheVariants.{Disk}
 use Rattle.v6_base.specs.declared.entry.Entry.TheVariants as entry
@@ -29,12 +29,15 @@ use Rattle.abstract_unix.specs.declared.ends.Ends.TheVariants.{AtEnd}
 use Rattle.abstract_unix.specs.Unix.{Unix, System}
 use Rattle.abstract_unix.specs.Steps.{Steps}
 use Rattle.abstract_unix.specs.Endings.{is_early}
-use Rattle.abstract_unix.specs.Turn.{Happened, Turn, stays, settling, happens, with_slot, counted, followed, waits_until, disk_lines, wakes_disks, after_slot, whole_slot, settled_after, end_effects, ending_of, ending_by, settled_as, settled, turn_of, passes, pass_of, slot_of}
+use Rattle.tty_line.specs.Said.{sends}
+use Rattle.lines_eight.specs.Told.{AllTold, each_line}
+use Rattle.abstract_unix.specs.Turn.{Happened, Turn, stays, settling, happens, with_slot, counted, followed, waits_until, disk_lines, wakes_disks, is_sending, sends_lines, sends_after, after_slot, whole_slot, settled_after, end_effects, ending_of, ending_by, settled_as, settled, turn_of, passes, pass_of, slot_of}
 use Rattle.abstract_unix.proofs.Sitting.{seats_of, all_sized, runner_there, runner_alive}
 use Rattle.abstract_unix.proofs.Steps.{GoesOn, IsCalm, AptSteps}
 use Rattle.abstract_unix.proofs.Passing.{Passed, pass_passes}
 use Rattle.abstract_unix.proofs.Turning.{turn_apt}
 use Rattle.abstract_unix.proofs.Tidy.{IsTidy}
+use Rattle.abstract_unix.proofs.Telling.{lines_apt, lines_quiet}
 use Rattle.abstract_unix.proofs.TidyTurns.{Runs}
 use Rattle.abstract_unix.proofs.TidySteps.{begins_numbers}
 
@@ -121,7 +124,7 @@ pub shown_stop : (b : Board) (es : List (Effect Unix)) → AreShown es → (logg
 shown_stop b es h = shown_on [] b es h
 
 -- an event whose effects are apt
-ends_none : (Q : Seen → Type 0) (o : Option (Stop Unix)) (seen : Seen) → o ≡ None → Ends Q o seen → Q seen
+pub ends_none : (Q : Seen → Type 0) (o : Option (Stop Unix)) (seen : Seen) → o ≡ None → Ends Q o seen → Q seen
 ends_none Q None seen e h = h
 ends_none Q (Some stop) seen e h = absurd (cc e)
 
@@ -309,19 +312,27 @@ wakes_all v seen (s ∷ slots) all p =
     wake_apt (Paused v) seen (Disk s) (map Show (map (λ s. Log (entry.Wake (Disk s))) slots)) p.going all.0
     (wakes_all v (seen_after seen (entry.Wake (Disk s))) slots all.1 (wake_paused v seen (Disk s) p))
 
-wakes_shown : (slots : List ℕ) → AreShown (map Show (map (λ s. Log (entry.Wake (Disk s))) slots))
-wakes_shown [] = tt
-wakes_shown (s ∷ slots) = wakes_shown slots
+pub all_shown : (items : List Item) → AreShown (map Show items)
+all_shown [] = tt
+all_shown (item ∷ items) = all_shown items
 
--- Effects that follow, by which the run goes on.
-followed_came : (seen : Seen) (h : Happened) (es : List (Effect Unix)) → h.ending ≡ AtEnd → Came seen h → AreShown es
-    → ((now : Seen) → Paused (seats_of h.unix) now → Apt (Paused (seats_of h.unix)) now es) → Came seen (followed h es)
-followed_came seen h [] goes c shown apt = c
-followed_came seen h (e ∷ es) goes c shown apt = record {
+either_no : (x y : Bool) → (x || y) ≡ false → (x ≡ false) × (y ≡ false)
+either_no true y e = absurd (cc e)
+either_no false y e = (refl, e)
+
+-- Effects that follow, by which the run goes on. Where they wake nobody, who is where stays as it was.
+followed_came : (seen : Seen) (h : Happened) (wakes : Bool) (es : List (Effect Unix)) → h.ending ≡ AtEnd → Came seen h → AreShown es
+    → ((now : Seen) → Paused (seats_of h.unix) now → Apt (Paused (seats_of h.unix)) now es)
+    → (wakes ≡ false → (now : Seen) → Holds (seats_of h.unix) now → Apt (Holds (seats_of h.unix)) now es) → Came seen (followed wakes h es)
+followed_came seen h wakes [] goes c shown apt quiet = c
+followed_came seen h wakes (e ∷ es) goes c shown apt quiet = record {
   fit = fit_items seen h.log.items l.items c.fit f.fit;
   board = ap (λ (x : Seen). x.board) after ∙ f.board;
   goes = λ x. subst (Paused (seats_of h.unix)) (sym after) (ends_none (Paused (seats_of h.unix)) l.stop (seen_items now l.items) stop f.ends);
-  rests = λ x calls. absurd (cc calls);
+  rests = λ x calls.
+      let no = either_no wakes h.settles calls in
+      subst (Holds (seats_of h.unix)) (sym after) (ends_none (Holds (seats_of h.unix)) l.stop (seen_items now l.items) stop
+      (fitted (Holds (seats_of h.unix)) (quiet no.0 now (c.rests goes no.1))).ends);
   over = λ kind x. absurd (let other = sym goes ∙ x in cc other);
 }
   where
@@ -337,27 +348,65 @@ followed_came seen h (e ∷ es) goes c shown apt = record {
     stop : l.stop ≡ None
     stop = shown_stop h.log.board (e ∷ es) shown
 
+    fitted : (Q : Seen → Type 0) → Apt Q now (e ∷ es) → Fitted Q now l
+    fitted Q a = subst (λ b. Fitted Q now (logged b (e ∷ es))) c.board (apt_fits Q now (e ∷ es) a)
+
     f : Fitted (Paused (seats_of h.unix)) now l
-    f = subst (λ b. Fitted (Paused (seats_of h.unix)) now (logged b (e ∷ es))) c.board
-        (apt_fits (Paused (seats_of h.unix)) now (e ∷ es) (apt now (c.goes goes)))
+    f = fitted (Paused (seats_of h.unix)) (apt now (c.goes goes))
 
 -- a slot that counts
 counted_came : (seen : Seen) (h : Happened) → Came seen h → Came seen (counted h)
 counted_came seen h c = record { fit = c.fit; board = c.board; goes = c.goes; rests = c.rests; over = c.over }
 
-pub after_came : (seen : Seen) (h : Happened) → Came seen h → Came seen (after_slot h)
-after_came seen h c = by h.ending refl
+disks_came : (seen : Seen) (h : Happened) → h.ending ≡ AtEnd → Came seen h → Came seen (wakes_disks h)
+disks_came seen h goes c =
+    let slots : List ℕ = meant_in (waits_until h.unix.timing.passed) h.unix.processes in
+    followed_came seen h true (map Show (disk_lines h.unix)) goes c (all_shown (disk_lines h.unix))
+    (λ now p. wakes_all (seats_of h.unix) now slots (meant_slots (waits_until h.unix.timing.passed) h.unix.processes) p)
+    (λ none. absurd (cc none))
+
+-- the lines send
+sends_came : (seen : Seen) (h : Happened) → h.ending ≡ AtEnd → length h.unix.lines ≤ 8 → Came seen h → Came seen (sends_after h)
+sends_came seen h goes few c = by (is_sending h.unix.timing)
   where
-    by : (e : run.Ends) → h.ending ≡ e → Came seen (cond (is_early e) h (wakes_disks (counted h)))
+    all : AllTold
+    all = each_line sends h.unix.lines
+
+    now : Happened
+    now = record h { unix = record h.unix { lines = all.lines } }
+
+    by : (b : Bool) → Came seen (cond b (sends_lines h) h)
+    by true =
+        followed_came seen now all.wakes (map Show all.items) goes
+        (record { fit = c.fit; board = c.board; goes = c.goes; rests = c.rests; over = c.over }) (all_shown all.items)
+        (λ at p. lines_apt (seats_of h.unix) sends h.unix.lines at few p)
+        (λ none at holds. lines_quiet (Holds (seats_of h.unix)) sends h.unix.lines at none holds)
+    by false = c
+
+-- effects that follow leave the Unix, and the run goes on
+pub followed_unix : (wakes : Bool) (h : Happened) (es : List (Effect Unix)) → (followed wakes h es).unix ≡ h.unix
+followed_unix wakes h [] = refl
+followed_unix wakes h (e ∷ es) = refl
+
+pub followed_ending : (wakes : Bool) (h : Happened) (es : List (Effect Unix)) → (followed wakes h es).ending ≡ h.ending
+followed_ending wakes h [] = refl
+followed_ending wakes h (e ∷ es) = refl
+
+pub after_came : (seen : Seen) (h : Happened) → (h.ending ≡ AtEnd → length h.unix.lines ≤ 8) → Came seen h → Came seen (after_slot h)
+after_came seen h few c = by h.ending refl
+  where
+    by : (e : run.Ends) → h.ending ≡ e → Came seen (cond (is_early e) h (sends_after (wakes_disks (counted h))))
     by AtEnd is =
-        let slots : List ℕ = meant_in (waits_until (with_slot h.unix).timing.passed) h.unix.processes in
-        followed_came seen (counted h) (map Show (disk_lines (with_slot h.unix))) is (counted_came seen h c) (wakes_shown slots)
-        (λ now p. wakes_all (seats_of h.unix) now slots (meant_slots (waits_until (with_slot h.unix).timing.passed) h.unix.processes) p)
+        let wakes : List (Effect Unix) = map Show (disk_lines (with_slot h.unix)) in
+        sends_came seen (wakes_disks (counted h)) (followed_ending true (counted h) wakes ∙ is)
+        (subst (λ (u : Unix). length u.lines ≤ 8) (sym (followed_unix true (counted h) wakes)) (few is))
+        (disks_came seen (counted h) is (counted_came seen h c))
     by (ends.Panic kind) is = c
 
 -- a slot, with what follows it
 pub slot_fine : (u : Unix) (seen : Seen) → IsTidy u → Holds (seats_of u) seen
+    → ((slot_of (system_at u seen) seen.board.table.running).ending ≡ AtEnd → length (slot_of (system_at u seen) seen.board.table.running).unix.lines ≤ 8)
     → FineTurn seen (settled_after (whole_slot (system_at u seen)))
-slot_fine u seen tidy h =
+slot_fine u seen tidy h few =
     let what : Happened = slot_of (system_at u seen) seen.board.table.running in
-    came_fine seen (after_slot what) (after_came seen what (slot_came u seen tidy h))
+    came_fine seen (after_slot what) (after_came seen what few (slot_came u seen tidy h))

@@ -1,6 +1,7 @@
 -- A run begins with a tidy Unix.
 use Rattle.std.proofs.Common.{◌≡◌, ◌∙◌, ◌≤◌, ◌+◌, ◌*◌, ◌==◌, ◌||◌, ℕ, zero, suc, not, nat_lt, Bool, true, false, List, [], ◌∷◌, length, map, filter, get_or, replicate, Option, Some, None, option_map, slice_index, refl, sym, ap, arith}
 use Rattle.std.proofs.lemmas.Bool.{ltb-false}
+use Rattle.std.proofs.lemmas.List.{length-replicate}
 use Rattle.std.proofs.lemmas.List.Elements.{All-from_get_or}
 use Rattle.std.proofs.lemmas.List.Sums.{sum_by-le}
 use Rattle.std.proofs.Math.ListN.{get_or-map}
@@ -14,6 +15,7 @@ use Rattle.fs_codec.specs.declared.super_block.SuperBlock.{SuperBlock}
 use Rattle.fs_codec.specs.declared.layout.TheConstants.{DISK_BYTES, SWAP_START, LIST_SIZE}
 use Rattle.fs_codec.specs.declared.fault.ImageFault.{ImageFault}
 use Rattle.fs_codec.specs.declared.fault.ImageFault.TheVariants.{TooLong, BadSuper, NoSwap, BlockTwice, NoRoot}
+use Rattle.tty_line.specs.Terminal.{first_terminal}
 use Rattle.u_area.specs.declared.layout.TheConstants.{NOTHING_PENDING}
 use Rattle.fs_laws.proofs.WholeLemmas.{two, five}
 use Rattle.open_files.specs.declared.file.OpenFile.{OpenFile}
@@ -68,9 +70,9 @@ get_same x zero k = refl
 get_same x (suc n) zero = refl
 get_same x (suc n) (suc k) = get_same x n k
 
-module _ (store : Store) (core : ℕ) where
+module _ (store : Store) (core lines : ℕ) where
   abbrev u : Unix
-  u = first_unix store core
+  u = first_unix store core lines
 
   no_file : (entry : ℕ) → file_at u.files entry ≡ None
   no_file entry = get_same {X = Option OpenFile} None 100 entry
@@ -110,8 +112,8 @@ module _ (store : Store) (core : ℕ) where
   user_first (suc zero) p e = let same : first_process ≡ p = cc e in ap (λ (x : Process). x.u.pending) (sym same)
   user_first (suc (suc k)) p e = absurd (let none : None ≡ Some p = sym (get_same {X = Option Process} None 48 k) ∙ e in cc none)
 
-  pub first_tidy : store.count ≤ 65535 → IsTidy u
-  first_tidy few = record {
+  pub first_tidy : store.count ≤ 65535 → lines ≤ 8 → IsTidy u
+  first_tidy few some = record {
     numbers = λ entry.
         let none : numbers_of (file_at u.files entry) ≡ 0 = ap numbers_of (no_file entry) in
         let names = nobody_names entry in
@@ -120,5 +122,6 @@ module _ (store : Store) (core : ℕ) where
     fifteen = told_first;
     waits = none_goes_on u user_first;
     count = few;
+    eight = let long = length-replicate lines first_terminal in omega (arith, long, some);
     pipes = λ entry file at pipe. absurd (let none : None ≡ Some file = sym (no_file entry) ∙ at in cc none);
   }

@@ -215,8 +215,7 @@ trapped_user m s can is lives ends = user_is (begins_turn m s).unix s (by (is_us
     by true user = instruction_trap s u (some_within u.processes s (process_of u s) is) (user_free u s user)
     by false user = resumed_trap s u can is lives
 
-pub key_goes_on : (keyed : Keyed) (u : Unix) → CanGoOn u → CanGoOn (with_key 0 keyed u)
-key_goes_on key.Nothing u can = can
-key_goes_on key.Ready u can = can
-key_goes_on key.Flushed u can = can
-key_goes_on (key.Signal n) u can = waited_goes_on u (with_key 0 (key.Signal n) u) can (key_waited (has_line 0) n u.processes) refl
+-- those who have a line have a signal
+pub line_goes_on : (l n : ℕ) (u : Unix) → CanGoOn u → CanGoOn (record u { processes = all_signalled (has_line l) n u.processes })
+line_goes_on l n u can =
+    waited_goes_on u (record u { processes = all_signalled (has_line l) n u.processes }) can (key_waited (has_line l) n u.processes) refl

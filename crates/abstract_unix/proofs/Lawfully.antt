@@ -33,14 +33,14 @@ use Rattle.abstract_unix.specs.declared.ends.Ends.TheVariants.{AtEnd}
 use Rattle.abstract_unix.specs.Endings.{is_whole, last_line}
 use Rattle.abstract_unix.specs.Unix.{Unix, System, no_texts}
 use Rattle.abstract_unix.specs.Turn.{Turn, settled_after, passes, pass_of}
-use Rattle.abstract_unix.specs.Runs.{first_unix, system_with, Event, Slot, Tick, Byte, Switch, Disk, event_of, Course, goes_on_by, unless_ended, after_event, course, started, boots}
+use Rattle.abstract_unix.specs.Runs.{first_unix, system_with, Event, Slot, Tick, Byte, Switch, Disk, Pace, Hangup, event_of, Course, goes_on_by, unless_ended, after_event, course, started, boots}
 use Rattle.abstract_unix.specs.Law.{log_of, LogsAreLawful}
 use Rattle.abstract_unix.proofs.Sitting.{seats_of}
 use Rattle.abstract_unix.proofs.Passing.{only_sleeps, pass_sleeps}
 use Rattle.abstract_unix.proofs.Events.{system_at, Stands, Fine, FineTurn, settles_fine, slot_fine}
-use Rattle.abstract_unix.proofs.Outside.{tick_fine, typed_fine, switched_fine, disk_set_fine}
+use Rattle.abstract_unix.proofs.Outside.{tick_fine, typed_fine, switched_fine, disk_set_fine, paced_fine, hangup_fine}
 use Rattle.abstract_unix.proofs.Tidy.{IsTidy}
-use Rattle.abstract_unix.proofs.TidyEvents.{event_tidy, start_tidy}
+use Rattle.abstract_unix.proofs.TidyEvents.{slot_tidy, event_tidy, start_tidy}
 use Rattle.abstract_unix.proofs.FirstTidy.{few_nodes, first_tidy}
 
 get_replicate : {X : Type 0} (x : X) (n k : ℕ) → get_or (replicate n x) k x ≡ x
@@ -50,11 +50,13 @@ get_replicate x (suc n) (suc k) = get_replicate x n k
 
 event_fine : (e : Event) (u : Unix) (seen : Seen) → IsTidy u → Holds (seats_of u) seen
     → FineTurn seen (event_of e (system_at u seen))
-event_fine Slot u seen tidy h = slot_fine u seen tidy h
+event_fine Slot u seen tidy h = slot_fine u seen tidy h (λ goes. (slot_tidy u seen h.paused tidy goes).eight)
 event_fine Tick u seen tidy h = tick_fine u seen tidy h.paused
-event_fine (Byte byte) u seen tidy h = typed_fine u seen byte h.paused
+event_fine (Byte l byte) u seen tidy h = typed_fine u seen l byte tidy.eight h.paused
 event_fine (Switch word) u seen tidy h = switched_fine u seen word h
 event_fine (Disk count) u seen tidy h = disk_set_fine u seen count h
+event_fine (Pace count) u seen tidy h = paced_fine u seen count tidy.eight h
+event_fine (Hangup l) u seen tidy h = hangup_fine u seen l tidy.eight h.paused
 
 -- a run as far as it has come: its lines fit, and where it goes on its Unix is tidy
 record FineCourse (c : Course) : Type 0 where
@@ -98,9 +100,9 @@ course_fine [] c f = f
 course_fine (e ∷ events) c f = course_fine events (after_event c e) (event_goes c e f)
 
 -- The beginning: two lines, and a choice.
-module _ (store : Store) (core : ℕ) (low : 64 ≤ core) (high : core ≤ 3968) where
+module _ (store : Store) (core lines : ℕ) (low : 64 ≤ core) (high : core ≤ 3968) where
   abbrev u : Unix
-  u = first_unix store core
+  u = first_unix store core lines
 
   abbrev booted_seen : Seen
   booted_seen = record { stage = Booted; board = first_board core store.stamp }
@@ -150,11 +152,11 @@ module _ (store : Store) (core : ℕ) (low : 64 ≤ core) (high : core ≤ 3968)
       (settles_fine u booted_seen (record { items = Log (line.Sleep 0 pswp RunOut) ∷ []; board = applied (first_board core store.stamp) (line.Sleep 0 pswp RunOut); stop = None })
       (((omega arith, (omega (arith, ints), omega (arith, ints)), tt), refl), tt) refl first_paused refl)
 
-  started_fine : IsTime store.stamp → store.count ≤ 65535 → FineCourse (started (system_with store core))
+  started_fine : IsTime store.stamp → store.count ≤ 65535 → lines ≤ 8 → FineCourse (started (system_with store core lines))
   unfolding FitAll applied
-  started_fine time few = record {
+  started_fine time few some = record {
     fine = record { fit = (((omega (arith, high), time), (low, high)), start_fine.fit); stands = start_fine.stands; over = start_fine.over };
-    tidy = λ e. start_tidy (system_with store core) (first_tidy store core few) e;
+    tidy = λ e. start_tidy (system_with store core lines) (first_tidy store core lines few some) e;
   }
 
 -- the log of a run, with its last line where it has come to its end or to a panic
@@ -191,33 +193,34 @@ stamp_in_range image are =
     omega (arith, byte_in image 924 are, byte_in image 925 are, byte_in image 926 are, byte_in image 927 are)
 
 -- the system that an image boots
-no_fault : (image : List ℕ) (core : ℕ) (m : System) → boots image core ≡ Some m → image_fault image ≡ None
-no_fault image core m e = by (image_fault image) e
+no_fault : (image : List ℕ) (core lines : ℕ) (m : System) → boots image core lines ≡ Some m → image_fault image ≡ None
+no_fault image core lines m e = by (image_fault image) e
   where
-    by : (o : Option ImageFault) → (if is_some o then None else Some (system_with (store_of (disk_of image)) core)) ≡ Some m → o ≡ None
+    by : (o : Option ImageFault) → (if is_some o then None else Some (system_with (store_of (disk_of image)) core lines)) ≡ Some m → o ≡ None
     by None f = refl
     by (Some fault) f = absurd (cc f)
 
-boots_is : (image : List ℕ) (core : ℕ) (m : System) → boots image core ≡ Some m
-    → system_with (store_of (disk_of image)) core ≡ m
-boots_is image core m e = by (is_some (image_fault image)) e
+boots_is : (image : List ℕ) (core lines : ℕ) (m : System) → boots image core lines ≡ Some m
+    → system_with (store_of (disk_of image)) core lines ≡ m
+boots_is image core lines m e = by (is_some (image_fault image)) e
   where
-    by : (x : Bool) → (if x then None else Some (system_with (store_of (disk_of image)) core)) ≡ Some m
-        → system_with (store_of (disk_of image)) core ≡ m
+    by : (x : Bool) → (if x then None else Some (system_with (store_of (disk_of image)) core lines)) ≡ Some m
+        → system_with (store_of (disk_of image)) core lines ≡ m
     by true f = absurd (cc f)
     by false f = cc f
 
 -- Each line of each log fits what the lines before it give, and the last one ends it.
 pub logs_are_lawful : LogsAreLawful
-logs_are_lawful image core events c are low high e = by (boots image core) refl e
+logs_are_lawful image core lines events c are low high some e = by (boots image core lines) refl e
   where
-    by : (o : Option System) → boots image core ≡ o → option_map (λ m. course (started m) events) o ≡ Some c
+    by : (o : Option System) → boots image core lines ≡ o → option_map (λ m. course (started m) events) o ≡ Some c
         → FitAll nothing_seen (log_of c) × (is_whole c.ending ≡ true → Lawful (log_of c))
     by None f g = absurd (cc g)
     by (Some m) f g =
         let store : Store = store_of (disk_of image) in
-        let is : course (started (system_with store core)) events ≡ c =
-        ap (λ n. course (started n) events) (boots_is image core m f) ∙ cc g in
-        let fine : FineCourse (started (system_with store core)) = started_fine store core low high (stamp_in_range image are) (few_nodes image (no_fault image core m f)) in
+        let is : course (started (system_with store core lines)) events ≡ c =
+        ap (λ n. course (started n) events) (boots_is image core lines m f) ∙ cc g in
+        let fine : FineCourse (started (system_with store core lines)) =
+        started_fine store core lines low high (stamp_in_range image are) (few_nodes image (no_fault image core lines m f)) some in
         subst (λ c. FitAll nothing_seen (log_of c) × (is_whole c.ending ≡ true → Lawful (log_of c))) is
-        (log_lawful (course (started (system_with store core)) events) (course_fine events (started (system_with store core)) fine).fine)
+        (log_lawful (course (started (system_with store core lines)) events) (course_fine events (started (system_with store core lines)) fine).fine)

@@ -1,11 +1,18 @@
--- Ticks, keys and switches add lines that fit.
-use Rattle.std.proofs.Common.{◌≡◌, ◌≢◌, ◌∙◌, ◌==◌, ◌&&◌, ◌+◌, ◌%◌, ◌^◌, inl, inr, ℕ, not, Bool, true, false, cond, if◌then◌else◌, List, [], ◌∷◌, ◌++◌, map, Option, Some, None, refl, sym, ap, subst}
-use Rattle.std.proofs.lemmas.Bool.{eqb-false}
+-- What comes from outside adds lines that fit.
+use Rattle.std.proofs.Common.{◌≡◌, ◌≢◌, ◌∙◌, ◌≤◌, ◌<◌, nat_lt, length, arith, ◌==◌, ◌&&◌, ◌+◌, ◌%◌, ◌^◌, inl, inr, ℕ, not, Bool, true, false, cond, if◌then◌else◌, List, [], ◌∷◌, ◌++◌, map, Option, Some, None, refl, sym, ap, subst}
+use Rattle.std.proofs.lemmas.Bool.{eqb-false, ltb-true, ltb-false}
+use Rattle.std.proofs.lemmas.List.{map-append, append-nil, get_or_past}
 use Rattle.std.proofs.lemmas.Option.{same_Some}
 use Rattle.v6_base.specs.Trace.{Item, Log, sent}
 use Rattle.v6_base.specs.declared.entry.Chan.{Chan}
-use Rattle.v6_base.specs.declared.entry.Chan.TheVariants.{Tout, Keys}
-use Rattle.tty_line.specs.Input.{Typed, typed}
+use Rattle.v6_base.specs.declared.entry.Chan.TheVariants.{Tout}
+use Rattle.v6_base.specs.declared.entry.Entry.TheVariants.{Wake}
+use Rattle.tty_line.specs.Input as input
+use Rattle.tty_line.specs.Input.{Typed, typed, typed_key, key_of}
+use Rattle.tty_line.specs.Said.{Said, flush}
+use Rattle.lines_eight.specs.Lines as terminals
+use Rattle.lines_eight.specs.Told.{AllTold, each_line, told, keys_of, show_of}
+use Rattle.sig_core.specs.declared.numbers.TheConstants.{SIGHUP}
 use Rattle.pick_rules.specs.declared.row.Mode.{Mode}
 use Rattle.pick_rules.specs.declared.row.Mode.TheVariants.{User, Kernel, Idle}
 use Rattle.pick_rules.specs.Effects.{Effect, Show, came}
@@ -13,18 +20,19 @@ use Rattle.pick_rules.specs.Ranges.{IsChannel}
 use Rattle.pick_rules.specs.Fits as fits
 use Rattle.pick_rules.specs.Fits.{mode_now}
 use Rattle.pick_rules.specs.Lawful.{Seen, Fits, FitAll, seen_after}
-use Rattle.log_laws.proofs.Fitting.{Apt, apt_append, wake_apt}
+use Rattle.log_laws.proofs.Fitting.{seen_items}
+use Rattle.log_laws.proofs.Fitting.{Apt, Fitted, apt_append, apt_fits, wake_apt}
 use Rattle.log_laws.proofs.Seats.{Seat, Seats, seat_at, InTurn, RunnerAt, Paused, Holds, own, not_zero, busy_agrees}
 use Rattle.log_laws.proofs.Lines.{wake_paused, signal_paused}
 use Rattle.log_laws.proofs.Clocks.{tick_line, ticked_at, a_tick_later, tick_paused, tick_fits, mode_is}
-use Rattle.tty_line.specs.Terminal.{Terminal}
+use Rattle.tty_line.specs.Terminal.{Terminal, first_terminal, flags}
 use Rattle.tty_line.specs.declared.line.Keyed.{Keyed}
 use Rattle.tty_line.specs.declared.line.Keyed.TheVariants.{Nothing, Ready, Flushed, Signal}
-use Rattle.sys_procs.specs.Signals.{has_line, meant_in}
+use Rattle.sys_procs.specs.Signals.{has_line, meant_in, all_signalled, signal_lines}
 use Rattle.sys_procs.specs.Process.{Process}
 use Rattle.sys_procs.specs.World.{Clock}
-use Rattle.pick_rules.specs.Logged.{logged}
-use Rattle.abstract_unix.specs.Unix.{Unix, System, process_of, with_process}
+use Rattle.pick_rules.specs.Logged.{Logged, nothing_logged, logged, left_by}
+use Rattle.abstract_unix.specs.Unix.{Unix, System, terminal_at, with_terminal, process_of, with_process}
 use Rattle.abstract_unix.specs.Turn.{happens, settled_after, is_user}
 use Rattle.pick_rules.specs.Table.{row_at}
 use Rattle.pick_rules.specs.Apply.{applied}
@@ -32,11 +40,12 @@ use Rattle.pick_rules.proofs.Laws.{passed_running, wakeup_kept}
 use Rattle.pick_rules.proofs.TickShapes.{tick_same}
 use Rattle.abstract_unix.specs.Steps.{Steps, returns}
 use Rattle.abstract_unix.specs.Delivery.{delivers_due}
-use Rattle.abstract_unix.specs.Outside.{is_user_mode, is_second, is_as_trap, delivers_to, tick_delivery, mode_by, tick_entry, timed, charged, clock_after, is_due, ticked, wakes, tick_of, calls, with_key, key_lines, typed_of, switched_of, disk_set_of}
+use Rattle.abstract_unix.specs.Outside.{is_user_mode, is_second, is_as_trap, delivers_to, tick_delivery, mode_by, tick_entry, timed, charged, clock_after, is_due, ticked, wakes, tick_of, calls, calls_show, with_key, key_lines, typed_of, hangs_up, hangup_of, turned_to, paced_of, switched_of, disk_set_of}
 use Rattle.abstract_unix.proofs.Sitting.{seat_for, seats_of, seat_in, runner_seat}
 use Rattle.abstract_unix.proofs.Posting.{posted_seats, signal_lines_apt, meant_seated}
 use Rattle.abstract_unix.proofs.Turning.{same_seats}
-use Rattle.abstract_unix.proofs.Events.{system_at, FineTurn, AreShown, shown_stop, event_by, passes_fine}
+use Rattle.abstract_unix.proofs.Events.{system_at, FineTurn, AreShown, shown_stop, all_shown, ends_none, event_by, passes_fine, Came, came_fine}
+use Rattle.abstract_unix.proofs.Telling.{keys_channel, show_channel, bytes_then, told_apt, lines_apt, lines_quiet}
 use Rattle.abstract_unix.proofs.Ticking.{due_paused}
 use Rattle.abstract_unix.proofs.Quiet.{HasNumbers}
 use Rattle.abstract_unix.proofs.Tidy.{IsTidy}
@@ -207,13 +216,13 @@ delivery_apt u (Some s) seen true in_user numbers p = by (subst (RunnerAt (seats
 
 -- a tick changes the times of a process alone
 ticked_numbers : (u : Unix) (mode : Mode) (o : Option ℕ) → IsTidy u → (r : ℕ) → HasNumbers (handed_of (record (charged u mode o) { clock = clock_after u.clock }) (process_of (charged u mode o) r))
-ticked_numbers u mode None tidy r = record { count = tidy.count; pipes = tidy.pipes }
+ticked_numbers u mode None tidy r = record { count = tidy.count; eight = tidy.eight; pipes = tidy.pipes }
 ticked_numbers u mode (Some s) tidy r = by (s == 0)
   where
     by : (b : Bool) → HasNumbers (handed_of (record (cond b u (with_process u s (timed mode (process_of u s)))) { clock = clock_after u.clock })
         (process_of (cond b u (with_process u s (timed mode (process_of u s)))) r))
-    by true = record { count = tidy.count; pipes = tidy.pipes }
-    by false = record { count = tidy.count; pipes = tidy.pipes }
+    by true = record { count = tidy.count; eight = tidy.eight; pipes = tidy.pipes }
+    by false = record { count = tidy.count; eight = tidy.eight; pipes = tidy.pipes }
 
 pub tick_fine : (u : Unix) (seen : Seen) → IsTidy u → Paused (seats_of u) seen
     → FineTurn seen (settled_after (tick_of (system_at u seen)))
@@ -250,46 +259,160 @@ tick_fine u seen tidy p =
     in_user is r runs = user_runs u seen r p runs (first_true (is_user_mode mode) (is_second u.clock) is)
 
 -- A key: bytes are shown, a signal is sent, and sleepers wake.
-bytes_apt : (Q : Seen → Type 0) (seen : Seen) (bytes : List ℕ) (rest : List Item) (tail : List (Effect Unix))
-    → Apt Q seen (map Show rest ++ tail) → Apt Q seen (map Show (sent 0 bytes ++ rest) ++ tail)
-unfolding Apt came
-bytes_apt Q seen [] rest tail a = a
-bytes_apt Q seen (byte ∷ bytes) rest tail a = bytes_apt Q seen bytes rest tail a
+wakes_then : (v : Seats) (seen : Seen) (b : Bool) (chan : Chan) (tail : List (Effect Unix)) → IsChannel chan → Paused v seen
+    → ((at : Seen) → Paused v at → Apt (Paused v) at tail) → Apt (Paused v) seen (wakes b chan ++ tail)
+wakes_then v seen true chan tail is p next =
+    wake_apt (Paused v) seen chan tail p.going is (next (seen_after seen (Wake chan)) (wake_paused v seen chan p))
+wakes_then v seen false chan tail is p next = next seen p
+
+-- who waits for keys of a line, and then who waits for room on it
+both_apt : (u : Unix) (l : ℕ) (keys room : Bool) (seen : Seen) → l < 8 → Paused (seats_of u) seen
+    → Apt (Paused (seats_of u)) seen (wakes keys (keys_of l) ++ wakes room (show_of l))
+both_apt u l keys room seen few p =
+    wakes_then (seats_of u) seen keys (keys_of l) (wakes room (show_of l)) (keys_channel l few) p
+    (λ at q. wakes_apt u at room (show_of l) (show_channel l few) q)
 
 -- The lines are those of the Unix before; its terminal has changed.
-key_apt : (u : Unix) (terminal : Terminal) (seen : Seen) (keyed : Keyed) (due : Bool) → Paused (seats_of u) seen
-    → Apt (Paused (seats_of (with_key 0 keyed (record u { line = terminal })))) seen (map Show (key_lines 0 keyed u) ++ wakes due Keys)
-key_apt u terminal seen Nothing due p = wakes_apt (record u { line = terminal }) seen due Keys tt p
-key_apt u terminal seen Ready due p = wakes_apt (record u { line = terminal }) seen due Keys tt p
-key_apt u terminal seen Flushed due p = wakes_apt (record u { line = terminal }) seen due Keys tt p
-key_apt u terminal seen (Signal n) due p =
+key_apt : (u : Unix) (l : ℕ) (terminal : Terminal) (seen : Seen) (keyed : Keyed) → (calls keyed ≡ true → l < 8) → Paused (seats_of u) seen
+    → Apt (Paused (seats_of (with_key l keyed (with_terminal u l terminal)))) seen
+    (map Show (key_lines l keyed u) ++ wakes (calls keyed) (keys_of l) ++ wakes (calls_show keyed) (show_of l))
+unfolding Apt
+key_apt u l terminal seen Nothing few p = p
+key_apt u l terminal seen Ready few p = both_apt (with_terminal u l terminal) l true false seen (few refl) p
+key_apt u l terminal seen (Flushed show) few p = both_apt (with_terminal u l terminal) l true show seen (few refl) p
+key_apt u l terminal seen (Signal n show) few p =
     let v : Seats = seats_of u in
-    let now : Unix = with_key 0 (Signal n) (record u { line = terminal }) in
-    let same : seats_of now ≡ v = posted_seats (has_line 0) n u.processes u.clock u.texts u.limit p.agrees.seats in
-    signal_lines_apt Unix 0 v n (Paused v) (Paused (seats_of now)) (wakes due Keys)
-    (λ at q. (q.going, q.agrees)) (λ at r q. signal_paused v at r n q) (λ at q. wakes_apt now at due Keys tt (subst (λ x. Paused x at) (sym same) q))
-    (meant_in (has_line 0) u.processes) (meant_seated (has_line 0) u.processes v (λ r. seat_in u.processes u.clock u.texts u.limit r)) seen p
+    let now : Unix = with_key l (Signal n show) (with_terminal u l terminal) in
+    let same : seats_of now ≡ v = posted_seats (has_line l) n u.processes u.clock u.texts u.limit p.agrees.seats in
+    signal_lines_apt Unix 0 v n (Paused v) (Paused (seats_of now)) (wakes true (keys_of l) ++ wakes show (show_of l))
+    (λ at q. (q.going, q.agrees)) (λ at r q. signal_paused v at r n q)
+    (λ at q. both_apt now l true show at (few refl) (subst (λ x. Paused x at) (sym same) q))
+    (meant_in (has_line l) u.processes) (meant_seated (has_line l) u.processes v (λ r. seat_in u.processes u.clock u.texts u.limit r)) seen p
 
 pub shown_items : (items : List Item) (tail : List (Effect Unix)) → AreShown tail → AreShown (map Show items ++ tail)
 shown_items [] tail shown = shown
 shown_items (item ∷ items) tail shown = shown_items items tail shown
 
-typed_for : (m : System) (seen : Seen) (byte : ℕ) → seen.board ≡ m.board → Paused (seats_of m.unix) seen
-    → FineTurn seen (settled_after (typed_of m 0 byte))
-typed_for m seen byte board p =
-    let k : Typed = typed m.unix.line byte in
-    let items : List Item = sent 0 k.shown ++ key_lines 0 k.keyed m.unix in
-    let now : Unix = with_key 0 k.keyed (record m.unix { line = k.terminal }) in
-    let es : List (Effect Unix) = map Show items ++ wakes (calls k.keyed) Keys in
+pub shown_both : (keys room : Bool) (first second : Chan) → AreShown (wakes keys first ++ wakes room second)
+shown_both true room first second = shown_wakes room second
+shown_both false room first second = shown_wakes room second
+
+-- A line that is open is there.
+open_there : (lines : List Terminal) (l : ℕ) → (terminals.terminal_at lines l).is_open ≡ true → l < length lines
+open_there lines l open = by (nat_lt l (length lines)) refl
+  where
+    by : (b : Bool) → nat_lt l (length lines) ≡ b → l < length lines
+    by true is = ltb-true l (length lines) is
+    by false is =
+        let past : terminals.terminal_at lines l ≡ first_terminal = get_or_past lines l first_terminal (ltb-false l (length lines) is) in
+        absurd (let no : false ≡ true = sym (ap (λ (t : Terminal). t.is_open) past) ∙ open in cc no)
+
+-- a key that calls somebody was typed on a line that is open
+calls_open : (t : Terminal) (byte : ℕ) → calls (typed t byte).keyed ≡ true → t.is_open ≡ true
+calls_open t byte is = by t.is_open refl is
+  where
+    by : (b : Bool) → t.is_open ≡ b → calls (cond b (typed_key t (key_of (flags t) byte)) (input.quietly t Nothing)).keyed ≡ true → t.is_open ≡ true
+    by true e c = e
+    by false e c = absurd (cc c)
+
+typed_for : (m : System) (seen : Seen) (l byte : ℕ) → length m.unix.lines ≤ 8 → seen.board ≡ m.board → Paused (seats_of m.unix) seen
+    → FineTurn seen (settled_after (typed_of m l byte))
+typed_for m seen l byte eight board p =
+    let t : Terminal = terminal_at m.unix l in
+    let k : Typed = typed t byte in
+    let items : List Item = sent l k.shown ++ key_lines l k.keyed m.unix in
+    let now : Unix = with_key l k.keyed (with_terminal m.unix l k.terminal) in
+    let woken : List (Effect Unix) = wakes (calls k.keyed) (keys_of l) ++ wakes (calls_show k.keyed) (show_of l) in
+    let es : List (Effect Unix) = map Show items ++ woken in
+    let few : calls k.keyed ≡ true → l < 8 = (λ is. let there = open_there m.unix.lines l (calls_open t byte is) in omega (arith, there, eight)) in
     subst (λ b. FineTurn seen (settled_after (happens now (logged b es)))) board
     (event_by m.unix now seen es
-    (bytes_apt (Paused (seats_of now)) seen k.shown (key_lines 0 k.keyed m.unix) (wakes (calls k.keyed) Keys)
-    (key_apt m.unix k.terminal seen k.keyed (calls k.keyed) p))
-    (shown_stop seen.board es (shown_items items (wakes (calls k.keyed) Keys) (shown_wakes (calls k.keyed) Keys))))
+    (bytes_then (Paused (seats_of now)) seen l k.shown (key_lines l k.keyed m.unix) woken (key_apt m.unix l k.terminal seen k.keyed few p))
+    (shown_stop seen.board es (shown_items items woken (shown_both (calls k.keyed) (calls_show k.keyed) (keys_of l) (show_of l)))))
 
-pub typed_fine : (u : Unix) (seen : Seen) (byte : ℕ) → Paused (seats_of u) seen
-    → FineTurn seen (settled_after (typed_of (system_at u seen) 0 byte))
-typed_fine u seen byte p = typed_for (system_at u seen) seen byte refl p
+pub typed_fine : (u : Unix) (seen : Seen) (l byte : ℕ) → length u.lines ≤ 8 → Paused (seats_of u) seen
+    → FineTurn seen (settled_after (typed_of (system_at u seen) l byte))
+typed_fine u seen l byte eight p = typed_for (system_at u seen) seen l byte eight refl p
+
+-- A line hangs up: a signal is sent, and sleepers wake.
+hung_apt : (u : Unix) (l : ℕ) (seen : Seen) → l < 8 → Paused (seats_of u) seen
+    → Apt (Paused (seats_of (record u { processes = all_signalled (has_line l) SIGHUP u.processes }))) seen
+    (map Show (signal_lines SIGHUP (meant_in (has_line l) u.processes) ++ told l (flush (terminal_at u l))))
+unfolding Apt
+hung_apt u l seen few p =
+    let v : Seats = seats_of u in
+    let s : Said = flush (terminal_at u l) in
+    let now : Seats = seats_of (record u { processes = all_signalled (has_line l) SIGHUP u.processes }) in
+    let same : now ≡ v = posted_seats (has_line l) SIGHUP u.processes u.clock u.texts u.limit p.agrees.seats in
+    let meant : List ℕ = meant_in (has_line l) u.processes in
+    subst (Apt {W = Unix} (Paused now) seen) (sym (map-append Show (signal_lines SIGHUP meant) (told l s)))
+    (signal_lines_apt Unix 0 v SIGHUP (Paused v) (Paused now) (map Show (told l s))
+    (λ at q. (q.going, q.agrees)) (λ at r q. signal_paused v at r SIGHUP q)
+    (λ at q. subst (Apt {W = Unix} (Paused now) at) (append-nil (map Show (told l s)))
+    (told_apt now at l s [] few (subst (λ x. Paused x at) (sym same) q) (λ last r. r)))
+    meant (meant_seated (has_line l) u.processes v (λ r. seat_in u.processes u.clock u.texts u.limit r)) seen p)
+
+pub hangup_fine : (u : Unix) (seen : Seen) (l : ℕ) → length u.lines ≤ 8 → Paused (seats_of u) seen
+    → FineTurn seen (settled_after (hangup_of (system_at u seen) l))
+unfolding Apt
+hangup_fine u seen l eight p = by (terminal_at u l).is_open refl
+  where
+    m : System
+    m = system_at u seen
+
+    s : Said
+    s = flush (terminal_at u l)
+
+    items : List Item
+    items = signal_lines SIGHUP (meant_in (has_line l) u.processes) ++ told l s
+
+    by : (b : Bool) → (terminal_at u l).is_open ≡ b → FineTurn seen (settled_after (cond b (hangs_up m l) (happens u (nothing_logged seen.board))))
+    by true open =
+        let there = open_there u.lines l open in
+        event_by u (record (with_terminal u l s.terminal) { processes = all_signalled (has_line l) SIGHUP u.processes }) seen (map Show items)
+        (hung_apt u l seen (omega (arith, there, eight)) p) (shown_stop seen.board (map Show items) (all_shown items))
+    by false open = event_by u u seen [] p refl
+
+-- The pace: bytes go out, and sleepers wake.
+paced_came : (u : Unix) (seen : Seen) (count : ℕ) → length u.lines ≤ 8 → Holds (seats_of u) seen → Came seen (paced_of (system_at u seen) count)
+paced_came u seen count eight h = record {
+  fit = f.fit;
+  board = f.board;
+  goes = λ e. subst (λ (x : Unix). Paused (seats_of x) (seen_items seen l.items)) (sym left)
+      (ends_none (Paused (seats_of u)) l.stop (seen_items seen l.items) stop f.ends);
+  rests = λ e quiet. subst (λ (x : Unix). Holds (seats_of x) (seen_items seen l.items)) (sym left)
+      (ends_none (Holds (seats_of u)) l.stop (seen_items seen l.items) stop
+      (apt_fits (Holds (seats_of u)) seen es (lines_quiet (Holds (seats_of u)) call u.lines seen quiet h)).ends);
+  over = λ kind e. absurd (cc e);
+}
+  where
+    call : Terminal → Said
+    call = turned_to (not (count == 0))
+
+    all : AllTold
+    all = each_line call u.lines
+
+    now : Unix
+    now = record u { lines = all.lines; timing = record u.timing { pace = count; since = 0 } }
+
+    es : List (Effect Unix)
+    es = map Show all.items
+
+    l : Logged Unix
+    l = logged seen.board es
+
+    stop : l.stop ≡ None
+    stop = shown_stop seen.board es (all_shown all.items)
+
+    left : left_by l.stop now ≡ now
+    left = ap (λ o. left_by o now) stop
+
+    f : Fitted (Paused (seats_of u)) seen l
+    f = apt_fits (Paused (seats_of u)) seen es (lines_apt (seats_of u) call u.lines seen eight h.paused)
+
+pub paced_fine : (u : Unix) (seen : Seen) (count : ℕ) → length u.lines ≤ 8 → Holds (seats_of u) seen
+    → FineTurn seen (settled_after (paced_of (system_at u seen) count))
+paced_fine u seen count eight h = came_fine seen (paced_of (system_at u seen) count) (paced_came u seen count eight h)
 
 -- the switches, and how long a transfer takes
 pub switched_fine : (u : Unix) (seen : Seen) (word : ℕ) → Holds (seats_of u) seen → FineTurn seen (settled_after (switched_of (system_at u seen) word))

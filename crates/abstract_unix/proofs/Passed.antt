@@ -3,10 +3,12 @@ use Rattle.std.proofs.Common.{◌≡◌, ◌∙◌, ◌+◌, ◌<◌, ℕ, zero,
 use Rattle.pick_rules.specs.Effects.{Effect, Show}
 use Rattle.pick_rules.specs.Logged.{Stop, logged, left_by}
 use Rattle.swap_sched.specs.Pass.{pass, over}
+use Rattle.tty_line.specs.Said.{sends}
+use Rattle.lines_eight.specs.Told.{AllTold, each_line}
 use Rattle.abstract_unix.specs.declared.ends.Ends.TheVariants.{AtEnd}
 use Rattle.abstract_unix.specs.Unix.{Timing, Unix, System}
 use Rattle.abstract_unix.specs.Endings.{is_early}
-use Rattle.abstract_unix.specs.Turn.{Happened, stays, settling, calls_for_settling, settled_after, ending_by, ending_of_pass, end_effects, turn, turn_of, pass_of, slot_of, with_slot, counted, followed, disk_lines, wakes_disks, after_slot}
+use Rattle.abstract_unix.specs.Turn.{Happened, stays, settling, calls_for_settling, settled_after, ending_by, ending_of_pass, end_effects, turn, turn_of, pass_of, slot_of, with_slot, counted, followed, disk_lines, wakes_disks, is_sending, sends_lines, sends_after, after_slot}
 use Rattle.abstract_unix.specs.Runs.{Slot, event_of}
 use Rattle.abstract_unix.proofs.RunsLemmas.{settled_ending, after_ending}
 use Rattle.abstract_unix.proofs.Dues.{times_turn}
@@ -19,14 +21,26 @@ settled_unix h = by (calls_for_settling h)
     by true = refl
     by false = refl
 
--- where the run goes on, the slot is counted
-after_unix : (h : Happened) → h.ending ≡ AtEnd → (after_slot h).unix ≡ with_slot h.unix
-after_unix h goes =
-    ap (λ e. (cond (is_early e) h (wakes_disks (counted h))).unix) goes ∙ followed_unix (counted h) (map Show (disk_lines (with_slot h.unix)))
+followed_timing : (wakes : Bool) (g : Happened) (es : List (Effect Unix)) → (followed wakes g es).unix.timing ≡ g.unix.timing
+followed_timing wakes g [] = refl
+followed_timing wakes g (e ∷ es) = refl
+
+-- what the lines send counts nothing
+sends_timing : (h : Happened) → (sends_after h).unix.timing ≡ h.unix.timing
+sends_timing h = by (is_sending h.unix.timing)
   where
-    followed_unix : (g : Happened) (es : List (Effect Unix)) → (followed g es).unix ≡ g.unix
-    followed_unix g [] = refl
-    followed_unix g (e ∷ es) = refl
+    all : AllTold
+    all = each_line sends h.unix.lines
+
+    by : (b : Bool) → (cond b (sends_lines h) h).unix.timing ≡ h.unix.timing
+    by true = followed_timing all.wakes (record h { unix = record h.unix { lines = all.lines } }) (map Show all.items)
+    by false = refl
+
+-- where the run goes on, the slot is counted
+after_timing : (h : Happened) → h.ending ≡ AtEnd → (after_slot h).unix.timing ≡ (with_slot h.unix).timing
+after_timing h goes =
+    ap (λ e. (cond (is_early e) h (sends_after (wakes_disks (counted h)))).unix.timing) goes ∙ sends_timing (wakes_disks (counted h))
+    ∙ followed_timing true (counted h) (map Show (disk_lines (with_slot h.unix)))
 
 -- where a turn goes on, nothing was found wanting
 turn_timing : (m : System) (s : ℕ) → (turn_of m s (turn m s)).ending ≡ AtEnd → (turn_of m s (turn m s)).unix.timing ≡ m.unix.timing
@@ -52,5 +66,5 @@ pub slot_passed : (m : System) → (event_of Slot m).ending ≡ AtEnd → (event
 slot_passed m goes =
     let h : Happened = slot_of m m.board.table.running in
     let on : h.ending ≡ AtEnd = sym (after_ending h) ∙ sym (settled_ending (after_slot h)) ∙ goes in
-    ap (λ (u : Unix). u.timing.passed) (settled_unix (after_slot h) ∙ after_unix h on)
+    ap (λ (u : Unix). u.timing.passed) (settled_unix (after_slot h)) ∙ ap (λ (t : Timing). t.passed) (after_timing h on)
     ∙ ap (λ (t : Timing). t.passed + 1) (slot_timing m m.board.table.running on)

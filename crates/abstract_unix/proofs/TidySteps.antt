@@ -22,7 +22,7 @@ use Rattle.sig_core.specs.declared.psig.Delivered.TheVariants.{Ends, Caught}
 use Rattle.sig_core.specs.Delivery.{Delivery, makes_core, signal_stack, delivery, caught, pushed}
 use Rattle.u_area.specs.declared.layout.TheConstants.{NOTHING_PENDING, LINE_READ, DISK_WAIT}
 use Rattle.u_area.specs.declared.area.UArea.{UArea}
-use Rattle.u_area.specs.Pending.{is_on_files, IsPipeCall}
+use Rattle.u_area.specs.Pending.{is_on_files, IsLineCall, IsPipeCall, IsFileCall}
 use Rattle.open_files.specs.Files.{file_at, times, shared}
 use Rattle.sys_files.specs.Handed.{Handed}
 use Rattle.sys_files.specs.Did.{Did}
@@ -61,7 +61,7 @@ use Rattle.abstract_unix.proofs.PipeNumbers.{shared_ends}
 use Rattle.abstract_unix.proofs.Dying.{closed_none}
 use Rattle.abstract_unix.proofs.Quiet.{HasNumbers, InCalm, same_call, other_inodes, Calm, CalmClosing, calm_walks, resume_calm, close_all_calm}
 use Rattle.abstract_unix.proofs.FileRows.{walk_row}
-use Rattle.abstract_unix.proofs.Tidy.{IsTidy, tidy_numbers, tidy_end}
+use Rattle.abstract_unix.proofs.Tidy.{IsTidy, tidy_numbers, tidy_can}
 use Rattle.abstract_unix.proofs.StillWorlds.{IsStill, still_row, still_resume, IsGone, gone_ended}
 use Rattle.abstract_unix.proofs.PendingRows.{never_in_pipe, Pends, row_pends, resume_pends, close_user, core_user, close_pends, core_pends}
 use Rattle.abstract_unix.proofs.GoingOnLemmas.{AllWaited, moved_goes_on, user_waited, all_waited_put, world_goes_on, handed_pends, shared_goes_on}
@@ -157,6 +157,7 @@ module _ (s : ℕ) where
               (world_goes_on u (with_child w s c pid) r.tidy.waits
               (all_waited_put u.processes c (Some q) (user_waited (get_or u.processes c None) q free)));
           count = r.tidy.count;
+          eight = r.tidy.eight;
           pipes = shared_ends u.files u.pipes p.u.files r.tidy.pipes;
         };
         there = at ∙ r.there ∙ ap Some (sym is);
@@ -234,6 +235,7 @@ module _ (s : ℕ) where
             (ap (λ l. get_or l i None) (sym g.told) ∙ e);
         waits = world_goes_on u w r.tidy.waits (end_waited (world_of u) s free status);
         count = subst (λ n. n ≤ 65535) (sym g.count) r.tidy.count;
+        eight = r.tidy.eight;
         pipes = r.tidy.pipes;
       }
 
@@ -243,7 +245,7 @@ module _ (s : ℕ) where
       let c : Closing = close_all h in
       let calm : CalmClosing h.u s c = close_all_calm h s (tidy_numbers u s r.tidy) in
       let counted : IsCounted h c.state = close_all_counted h (runs_counted s u r) in
-      let now = runs_handed s u c.state counted (record { count = calm.calm.numbers.count; pipes = calm.calm.numbers.pipes })
+      let now = runs_handed s u c.state counted (record { count = calm.calm.numbers.count; eight = calm.calm.numbers.eight; pipes = calm.calm.numbers.pipes })
       (close_pends h free) r in
       let low = some_within u.processes s (process_of u s) r.there in
       let own = told_at u.processes s (process_of u s) r.there r.lives in
@@ -289,12 +291,14 @@ module _ (s : ℕ) where
   leaves_runs steps r = record { tidy = r.tidy; runs = λ e. r }
 
   -- a wait for the disk, and its end
-  not_disk : {P : Type 0} (n : ℕ) → n ≡ DISK_WAIT → IsPipeCall n → P
-  not_disk n disk (inl three) = absurd (omega (arith, disk, three))
-  not_disk n disk (inr four) = absurd (omega (arith, disk, four))
+  not_disk : {P : Type 0} (n : ℕ) → n ≡ DISK_WAIT → IsFileCall n → P
+  not_disk n disk (inl (inl one)) = absurd (omega (arith, disk, one))
+  not_disk n disk (inl (inr two)) = absurd (omega (arith, disk, two))
+  not_disk n disk (inr (inl three)) = absurd (omega (arith, disk, three))
+  not_disk n disk (inr (inr four)) = absurd (omega (arith, disk, four))
 
   runs_moved : (u : Unix) (q : Process) → q.u.files ≡ (process_of u s).u.files → q.u.dir ≡ (process_of u s).u.dir
-      → q.is_zombie ≡ (process_of u s).is_zombie → (IsPipeCall q.u.pending → ⊥) → Runs s u → Runs s (with_process u s q)
+      → q.is_zombie ≡ (process_of u s).is_zombie → (IsFileCall q.u.pending → ⊥) → Runs s u → Runs s (with_process u s q)
   runs_moved u q files dir dead never r =
       let p : Process = process_of u s in
       let at : get_or (set u.processes s (Some q)) s None ≡ Some q =
@@ -309,6 +313,7 @@ module _ (s : ℕ) where
           fifteen = λ k t e. r.tidy.fifteen k t (ap (λ ts. get_or ts k None) (sym told) ∙ e);
           waits = moved_goes_on u s q r.tidy.waits (some_within u.processes s p r.there) never;
           count = r.tidy.count;
+          eight = r.tidy.eight;
           pipes = r.tidy.pipes;
         };
         there = at ∙ ap Some (sym is);
@@ -398,7 +403,7 @@ module _ (s : ℕ) where
       by : (b : Bool) → is_on_files (process_of u s).u.pending ≡ b
           → Leaves s (cond b (did_by u s did) (came_by u s (resume_proc (world_of u) s)))
       by true on =
-          let has : (h.u.pending == LINE_READ) ≡ false → _ = tidy_end u s r.tidy r.there r.lives on in
+          let has = tidy_can u s r.tidy r.there r.lives on in
           let calm : Calm (without_pending h).u s did = resume_calm h s u.clock.time has (tidy_numbers u s r.tidy) in
           leaves_runs (did_by u s did)
           (runs_did s u did (walk_resume (counted_walks h s) h u.clock.time has (runs_counted s u r)) calm.numbers

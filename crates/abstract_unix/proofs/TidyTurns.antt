@@ -51,6 +51,7 @@ module _ (s : ℕ) where
           waits = put_goes_on u s q r.tidy.waits (subst (λ o. WaitedIn o (Some q)) (sym r.there)
               (like_waited p q same.dead same.pending same.call same.files));
           count = r.tidy.count;
+          eight = r.tidy.eight;
           pipes = r.tidy.pipes;
         };
         there = at ∙ ap Some (sym is);
@@ -70,6 +71,7 @@ module _ (s : ℕ) where
       fifteen = λ i t e. r.tidy.fifteen i t (ap (λ ts. get_or ts i None) (sym k.told) ∙ e);
       waits = world_goes_on u w r.tidy.waits waited;
       count = subst (λ n. n ≤ 65535) (sym k.count) r.tidy.count;
+      eight = r.tidy.eight;
       pipes = r.tidy.pipes;
     };
     there = k.there;
@@ -121,6 +123,7 @@ module _ (s : ℕ) where
               (ap (λ l. get_or l i None) (sym put) ∙ e);
           waits = handed_back_goes_on u s h r.tidy.numbers r.tidy.waits r.there r.lives k.others pends;
           count = numbers.count;
+          eight = numbers.eight;
           pipes = numbers.pipes;
         };
         there = at ∙ ap Some (sym is);

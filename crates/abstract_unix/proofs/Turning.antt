@@ -47,7 +47,7 @@ use Rattle.abstract_unix.specs.Turn.{machine_of, with_machine, faults, comes_to,
 use Rattle.abstract_unix.proofs.Sitting.{seat_for, seats_in, seats_of, found_in, runner_seat, runner_there, runner_alive, put_in, kept_in, changed_in}
 use Rattle.abstract_unix.proofs.Steps.{AptSteps, Begun, AptBegun, ends_in, returns_apt, signals_apt, answers_apt, came_apt}
 use Rattle.abstract_unix.proofs.Quiet.{HasNumbers, Calm, same_call, calm_walks, resume_calm}
-use Rattle.sys_files.proofs.Walks.{IsAwaiting}
+use Rattle.sys_files.proofs.Walks.{CanResume}
 use Rattle.abstract_unix.proofs.FileRows.{walk_row}
 use Rattle.abstract_unix.proofs.ProcessRows.{plain_row, resume_plain}
 use Rattle.abstract_unix.proofs.Rows.{FineComes, Calling, plain_fine}
@@ -57,7 +57,7 @@ use Rattle.sys_procs.specs.Exit.{exit_status}
 use Rattle.abstract_unix.proofs.Exiting.{did_apt, no_pending, exits_apt}
 use Rattle.abstract_unix.proofs.Executing.{break_fine, grow_apt, exec_fine}
 use Rattle.abstract_unix.proofs.Delivering.{ended_apt}
-use Rattle.abstract_unix.proofs.Tidy.{IsTidy, tidy_numbers, tidy_end}
+use Rattle.abstract_unix.proofs.Tidy.{IsTidy, tidy_numbers, tidy_can}
 
 -- a row of a call on files
 calm_row : (call : FileCall) (h : Handed) (s : ℕ) (args : List ℕ) (now : ℕ) → HasNumbers h → Calm h.u s (file_row call h s args now)
@@ -161,7 +161,7 @@ module _ (s : ℕ) (seen : Seen) where
 
   asked_apt : (u : Unix) (a : Asked) (entry : Sysent) → HasNumbers (handed_of u (process_of u s)) → Calling s (world_of u) seen → AptBegun s seen (does_asked u s a entry)
   asked_apt u a entry numbers i =
-      call_apt (with_area u s (entered_area (words_passed a entry.count))) entry.call a.args (record { count = numbers.count; pipes = numbers.pipes })
+      call_apt (with_area u s (entered_area (words_passed a entry.count))) entry.call a.args (record { count = numbers.count; eight = numbers.eight; pipes = numbers.pipes })
       (kept_in u.processes u.clock u.texts u.limit s false seen (record (process_of u s) { u = entered_area (words_passed a entry.count) (process_of u s).u }) i refl refl refl refl)
 
   called_apt : (u : Unix) (number : ℕ) → HasNumbers (handed_of u (process_of u s)) → Calling s (world_of u) seen
@@ -188,12 +188,10 @@ module _ (s : ℕ) (seen : Seen) where
       old : UArea
       old = record (process_of u s).u { pending = NOTHING_PENDING; call = replicate 8 0 }
 
-      at_end : is_on_files (process_of u s).u.pending ≡ true → ((process_of u s).u.pending == LINE_READ) ≡ false
-          → IsAwaiting (handed_of u (process_of u s)) (slice_index (process_of u s).u.call 0)
-          (slice_index (process_of u s).u.call 2) (slice_index (process_of u s).u.call 3)
-      at_end on other =
-          tidy_end u s tidy (runner_there u.processes u.clock u.texts u.limit s seen.board t)
-          (runner_alive u.processes u.clock u.texts u.limit s seen.board t) on other
+      at_end : is_on_files (process_of u s).u.pending ≡ true → CanResume (λ count. Unit {0}) (handed_of u (process_of u s))
+      at_end on =
+          tidy_can u s tidy (runner_there u.processes u.clock u.texts u.limit s seen.board t)
+          (runner_alive u.processes u.clock u.texts u.limit s seen.board t) on
 
       by : (b : Bool) → is_on_files (process_of u s).u.pending ≡ b
           → AptBegun s seen (cond b (did_by u s (resumes (handed_of u (process_of u s)) s u.clock.time)) (came_by u s (resume_proc (world_of u) s)))
@@ -244,7 +242,7 @@ module _ (s : ℕ) (seen : Seen) where
 
       by : (o : Outcome) → AptBegun s seen (comes_to now s o)
       by outcome.Next = record { begun = record { apt = λ b. subst (λ v. Paused v seen) (sym same) p; calm = tt } }
-      by (outcome.Call number) = called_apt now number (record { count = numbers.count; pipes = numbers.pipes }) i
+      by (outcome.Call number) = called_apt now number (record { count = numbers.count; eight = numbers.eight; pipes = numbers.pipes }) i
       by (outcome.Fault k) = fault_apt k
         where
           fault_apt : (k : Kind) → AptBegun s seen (faults now s k)
