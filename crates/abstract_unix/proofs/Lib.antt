@@ -15,6 +15,7 @@ pub mod TidyTurns
 pub mod TidySteps
 pub mod Turning
 pub mod Passing
+pub mod Telling
 pub mod Events
 pub mod Ticking
 pub mod Outside

@@ -14,7 +14,10 @@ use Rattle.pick_rules.specs.Effects.{Effect, Show}
 use Rattle.pick_rules.specs.Logged.{Stop, logged}
 use Rattle.abstract_unix.specs.Endings.{is_early}
 use Rattle.abstract_unix.specs.Unix.{Unix, System}
-use Rattle.abstract_unix.specs.Turn.{settled, Happened, Turn, with_slot, counted, followed, disk_lines, wakes_disks, after_slot, stays, settling, calls_for_settling, settled_after, turned_by, turned, ticked_by}
+use Rattle.tty_line.specs.Terminal.{Terminal}
+use Rattle.tty_line.specs.Said.{sends}
+use Rattle.lines_eight.specs.Told.{AllTold, each_line}
+use Rattle.abstract_unix.specs.Turn.{settled, Happened, Turn, with_slot, counted, followed, disk_lines, wakes_disks, is_sending, sends_lines, sends_after, after_slot, stays, settling, calls_for_settling, settled_after, turned_by, turned, ticked_by}
 use Rattle.abstract_unix.specs.Runs.{Event, Tick, Course, begun, event_of, goes_on_by, unless_ended, after_event, course, after_items}
 
 -- first these events and then those
@@ -85,30 +88,53 @@ settled_ending h = by (calls_for_settling h)
     by true = refl
     by false = refl
 
--- What follows a slot leaves all that doesn't count slots.
-pub after_keeps : (X : Type 0) (f : Unix → X) → ((u : Unix) → f (with_slot u) ≡ f u) → (h : Happened)
-    → f (after_slot h).unix ≡ f h.unix
-after_keeps X f same h = by (is_early h.ending)
-  where
-    followed_keeps : (g : Happened) (es : List (Effect Unix)) → f (followed g es).unix ≡ f g.unix
-    followed_keeps g [] = refl
-    followed_keeps g (e ∷ es) = refl
+-- the lines after they have sent
+abbrev sent_lines : Happened → AllTold
+sent_lines h = each_line sends h.unix.lines
 
-    by : (b : Bool) → f (cond b h (wakes_disks (counted h))).unix ≡ f h.unix
+abbrev with_sent : Happened → Happened
+with_sent h = record h { unix = record h.unix { lines = (sent_lines h).lines } }
+
+-- What follows a slot leaves all that doesn't count slots and is no line.
+pub after_keeps : (X : Type 0) (f : Unix → X) → ((u : Unix) → f (with_slot u) ≡ f u) → ((u : Unix) (lines : List Terminal) → f (record u { lines = lines }) ≡ f u)
+    → (h : Happened) → f (after_slot h).unix ≡ f h.unix
+after_keeps X f same others h = by (is_early h.ending)
+  where
+    followed_keeps : (wakes : Bool) (g : Happened) (es : List (Effect Unix)) → f (followed wakes g es).unix ≡ f g.unix
+    followed_keeps wakes g [] = refl
+    followed_keeps wakes g (e ∷ es) = refl
+
+    sends_keeps : (g : Happened) → f (sends_after g).unix ≡ f g.unix
+    sends_keeps g = either (is_sending g.unix.timing)
+      where
+        either : (b : Bool) → f (cond b (sends_lines g) g).unix ≡ f g.unix
+        either true =
+            followed_keeps (sent_lines g).wakes (with_sent g) (map Show (sent_lines g).items) ∙ others g.unix (sent_lines g).lines
+        either false = refl
+
+    by : (b : Bool) → f (cond b h (sends_after (wakes_disks (counted h)))).unix ≡ f h.unix
     by true = refl
-    by false = followed_keeps (counted h) (map Show (disk_lines (with_slot h.unix))) ∙ same h.unix
+    by false =
+        sends_keeps (wakes_disks (counted h)) ∙ followed_keeps true (counted h) (map Show (disk_lines (with_slot h.unix))) ∙ same h.unix
 
 -- it ends no run, and leaves who was there
 pub after_ending : (h : Happened) → (after_slot h).ending ≡ h.ending
 after_ending h = by (is_early h.ending)
   where
-    followed_ends : (g : Happened) (es : List (Effect Unix)) → (followed g es).ending ≡ g.ending
-    followed_ends g [] = refl
-    followed_ends g (e ∷ es) = refl
+    followed_ends : (wakes : Bool) (g : Happened) (es : List (Effect Unix)) → (followed wakes g es).ending ≡ g.ending
+    followed_ends wakes g [] = refl
+    followed_ends wakes g (e ∷ es) = refl
 
-    by : (b : Bool) → (cond b h (wakes_disks (counted h))).ending ≡ h.ending
+    sends_ends : (g : Happened) → (sends_after g).ending ≡ g.ending
+    sends_ends g = either (is_sending g.unix.timing)
+      where
+        either : (b : Bool) → (cond b (sends_lines g) g).ending ≡ g.ending
+        either true = followed_ends (sent_lines g).wakes (with_sent g) (map Show (sent_lines g).items)
+        either false = refl
+
+    by : (b : Bool) → (cond b h (sends_after (wakes_disks (counted h)))).ending ≡ h.ending
     by true = refl
-    by false = followed_ends (counted h) (map Show (disk_lines (with_slot h.unix)))
+    by false = sends_ends (wakes_disks (counted h)) ∙ followed_ends true (counted h) (map Show (disk_lines (with_slot h.unix)))
 
 -- and shows what was shown first
 pub after_items_none : (test : Item → Bool) (h : Happened) → list_any test (after_slot h).log.items ≡ false
@@ -122,14 +148,22 @@ after_items_none test h = by (is_early h.ending)
         or_false true b e = absurd (cc e)
         or_false false b e = refl
 
-    followed_none : (g : Happened) (es : List (Effect Unix)) → list_any test (followed g es).log.items ≡ false
+    followed_none : (wakes : Bool) (g : Happened) (es : List (Effect Unix)) → list_any test (followed wakes g es).log.items ≡ false
         → list_any test g.log.items ≡ false
-    followed_none g [] none = none
-    followed_none g (e ∷ es) none = front g.log.items (logged g.log.board (e ∷ es)).items none
+    followed_none wakes g [] none = none
+    followed_none wakes g (e ∷ es) none = front g.log.items (logged g.log.board (e ∷ es)).items none
 
-    by : (b : Bool) → list_any test (cond b h (wakes_disks (counted h))).log.items ≡ false → list_any test h.log.items ≡ false
+    sends_none : (g : Happened) → list_any test (sends_after g).log.items ≡ false → list_any test g.log.items ≡ false
+    sends_none g = either (is_sending g.unix.timing)
+      where
+        either : (b : Bool) → list_any test (cond b (sends_lines g) g).log.items ≡ false → list_any test g.log.items ≡ false
+        either true none = followed_none (sent_lines g).wakes (with_sent g) (map Show (sent_lines g).items) none
+        either false none = none
+
+    by : (b : Bool) → list_any test (cond b h (sends_after (wakes_disks (counted h)))).log.items ≡ false → list_any test h.log.items ≡ false
     by true none = none
-    by false none = followed_none (counted h) (map Show (disk_lines (with_slot h.unix))) none
+    by false none =
+        followed_none true (counted h) (map Show (disk_lines (with_slot h.unix))) (sends_none (wakes_disks (counted h)) none)
 
 -- and neither what follows a slot nor settling changes what is answered
 pub whole_answer : (h : Happened) → turned (settled_after (after_slot h)) ≡ turned_by h.ending h.is_idle
@@ -142,13 +176,23 @@ whole_answer h = settled_told (after_slot h) ∙ by (is_early h.ending)
         either true = refl
         either false = refl
 
-    followed_told : (g : Happened) (es : List (Effect Unix)) → turned_by (followed g es).ending (followed g es).is_idle ≡ turned_by g.ending g.is_idle
-    followed_told g [] = refl
-    followed_told g (e ∷ es) = refl
+    told : Happened → Turned
+    told g = turned_by g.ending g.is_idle
 
-    by : (b : Bool) → turned_by (cond b h (wakes_disks (counted h))).ending (cond b h (wakes_disks (counted h))).is_idle ≡ turned_by h.ending h.is_idle
+    followed_told : (wakes : Bool) (g : Happened) (es : List (Effect Unix)) → told (followed wakes g es) ≡ told g
+    followed_told wakes g [] = refl
+    followed_told wakes g (e ∷ es) = refl
+
+    sends_told : (g : Happened) → told (sends_after g) ≡ told g
+    sends_told g = either (is_sending g.unix.timing)
+      where
+        either : (b : Bool) → told (cond b (sends_lines g) g) ≡ told g
+        either true = followed_told (sent_lines g).wakes (with_sent g) (map Show (sent_lines g).items)
+        either false = refl
+
+    by : (b : Bool) → told (cond b h (sends_after (wakes_disks (counted h)))) ≡ told h
     by true = refl
-    by false = followed_told (counted h) (map Show (disk_lines (with_slot h.unix)))
+    by false = sends_told (wakes_disks (counted h)) ∙ followed_told true (counted h) (map Show (disk_lines (with_slot h.unix)))
 
 -- Items that stand in front stay there, and how a log stopped is not seen.
 abbrev pub with_front : List Item → Happened → Happened
@@ -157,16 +201,25 @@ with_front items h = record h { log = record h.log { items = items ++ h.log.item
 pub after_front : (items : List Item) (h : Happened) → after_slot (with_front items h) ≡ with_front items (after_slot h)
 after_front items h = by (is_early h.ending)
   where
-    followed_front : (g : Happened) (es : List (Effect Unix)) → followed (with_front items g) es ≡ with_front items (followed g es)
-    followed_front g [] = refl
-    followed_front g (e ∷ es) = λ i. record g {
+    followed_front : (wakes : Bool) (g : Happened) (es : List (Effect Unix)) → followed wakes (with_front items g) es ≡ with_front items (followed wakes g es)
+    followed_front wakes g [] = refl
+    followed_front wakes g (e ∷ es) = λ i. record g {
       log = record (logged g.log.board (e ∷ es)) { items = append_assoc items g.log.items (logged g.log.board (e ∷ es)).items i };
-      settles = true;
+      settles = wakes || g.settles;
     }
 
-    by : (b : Bool) → cond b (with_front items h) (wakes_disks (counted (with_front items h))) ≡ with_front items (cond b h (wakes_disks (counted h)))
+    sends_front : (g : Happened) → sends_after (with_front items g) ≡ with_front items (sends_after g)
+    sends_front g = either (is_sending g.unix.timing)
+      where
+        either : (b : Bool) → cond b (sends_lines (with_front items g)) (with_front items g) ≡ with_front items (cond b (sends_lines g) g)
+        either true = followed_front (sent_lines g).wakes (with_sent g) (map Show (sent_lines g).items)
+        either false = refl
+
+    by : (b : Bool) → cond b (with_front items h) (sends_after (wakes_disks (counted (with_front items h))))
+        ≡ with_front items (cond b h (sends_after (wakes_disks (counted h))))
     by true = refl
-    by false = followed_front (counted h) (map Show (disk_lines (with_slot h.unix)))
+    by false =
+        ap sends_after (followed_front true (counted h) (map Show (disk_lines (with_slot h.unix)))) ∙ sends_front (wakes_disks (counted h))
 
 pub settled_front : (items : List Item) (h : Happened)
     → settled_after (with_front items h) ≡ record (settled_after h) { items = items ++ (settled_after h).items }
@@ -190,13 +243,26 @@ settled_stop o h = by (calls_for_settling h)
 pub after_stop : (o : Option (Stop Unix)) (h : Happened) → settled_after (after_slot (with_stop o h)) ≡ settled_after (after_slot h)
 after_stop o h = by (is_early h.ending)
   where
-    followed_stop : (g : Happened) (es : List (Effect Unix)) → settled_after (followed (with_stop o g) es) ≡ settled_after (followed g es)
-    followed_stop g [] = settled_stop o g
-    followed_stop g (e ∷ es) = refl
+    followed_stop : (wakes : Bool) (g : Happened) (es : List (Effect Unix)) → settled_after (followed wakes (with_stop o g) es) ≡ settled_after (followed wakes g es)
+    followed_stop wakes g [] = settled_stop o g
+    followed_stop wakes g (e ∷ es) = refl
 
-    by : (b : Bool) → settled_after (cond b (with_stop o h) (wakes_disks (counted (with_stop o h)))) ≡ settled_after (cond b h (wakes_disks (counted h)))
+    sends_stop : (g : Happened) → settled_after (sends_after (with_stop o g)) ≡ settled_after (sends_after g)
+    sends_stop g = either (is_sending g.unix.timing)
+      where
+        either : (b : Bool) → settled_after (cond b (sends_lines (with_stop o g)) (with_stop o g)) ≡ settled_after (cond b (sends_lines g) g)
+        either true = followed_stop (sent_lines g).wakes (with_sent g) (map Show (sent_lines g).items)
+        either false = settled_stop o g
+
+    then_sends : (wakes : Bool) (g : Happened) (es : List (Effect Unix))
+        → settled_after (sends_after (followed wakes (with_stop o g) es)) ≡ settled_after (sends_after (followed wakes g es))
+    then_sends wakes g [] = sends_stop g
+    then_sends wakes g (e ∷ es) = refl
+
+    by : (b : Bool) → settled_after (cond b (with_stop o h) (sends_after (wakes_disks (counted (with_stop o h)))))
+        ≡ settled_after (cond b h (sends_after (wakes_disks (counted h))))
     by true = settled_stop o h
-    by false = followed_stop (counted h) (map Show (disk_lines (with_slot h.unix)))
+    by false = then_sends true (counted h) (map Show (disk_lines (with_slot h.unix)))
 
 -- A tick lets the run go on, or ends it in a panic, as its answer says.
 pub tick_told : (m : System) (o : Ends) → (ticked_by (event_of Tick m).ending ≡ Ok tt → o ≡ AtEnd)

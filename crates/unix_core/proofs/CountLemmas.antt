@@ -1,19 +1,19 @@
 -- The count of slots through what a kernel does: who waits for the disk is woken when the slot has come.
-use Rattle.std.proofs.Common.{◌≡◌, ◌≢◌, ◌∙◌, ◌⊎◌, ◌<◌, ◌≤◌, ◌+◌, ◌*◌, ◌-◌, ℕ, Bool, false, List, get_or, Option, Some, None, slice_index, refl, sym, ap, subst, inl, inr, arith}
+use Rattle.std.proofs.Common.{◌≡◌, ◌≢◌, ◌∙◌, ◌⊎◌, ◌<◌, ◌≤◌, ◌+◌, ◌*◌, ◌-◌, ◌%◌, ◌==◌, ◌&&◌, not, ℕ, Bool, false, List, get_or, Option, Some, None, slice_index, refl, sym, ap, subst, inl, inr, arith}
 use Rattle.u_area.specs.declared.layout.TheConstants.{NOTHING_PENDING, DISK_WAIT}
 use Rattle.sys_procs.specs.Process.{Process}
 use Rattle.abstract_unix.specs.Unix.{Timing, Unix, process_at, process_of}
 use Rattle.pdp_step.specs.declared.outcome.Outcome.{Outcome}
 use Rattle.abstract_unix.specs.Calls.{resumed}
 use Rattle.abstract_unix.specs.Delivery.{ends_turn}
-use Rattle.abstract_unix.specs.Turn.{comes_to, waits_in, with_slot, disk_end_of}
+use Rattle.abstract_unix.specs.Turn.{comes_to, waits_in, with_slot, disk_end_of, is_sending}
 use Rattle.abstract_unix.specs.Whole.{CanGoOn}
 use Rattle.abstract_unix.proofs.GoingOnLemmas.{Waited, AllWaited}
 use Rattle.abstract_unix.proofs.Stretches.{due_after}
 use Rattle.abstract_unix.proofs.DiskSteps.{LivesIn}
 use Rattle.abstract_unix.proofs.Dues.{comes_due, comes_graves, resumed_due, resumed_graves}
 use Rattle.unix_core.specs.declared.slots.Slots.{Slots}
-use Rattle.unix_core.specs.Slots.{passed_in, timing_in, CanWait, IsCounted, HasWaited}
+use Rattle.unix_core.specs.Slots.{passed_in, timing_in, NoneSend, CanWait, IsCounted, HasWaited}
 
 -- The count speaks of the processes and of the slots that have passed alone.
 pub counted_same : (slots : Slots) (u v : Unix) → v.processes ≡ u.processes → v.timing.passed ≡ u.timing.passed → IsCounted slots u
@@ -21,6 +21,9 @@ pub counted_same : (slots : Slots) (u v : Unix) → v.processes ≡ u.processes 
 counted_same slots u v processes passed counted = record {
   within = counted.within;
   disk = counted.disk;
+  pace = counted.pace;
+  set = counted.set;
+  sends = counted.sends;
   due = record {
     next = subst (λ n. n < slots.due) (sym passed) counted.due.next;
     each = λ s p is waits. subst (λ n. (disk_end_of p ≤ n) ⊎ (slots.due ≤ disk_end_of p)) (sym passed)
@@ -38,6 +41,9 @@ pub counted_no_new : (slots : Slots) (u v : Unix) → v.timing.passed ≡ u.timi
 counted_no_new slots u v passed waited counted = record {
   within = counted.within;
   disk = counted.disk;
+  pace = counted.pace;
+  set = counted.set;
+  sends = counted.sends;
   due = record {
     next = subst (λ n. n < slots.due) (sym passed) counted.due.next;
     each = λ s q is waits.
@@ -62,7 +68,7 @@ pub counted_set : (slots : Slots) (n : ℕ) (u v : Unix) → n ≤ 999999999 →
     → IsCounted slots u → IsCounted (record slots { disk = n }) v
 counted_set slots n u v most processes passed counted =
     let same : IsCounted slots v = counted_same slots u v processes passed counted in
-    record { within = same.within; disk = most; due = same.due; graves = same.graves }
+    record { within = same.within; disk = most; pace = same.pace; set = same.set; sends = same.sends; due = same.due; graves = same.graves }
 
 -- a slot is counted which isn't the one that is due
 pub counted_one : (slots : Slots) (u : Unix) → u.timing.passed ≡ passed_in slots → 1 < slots.left → IsCounted slots u
@@ -70,16 +76,22 @@ pub counted_one : (slots : Slots) (u : Unix) → u.timing.passed ≡ passed_in s
 counted_one slots u is more counted = record {
   within = omega (arith, counted.within, more);
   disk = counted.disk;
+  pace = counted.pace;
+  set = omega (arith, counted.within, more, counted.set);
+  sends = λ m later sooner. counted.sends m (omega (arith, later, counted.within, more)) sooner;
   due = due_after slots.due u counted.due (omega (arith, counted.within, more, is));
   graves = counted.graves;
 }
 
 -- nobody waits, as at the start of a run
-pub counted_first : (slots : Slots) (u : Unix) → slots.left ≤ slots.due → slots.disk ≡ 0 → u.timing.passed < slots.due
+pub counted_first : (slots : Slots) (u : Unix) → slots.left ≤ slots.due → slots.disk ≡ 0 → slots.pace ≡ 0 → slots.set_at ≡ 0 → u.timing.passed < slots.due
     → ((s : ℕ) (p : Process) → process_at u s ≡ Some p → p.u.pending ≡ NOTHING_PENDING) → IsCounted slots u
-counted_first slots u within none next nobody = record {
+counted_first slots u within none unpaced unset next nobody = record {
   within = within;
   disk = omega (arith, none);
+  pace = omega (arith, unpaced);
+  set = omega (arith, unset);
+  sends = λ m later sooner. ap (λ n. not (n == 0) && ((m - slots.set_at) % n == 0)) unpaced;
   due = record { next = next; each = λ s p is waits. let free = nobody s p is in absurd (omega (arith, free, waits)) };
   graves = λ s p is dead waits. let free = nobody s p is in absurd (omega (arith, free, waits));
 }
@@ -92,9 +104,17 @@ counted_comes u s o old new free here timing counted waited =
     let passed : u.timing.passed ≡ passed_in old = ap (λ (t : Timing). t.passed) timing in
     let disk : u.timing.disk ≡ old.disk = ap (λ (t : Timing). t.disk) timing in
     let kept : new.disk ≡ old.disk = ap (λ (t : Timing). t.disk) waited.timing in
+    let pace : new.pace ≡ old.pace = ap (λ (t : Timing). t.pace) waited.timing in
+    let set : new.set_at ≡ old.set_at = waited.set in
+    let same : passed_in new ≡ passed_in old = ap (λ (t : Timing). t.passed) waited.timing in
     record {
       within = waited.within;
       disk = subst (λ n. n ≤ 999999999) (sym kept) counted.disk;
+      pace = subst (λ n. n ≤ 999999999) (sym pace) counted.pace;
+      set = let were = counted.set in omega (arith, were, set, same);
+      sends = λ m later sooner.
+          let before : m < old.due = (let less = waited.sooner in omega (arith, sooner, less)) in
+          (λ i. is_sending (record (timing_in old) { pace = pace i; since = m - set i })) ∙ counted.sends m (omega (arith, later, same)) before;
       due = comes_due u s o free here old.due new.due counted.due waited.sooner (subst (λ n. n < new.due) (sym passed) waited.ahead)
           (λ waits. let ends = waited.ends waits in omega (arith, ends, passed, disk));
       graves = comes_graves u s o free here counted.graves;
@@ -106,6 +126,9 @@ pub counted_resumed : (u : Unix) (s : ℕ) (slots : Slots) → CanGoOn u → Liv
 counted_resumed u s slots can here counted = record {
   within = counted.within;
   disk = counted.disk;
+  pace = counted.pace;
+  set = counted.set;
+  sends = counted.sends;
   due = resumed_due u s can here slots.due counted.due;
   graves = resumed_graves u s can here counted.graves;
 }
@@ -128,5 +151,32 @@ has_not_waited waits old new same can never =
       within = can.within;
       sooner = omega arith;
       ahead = can.ahead;
+      set = refl;
       ends = λ is. absurd (let no = sym never ∙ is in cc no);
     })
+
+-- the pace is set, and the slots are counted for it from here
+pub counted_paced : (slots paced : Slots) (n : ℕ) (u v : Unix) → n ≤ 999999999 → u.timing.passed ≡ passed_in slots → v.processes ≡ u.processes
+    → v.timing.passed ≡ u.timing.passed → paced.left ≤ paced.due → paced.due ≤ slots.due → passed_in paced < paced.due
+    → timing_in paced ≡ record (timing_in slots) { pace = n; since = 0 } → paced.set_at ≤ passed_in paced
+    → NoneSend (passed_in paced) paced → IsCounted slots u → IsCounted paced v
+counted_paced slots paced n u v most is processes passed within sooner later timing set none counted =
+    let same : IsCounted slots v = counted_same slots u v processes passed counted in
+    let disk : paced.disk ≡ slots.disk = ap (λ (t : Timing). t.disk) timing in
+    let pace : paced.pace ≡ n = ap (λ (t : Timing). t.pace) timing in
+    let at : passed_in paced ≡ passed_in slots = ap (λ (t : Timing). t.passed) timing in
+    record {
+      within = within;
+      disk = subst (λ k. k ≤ 999999999) (sym disk) same.disk;
+      pace = subst (λ k. k ≤ 999999999) (sym pace) most;
+      set = set;
+      sends = none;
+      due = record {
+        next = omega (arith, later, at, is, passed);
+        each = λ s p there waits. elim (same.due.each s p there waits) [
+          | inl low ↦ inl low
+          | inr high ↦ inr (omega (arith, high, sooner))
+        ];
+      };
+      graves = same.graves;
+    }

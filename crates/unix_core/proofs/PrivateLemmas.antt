@@ -8,7 +8,9 @@ use Rattle.v6_base.specs.declared.errno.Errno.TheVariants.{ENOSYS}
 use Rattle.v6_base.specs.declared.answer.Answer.{Answer}
 use Rattle.v6_base.specs.declared.answer.Answer.TheVariants.{Ret, Fail, Sleep}
 use Rattle.v6_base.specs.declared.entry.Chan.{Chan}
-use Rattle.v6_base.specs.declared.entry.Chan.TheVariants.{Keys, Tout}
+use Rattle.v6_base.specs.declared.entry.Chan.TheVariants.{Tout}
+use Rattle.tty_line.specs.Said.{Said, flush}
+use Rattle.lines_eight.specs.Told.{AllTold, each_line, told, keys_of, show_of}
 use Rattle.pdp_step.specs.declared.outcome.Outcome.{Outcome}
 use Rattle.pdp_step.specs.declared.outcome.Outcome.TheVariants.{Next, Call, Fault}
 use Rattle.pdp_step.specs.Instruction.{Stepped, instr}
@@ -17,9 +19,9 @@ use Rattle.pdp_step.specs.declared.outcome.Kind.TheVariants as kind
 use Rattle.pick_rules.specs.declared.row.Mode.{Mode}
 use Rattle.pick_rules.specs.declared.row.Mode.TheVariants.{User, Kernel, Idle}
 use Rattle.pick_rules.specs.Effects.{Effect, Show}
-use Rattle.pick_rules.specs.Logged.{Stop, left_by}
+use Rattle.pick_rules.specs.Logged.{Stop, nothing_logged, left_by}
 use Rattle.swap_sched.specs.Pass.{pass, stop_over}
-use Rattle.sig_core.specs.declared.numbers.TheConstants.{SIGINS, SIGTRC, SIGIOT, SIGEMT, SIGBUS, SIGSEG, SIGSYS}
+use Rattle.sig_core.specs.declared.numbers.TheConstants.{SIGINS, SIGTRC, SIGIOT, SIGEMT, SIGBUS, SIGSEG, SIGSYS, SIGHUP}
 use Rattle.sig_core.specs.Signals.{handler_of, due}
 use Rattle.sig_core.specs.Delivery.{makes_core, signal_stack}
 use Rattle.sys_files.specs.Did.{Did}
@@ -38,22 +40,22 @@ use Rattle.sys_procs.specs.Break.{grow, grown_or_not}
 use Rattle.sys_procs.specs.Exit.{exit_status, end_proc}
 use Rattle.sys_procs.specs.Fork.{fork_one}
 use Rattle.sys_procs.specs.Resume.{awake, resume_proc}
-use Rattle.sys_procs.specs.Signals.{signal_lines, all_signalled, has_line}
+use Rattle.sys_procs.specs.Signals.{signal_lines, meant_in, all_signalled, has_line}
 use Rattle.abstract_unix.specs.declared.asked.Asked.{Asked}
 use Rattle.abstract_unix.specs.declared.calls.SystemCall.{SystemCall}
 use Rattle.abstract_unix.specs.declared.calls.SystemCall.TheVariants.{Indirect, Exit, Fork, Unknown, OnFiles, OnProcesses}
 use Rattle.abstract_unix.specs.declared.calls.Sysent.{Sysent}
 use Rattle.abstract_unix.specs.declared.ending.Ending.{Ending}
 use Rattle.abstract_unix.specs.declared.ending.Ending.TheVariants as ending
-use Rattle.abstract_unix.specs.Unix.{Unix, System, process_of, with_process}
+use Rattle.abstract_unix.specs.Unix.{Unix, System, terminal_at, with_terminal, process_of, with_process}
 use Rattle.abstract_unix.specs.Steps.{Steps, quietly, returns, signals, after_effects}
 use Rattle.abstract_unix.specs.Errors.{error_number}
 use Rattle.abstract_unix.specs.Calls.{in_order, handed_of, with_handed, world_of, with_world, with_area, entered_area, words_passed, asked, given_area, refused_area, refuses, answers, file_row, process_row, did_by, came_by, forks, closes_all, exits_with, grows, grown_by, takes_time, does_call, sysent_of, does_asked, resumed}
 use Rattle.abstract_unix.specs.Delivery.{heeds, catches, signal_status, dumped, ends_by, delivers_if, delivers_due, ends_by_ending}
-use Rattle.abstract_unix.specs.Turn.{Happened, stays, settling, calls_for_settling, settled_after, machine_of, with_machine, passes_setd, faults, comes_to, instruction, is_user, begins_turn, turn, end_effects, turn_of, pass_of, slot_of, whole_slot}
-use Rattle.abstract_unix.specs.Outside.{mode_of, timed, charged, ticked, is_due, is_as_trap, wakes, tick_effects, tick_delivery, delivers_to, tick_of, calls, with_key, key_lines, typed_of}
+use Rattle.abstract_unix.specs.Turn.{Happened, happens, stays, settling, calls_for_settling, settled_after, machine_of, with_machine, passes_setd, faults, comes_to, instruction, is_user, begins_turn, turn, end_effects, turn_of, pass_of, slot_of, whole_slot}
+use Rattle.abstract_unix.specs.Outside.{mode_of, timed, charged, ticked, is_due, is_as_trap, wakes, tick_effects, tick_delivery, delivers_to, tick_of, calls, calls_show, with_key, key_lines, typed_of, hangs_up, hangup_of, turned_to, paced_of}
 use Rattle.abstract_unix.proofs.RunsLemmas.{after_keeps}
-use Rattle.abstract_unix.specs.Runs.{Slot, Tick, Byte, Switch, Disk, event_of, start_of}
+use Rattle.abstract_unix.specs.Runs.{Slot, Tick, Byte, Switch, Disk, Pace, Hangup, event_of, start_of}
 use Rattle.abstract_unix.specs.Private.{IsUndisturbed, AllUndisturbed, OthersUndisturbed, TickUndisturbed, UndisturbedIf, is_due_to, tick_delivers}
 use Rattle.sys_procs.proofs.Slots.{fifty_processes}
 use Rattle.unix_core.specs.declared.world.World.{World}
@@ -365,24 +367,52 @@ module _ (m : System) (r : ℕ) where
       (carry_both (HasSpared before r) (tick_effects m) s.effects (carry_tick (HasSpared before r) m) h.effects) h.unix
 
   -- a key that sends a signal
-  spared_key : length before ≡ 50 → (key : Keyed) (u : Unix) → u.processes ≡ before → Spared before (with_key 0 key u).processes r
-  spared_key long Nothing u same = subst (λ ps. Spared before ps r) (sym same) (spared_same before r)
-  spared_key long Ready u same = subst (λ ps. Spared before ps r) (sym same) (spared_same before r)
-  spared_key long Flushed u same = subst (λ ps. Spared before ps r) (sym same) (spared_same before r)
-  spared_key long (Signal n) u same =
-      spared_then before u.processes (all_signalled (has_line 0) n u.processes) r
-      (subst (λ ps. Spared before ps r) (sym same) (spared_same before r))
-      (spared_signalled u.processes (has_line 0) n r (ap length same ∙ long))
+  -- and what those who have a line get
+  spared_line : length before ≡ 50 → (l n : ℕ) (ps : List (Option Process)) → ps ≡ before → Spared before (all_signalled (has_line l) n ps) r
+  spared_line long l n ps same =
+      spared_then before ps (all_signalled (has_line l) n ps) r (subst (λ xs. Spared before xs r) (sym same) (spared_same before r))
+      (spared_signalled ps (has_line l) n r (ap length same ∙ long))
 
-  spared_typed : length before ≡ 50 → (byte : ℕ) → IsUndisturbed m.unix (typed_of m 0 byte).unix r
-  spared_typed long byte =
-      let k : Typed = typed m.unix.line byte in
-      let shown : List Item = sent 0 k.shown ++ key_lines 0 k.keyed m.unix in
-      left_carried (HasSpared before r) m.board (map Show shown ++ wakes (calls k.keyed) Keys)
-      (with_key 0 k.keyed (record m.unix { line = k.terminal }))
-      (carry_both (HasSpared before r) (map Show shown) (wakes (calls k.keyed) Keys)
-      (carry_shown (HasSpared before r) shown) (carry_wakes (HasSpared before r) (calls k.keyed) Keys))
-      (spared_key long k.keyed (record m.unix { line = k.terminal }) refl)
+  spared_key : length before ≡ 50 → (l : ℕ) (key : Keyed) (u : Unix) → u.processes ≡ before → Spared before (with_key l key u).processes r
+  spared_key long l Nothing u same = subst (λ ps. Spared before ps r) (sym same) (spared_same before r)
+  spared_key long l Ready u same = subst (λ ps. Spared before ps r) (sym same) (spared_same before r)
+  spared_key long l (Flushed show) u same = subst (λ ps. Spared before ps r) (sym same) (spared_same before r)
+  spared_key long l (Signal n show) u same = spared_line long l n u.processes same
+
+  spared_typed : length before ≡ 50 → (l byte : ℕ) → IsUndisturbed m.unix (typed_of m l byte).unix r
+  spared_typed long l byte =
+      let k : Typed = typed (terminal_at m.unix l) byte in
+      let shown : List Item = sent l k.shown ++ key_lines l k.keyed m.unix in
+      let keys : List (Effect Unix) = wakes (calls k.keyed) (keys_of l) in
+      let room : List (Effect Unix) = wakes (calls_show k.keyed) (show_of l) in
+      left_carried (HasSpared before r) m.board (map Show shown ++ keys ++ room) (with_key l k.keyed (with_terminal m.unix l k.terminal))
+      (carry_both (HasSpared before r) (map Show shown) (keys ++ room) (carry_shown (HasSpared before r) shown)
+      (carry_both (HasSpared before r) keys room (carry_wakes (HasSpared before r) (calls k.keyed) (keys_of l))
+      (carry_wakes (HasSpared before r) (calls_show k.keyed) (show_of l))))
+      (spared_key long l k.keyed (with_terminal m.unix l k.terminal) refl)
+
+  spared_hangup : length before ≡ 50 → (l : ℕ) → IsUndisturbed m.unix (hangup_of m l).unix r
+  spared_hangup long l = by (terminal_at m.unix l).is_open
+    where
+      s : Said
+      s = flush (terminal_at m.unix l)
+
+      shown : List Item
+      shown = signal_lines SIGHUP (meant_in (has_line l) m.unix.processes) ++ told l s
+
+      by : (b : Bool) → IsUndisturbed m.unix (cond b (hangs_up m l) (happens m.unix (nothing_logged m.board))).unix r
+      by true =
+          left_carried (HasSpared before r) m.board (map Show shown)
+          (record (with_terminal m.unix l s.terminal) { processes = all_signalled (has_line l) SIGHUP m.unix.processes })
+          (carry_shown (HasSpared before r) shown) (spared_line long l SIGHUP m.unix.processes refl)
+      by false = spared_same before r
+
+  spared_paced : (n : ℕ) → IsUndisturbed m.unix (paced_of m n).unix r
+  spared_paced n =
+      let all : AllTold = each_line (turned_to (not (n == 0))) m.unix.lines in
+      left_carried (HasSpared before r) m.board (map Show all.items)
+      (record m.unix { lines = all.lines; timing = record m.unix.timing { pace = n; since = 0 } })
+      (carry_shown (HasSpared before r) all.items) (spared_same before r)
 
 -- settling leaves the Unix as it is
 pub settled_unix : (h : Happened) → (settled_after h).next.unix ≡ h.unix
@@ -407,7 +437,7 @@ slot_private m long r other =
     let o : Option ℕ = m.board.table.running in
     subst (λ (u : Unix). IsUndisturbed m.unix u r) (sym (settled_unix (whole_slot m)))
     (subst (λ ps. Spared m.unix.processes ps r)
-    (sym (after_keeps (List (Option Process)) (λ (u : Unix). u.processes) (λ u. refl) (slot_of m o))) (spared_slot m r long o other))
+    (sym (after_keeps (List (Option Process)) (λ (u : Unix). u.processes) (λ u. refl) (λ u lines. refl) (slot_of m o))) (spared_slot m r long o other))
 
 -- a tick,
 pub tick_private : (m : System) → TickUndisturbed m (event_of Tick m).next
@@ -419,9 +449,16 @@ tick_private m = by (tick_delivers m) refl
     by false is = λ r. subst (λ (u : Unix). IsUndisturbed m.unix u r) (sym (settled_unix (tick_of m))) (spared_tick m r (inr is))
 
 -- a key and the switches.
-pub typed_private : (m : System) → length m.unix.processes ≡ 50 → (byte : ℕ) → AllUndisturbed m (event_of (Byte byte) m).next
-typed_private m long byte r =
-    subst (λ (u : Unix). IsUndisturbed m.unix u r) (sym (settled_unix (typed_of m 0 byte))) (spared_typed m r long byte)
+pub typed_private : (m : System) → length m.unix.processes ≡ 50 → (l byte : ℕ) → AllUndisturbed m (event_of (Byte l byte) m).next
+typed_private m long l byte r =
+    subst (λ (u : Unix). IsUndisturbed m.unix u r) (sym (settled_unix (typed_of m l byte))) (spared_typed m r long l byte)
+
+pub hangup_private : (m : System) → length m.unix.processes ≡ 50 → (l : ℕ) → AllUndisturbed m (event_of (Hangup l) m).next
+hangup_private m long l r =
+    subst (λ (u : Unix). IsUndisturbed m.unix u r) (sym (settled_unix (hangup_of m l))) (spared_hangup m r long l)
+
+pub pace_private : (m : System) (n : ℕ) → AllUndisturbed m (event_of (Pace n) m).next
+pace_private m n r = subst (λ (u : Unix). IsUndisturbed m.unix u r) (sym (settled_unix (paced_of m n))) (spared_paced m r n)
 
 pub switched_private : (m : System) (word : ℕ) → AllUndisturbed m (event_of (Switch word) m).next
 switched_private m word r = spared_same m.unix.processes r

@@ -1,19 +1,21 @@
 -- A world whose slots are counted otherwise: what is so of it still is.
-use Rattle.std.proofs.Common.{◌≡◌, ◌≢◌, ◌∙◌, ◌<◌, ◌≤◌, ◌+◌, ◌-◌, ◌==◌, not, ℕ, true, false, [], length, map, refl, sym, ap, subst, inl, inr, arith}
+use Rattle.std.proofs.Common.{◌≡◌, ◌≢◌, ◌∙◌, ◌<◌, ◌≤◌, ◌+◌, ◌-◌, ◌==◌, ◌||◌, ◌++◌, not, cond, ℕ, true, false, [], length, map, refl, sym, ap, subst, inl, inr, arith}
 use Rattle.pick_rules.specs.Effects.{Show}
 use Rattle.pick_rules.specs.Logged.{logged}
 use Rattle.sys_procs.specs.declared.procs.Procs.{Procs}
 use Rattle.sys_procs.specs.World.{clock_of}
 use Rattle.sys_procs.specs.Agree.{Agree}
 use Rattle.sys_procs.specs.Handed.{AreProcs}
+use Rattle.tty_line.specs.Said.{sends}
+use Rattle.lines_eight.specs.Told.{AllTold, each_line}
 use Rattle.abstract_unix.specs.Unix.{Unix}
-use Rattle.abstract_unix.specs.Turn.{with_slot, disk_lines}
+use Rattle.abstract_unix.specs.Turn.{with_slot, disk_lines, is_sending}
 use Rattle.abstract_unix.proofs.Stretches.{nobody_due}
 use Rattle.unix_core.specs.declared.world.World.{World}
 use Rattle.unix_core.specs.declared.slots.Slots.{Slots}
 use Rattle.unix_core.specs.declared.machine.Stage.{Stage}
 use Rattle.unix_core.specs.Memory.{kept_in}
-use Rattle.unix_core.specs.Slots.{IsCounted, processes_of, woken_with, AreDueFrom}
+use Rattle.unix_core.specs.Slots.{timing_in, IsCounted, processes_of, woken_with, AreDueFrom, sent_after, with_sent, slot_items, slot_wakes}
 use Rattle.unix_core.specs.Parts.{unix_of, board_in, phase_of, goes_on, one_before, IsGood, IsReady, IsUser, IsCovered, IsKernel}
 use Rattle.unix_core.proofs.GoingLemmas.{going_same}
 use Rattle.unix_core.proofs.CountLemmas.{counted_one}
@@ -72,8 +74,10 @@ module _ (w : World) (counted : IsCounted w.slots (unix_of w)) where
   pub less_unix : unix_of less ≡ with_slot (unix_of w)
   less_unix =
       let within = counted.within in
+      let set = counted.set in
       let e : w.slots.due - (w.slots.left - 1) ≡ w.slots.due - w.slots.left + 1 = omega (arith, within, some_left) in
-      λ i. record (unix_of w) { timing = record { passed = e i; disk = w.slots.disk } }
+      let f : w.slots.due - (w.slots.left - 1) - w.slots.set_at ≡ w.slots.due - w.slots.left - w.slots.set_at + 1 = omega (arith, within, some_left, set) in
+      λ i. record (unix_of w) { timing = record { passed = e i; disk = w.slots.disk; pace = w.slots.pace; since = f i } }
 
   -- the one that is due
   module _ (none : w.slots.left - 1 ≡ 0) where
@@ -94,11 +98,31 @@ module _ (w : World) (counted : IsCounted w.slots (unix_of w)) where
     pub none_due : disk_lines (with_slot (unix_of w)) ≡ []
     none_due = nobody_due w.slots.due (unix_of w) counted.due (let within = counted.within in omega (arith, within, more))
 
-    pub less_board : board_in less ≡ (logged {W = Unix} (board_in w) (map Show (disk_lines (with_slot (unix_of w))))).board
-    less_board = ap (λ lines. (logged {W = Unix} (board_in w) (map Show lines)).board) (sym none_due)
+    -- and no line sends
+    none_sent : is_sending (with_slot (unix_of w)).timing ≡ false
+    none_sent =
+        let within = counted.within in
+        let set = counted.set in
+        let e : w.slots.due - w.slots.left - w.slots.set_at + 1 ≡ (w.slots.due - w.slots.left + 1) - w.slots.set_at = omega (arith, set) in
+        ap (λ n. is_sending (record (timing_in w.slots) { since = n })) e
+        ∙ counted.sends (w.slots.due - w.slots.left + 1) (omega arith) (omega (arith, within, more))
 
-    pub less_any : false ≡ not (length (disk_lines (with_slot (unix_of w))) == 0)
-    less_any = ap (λ lines. not (length lines == 0)) (sym none_due)
+    quiet : sent_after (with_slot (unix_of w)) ≡ record { lines = w.files.lines; items = []; wakes = false }
+    quiet = ap (λ b. cond b (each_line sends w.files.lines) (record { lines = w.files.lines; items = []; wakes = false })) none_sent
+
+    pub none_shown : slot_items (with_slot (unix_of w)) ≡ []
+    none_shown = ap (λ lines. lines ++ (sent_after (with_slot (unix_of w))).items) none_due ∙ ap (λ (a : AllTold). a.items) quiet
+
+    pub less_sent : unix_of less ≡ with_sent (with_slot (unix_of w))
+    less_sent = less_unix ∙ ap (λ (a : AllTold). record (with_slot (unix_of w)) { lines = a.lines }) (sym quiet)
+
+    pub less_board : board_in less ≡ (logged {W = Unix} (board_in w) (map Show (slot_items (with_slot (unix_of w))))).board
+    less_board = ap (λ items. (logged {W = Unix} (board_in w) (map Show items)).board) (sym none_shown)
+
+    pub less_any : false ≡ slot_wakes (with_slot (unix_of w))
+    less_any =
+        ap (λ lines. not (length lines == 0) || false) (sym none_due)
+        ∙ ap (λ (a : AllTold). not (length (disk_lines (with_slot (unix_of w))) == 0) || a.wakes) (sym quiet)
 
     pub less_counted : IsCounted less.slots (unix_of less)
     less_counted = subst (IsCounted less.slots) (sym less_unix) (counted_one w.slots (unix_of w) refl more counted)
@@ -131,7 +155,7 @@ module _ (w : World) (left : w.slots.left ≡ 0) (good : IsGood (one_before w)) 
   pub reach_unix : unix_of reached ≡ unix_of w
   reach_unix =
       let e : next - (next - w.slots.due) ≡ w.slots.due - w.slots.left = omega (arith, late, left) in
-      ap unix_of same ∙ (λ i. record (unix_of w) { clock = clock i; timing = record { passed = e i; disk = w.slots.disk } })
+      ap unix_of same ∙ (λ i. record (unix_of w) { clock = clock i; timing = record { passed = e i; disk = w.slots.disk; pace = w.slots.pace; since = e i - w.slots.set_at } })
 
   pub lines_are : woken_with w.slots.due (processes_of w.procs) ≡ disk_lines (unix_of w)
   lines_are = let e : w.slots.due ≡ w.slots.due - w.slots.left = omega (arith, left) in ap (λ n. woken_with n (processes_of w.procs)) e

@@ -56,9 +56,9 @@ use Rattle.pick_rules.specs.Priority.{pribio}
 use Rattle.abstract_unix.specs.Calls.{in_order, handed_of, with_handed, world_of, with_world, with_area, entered_area, words_passed, asked, refused_area, refuses, answers, file_row, process_row, did_by, came_by, forks, closes_all, exits_with, grows, grown_by, reads_disk, loads_program, waits_for_disk, takes_time, does_call, sysent_of, does_asked, resumed}
 use Rattle.abstract_unix.specs.Delivery.{heeds, catches, signal_status, dumped, ends_by, delivers_if, delivers_due, ends_by_ending}
 use Rattle.abstract_unix.specs.Turn.{Happened, settled, stays, settling, calls_for_settling, settled_after, machine_of, with_machine, passes_setd, faults, comes_to, instruction, is_user, begins_turn, turn, end_effects, turn_of, pass_of, slot_of, whole_slot}
-use Rattle.abstract_unix.specs.Outside.{mode_of, timed, charged, ticked, is_as_trap, wakes, tick_effects, tick_delivery, delivers_to, tick_of, calls, with_key, key_lines, typed_of}
+use Rattle.abstract_unix.specs.Outside.{mode_of, timed, charged, ticked, is_as_trap, wakes, tick_effects, tick_delivery, delivers_to, tick_of, calls, calls_show, with_key, key_lines, typed_of, hangs_up, hangup_of, turned_to, paced_of}
 use Rattle.abstract_unix.proofs.RunsLemmas.{after_keeps, after_items_none}
-use Rattle.abstract_unix.specs.Runs.{Slot, Tick, Byte, Switch, Disk, event_of, start_of}
+use Rattle.abstract_unix.specs.Runs.{Slot, Tick, Byte, Switch, Disk, Pace, Hangup, event_of, start_of}
 use Rattle.abstract_unix.specs.Shared.{TextStays, is_made_by, AllTextsStay, OtherTextsStay}
 use Rattle.abstract_unix.proofs.ProcessRows.{plain_row}
 use Rattle.sys_procs.proofs.Slots.{fifty_processes}
@@ -382,23 +382,48 @@ module _ (m : System) (k : ℕ) where
       (carry_both HasStayed (tick_effects m) s.effects (carry_tick HasStayed m) staying_tick.0) staying_tick.1
 
   -- a key that sends a signal
-  stays_key : (key : Keyed) (u : Unix) → u.texts ≡ before → HasStayed (with_key 0 key u)
-  stays_key key u same = subst (λ l. TextStays before l k) (sym (by key ∙ same)) (stays_same before k)
+  stays_key : (l : ℕ) (key : Keyed) (u : Unix) → u.texts ≡ before → HasStayed (with_key l key u)
+  stays_key l key u same = subst (λ ts. TextStays before ts k) (sym (by key ∙ same)) (stays_same before k)
     where
-      by : (key : Keyed) → (with_key 0 key u).texts ≡ u.texts
+      by : (key : Keyed) → (with_key l key u).texts ≡ u.texts
       by Nothing = refl
       by Ready = refl
-      by Flushed = refl
-      by (Signal n) = refl
+      by (Flushed show) = refl
+      by (Signal n show) = refl
 
-  stays_typed : (byte : ℕ) → HasStayed (typed_of m 0 byte).unix
-  stays_typed byte =
-      let t : Typed = typed m.unix.line byte in
-      let shown : List Item = sent 0 t.shown ++ key_lines 0 t.keyed m.unix in
-      left_carried HasStayed m.board (map Show shown ++ wakes (calls t.keyed) Keys)
-      (with_key 0 t.keyed (record m.unix { line = t.terminal }))
-      (carry_both HasStayed (map Show shown) (wakes (calls t.keyed) Keys) (carry_shown HasStayed shown)
-      (carry_wakes HasStayed (calls t.keyed) Keys)) (stays_key t.keyed (record m.unix { line = t.terminal }) refl)
+  stays_typed : (l byte : ℕ) → HasStayed (typed_of m l byte).unix
+  stays_typed l byte =
+      let t : Typed = typed (terminal_at m.unix l) byte in
+      let shown : List Item = sent l t.shown ++ key_lines l t.keyed m.unix in
+      let keys : List (Effect Unix) = wakes (calls t.keyed) (keys_of l) in
+      let room : List (Effect Unix) = wakes (calls_show t.keyed) (show_of l) in
+      left_carried HasStayed m.board (map Show shown ++ keys ++ room) (with_key l t.keyed (with_terminal m.unix l t.terminal))
+      (carry_both HasStayed (map Show shown) (keys ++ room) (carry_shown HasStayed shown)
+      (carry_both HasStayed keys room (carry_wakes HasStayed (calls t.keyed) (keys_of l)) (carry_wakes HasStayed (calls_show t.keyed) (show_of l))))
+      (stays_key l t.keyed (with_terminal m.unix l t.terminal) refl)
+
+  stays_hangup : (l : ℕ) → HasStayed (hangup_of m l).unix
+  stays_hangup l = by (terminal_at m.unix l).is_open
+    where
+      s : Said
+      s = flush (terminal_at m.unix l)
+
+      shown : List Item
+      shown = signal_lines SIGHUP (meant_in (has_line l) m.unix.processes) ++ told l s
+
+      by : (b : Bool) → HasStayed (cond b (hangs_up m l) (happens m.unix (nothing_logged m.board))).unix
+      by true =
+          left_carried HasStayed m.board (map Show shown)
+          (record (with_terminal m.unix l s.terminal) { processes = all_signalled (has_line l) SIGHUP m.unix.processes })
+          (carry_shown HasStayed shown) (stays_same before k)
+      by false = stays_same before k
+
+  stays_paced : (n : ℕ) → HasStayed (paced_of m n).unix
+  stays_paced n =
+      let all : AllTold = each_line (turned_to (not (n == 0))) m.unix.lines in
+      left_carried HasStayed m.board (map Show all.items)
+      (record m.unix { lines = all.lines; timing = record m.unix.timing { pace = n; since = 0 } })
+      (carry_shown HasStayed all.items) (stays_same before k)
 
 -- Settling adds lines and leaves the Unix as it is.
 settled_items : (h : Happened) (test : Item → Bool) → list_any test (settled_after h).items ≡ false
@@ -421,16 +446,24 @@ slot_stays m are k none =
     let o : Option ℕ = m.board.table.running in
     subst (λ (u : Unix). TextStays m.unix.texts u.texts k) (sym (settled_unix (whole_slot m)))
     (subst (λ ts. TextStays m.unix.texts ts k)
-    (sym (after_keeps (List (Option Text)) (λ (u : Unix). u.texts) (λ u. refl) (slot_of m o)))
+    (sym (after_keeps (List (Option Text)) (λ (u : Unix). u.texts) (λ u. refl) (λ u lines. refl) (slot_of m o)))
     (stays_slot m k are o refl (after_items_none (is_made_by k) (slot_of m o) (settled_items (whole_slot m) (is_made_by k) none))))
 
 -- a tick, a key and the switches.
 pub tick_stays : (m : System) → AllTextsStay m (event_of Tick m).next
 tick_stays m k = subst (λ (u : Unix). TextStays m.unix.texts u.texts k) (sym (settled_unix (tick_of m))) (stays_tick m k)
 
-pub typed_stays : (m : System) (byte : ℕ) → AllTextsStay m (event_of (Byte byte) m).next
-typed_stays m byte k =
-    subst (λ (u : Unix). TextStays m.unix.texts u.texts k) (sym (settled_unix (typed_of m 0 byte))) (stays_typed m k byte)
+pub typed_stays : (m : System) (l byte : ℕ) → AllTextsStay m (event_of (Byte l byte) m).next
+typed_stays m l byte k =
+    subst (λ (u : Unix). TextStays m.unix.texts u.texts k) (sym (settled_unix (typed_of m l byte))) (stays_typed m k l byte)
+
+pub hangup_stays : (m : System) (l : ℕ) → AllTextsStay m (event_of (Hangup l) m).next
+hangup_stays m l k =
+    subst (λ (u : Unix). TextStays m.unix.texts u.texts k) (sym (settled_unix (hangup_of m l))) (stays_hangup m k l)
+
+pub pace_stays : (m : System) (n : ℕ) → AllTextsStay m (event_of (Pace n) m).next
+pace_stays m n k =
+    subst (λ (u : Unix). TextStays m.unix.texts u.texts k) (sym (settled_unix (paced_of m n))) (stays_paced m k n)
 
 pub switched_stays : (m : System) (word : ℕ) → AllTextsStay m (event_of (Switch word) m).next
 switched_stays m word k = stays_same m.unix.texts k

@@ -51,6 +51,7 @@ pub record HasWaited (waits : Bool) (old new : Slots) : Type 0 where
   pub sooner : new.due ≤ old.due
   pub ahead : passed_in old < new.due
   pub ends : waits ≡ true → new.due ≤ passed_in old + 1 + old.disk
+  pub set : new.set_at ≡ old.set_at
 
 -- the processes of the parts
 abbrev pub processes_of : Procs → List (Option Process)

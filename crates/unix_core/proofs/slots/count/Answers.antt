@@ -1,14 +1,13 @@
-use Rattle.std.proofs.Common.{◌≡◌, ◌∙◌, ◌==◌, map, not, length, sym, ap, subst, arith}
+use Rattle.std.proofs.Common.{◌≡◌, ◌∙◌, map, sym, ap, subst, arith}
 use Rattle.v6_base.specs.Trace.{Took}
 use Rattle.v6_base.proofs.Took.{took_nothing}
 use Rattle.pick_rules.specs.Effects.{Show}
 use Rattle.pick_rules.specs.Logged.{logged}
 use Rattle.abstract_unix.specs.Unix.{Unix}
-use Rattle.abstract_unix.specs.Turn.{disk_lines}
 use Rattle.unix_core.specs.declared.world.World.{World}
-use Rattle.unix_core.specs.Slots.{IsCounted}
+use Rattle.unix_core.specs.Slots.{IsCounted, with_sent, slot_items, slot_wakes}
 use Rattle.unix_core.specs.Parts.{unix_of, board_in, IsGood}
-use Rattle.unix_core.proofs.SlotWorlds.{good_slots, some_left, less_unix, before_is, due_fresh, none_due, less_board, less_any, less_counted}
+use Rattle.unix_core.proofs.SlotWorlds.{good_slots, some_left, less_unix, before_is, due_fresh, none_shown, less_sent, less_board, less_any, less_counted}
 use Rattle.unix_core.proofs.slots.count.Goals as goal
 
 pub overflow_sub-world : goal.overflow_sub-world
@@ -28,24 +27,24 @@ pub reach-requires-clause-fresh : goal.reach-requires-clause-fresh
 reach-requires-clause-fresh g c = due_fresh c.args.world.now c.requires.counted c.if-world-eq0.true c.requires.fresh
 
 pub returns-then-world-eq0-clause-unix : goal.returns-then-world-eq0-clause-unix
-returns-then-world-eq0-clause-unix g c = c.reach.ensures.unix ∙ less_unix c.args.world.now c.requires.counted
+returns-then-world-eq0-clause-unix g c = c.reach.ensures.unix ∙ ap with_sent (less_unix c.args.world.now c.requires.counted)
 
 pub returns-then-world-eq0-clause-board : goal.returns-then-world-eq0-clause-board
 returns-then-world-eq0-clause-board g c =
     let w : World = c.args.world.now in
-    c.reach.ensures.board ∙ ap (λ (u : Unix). (logged {W = Unix} (board_in w) (map Show (disk_lines u))).board) (less_unix w c.requires.counted)
+    c.reach.ensures.board ∙ ap (λ (u : Unix). (logged {W = Unix} (board_in w) (map Show (slot_items u))).board) (less_unix w c.requires.counted)
 
 pub returns-then-world-eq0-clause-any : goal.returns-then-world-eq0-clause-any
 returns-then-world-eq0-clause-any g c =
-    c.reach.ensures.any ∙ ap (λ (u : Unix). not (length (disk_lines u) == 0)) (less_unix c.args.world.now c.requires.counted)
+    c.reach.ensures.any ∙ ap slot_wakes (less_unix c.args.world.now c.requires.counted)
 
 pub returns-then-world-eq0-clause-items : goal.returns-then-world-eq0-clause-items
 returns-then-world-eq0-clause-items g c =
-    subst (λ (u : Unix). Took (g.T.Trace.taken c.args.trace.now) (disk_lines u) (g.T.Trace.taken c.reach.new.trace))
+    subst (λ (u : Unix). Took (g.T.Trace.taken c.args.trace.now) (slot_items u) (g.T.Trace.taken c.reach.new.trace))
     (less_unix c.args.world.now c.requires.counted) c.reach.ensures.items
 
 pub returns-clause-unix : goal.returns-clause-unix
-returns-clause-unix g c = less_unix c.args.world.now c.requires.counted
+returns-clause-unix g c = less_sent c.args.world.now c.requires.counted c.if-world-eq0.false
 
 pub returns-clause-board : goal.returns-clause-board
 returns-clause-board g c = less_board c.args.world.now c.requires.counted c.if-world-eq0.false
@@ -60,4 +59,4 @@ pub returns-clause-counted : goal.returns-clause-counted
 returns-clause-counted g c = less_counted c.args.world.now c.requires.counted c.if-world-eq0.false
 
 pub returns-clause-items : goal.returns-clause-items
-returns-clause-items g c = took_nothing _ _ (none_due c.args.world.now c.requires.counted c.if-world-eq0.false)
+returns-clause-items g c = took_nothing _ _ (none_shown c.args.world.now c.requires.counted c.if-world-eq0.false)
