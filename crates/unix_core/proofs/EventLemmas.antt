@@ -56,6 +56,6 @@ pub called_image : (k : Kept) (t u : Table) (called : Bool) (chan : Chan) → u 
 called_image k t u called chan is runs s e above = runs s (sym (called_running t called chan) ∙ (ap (λ (x : Table). x.running) (sym is) ∙ e)) above
 
 -- Bytes say nothing of the board.
-pub bytes_board : (b : Board) (bytes : List ℕ) → fold board_after b (sent 0 bytes) ≡ b
-bytes_board b [] = refl
-bytes_board b (byte ∷ bytes) = bytes_board b bytes
+pub bytes_board : (b : Board) (l : ℕ) (bytes : List ℕ) → fold board_after b (sent l bytes) ≡ b
+bytes_board b l [] = refl
+bytes_board b l (byte ∷ bytes) = bytes_board b l bytes

@@ -1,4 +1,4 @@
--- A key makes a signal: it goes to all that have the console, and what belongs together still does.
+-- A signal goes to all that have a line, as a key or a hang-up makes it, and what belongs together still does.
 use Rattle.std.proofs.Common.{◌≡◌, ◌<◌, ◌∙◌, ℕ, Bool, true, false, cond, List, [], ◌∷◌, length, map, fold, get_or, pos, Option, Some, None, refl, sym, ap, subst, arith}
 use Rattle.std.specs.Int.{int_min}
 use Rattle.std.proofs.lemmas.List.{same_lists, get_or_default, length-map}
@@ -6,7 +6,6 @@ use Rattle.std.proofs.lemmas.List.FromFn.{get_or-map-range_with_len, length-map-
 use Rattle.std.proofs.Math.ListN.{get_or-map}
 use Rattle.v6_base.specs.Trace.{Item, Log}
 use Rattle.v6_base.specs.declared.entry.Entry.TheVariants as line
-use Rattle.tty_line.specs.declared.line.Keyed.TheVariants.{Signal}
 use Rattle.pick_rules.specs.declared.table.Table.{Table}
 use Rattle.pick_rules.specs.Table.{row_at, with_row, is_waiting}
 use Rattle.pick_rules.specs.Sleepers.{setrun}
@@ -27,9 +26,8 @@ use Rattle.sys_procs.specs.Handed.{AreProcs, handed, board}
 use Rattle.sys_procs.proofs.Slots.{fifty_processes}
 use Rattle.unix_core.specs.declared.world.World.{World}
 use Rattle.abstract_unix.specs.Unix.{Unix}
-use Rattle.abstract_unix.specs.Outside.{with_key, key_lines}
 use Rattle.abstract_unix.specs.Whole.{Told, told_by, told_in, Owes, CanGoOn}
-use Rattle.abstract_unix.proofs.GoingOnSteps.{key_goes_on}
+use Rattle.abstract_unix.proofs.GoingOnSteps.{line_goes_on}
 use Rattle.unix_core.specs.Parts.{unix_of, board_in, IsGood}
 use Rattle.unix_core.proofs.GoodLemmas.{still_runs}
 use Rattle.unix_core.proofs.LoggedLemmas.{logged_shown}
@@ -97,11 +95,11 @@ told_signalled who n ps fifty = same_lists (told_in now) (told_in ps) (size ∙ 
         ∙ sym (get_or-map told_by ps s None))
         ∙ get_or_default (told_in ps) s None d within
 
--- A signal has been sent to all that have the console.
-module _ (w : World) (good : IsGood w) (procs : Procs) (n : ℕ) (agree : AreProcs procs)
-    (state : (fs : FileSystem) → handed procs fs ≡ record (handed w.procs fs) { processes = all_signalled (has_line 0) n (handed w.procs fs).processes })
+-- A signal has been sent to all that have a line.
+module _ (w : World) (good : IsGood w) (procs : Procs) (l n : ℕ) (agree : AreProcs procs)
+    (state : (fs : FileSystem) → handed procs fs ≡ record (handed w.procs fs) { processes = all_signalled (has_line l) n (handed w.procs fs).processes })
     (shown : (fs : FileSystem) → board procs ≡ (logged {W = its.World} (board w.procs)
-    (map Show (signal_lines n (meant_in (has_line 0) (handed w.procs fs).processes)))).board) where
+    (map Show (signal_lines n (meant_in (has_line l) (handed w.procs fs).processes)))).board) where
   abbrev now : World
   now = record w { procs = procs }
 
@@ -109,9 +107,9 @@ module _ (w : World) (good : IsGood w) (procs : Procs) (n : ℕ) (agree : ArePro
   fs = w.files.tree.nodes
 
   abbrev lines : List Item
-  lines = signal_lines n (meant_in (has_line 0) (unix_of w).processes)
+  lines = signal_lines n (meant_in (has_line l) (unix_of w).processes)
 
-  pub key_unix : unix_of now ≡ with_key 0 (Signal n) (unix_of w)
+  pub key_unix : unix_of now ≡ record (unix_of w) { processes = all_signalled (has_line l) n (unix_of w).processes }
   key_unix = λ i. record (unix_of w) {
     processes = (state fs i).processes;
     texts = (state fs i).texts;
@@ -122,18 +120,18 @@ module _ (w : World) (good : IsGood w) (procs : Procs) (n : ℕ) (agree : ArePro
   }
 
   board_lines : board_in now ≡ fold board_after (board_in w) lines
-  board_lines = shown fs ∙ ap (λ (l : Logged its.World). l.board) (logged_shown (board_in w) lines)
+  board_lines = shown fs ∙ ap (λ (done : Logged its.World). done.board) (logged_shown (board_in w) lines)
 
-  pub key_board : board_in now ≡ (logged {W = Unix} (board_in w) (map Show (key_lines 0 (Signal n) (unix_of w)))).board
-  key_board = board_lines ∙ sym (ap (λ (l : Logged Unix). l.board) (logged_shown (board_in w) lines))
+  pub key_board : board_in now ≡ (logged {W = Unix} (board_in w) (map Show lines)).board
+  key_board = board_lines ∙ sym (ap (λ (done : Logged Unix). done.board) (logged_shown (board_in w) lines))
 
   kept : SignalsKeep (board_in w) (board_in now)
-  kept = subst (SignalsKeep (board_in w)) (sym board_lines) (signals_keep (board_in w) n (meant_in (has_line 0) (unix_of w).processes))
+  kept = subst (SignalsKeep (board_in w)) (sym board_lines) (signals_keep (board_in w) n (meant_in (has_line l) (unix_of w).processes))
 
   told_same : told_in (unix_of now).processes ≡ told_in (unix_of w).processes
   told_same =
       ap (λ (u : Unix). told_in u.processes) key_unix
-      ∙ told_signalled (has_line 0) n (unix_of w).processes (fifty_processes w.procs.rows.slots w.procs.images.kept)
+      ∙ told_signalled (has_line l) n (unix_of w).processes (fifty_processes w.procs.rows.slots w.procs.images.kept)
 
   pub key_good : IsGood now
   key_good = record {
@@ -144,7 +142,7 @@ module _ (w : World) (good : IsGood w) (procs : Procs) (n : ℕ) (agree : ArePro
         let refs : List ℕ = w.files.tree.nodes.references in
         subst (λ texts. Owes refs w.files.table w.files.pipes texts (told_in (unix_of now).processes)) (sym (ap (λ (x : its.World). x.texts) (state fs)))
         (subst (Owes refs w.files.table w.files.pipes (unix_of w).texts) (sym told_same) good.owed);
-    pending = subst CanGoOn (sym key_unix) (key_goes_on (Signal n) (unix_of w) good.pending);
+    pending = subst CanGoOn (sym key_unix) (line_goes_on l n (unix_of w) good.pending);
     marks = good.marks ∙ sym (ap (λ (x : its.World). marks_of x.texts) (state fs));
     rooms = good.rooms;
     core = good.core ∙ sym kept.core;

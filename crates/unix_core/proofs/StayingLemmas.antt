@@ -8,7 +8,9 @@ use Rattle.v6_base.specs.Trace.{Item, sent}
 use Rattle.v6_base.specs.declared.errno.Errno.TheVariants.{ENOSYS}
 use Rattle.v6_base.specs.declared.answer.Answer.{Answer}
 use Rattle.v6_base.specs.declared.answer.Answer.TheVariants.{Ret, Fail, Sleep}
-use Rattle.v6_base.specs.declared.entry.Chan.TheVariants.{Keys, Disk}
+use Rattle.v6_base.specs.declared.entry.Chan.TheVariants.{Disk}
+use Rattle.tty_line.specs.Said.{Said, flush}
+use Rattle.lines_eight.specs.Told.{AllTold, each_line, told, keys_of, show_of}
 use Rattle.pdp_step.specs.declared.outcome.Outcome.{Outcome}
 use Rattle.pdp_step.specs.declared.outcome.Outcome.TheVariants.{Next, Call, Fault}
 use Rattle.pdp_step.specs.Instruction.{Stepped, instr}
@@ -17,11 +19,11 @@ use Rattle.pdp_step.specs.declared.outcome.Kind.TheVariants as kind
 use Rattle.pick_rules.specs.declared.row.Mode.{Mode}
 use Rattle.pick_rules.specs.Board.{Board}
 use Rattle.pick_rules.specs.Effects.{Effect, Show}
-use Rattle.pick_rules.specs.Logged.{Stop, logged, left_by}
+use Rattle.pick_rules.specs.Logged.{Stop, nothing_logged, logged, left_by}
 use Rattle.swap_sched.specs.Pass.{pass, stop_over}
 use Rattle.u_area.specs.declared.layout.TheConstants.{DISK_WAIT}
 use Rattle.u_area.specs.Pending.{is_on_files}
-use Rattle.sig_core.specs.declared.numbers.TheConstants.{SIGINS, SIGTRC, SIGIOT, SIGEMT, SIGBUS, SIGSEG, SIGSYS}
+use Rattle.sig_core.specs.declared.numbers.TheConstants.{SIGINS, SIGTRC, SIGIOT, SIGEMT, SIGBUS, SIGSEG, SIGSYS, SIGHUP}
 use Rattle.sig_core.specs.Signals.{handler_of, due}
 use Rattle.sig_core.specs.Delivery.{makes_core, signal_stack}
 use Rattle.sys_files.specs.Did.{Did}
@@ -40,7 +42,7 @@ use Rattle.sys_procs.specs.Break.{grow, grown_or_not}
 use Rattle.sys_procs.specs.Exit.{exit_status, end_proc}
 use Rattle.sys_procs.specs.Fork.{fork_one}
 use Rattle.sys_procs.specs.Resume.{awake, resume_proc}
-use Rattle.sys_procs.specs.Signals.{signal_lines}
+use Rattle.sys_procs.specs.Signals.{signal_lines, meant_in, all_signalled, has_line}
 use Rattle.abstract_unix.specs.declared.asked.Asked.{Asked}
 use Rattle.abstract_unix.specs.declared.calls.ProcessCall.{ProcessCall}
 use Rattle.abstract_unix.specs.declared.calls.ProcessCall.TheVariants as process
@@ -49,7 +51,7 @@ use Rattle.abstract_unix.specs.declared.calls.SystemCall.TheVariants.{Indirect, 
 use Rattle.abstract_unix.specs.declared.calls.Sysent.{Sysent}
 use Rattle.abstract_unix.specs.declared.ending.Ending.{Ending}
 use Rattle.abstract_unix.specs.declared.ending.Ending.TheVariants as ending
-use Rattle.abstract_unix.specs.Unix.{Unix, System, Started, process_of, with_process}
+use Rattle.abstract_unix.specs.Unix.{Unix, System, Started, terminal_at, with_terminal, process_of, with_process}
 use Rattle.abstract_unix.specs.Steps.{Steps, quietly, returns, signals, after_effects}
 use Rattle.abstract_unix.specs.Errors.{error_number}
 use Rattle.pick_rules.specs.Priority.{pribio}

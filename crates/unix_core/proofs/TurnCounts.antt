@@ -7,7 +7,7 @@ use Rattle.pick_rules.specs.declared.row.Mode.{Mode}
 use Rattle.pick_rules.specs.declared.row.Mode.TheVariants.{User, Kernel, Idle}
 use Rattle.pdp_step.specs.declared.outcome.Outcome.{Outcome}
 use Rattle.sys_procs.specs.Process.{Process}
-use Rattle.sys_procs.specs.Signals.{has_line}
+use Rattle.sys_procs.specs.Signals.{has_line, all_signalled}
 use Rattle.sys_procs.proofs.Slots.{fifty_processes}
 use Rattle.abstract_unix.specs.declared.ending.Ending.{Ending}
 use Rattle.abstract_unix.specs.Unix.{Timing, Unix, process_of, with_process}
@@ -101,8 +101,12 @@ delivered_counted slots true u (Some s) user counted =
     free false false is e = absurd (cc e)
 
 -- 3. A key.
-pub key_counted : (slots : Slots) (u : Unix) (keyed : Keyed) → IsCounted slots u → IsCounted slots (with_key 0 keyed u)
-key_counted slots u key.Nothing counted = counted
-key_counted slots u key.Ready counted = counted
-key_counted slots u key.Flushed counted = counted
-key_counted slots u (key.Signal n) counted = counted_waits slots u (with_key 0 (key.Signal n) u) refl (key_waited (has_line 0) n u.processes) counted
+pub line_counted : (slots : Slots) (l n : ℕ) (u : Unix) → IsCounted slots u → IsCounted slots (record u { processes = all_signalled (has_line l) n u.processes })
+line_counted slots l n u counted =
+    counted_waits slots u (record u { processes = all_signalled (has_line l) n u.processes }) refl (key_waited (has_line l) n u.processes) counted
+
+pub key_counted : (slots : Slots) (l : ℕ) (u : Unix) (keyed : Keyed) → IsCounted slots u → IsCounted slots (with_key l keyed u)
+key_counted slots l u key.Nothing counted = counted
+key_counted slots l u key.Ready counted = counted
+key_counted slots l u (key.Flushed show) counted = counted
+key_counted slots l u (key.Signal n show) counted = line_counted slots l n u counted

@@ -16,24 +16,24 @@ signal_line-requires g c = record { agree = c.requires.agree }
 pub returns-in-Signal-clause-good : goal.returns-in-Signal-clause-good
 returns-in-Signal-clause-good g c =
     let sent = c.signal_line in
-    key_good c.args.self.now.world c.requires sent.new.p c.in-Signal.sig sent.ensures.agree sent.ensures.state sent.ensures.board
+    key_good c.args.self.now.world c.requires sent.new.p c.args.l c.in-Signal.sig sent.ensures.agree sent.ensures.state sent.ensures.board
 
 pub returns-in-Signal-clause-unix : goal.returns-in-Signal-clause-unix
 returns-in-Signal-clause-unix g c =
     let w : World = c.args.self.now.world in
     let sent = c.signal_line in
-    key_unix w c.requires sent.new.p c.in-Signal.sig sent.ensures.agree sent.ensures.state sent.ensures.board
-    ∙ ap (λ (k : Keyed). with_key 0 k (unix_of w)) (sym c.in-Signal.is)
+    key_unix w c.requires sent.new.p c.args.l c.in-Signal.sig sent.ensures.agree sent.ensures.state sent.ensures.board
+    ∙ ap (λ (k : Keyed). with_key c.args.l k (unix_of w)) (sym c.in-Signal.is)
 
 pub returns-in-Signal-clause-board : goal.returns-in-Signal-clause-board
 returns-in-Signal-clause-board g c =
     let w : World = c.args.self.now.world in
     let sent = c.signal_line in
-    key_board w c.requires sent.new.p c.in-Signal.sig sent.ensures.agree sent.ensures.state sent.ensures.board
-    ∙ ap (λ (k : Keyed). (logged {W = Unix} (board_in w) (map Show (key_lines 0 k (unix_of w)))).board) (sym c.in-Signal.is)
+    key_board w c.requires sent.new.p c.args.l c.in-Signal.sig sent.ensures.agree sent.ensures.state sent.ensures.board
+    ∙ ap (λ (k : Keyed). (logged {W = Unix} (board_in w) (map Show (key_lines c.args.l k (unix_of w)))).board) (sym c.in-Signal.is)
 
 pub returns-in-Signal-clause-items : goal.returns-in-Signal-clause-items
 returns-in-Signal-clause-items g c =
     let w : World = c.args.self.now.world in
-    subst (λ (k : Keyed). Took (g.T.Trace.taken c.args.trace.now) (key_lines 0 k (unix_of w)) (g.T.Trace.taken c.signal_line.new.trace)) (sym c.in-Signal.is)
+    subst (λ (k : Keyed). Took (g.T.Trace.taken c.args.trace.now) (key_lines c.args.l k (unix_of w)) (g.T.Trace.taken c.signal_line.new.trace)) (sym c.in-Signal.is)
     (c.signal_line.ensures.items w.files.tree.nodes)

@@ -1,0 +1,41 @@
+use Rattle.std.proofs.Common.{◌∙◌, ap, sym, subst, arith}
+use Rattle.v6_base.specs.Trace.{Took}
+use Rattle.abstract_unix.specs.Unix.{System}
+use Rattle.unix_core.specs.State.{KernelState}
+use Rattle.abstract_unix.specs.Turn.{settled_after}
+use Rattle.abstract_unix.specs.Outside.{paced_of}
+use Rattle.abstract_unix.specs.Private.{AllUndisturbed}
+use Rattle.unix_core.proofs.PrivateLemmas.{pace_private}
+use Rattle.abstract_unix.specs.Shared.{AllTextsStay}
+use Rattle.unix_core.proofs.StayingLemmas.{pace_stays}
+use Rattle.unix_core.proofs.kernel.Kernel.set_pace.Goals as goal
+
+pub set_pace-requires-clause-started : goal.set_pace-requires-clause-started
+set_pace-requires-clause-started g c = ap (λ (v : KernelState). v.phase) c.self.view_is ∙ c.requires.started
+
+pub returns-clause-phase : goal.returns-clause-phase
+returns-clause-phase g c = c.set_pace.ensures.takes.phase
+
+pub returns-clause-next : goal.returns-clause-next
+returns-clause-next g c = c.set_pace.ensures.takes.system ∙ ap (λ (k : KernelState). (settled_after (paced_of k.system c.args.n)).next) c.self.view_is
+
+pub returns-clause-private : goal.returns-clause-private
+returns-clause-private g c =
+    let m : System = c.args.self.now.system in
+    subst (λ (n : System). AllUndisturbed m n) (sym (returns-clause-next g c)) (pace_private m c.args.n)
+
+pub returns-clause-texts : goal.returns-clause-texts
+returns-clause-texts g c =
+    let m : System = c.args.self.now.system in
+    subst (λ (n : System). AllTextsStay m n) (sym (returns-clause-next g c)) (pace_stays m c.args.n)
+
+pub returns-clause-items : goal.returns-clause-items
+returns-clause-items g c =
+    subst (λ (k : KernelState). Took (g.T.Trace.taken c.args.trace.now) (settled_after (paced_of k.system c.args.n)).items (g.T.Trace.taken c.set_pace.new.trace))
+    c.self.view_is c.set_pace.ensures.items
+
+pub set_pace-requires-clause-fresh : goal.set_pace-requires-clause-fresh
+set_pace-requires-clause-fresh g c =
+    let same = ap (λ (v : KernelState). v.system.unix.timing.passed) c.self.view_is in
+    let few = c.requires.fresh in
+    omega (arith, same, few)
