@@ -299,13 +299,13 @@ shown_both false room first second = shown_wakes room second
 
 -- A line that is open is there.
 open_there : (lines : List Terminal) (l : ℕ) → (terminals.terminal_at lines l).is_open ≡ true → l < length lines
-open_there lines l open = by (nat_lt l (length lines)) refl
+open_there lines l is_open = by (nat_lt l (length lines)) refl
   where
     by : (b : Bool) → nat_lt l (length lines) ≡ b → l < length lines
     by true is = ltb-true l (length lines) is
     by false is =
         let past : terminals.terminal_at lines l ≡ first_terminal = get_or_past lines l first_terminal (ltb-false l (length lines) is) in
-        absurd (let no : false ≡ true = sym (ap (λ (t : Terminal). t.is_open) past) ∙ open in cc no)
+        absurd (let no : false ≡ true = sym (ap (λ (t : Terminal). t.is_open) past) ∙ is_open in cc no)
 
 -- a key that calls somebody was typed on a line that is open
 calls_open : (t : Terminal) (byte : ℕ) → calls (typed t byte).keyed ≡ true → t.is_open ≡ true
@@ -367,11 +367,11 @@ hangup_fine u seen l eight p = by (terminal_at u l).is_open refl
     items = signal_lines SIGHUP (meant_in (has_line l) u.processes) ++ told l s
 
     by : (b : Bool) → (terminal_at u l).is_open ≡ b → FineTurn seen (settled_after (cond b (hangs_up m l) (happens u (nothing_logged seen.board))))
-    by true open =
-        let there = open_there u.lines l open in
+    by true opened =
+        let there = open_there u.lines l opened in
         event_by u (record (with_terminal u l s.terminal) { processes = all_signalled (has_line l) SIGHUP u.processes }) seen (map Show items)
         (hung_apt u l seen (omega (arith, there, eight)) p) (shown_stop seen.board (map Show items) (all_shown items))
-    by false open = event_by u u seen [] p refl
+    by false opened = event_by u u seen [] p refl
 
 -- The pace: bytes go out, and sleepers wake.
 paced_came : (u : Unix) (seen : Seen) (count : ℕ) → length u.lines ≤ 8 → Holds (seats_of u) seen → Came seen (paced_of (system_at u seen) count)

@@ -91,14 +91,16 @@ byte_timing m l byte =
     items : List Item
     items = sent l k.shown ++ key_lines l k.keyed m.unix
 
-    keys room : List (Effect Unix)
+    keys : List (Effect Unix)
     keys = wakes (calls k.keyed) (keys_of l)
+
+    room : List (Effect Unix)
     room = wakes (calls_show k.keyed) (show_of l)
 
     stops : (logged m.board (map Show items ++ keys ++ room)).stop ≡ None
     stops =
         ap (λ (done : Logged Unix). done.stop) (fold-append log_one (nothing_yet m) (map Show items) (keys ++ room)
-            ∙ fold-append log_one (fold log_one (nothing_yet m) (map Show items)) keys room)
+        ∙ fold-append log_one (fold log_one (nothing_yet m) (map Show items)) keys room)
         ∙ woken_goes (calls_show k.keyed) (show_of l) _ (woken_goes (calls k.keyed) (keys_of l) _ (shown_goes items (nothing_yet m) refl))
 
 pub hangup_timing : (m : System) (l : ℕ) → (event_of (Hangup l) m).next.unix.timing ≡ m.unix.timing
@@ -121,7 +123,7 @@ pub pace_passed : (m : System) (n : ℕ) → (event_of (Pace n) m).next.unix.tim
 pace_passed m n =
     ap (λ (u : Unix). u.timing.passed) (settled_unix (paced_of m n))
     ∙ ap (λ o. (left_by o (record m.unix { lines = all.lines; timing = record m.unix.timing { pace = n; since = 0 } })).timing.passed)
-      (shown_goes all.items (nothing_yet m) refl)
+    (shown_goes all.items (nothing_yet m) refl)
   where
     all : AllTold
     all = each_line (turned_to (not (n == 0))) m.unix.lines

@@ -9,22 +9,14 @@ use v6_base::{Chan, Entry, Trace};
 pub fn keys_of(l: u8) -> Chan
     ensures { result ≡ keys_of l }
 {
-    if l == 0 {
-        Chan::Keys
-    } else {
-        Chan::KeysOf(l)
-    }
+    if l == 0 { Chan::Keys } else { Chan::KeysOf(l) }
 }
 
 /// What a process sleeps for that waits for room on a line.
 pub fn show_of(l: u8) -> Chan
     ensures { result ≡ show_of l }
 {
-    if l == 0 {
-        Chan::Show
-    } else {
-        Chan::ShowOf(l)
-    }
+    if l == 0 { Chan::Show } else { Chan::ShowOf(l) }
 }
 
 /// Writes down who is woken by a flush of a line: who waits for keys, and then, where bytes waited to go out, who waits for room.

@@ -434,7 +434,10 @@ pub(crate) fn reach<T: Trace>(world: &mut World, trace: &mut T) -> bool
     ensures running { world.new.procs.table.running ≡ world.old.procs.table.running }
     ensures tree { world.new.files.tree ≡ world.old.files.tree }
     ensures others { world.new ≡ record world.old {
-        files = record world.old.files { lines = world.new.files.lines }; procs = world.new.procs; slots = world.new.slots } }
+      files = record world.old.files { lines = world.new.files.lines };
+      procs = world.new.procs;
+      slots = world.new.slots;
+    } }
     ensures same { result ≡ false → world.new.procs ≡ world.old.procs }
     ensures items { Took (T.taken trace.old) (slot_items (unix_of world.old)) (T.taken trace.new) }
     ensures frame { T.leads_to trace.old trace.new }
@@ -462,7 +465,10 @@ pub(crate) fn count<T: Trace>(world: &mut World, trace: &mut T) -> bool
     ensures counted { IsCounted world.new.slots (unix_of world.new) }
     ensures running { world.new.procs.table.running ≡ world.old.procs.table.running }
     ensures others { world.new ≡ record world.old {
-        files = record world.old.files { lines = world.new.files.lines }; procs = world.new.procs; slots = world.new.slots } }
+      files = record world.old.files { lines = world.new.files.lines };
+      procs = world.new.procs;
+      slots = world.new.slots;
+    } }
     ensures items { Took (T.taken trace.old) (slot_items (with_slot (unix_of world.old))) (T.taken trace.new) }
     ensures frame { T.leads_to trace.old trace.new }
 {
