@@ -135,9 +135,11 @@ readable_front image at n k low few = by (nat_lt (length (readable image at n)) 
         let most = readable_few image at n in
         let least : n ≤ length (readable image at n) = ltb-false (length (readable image at n)) n long in
         let all : length (readable image at n) ≡ n = omega (arith, most, least) in
-        let parts : k ≡ n + (k - n) = omega (arith, few) in
-        (readable image ((at + n) % 65536) (k - n), ap (readable image at) parts ∙ readable_parts image at n (k - n) low all,
-        λ less. absurd (omega (arith, less, all)))
+        let parts : k ≡ n + (k - n) = omega (arith, few) in (
+          readable image ((at + n) % 65536) (k - n),
+          ap (readable image at) parts ∙ readable_parts image at n (k - n) low all,
+          λ less. absurd (omega (arith, less, all)),
+        )
 
 -- A byte after some that can all be read can be read where one more of them is.
 pub readable_next : (image : Image) (at n k : ℕ) → at < 65536 → length (readable image at n) ≡ n → n < k

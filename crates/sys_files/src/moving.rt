@@ -282,7 +282,18 @@ fn resume_line<S: Space, T: Trace>(
     if pending == LINE_READ {
         return read_line(&mut f.lines, l, call[0], u, row, space, call[1], call[2]);
     }
-    write_line(&mut f.lines, l, call[0], u, row, space, call[1], call[2], call[3], trace)
+    write_line(
+        &mut f.lines,
+        l,
+        call[0],
+        u,
+        row,
+        space,
+        call[1],
+        call[2],
+        call[3],
+        trace,
+    )
 }
 
 /// Takes up a call again in which a process slept, as the per-process area keeps it: a read or a write of a line, the write at the

@@ -67,11 +67,14 @@ pub after_shown-append : (t : Terminal) (xs ys : List ℕ) → after_shown (afte
 after_shown-append t xs ys = after_by t.is_paced where
   bytes : forms t xs ++ forms (after_shown t xs) ys ≡ forms t (xs ++ ys)
   bytes = sym (shown_bytes-append (flags t) t.column xs ys)
+
   column : column_after_all (column_after_all t.column (forms t xs)) (forms (after_shown t xs) ys)
       ≡ column_after_all t.column (forms t (xs ++ ys))
   column = sym (column_after_all-append t.column (forms t xs) (forms (after_shown t xs) ys)) ∙ ap (column_after_all t.column) bytes
+
   with_parts : ℕ → List ℕ → Terminal
   with_parts column output = record t { column = column; output = output }
+
   after_by : (b : Bool) →
       with_parts (column_after_all (column_after_all t.column (forms t xs)) (forms (after_shown t xs) ys))
       (cond b (cond b (t.output ++ forms t xs) t.output ++ forms (after_shown t xs) ys) (cond b (t.output ++ forms t xs) t.output))
@@ -141,6 +144,7 @@ written_parts t [] ys all = sym (ap (λ (u : Terminal). written u ys) (after_not
 written_parts t (x ∷ xs) ys all = by (is_stopped t) refl (written_parts (after_shown t (x ∷ [])) xs ys) where
   next : Terminal
   next = after_shown t (x ∷ [])
+
   by : (b : Bool) → is_stopped t ≡ b
       → (written next xs ≡ length xs → written next (xs ++ ys) ≡ length xs + written (after_shown next xs) ys)
       → written t (x ∷ xs ++ ys) ≡ suc (length xs) + written (after_shown t (x ∷ xs)) ys
@@ -150,7 +154,7 @@ written_parts t (x ∷ xs) ys all = by (is_stopped t) refl (written_parts (after
   by false is later =
       let goes : written t (x ∷ xs) ≡ suc (written next xs) = ap (λ b. cond b 0 (suc (written next xs))) is in
       let rest : written next (xs ++ ys) ≡ length xs + written (after_shown t (x ∷ xs)) ys =
-          later (omega (arith, goes, all)) ∙ ap (λ (u : Terminal). length xs + written u ys) (after_shown-append t (x ∷ []) xs) in
+      later (omega (arith, goes, all)) ∙ ap (λ (u : Terminal). length xs + written u ys) (after_shown-append t (x ∷ []) xs) in
       let one : written t (x ∷ xs ++ ys) ≡ suc (written next (xs ++ ys)) = ap (λ b. cond b 0 (suc (written next (xs ++ ys)))) is in
       omega (arith, rest, one)
 
@@ -160,6 +164,7 @@ written_short t [] ys less = absurd (omega (arith, less))
 written_short t (x ∷ xs) ys less = by (is_stopped t) refl (written_short (after_shown t (x ∷ [])) xs ys) where
   next : Terminal
   next = after_shown t (x ∷ [])
+
   by : (b : Bool) → is_stopped t ≡ b → (written next xs < length xs → written next (xs ++ ys) ≡ written next xs)
       → written t (x ∷ xs ++ ys) ≡ written t (x ∷ xs)
   by true is later = ap (λ b. cond b 0 (suc (written next (xs ++ ys)))) is ∙ sym (ap (λ b. cond b 0 (suc (written next xs))) is)
@@ -189,6 +194,7 @@ room_one t x goes room = by t.is_paced refl where
   one : length (forms t (x ∷ [])) ≤ 8
   one = let few = few_shown (flags t) t.column x in
       let long = ap (length {A = ℕ}) (append-nil (shown_byte (flags t) t.column x)) in omega (arith, few, long)
+
   by : (b : Bool) → t.is_paced ≡ b → length {A = ℕ} (cond b (t.output ++ forms t (x ∷ [])) t.output) ≤ 1008
   by true is =
       let few : length t.output ≤ 50 = ltb-false 50 (length t.output) (sym (ap (λ b. b && nat_lt 50 (length t.output)) is) ∙ goes) in
@@ -202,6 +208,7 @@ room_written t [] room = room_nothing t room
 room_written t (x ∷ xs) room = by (is_stopped t) refl (room_written (after_shown t (x ∷ [])) xs) where
   next : Terminal
   next = after_shown t (x ∷ [])
+
   by : (b : Bool) → is_stopped t ≡ b → (length next.output ≤ 1008 → length (after_shown next (take (written next xs) xs)).output ≤ 1008)
       → length (after_shown t (take (cond b 0 (suc (written next xs))) (x ∷ xs))).output ≤ 1008
   by true is later = room_nothing t room

@@ -53,19 +53,19 @@ loop-shown-preserved g c =
     let are = c.loop-shown.invariant.are in
     let h = c.loop-shown-test.true in
     let now : terminal_at c.loop-shown.lines c.args.l ≡ after_shown t read =
-        ap (λ (ts : List Terminal). terminal_at ts c.args.l) c.loop-shown.invariant.line ∙ at_set c.args.lines.now c.args.l (after_shown t read) c.requires in
+    ap (λ (ts : List Terminal). terminal_at ts c.args.l) c.loop-shown.invariant.line ∙ at_set c.args.lines.now c.args.l (after_shown t read) c.requires in
     let taken : c.show_piece-taken.result ≡ written (after_shown t read) piece = c.show_piece-taken.ensures.taken ∙ ap (λ (u : Terminal). written u piece) now in
     let all : most ≤ written (after_shown t read) piece = omega (arith, taken, c.if-taken-lt-most.false) in
     let as_taken : take c.show_piece-taken.result piece ≡ piece =
-        ap (λ n. take n piece) taken ∙ taken_piece t image c.args.at shown most (omega arith) are all in
+    ap (λ n. take n piece) taken ∙ taken_piece t image c.args.at shown most (omega arith) are all in
     let whole : shown + c.show_piece-taken.result ≡ shown + most =
-        let few = written_few (after_shown t read) piece in
-        let less = readable_few image ((c.args.at + shown) % 65536) most in
-        omega (arith, taken, all, few, less) in
+    let few = written_few (after_shown t read) piece in
+    let less = readable_few image ((c.args.at + shown) % 65536) most in
+    omega (arith, taken, all, few, less) in
     let next : readable image c.args.at (shown + c.show_piece-taken.result) ≡ read ++ piece =
-        ap (readable image c.args.at) whole ∙ taken_parts t image c.args.at shown most (omega arith) are in
+    ap (readable image c.args.at) whole ∙ taken_parts t image c.args.at shown most (omega arith) are in
     let parts : read ++ take c.show_piece-taken.result piece ≡ readable image c.args.at (shown + c.show_piece-taken.result) =
-        ap (λ bytes. read ++ bytes) as_taken ∙ sym next in
+    ap (λ bytes. read ++ bytes) as_taken ∙ sym next in
     record {
       few = omega (arith, c.min-most.ensures, h, whole);
       are = subst (AreTaken t image c.args.at) (sym whole) (taken_more t image c.args.at shown most (omega arith) are all);
@@ -87,7 +87,7 @@ returns-then-taken-lt-most-clause-taken g c =
     let are = c.loop-shown.invariant.are in
     let h = c.loop-shown-test.true in
     let now : terminal_at c.loop-shown.lines c.args.l ≡ after_shown t read =
-        ap (λ (ts : List Terminal). terminal_at ts c.args.l) c.loop-shown.invariant.line ∙ at_set c.args.lines.now c.args.l (after_shown t read) c.requires in
+    ap (λ (ts : List Terminal). terminal_at ts c.args.l) c.loop-shown.invariant.line ∙ at_set c.args.lines.now c.args.l (after_shown t read) c.requires in
     let taken : c.show_piece-taken.result ≡ written (after_shown t read) piece = c.show_piece-taken.ensures.taken ∙ ap (λ (u : Terminal). written u piece) now in
     let less : written (after_shown t read) piece < most = omega (arith, taken, c.if-taken-lt-most.true) in
     let stops = taken_stops t image c.args.at shown most (omega arith) are c.args.count (omega (arith, c.min-most.ensures, h)) less in
@@ -104,12 +104,12 @@ returns-then-taken-lt-most-clause-line g c =
     let are = c.loop-shown.invariant.are in
     let h = c.loop-shown-test.true in
     let now : terminal_at c.loop-shown.lines c.args.l ≡ after_shown t read =
-        ap (λ (ts : List Terminal). terminal_at ts c.args.l) c.loop-shown.invariant.line ∙ at_set c.args.lines.now c.args.l (after_shown t read) c.requires in
+    ap (λ (ts : List Terminal). terminal_at ts c.args.l) c.loop-shown.invariant.line ∙ at_set c.args.lines.now c.args.l (after_shown t read) c.requires in
     let taken : c.show_piece-taken.result ≡ written (after_shown t read) piece = c.show_piece-taken.ensures.taken ∙ ap (λ (u : Terminal). written u piece) now in
     let less : written (after_shown t read) piece < most = omega (arith, taken, c.if-taken-lt-most.true) in
     let front = taken_front t image c.args.at shown most (omega arith) are c.args.count (omega (arith, c.min-most.ensures, h)) less in
     let parts : read ++ take c.show_piece-taken.result piece ≡ take (shown + c.show_piece-taken.result) (readable image c.args.at c.args.count) =
-        ap (λ n. read ++ take n piece) taken ∙ sym front ∙ ap (λ n. take (shown + n) (readable image c.args.at c.args.count)) (sym taken) in
+    ap (λ n. read ++ take n piece) taken ∙ sym front ∙ ap (λ n. take (shown + n) (readable image c.args.at c.args.count)) (sym taken) in
     more_lines c.args.lines.now c.loop-shown.lines _ c.args.l t read (take c.show_piece-taken.result piece) _ c.requires
     c.loop-shown.invariant.line c.show_piece-taken.ensures.line parts
 
@@ -124,12 +124,12 @@ returns-then-taken-lt-most-clause-items g c =
     let are = c.loop-shown.invariant.are in
     let h = c.loop-shown-test.true in
     let now : terminal_at c.loop-shown.lines c.args.l ≡ after_shown t read =
-        ap (λ (ts : List Terminal). terminal_at ts c.args.l) c.loop-shown.invariant.line ∙ at_set c.args.lines.now c.args.l (after_shown t read) c.requires in
+    ap (λ (ts : List Terminal). terminal_at ts c.args.l) c.loop-shown.invariant.line ∙ at_set c.args.lines.now c.args.l (after_shown t read) c.requires in
     let taken : c.show_piece-taken.result ≡ written (after_shown t read) piece = c.show_piece-taken.ensures.taken ∙ ap (λ (u : Terminal). written u piece) now in
     let less : written (after_shown t read) piece < most = omega (arith, taken, c.if-taken-lt-most.true) in
     let front = taken_front t image c.args.at shown most (omega arith) are c.args.count (omega (arith, c.min-most.ensures, h)) less in
     let parts : read ++ take c.show_piece-taken.result piece ≡ take (shown + c.show_piece-taken.result) (readable image c.args.at c.args.count) =
-        ap (λ n. read ++ take n piece) taken ∙ sym front ∙ ap (λ n. take (shown + n) (readable image c.args.at c.args.count)) (sym taken) in
+    ap (λ n. read ++ take n piece) taken ∙ sym front ∙ ap (λ n. take (shown + n) (readable image c.args.at c.args.count)) (sym taken) in
     took_then _ _ _ _ _ _ c.loop-shown.invariant.items c.show_piece-taken.ensures.items
     (more_items c.args.l t _ read (take c.show_piece-taken.result piece) _ now parts)
 

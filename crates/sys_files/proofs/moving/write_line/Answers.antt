@@ -60,7 +60,7 @@ returns-then-taken-eq-left-clause-answer g c h lines_same u_same row_same image_
     let few = readable_few h.image from left in
     let end = c.if-taken-eq-left.true in
     let case = shows_case h c.args.l c.args.entry c.args.at c.args.count c.args.done n false true is
-        (le-ltb n (length (readable h.image from left)) (omega (arith, few, end))) (eq-eqb (c.args.done + n) c.args.count (omega (arith, end, within))) in
+    (le-ltb n (length (readable h.image from left)) (omega (arith, few, end))) (eq-eqb (c.args.done + n) c.args.count (omega (arith, end, within))) in
     ap (λ (u : UArea). Ret c.args.count (slice_index u.r 1)) (sym u_same) ∙ ap (λ (d : Did). d.answer) (sym case)
 
 pub returns-then-taken-eq-left-clause-state : goal.returns-then-taken-eq-left-clause-state
@@ -74,7 +74,7 @@ returns-then-taken-eq-left-clause-state g c h lines_same u_same row_same image_s
     let few = readable_few h.image from left in
     let end = c.if-taken-eq-left.true in
     let case = shows_case h c.args.l c.args.entry c.args.at c.args.count c.args.done n false true is
-        (le-ltb n (length (readable h.image from left)) (omega (arith, few, end))) (eq-eqb (c.args.done + n) c.args.count (omega (arith, end, within))) in
+    (le-ltb n (length (readable h.image from left)) (omega (arith, few, end))) (eq-eqb (c.args.done + n) c.args.count (omega (arith, end, within))) in
     shown_is h c.args.l from left n c.args.lines.now c.show_all-taken.new.lines image c.args.u.now lines_same image_same u_same c.show_all-taken.ensures.line
     ∙ ap (λ (d : Did). d.state) (sym case)
 
@@ -93,11 +93,11 @@ returns-then-is_ok-clause-answer g c h lines_same u_same row_same image_same =
     let within = c.requires.within in
     let is = count_is h c.args.l from left n c.args.lines.now image lines_same image_same c.show_all-taken.ensures.taken in
     let can : c.is_ok.result ≡ nat_lt n (length (readable image from left)) =
-        let some = written_few (terminal_at c.args.lines.now c.args.l) (readable image from left) in
-        let few : n ≤ length (readable image from left) = omega (arith, c.show_all-taken.ensures.taken, some) in
-        let less : n < left = omega (arith, c.if-taken-eq-left.false, c.show_all-taken.ensures.most) in
-        c.is_ok.ensures ∙ ap is_ok c.load_byte.ensures
-        ∙ readable_next image from n left (omega arith) (readable_whole image from n left (omega arith) few) less in
+    let some = written_few (terminal_at c.args.lines.now c.args.l) (readable image from left) in
+    let few : n ≤ length (readable image from left) = omega (arith, c.show_all-taken.ensures.taken, some) in
+    let less : n < left = omega (arith, c.if-taken-eq-left.false, c.show_all-taken.ensures.most) in
+    c.is_ok.ensures ∙ ap is_ok c.load_byte.ensures
+    ∙ readable_next image from n left (omega arith) (readable_whole image from n left (omega arith) few) less in
     let next = next_is h from left n image c.args.lines.now c.args.l c.is_ok.result image_same c.show_all-taken.ensures.taken can in
     let case = shows_case h c.args.l c.args.entry c.args.at c.args.count c.args.done n true (c.args.done + n == c.args.count) is (next ∙ c.if-is_ok.true) refl in
     let bytes : List ℕ = readable h.image from left in
@@ -113,11 +113,11 @@ returns-then-is_ok-clause-state g c h lines_same u_same row_same image_same =
     let within = c.requires.within in
     let is = count_is h c.args.l from left n c.args.lines.now image lines_same image_same c.show_all-taken.ensures.taken in
     let can : c.is_ok.result ≡ nat_lt n (length (readable image from left)) =
-        let some = written_few (terminal_at c.args.lines.now c.args.l) (readable image from left) in
-        let few : n ≤ length (readable image from left) = omega (arith, c.show_all-taken.ensures.taken, some) in
-        let less : n < left = omega (arith, c.if-taken-eq-left.false, c.show_all-taken.ensures.most) in
-        c.is_ok.ensures ∙ ap is_ok c.load_byte.ensures
-        ∙ readable_next image from n left (omega arith) (readable_whole image from n left (omega arith) few) less in
+    let some = written_few (terminal_at c.args.lines.now c.args.l) (readable image from left) in
+    let few : n ≤ length (readable image from left) = omega (arith, c.show_all-taken.ensures.taken, some) in
+    let less : n < left = omega (arith, c.if-taken-eq-left.false, c.show_all-taken.ensures.most) in
+    c.is_ok.ensures ∙ ap is_ok c.load_byte.ensures
+    ∙ readable_next image from n left (omega arith) (readable_whole image from n left (omega arith) few) less in
     let next = next_is h from left n image c.args.lines.now c.args.l c.is_ok.result image_same c.show_all-taken.ensures.taken can in
     let case = shows_case h c.args.l c.args.entry c.args.at c.args.count c.args.done n true (c.args.done + n == c.args.count) is (next ∙ c.if-is_ok.true) refl in
     let bytes : List ℕ = readable h.image from left in
@@ -141,14 +141,14 @@ returns-clause-answer g c h lines_same u_same row_same image_same =
     let within = c.requires.within in
     let is = count_is h c.args.l from left n c.args.lines.now image lines_same image_same c.show_all-taken.ensures.taken in
     let can : c.is_ok.result ≡ nat_lt n (length (readable image from left)) =
-        let some = written_few (terminal_at c.args.lines.now c.args.l) (readable image from left) in
-        let few : n ≤ length (readable image from left) = omega (arith, c.show_all-taken.ensures.taken, some) in
-        let less : n < left = omega (arith, c.if-taken-eq-left.false, c.show_all-taken.ensures.most) in
-        c.is_ok.ensures ∙ ap is_ok c.load_byte.ensures
-        ∙ readable_next image from n left (omega arith) (readable_whole image from n left (omega arith) few) less in
+    let some = written_few (terminal_at c.args.lines.now c.args.l) (readable image from left) in
+    let few : n ≤ length (readable image from left) = omega (arith, c.show_all-taken.ensures.taken, some) in
+    let less : n < left = omega (arith, c.if-taken-eq-left.false, c.show_all-taken.ensures.most) in
+    c.is_ok.ensures ∙ ap is_ok c.load_byte.ensures
+    ∙ readable_next image from n left (omega arith) (readable_whole image from n left (omega arith) few) less in
     let next = next_is h from left n image c.args.lines.now c.args.l c.is_ok.result image_same c.show_all-taken.ensures.taken can in
     let case = shows_case h c.args.l c.args.entry c.args.at c.args.count c.args.done n false false is (next ∙ c.if-is_ok.false)
-        (ne_eqb (c.args.done + n) c.args.count (λ e. omega (arith, e, within, c.if-taken-eq-left.false))) in
+    (ne_eqb (c.args.done + n) c.args.count (λ e. omega (arith, e, within, c.if-taken-eq-left.false))) in
     ap (λ (d : Did). d.answer) (sym case)
 
 pub returns-clause-state : goal.returns-clause-state
@@ -160,14 +160,14 @@ returns-clause-state g c h lines_same u_same row_same image_same =
     let within = c.requires.within in
     let is = count_is h c.args.l from left n c.args.lines.now image lines_same image_same c.show_all-taken.ensures.taken in
     let can : c.is_ok.result ≡ nat_lt n (length (readable image from left)) =
-        let some = written_few (terminal_at c.args.lines.now c.args.l) (readable image from left) in
-        let few : n ≤ length (readable image from left) = omega (arith, c.show_all-taken.ensures.taken, some) in
-        let less : n < left = omega (arith, c.if-taken-eq-left.false, c.show_all-taken.ensures.most) in
-        c.is_ok.ensures ∙ ap is_ok c.load_byte.ensures
-        ∙ readable_next image from n left (omega arith) (readable_whole image from n left (omega arith) few) less in
+    let some = written_few (terminal_at c.args.lines.now c.args.l) (readable image from left) in
+    let few : n ≤ length (readable image from left) = omega (arith, c.show_all-taken.ensures.taken, some) in
+    let less : n < left = omega (arith, c.if-taken-eq-left.false, c.show_all-taken.ensures.most) in
+    c.is_ok.ensures ∙ ap is_ok c.load_byte.ensures
+    ∙ readable_next image from n left (omega arith) (readable_whole image from n left (omega arith) few) less in
     let next = next_is h from left n image c.args.lines.now c.args.l c.is_ok.result image_same c.show_all-taken.ensures.taken can in
     let case = shows_case h c.args.l c.args.entry c.args.at c.args.count c.args.done n false false is (next ∙ c.if-is_ok.false)
-        (ne_eqb (c.args.done + n) c.args.count (λ e. omega (arith, e, within, c.if-taken-eq-left.false))) in
+    (ne_eqb (c.args.done + n) c.args.count (λ e. omega (arith, e, within, c.if-taken-eq-left.false))) in
     shown_is h c.args.l from left n c.args.lines.now c.show_all-taken.new.lines image c.args.u.now lines_same image_same u_same c.show_all-taken.ensures.line
     ∙ ap (λ (d : Did). d.state) (sym case)
 

@@ -18,10 +18,10 @@ returns-in-Some-clause-answer g c =
     let h : Handed = handed c.args.f.now c.args.u.now c.args.row.now image in
     let parts : Handed = handed c.write_bytes-moved.new.f c.args.u.now c.args.row.now image in
     let same : writes_line parts c.in-Some.l c.from-entry.result c.args.at c.args.count 0 ≡ writes_to h c.args.entry c.args.at c.args.count c.args.now =
-        ap (λ (e : ℕ). writes_line parts c.in-Some.l e c.args.at c.args.count 0) c.from-entry.ensures
-        ∙ ap (λ (k : Handed). writes_line k c.in-Some.l c.args.entry c.args.at c.args.count 0) (c.write_bytes-moved.ensures.state c.args.u.now c.args.row.now)
-        ∙ write_shows h c.args.entry c.args.at c.args.count c.args.now c.in-Some.l c.args.file.now
-        (file_is c.args.f.now c.args.entry c.args.file.now c.requires.file c.args.u.now c.args.row.now image) (sym c.in-Some.is ∙ c.line_at-line.ensures.line h refl) in
+    ap (λ (e : ℕ). writes_line parts c.in-Some.l e c.args.at c.args.count 0) c.from-entry.ensures
+    ∙ ap (λ (k : Handed). writes_line k c.in-Some.l c.args.entry c.args.at c.args.count 0) (c.write_bytes-moved.ensures.state c.args.u.now c.args.row.now)
+    ∙ write_shows h c.args.entry c.args.at c.args.count c.args.now c.in-Some.l c.args.file.now
+    (file_is c.args.f.now c.args.entry c.args.file.now c.requires.file c.args.u.now c.args.row.now image) (sym c.in-Some.is ∙ c.line_at-line.ensures.line h refl) in
     c.write_line.ensures.answer parts refl refl refl refl ∙ ap (λ (d : Did). d.answer) same
 
 pub returns-in-Some-clause-state : goal.returns-in-Some-clause-state
@@ -30,10 +30,10 @@ returns-in-Some-clause-state g c =
     let h : Handed = handed c.args.f.now c.args.u.now c.args.row.now image in
     let parts : Handed = handed c.write_bytes-moved.new.f c.args.u.now c.args.row.now image in
     let same : writes_line parts c.in-Some.l c.from-entry.result c.args.at c.args.count 0 ≡ writes_to h c.args.entry c.args.at c.args.count c.args.now =
-        ap (λ (e : ℕ). writes_line parts c.in-Some.l e c.args.at c.args.count 0) c.from-entry.ensures
-        ∙ ap (λ (k : Handed). writes_line k c.in-Some.l c.args.entry c.args.at c.args.count 0) (c.write_bytes-moved.ensures.state c.args.u.now c.args.row.now)
-        ∙ write_shows h c.args.entry c.args.at c.args.count c.args.now c.in-Some.l c.args.file.now
-        (file_is c.args.f.now c.args.entry c.args.file.now c.requires.file c.args.u.now c.args.row.now image) (sym c.in-Some.is ∙ c.line_at-line.ensures.line h refl) in
+    ap (λ (e : ℕ). writes_line parts c.in-Some.l e c.args.at c.args.count 0) c.from-entry.ensures
+    ∙ ap (λ (k : Handed). writes_line k c.in-Some.l c.args.entry c.args.at c.args.count 0) (c.write_bytes-moved.ensures.state c.args.u.now c.args.row.now)
+    ∙ write_shows h c.args.entry c.args.at c.args.count c.args.now c.in-Some.l c.args.file.now
+    (file_is c.args.f.now c.args.entry c.args.file.now c.requires.file c.args.u.now c.args.row.now image) (sym c.in-Some.is ∙ c.line_at-line.ensures.line h refl) in
     c.write_line.ensures.state parts refl refl refl refl ∙ ap (λ (d : Did). d.state) same
 
 pub returns-in-Some-clause-items : goal.returns-in-Some-clause-items
@@ -42,10 +42,10 @@ returns-in-Some-clause-items g c =
     let h : Handed = handed c.args.f.now c.args.u.now c.args.row.now image in
     let parts : Handed = handed c.write_bytes-moved.new.f c.args.u.now c.args.row.now image in
     let same : writes_line parts c.in-Some.l c.from-entry.result c.args.at c.args.count 0 ≡ writes_to h c.args.entry c.args.at c.args.count c.args.now =
-        ap (λ (e : ℕ). writes_line parts c.in-Some.l e c.args.at c.args.count 0) c.from-entry.ensures
-        ∙ ap (λ (k : Handed). writes_line k c.in-Some.l c.args.entry c.args.at c.args.count 0) (c.write_bytes-moved.ensures.state c.args.u.now c.args.row.now)
-        ∙ write_shows h c.args.entry c.args.at c.args.count c.args.now c.in-Some.l c.args.file.now
-        (file_is c.args.f.now c.args.entry c.args.file.now c.requires.file c.args.u.now c.args.row.now image) (sym c.in-Some.is ∙ c.line_at-line.ensures.line h refl) in
+    ap (λ (e : ℕ). writes_line parts c.in-Some.l e c.args.at c.args.count 0) c.from-entry.ensures
+    ∙ ap (λ (k : Handed). writes_line k c.in-Some.l c.args.entry c.args.at c.args.count 0) (c.write_bytes-moved.ensures.state c.args.u.now c.args.row.now)
+    ∙ write_shows h c.args.entry c.args.at c.args.count c.args.now c.in-Some.l c.args.file.now
+    (file_is c.args.f.now c.args.entry c.args.file.now c.requires.file c.args.u.now c.args.row.now image) (sym c.in-Some.is ∙ c.line_at-line.ensures.line h refl) in
     subst (λ (d : Did). Took (g.T.Trace.taken c.args.trace.now) d.items (g.T.Trace.taken c.write_line.new.trace)) same
     (c.write_line.ensures.items parts refl refl)
 

@@ -12,6 +12,11 @@ returns-clause-queue c =
 pub returns-clause-most : goal.returns-clause-most
 returns-clause-most c =
     let all = all_wait c.args.self.now _ (shown_byte c.args.flags c.args.column c.args.byte) c.requires.room
-        (few_shown c.args.flags c.args.column c.args.byte) c.show.ensures.items in
-    omega (arith, ap length all, length-append c.args.self.now (shown_byte c.args.flags c.args.column c.args.byte),
-    few_shown c.args.flags c.args.column c.args.byte, c.requires.room)
+    (few_shown c.args.flags c.args.column c.args.byte) c.show.ensures.items in
+    omega (
+      arith,
+      ap length all,
+      length-append c.args.self.now (shown_byte c.args.flags c.args.column c.args.byte),
+      few_shown c.args.flags c.args.column c.args.byte,
+      c.requires.room,
+    )
