@@ -24,10 +24,13 @@ use Rattle.abstract_unix.specs.Whole.{AreDue}
 use Rattle.abstract_unix.specs.Runs.{Slot, event_of}
 
 pub due_after : (due : ℕ) (u : Unix) → AreDue due u → u.timing.passed + 1 < due → AreDue due (with_slot u)
-due_after due u d more = record { next = more; each = λ s p is waits. elim (d.each s p is waits) [
-  | inl low ↦ inl (omega (arith, low))
-  | inr high ↦ inr high
-] }
+due_after due u d more = record {
+  next = more;
+  each = λ s p is waits. elim (d.each s p is waits) [
+    | inl low ↦ inl (omega (arith, low))
+    | inr high ↦ inr high
+  ];
+}
 
 filter_none : {A : Type 0} (f : A → Bool) (xs : List A) → ((x : A) → f x ≡ false) → filter f xs ≡ []
 filter_none f [] none = refl
