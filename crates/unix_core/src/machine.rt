@@ -289,7 +289,9 @@ impl Machine {
         }
     }
 
-    /// Takes a slot of the swapper: its pass, and the kernel settles, unless it ends with a panic.
+    /// Takes a slot of the swapper: its pass, and the kernel settles, unless it ends with a panic. It stands out of line, as
+    /// `going_slot` does.
+    #[inline(never)]
     fn swap_slot<T: Trace>(&mut self, trace: &mut T) -> Turned
         requires good { IsGood self.old.world }
         requires counted { IsCounted self.old.world.slots (unix_of self.old.world) }
