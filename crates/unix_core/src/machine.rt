@@ -423,10 +423,9 @@ impl Machine {
         self.end(s, ending, trace)
     }
 
-    /// Takes a slot in which no process just executes an instruction. It stands out of line, so that every other slot asks for
-    /// the stage once.
-    #[cold]
-    #[inline(never)]
+    /// Takes a slot in which no process just executes an instruction. Where nobody runs it only counts; what else there is stands
+    /// out of line.
+    #[inline(always)]
     pub(crate) fn other_slot<T: Trace>(&mut self, trace: &mut T) -> Turned
         requires kernel { IsKernel self.old.stage self.old.world }
         requires resting { self.old.stage ≡ Stage.Resting }
