@@ -35,9 +35,11 @@ WORDS = {
     "in": ("out",), "out": ("in",), "fork": ("size", "image"), "size": ("fork", "image"), "image": ("size", "fork"),
     "plain": ("sticky",), "sticky": ("plain",), "idle": ("end", "go 1", "tick i"), "end": ("idle", "panic swap"),
     "text": ("zombie", "swap"), "runin": ("runout", "tout"), "runout": ("runin",), "tout": ("keys", "runin"),
-    "keys": ("tout",), "share": ("in", "trap"), "zombie": ("swap",), "tick": ("wake",), "wake": ("go",), "exit": ("image",),
+    "keys": ("tout", "show"), "share": ("in", "trap"), "zombie": ("swap",), "tick": ("wake",), "wake": ("go",), "exit": ("image",),
     "drop": ("share",), "sleep": ("wake", "trap"),
 }
+# what may stand before the dot of a channel in the place of another word
+NUMBERED = {"wait": ("disk", "read"), "read": ("write", "show"), "write": ("read",), "disk": ("wait", "keys")}
 
 
 def one_of_the_lines(rng, lines, test=lambda line: True):
@@ -89,10 +91,16 @@ def other_slot(rng, lines):
     return at, lines[:at] + [changed(lines[at], 1, word)] + lines[at + 1 :]
 
 
+def others(word):
+    """The words that may stand in the place of a word."""
+    head, dot, number = word.partition(".")
+    return tuple(other + dot + number for other in NUMBERED.get(head, ())) if dot else WORDS.get(word, ())
+
+
 def other_word(rng, lines):
-    at = one_of_the_lines(rng, lines, lambda line: places(line, WORDS.__contains__))
-    place = rng.choice(places(lines[at], WORDS.__contains__))
-    word = rng.choice(WORDS[lines[at].split(" ")[place]])
+    at = one_of_the_lines(rng, lines, lambda line: places(line, others))
+    place = rng.choice(places(lines[at], others))
+    word = rng.choice(others(lines[at].split(" ")[place]))
     return at, lines[:at] + [changed(lines[at], place, word)] + lines[at + 1 :]
 
 
