@@ -1,0 +1,4 @@
+pub mod Judge
+pub mod World
+pub mod Sound
+pub mod Searches
