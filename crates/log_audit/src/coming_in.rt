@@ -90,7 +90,8 @@ impl World {
         ensures board { board_of self.new ≡ brought (board_of self.old) s (row_at self.old.table s).text c }
         ensures loose { IsLoose self.new [] [] }
     {
-        match self.table.rows[s as usize].text {
+        let row = self.table.rows[s as usize];
+        match row.text {
             None => self.come_beside(s, block, c),
             Some(k) => match self.text_of(k) {
                 Some(text) => {
@@ -118,7 +119,8 @@ impl World {
         ensures board { board_of self.new ≡ applied (board_of self.old) (line.SwapIn s c) }
         ensures whole { IsWhole self.new }
     {
-        match self.table.rows[s as usize].place {
+        let row = self.table.rows[s as usize];
+        match row.place {
             Some(Place::Swap(block)) => {
                 self.come(s, block, c);
                 self.rest(s);

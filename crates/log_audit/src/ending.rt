@@ -9,7 +9,7 @@ ghost use Rattle.log_audit.specs.World.{board_of, ended};
 ghost use Rattle.log_audit.specs.Sound.{IsLoose, IsStripped, IsWhole};
 
 use crate::world::World;
-use pick_rules::{EMPTY_ROW, Stat};
+use pick_rules::{EMPTY_ROW, Stat, TableRow};
 use v6_base::{Place, Slot};
 
 impl World {
@@ -48,7 +48,7 @@ impl World {
         ensures same { self.new ≡ record self.old { table = with_row self.old.table s empty_row } }
         ensures loose { (cl sl : List Range) → IsLoose self.old cl sl → IsLoose self.new cl (record { at = block; size = 1 } ∷ sl) }
     {
-        self.table.rows[s as usize] = EMPTY_ROW;
+        self.table.rows[s as usize] = empty();
     }
 
     /// A slot with a block of the swap area has no process any more, and gives it back.
@@ -75,7 +75,7 @@ impl World {
         ensures board { board_of self.new ≡ applied (board_of self.old) (line.Reap s) }
         ensures whole { IsWhole self.new }
     {
-        self.table.rows[s as usize] = EMPTY_ROW;
+        self.table.rows[s as usize] = empty();
     }
 
     /// The line `reap`.
@@ -126,4 +126,11 @@ impl World {
         self.release(s);
         self.bury(s, block);
     }
+}
+
+/// A slot with no process.
+fn empty() -> TableRow
+    ensures { result ≡ empty_row }
+{
+    EMPTY_ROW
 }

@@ -21,11 +21,7 @@ impl World {
         ensures same { self.new ≡ record self.old { table = with_row self.old.table child (born nice) } }
         ensures loose { (cl sl : List Range) → IsLoose self.old cl sl → IsLoose self.new cl sl }
     {
-        self.table.rows[child as usize] = TableRow {
-            stat: Stat::Ready,
-            nice,
-            ..EMPTY_ROW
-        };
+        self.table.rows[child as usize] = born(nice);
     }
 
     /// A child comes into a slot without a process, and shares its parent's text. It has no place yet.
@@ -102,5 +98,16 @@ impl World {
             Place::Core(c) => self.fork_in(s, child, c),
             Place::Swap(block) => self.fork_out(s, child, block),
         }
+    }
+}
+
+/// A child that can run, with its parent's nice. It has no text and no place yet.
+fn born(nice: i8) -> TableRow
+    ensures { result ≡ born nice }
+{
+    TableRow {
+        stat: Stat::Ready,
+        nice,
+        ..EMPTY_ROW
     }
 }

@@ -88,7 +88,8 @@ impl World {
         ensures board { board_of self.new ≡ at_place (without_place (board_of self.old) s) s clicks (Place.Core to) }
         ensures whole { IsWhole self.new }
     {
-        match self.table.rows[s as usize].place {
+        let row = self.table.rows[s as usize];
+        match row.place {
             Some(Place::Core(from)) => self.grow_inside(s, clicks, from, to),
             Some(Place::Swap(block)) => self.grow_back(s, clicks, block, to),
             None => unreachable!(),
