@@ -1,15 +1,15 @@
 //! The command `audit`.
-ghost use Rattle.std.specs.Prelude.{◌≡◌, ◌<◌, ◌≤◌, ◌+◌, ◌^◌, ◌++◌, [], ◌∷◌, ℕ, List, Some, length, true, false, IfOk, IfErr, OnOk, MatchResult};
+ghost use Rattle.std.specs.Prelude.{◌≡◌, ◌≤◌, ◌+◌, ◌++◌, [], ◌∷◌, ℕ, List, Some, length, take, true, IfOk, IfErr, OnOk, MatchResult};
 ghost use Rattle.v6_port.specs.Outside.{In, IsOpen, OnlyAt, Tells, same};
 ghost use Rattle.v6_port.specs.declared.host.InPort.TheVariants.{Log};
 ghost use Rattle.v6_port.specs.Causes.{Calm};
-ghost use Rattle.v6_port.specs.Calls.{is_given};
+ghost use Rattle.v6_run.specs.declared.audit.TheConstants.{LOG_LIMIT};
 ghost use Rattle.v6_run.specs.Words as words;
 ghost use Rattle.v6_run.specs.Report.{lawful_line};
 ghost use Rattle.v6_run.specs.Headline.{done_line};
 ghost use Rattle.v6_run.specs.Errors.{end_of, log_status};
 ghost use Rattle.v6_run.specs.Answers.{Answers};
-ghost use Rattle.v6_run.specs.Audit.{HasRead, HasRoom, IsAtFault, Finishes, AuditsTo, StopsLog};
+ghost use Rattle.v6_run.specs.Audit.{HasRead, HasRoom, IsAtFault, Closes, AuditsTo, StopsLog};
 
 use arrayvec::ArrayVec;
 use log_audit::{Audit, Judged};
@@ -53,12 +53,11 @@ impl Reading {
         }
     }
 
-    /// Judges the bytes that were read behind the last line, which are a line.
+    /// Judges the bytes behind the last line, which are a line.
     fn end_line(&mut self) -> Result<(), LogError>
         requires { HasRoom self.old }
         ensures read { OnOk result ((front : List ℕ) → HasRead front self.old → HasRead (front ++ 0o012 ∷ []) self.new) }
         ensures fault { IfErr result (λ error. (front : List ℕ) → HasRead front self.old → IsAtFault (front ++ 0o012 ∷ []) error) }
-        ensures last { (front : List ℕ) → HasRead front self.old → EndsLine front result self.new }
     {
         match self.audit.line(self.line.as_slice()) {
             Judged::Good => {
@@ -71,7 +70,7 @@ impl Reading {
         }
     }
 
-    /// Takes a byte. A line with one byte more than a line may have is no line of a log.
+    /// Takes a byte. A line with more bytes than a line may have is no line of a log.
     fn take_byte(&mut self, byte: u8) -> Result<(), LogError>
         requires { HasRoom self.old }
         ensures read { OnOk result ((front : List ℕ) → HasRead front self.old → HasRead (front ++ byte ∷ []) self.new) }
@@ -86,4 +85,70 @@ impl Reading {
         self.line.push(byte);
         Ok(())
     }
+
+    /// Takes bytes, up to the first line at fault.
+    fn take(&mut self, bytes: &[u8]) -> Result<(), LogError>
+        requires { (front : List ℕ) × HasRead front self.old × (length front + length bytes.now ≤ LOG_LIMIT) }
+        ensures read { OnOk result ((front : List ℕ) → HasRead front self.old → HasRead (front ++ bytes.now) self.new) }
+        ensures fault { IfErr result (λ error. (front : List ℕ) → HasRead front self.old
+            → (count : ℕ) × (count ≤ length bytes.now) × IsAtFault (front ++ take count bytes.now) error) }
+    {
+        for byte in bytes {
+            self.take_byte(*byte)?;
+        }
+        Ok(())
+    }
+
+    /// The file has ended: what stands behind the last line is one too, if anything does. The answer is the number of lines.
+    fn close(&mut self) -> Result<u64, LogError>
+        requires { HasRoom self.old }
+        ensures { (front : List ℕ) → HasRead front self.old → Closes front result }
+    {
+        if !self.line.is_empty() {
+            self.end_line()?;
+        }
+        if self.audit.ended() {
+            Ok(self.lines)
+        } else {
+            Err(LogError::Unlawful(self.lines + 1))
+        }
+    }
+}
+
+/// Reads what is left of the open log, and judges each line as it comes. The answer is the number of lines of a lawful log. No
+/// more is kept of it than one line.
+fn read_log<H: Host>(host: &mut H) -> Result<u64, LogError>
+    requires { IsOpen (H.outside host.old) (In Log) }
+    ensures only { OnlyAt (same (In Log)) (H.outside host.old) (H.outside host.new) }
+    ensures answer { Tells (H.outside host.old) → AuditsTo ((H.outside host.old).port (In Log)).bytes result }
+    ensures cause { MatchResult result (λ _. Calm (H.outside host.old) (H.outside host.new))
+        (λ error. StopsLog true error (H.outside host.old) (H.outside host.new)) }
+{
+    let mut reading = Reading::new();
+    let mut total: u64 = 0;
+    let mut buffer = [0u8; 4096];
+    'file: while total < LOG_LIMIT {
+        let wanted = (LOG_LIMIT - total).min(4096) as usize;
+        let Ok(count) = host.read(InPort::Log, &mut buffer[..wanted]) else {
+            return Err(LogError::Unread);
+        };
+        if count == 0 {
+            return reading.close();
+        }
+        reading.take(&buffer[..count])?;
+        total += count as u64;
+    }
+    Err(LogError::TooLong)
+}
+
+/// The command `audit`: how many lines the lawful log of this name has.
+pub(crate) fn audit<H: Host>(name: &str, host: &mut H) -> Result<u64, LogError>
+    ensures answers { Answers (words.Audit name.now) (end_of log_status result) (H.outside host.old) (H.outside host.new) }
+    ensures line { IfOk result (λ lines. Tells (H.outside host.old)
+        → done_line (Some (words.Audit name.now)) (H.outside host.old).fixed ≡ lawful_line lines) }
+{
+    if host.open_read(InPort::Log, name).is_err() {
+        return Err(LogError::Unread);
+    }
+    read_log(host)
 }
