@@ -18,7 +18,8 @@ impl World {
         requires slot { s < 50 }
         requires loose { (cl sl : List Range) × IsLoose self.old cl sl }
         requires bare { (row_at self.old.table s).place ≡ None }
-        ensures same { self.new ≡ record self.old { table = with_row self.old.table s (record (row_at self.old.table s) { size = 0 }) } }
+        ensures same { self.new
+            ≡ record self.old { table = with_row self.old.table s (record (row_at self.old.table s) { size = 0 }) } }
         ensures loose { (cl sl : List Range) → IsLoose self.old cl sl → IsLoose self.new cl sl }
     {
         self.table.rows[s as usize].size = 0;
@@ -46,7 +47,8 @@ impl World {
         requires zombie { is_zombie (row_at self.old.table s).stat ≡ true }
         requires place { (row_at self.old.table s).place ≡ Some (Place.Swap block) }
         ensures same { self.new ≡ record self.old { table = with_row self.old.table s empty_row } }
-        ensures loose { (cl sl : List Range) → IsLoose self.old cl sl → IsLoose self.new cl (record { at = block; size = 1 } ∷ sl) }
+        ensures loose { (cl sl : List Range) → IsLoose self.old cl sl
+            → IsLoose self.new cl (record { at = block; size = 1 } ∷ sl) }
     {
         self.table.rows[s as usize] = empty();
     }
@@ -99,8 +101,10 @@ impl World {
         requires loose { (cl sl : List Range) × IsLoose self.old cl sl }
         requires bare { (row_at self.old.table s).place ≡ None }
         requires plain { (row_at self.old.table s).text ≡ None }
-        ensures same { self.new ≡ record self.old { table = record (with_row self.old.table s (ended (row_at self.old.table s) block)) { running = None } } }
-        ensures loose { (cl sl : List Range) → IsLoose self.old cl (record { at = block; size = 1 } ∷ sl) → IsLoose self.new cl sl }
+        ensures same { self.new
+            ≡ record self.old { table = record (with_row self.old.table s (ended (row_at self.old.table s) block)) { running = None } } }
+        ensures loose { (cl sl : List Range) → IsLoose self.old cl (record { at = block; size = 1 } ∷ sl)
+            → IsLoose self.new cl sl }
     {
         let row = &mut self.table.rows[s as usize];
         row.stat = Stat::Zombie;

@@ -30,7 +30,8 @@ impl World {
         requires loose { (cl sl : List Range) × IsLoose self.old cl sl }
         requires free { is_empty (row_at self.old.table child).stat ≡ true }
         requires text { (k : ℕ) → parent.text ≡ Some k → (k < 40) × (entry_at self.old.texts k ≢ None) }
-        ensures board { board_of self.new ≡ joins (in_table (board_of self.old) (λ t. with_row t child (child_row parent))) parent.text }
+        ensures board { board_of self.new
+            ≡ joins (in_table (board_of self.old) (λ t. with_row t child (child_row parent))) parent.text }
         ensures table { self.new.table ≡ with_row self.old.table child (child_row parent) }
         ensures loose { (cl sl : List Range) → IsLoose self.old cl sl → IsLoose self.new cl sl }
     {

@@ -22,7 +22,8 @@ impl World {
         requires alive { is_zombie (row_at self.old.table s).stat ≡ false }
         requires some { 1 ≤ clicks }
         requires most { clicks ≤ 2048 }
-        ensures same { self.new ≡ record self.old { table = with_row self.old.table s (in_at (row_at self.old.table s) clicks to) } }
+        ensures same { self.new
+            ≡ record self.old { table = with_row self.old.table s (in_at (row_at self.old.table s) clicks to) } }
         ensures loose { (cl sl : List Range) → IsLoose self.old (record { at = to; size = clicks } ∷ cl) sl
             → IsLoose self.new (record { at = from; size = (row_at self.old.table s).size } ∷ cl) sl }
     {

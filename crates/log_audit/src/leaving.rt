@@ -12,11 +12,15 @@ use v6_base::{Place, Slot};
 impl World {
     /// The clicks of a text that nobody uses any more in core are given back.
     pub(crate) fn give_gone(&mut self, text: TextRow)
-        requires loose { (cl sl : List Range) × IsLoose self.old (if text.loaded - 1 == 0 then record { at = text.click; size = text.clicks } ∷ cl else cl) sl × (length cl ≤ 5) }
+        requires loose { (cl sl : List Range)
+            × IsLoose self.old (if text.loaded - 1 == 0 then record { at = text.click; size = text.clicks }
+            ∷ cl else cl) sl × (length cl ≤ 5) }
         requires some { 1 ≤ text.loaded }
         ensures board { board_of self.new ≡ board_of self.old }
         ensures table { self.new.table ≡ self.old.table }
-        ensures loose { (cl sl : List Range) → IsLoose self.old (if text.loaded - 1 == 0 then record { at = text.click; size = text.clicks } ∷ cl else cl) sl → IsLoose self.new cl sl }
+        ensures loose { (cl sl : List Range)
+            → IsLoose self.old (if text.loaded - 1 == 0 then record { at = text.click; size = text.clicks }
+            ∷ cl else cl) sl → IsLoose self.new cl sl }
     {
         if text.loaded - 1 == 0 {
             self.give_core(text.click, text.clicks);

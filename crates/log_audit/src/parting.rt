@@ -24,7 +24,9 @@ impl World {
         requires small { k < 40 }
         requires used { 1 ≤ text.users }
         requires loaded { 1 ≤ text.loaded }
-        ensures same { self.new ≡ record self.old { table = with_row self.old.table s (unshared (row_at self.old.table s)); texts = slice_set self.old.texts k (Some (less_used (less_loaded text))) } }
+        ensures same { self.new
+            ≡ record self.old { table = with_row self.old.table s (unshared (row_at self.old.table s));
+            texts = slice_set self.old.texts k (Some (less_used (less_loaded text))) } }
         ensures loose { (cl sl : List Range) → IsLoose self.old cl sl
             → IsLoose self.new (if text.loaded - 1 == 0 then record { at = text.click; size = text.clicks } ∷ cl else cl) sl }
     {
@@ -45,7 +47,9 @@ impl World {
         requires text { entry_at self.old.texts k ≡ Some text }
         requires small { k < 40 }
         requires used { 1 ≤ text.users }
-        ensures same { self.new ≡ record self.old { table = with_row self.old.table s (unshared (row_at self.old.table s)); texts = slice_set self.old.texts k (Some (less_used text)) } }
+        ensures same { self.new
+            ≡ record self.old { table = with_row self.old.table s (unshared (row_at self.old.table s));
+            texts = slice_set self.old.texts k (Some (less_used text)) } }
         ensures loose { (cl sl : List Range) → IsLoose self.old cl sl → IsLoose self.new cl sl }
     {
         self.texts[k as usize] = Some(TextRow {
@@ -62,7 +66,8 @@ impl World {
         requires small { k < 40 }
         requires unused { text.users ≡ 0 }
         ensures same { self.new ≡ record self.old { texts = slice_set self.old.texts k None } }
-        ensures loose { (cl sl : List Range) → IsLoose self.old cl sl → IsLoose self.new cl (record { at = text.block; size = blocks text.clicks } ∷ sl) }
+        ensures loose { (cl sl : List Range) → IsLoose self.old cl sl
+            → IsLoose self.new cl (record { at = text.block; size = blocks text.clicks } ∷ sl) }
     {
         let _ = text;
         self.texts[k as usize] = None;

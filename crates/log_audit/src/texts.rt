@@ -23,7 +23,9 @@ impl World {
         requires small { k < 40 }
         requires text { entry_at self.old.texts k ≡ Some text }
         requires few { text.users ≤ 50 }
-        ensures same { self.new ≡ record self.old { table = with_row self.old.table s (sharing (row_at self.old.table s) k); texts = slice_set self.old.texts k (Some (more_users text)) } }
+        ensures same { self.new
+            ≡ record self.old { table = with_row self.old.table s (sharing (row_at self.old.table s) k);
+            texts = slice_set self.old.texts k (Some (more_users text)) } }
         ensures loose { (cl sl : List Range) → IsLoose self.old cl sl → IsLoose self.new cl sl }
     {
         self.texts[k as usize] = Some(TextRow {
@@ -45,8 +47,11 @@ impl World {
         requires free { entry_at self.old.texts k ≡ None }
         requires some { 1 ≤ clicks }
         requires most { clicks ≤ 2048 }
-        ensures same { self.new ≡ record self.old { table = with_row self.old.table s (sharing (row_at self.old.table s) k); texts = slice_set self.old.texts k (Some (new_text clicks block)) } }
-        ensures loose { (cl sl : List Range) → IsLoose self.old cl (record { at = block; size = blocks clicks } ∷ sl) → IsLoose self.new cl sl }
+        ensures same { self.new
+            ≡ record self.old { table = with_row self.old.table s (sharing (row_at self.old.table s) k);
+            texts = slice_set self.old.texts k (Some (new_text clicks block)) } }
+        ensures loose { (cl sl : List Range) → IsLoose self.old cl (record { at = block; size = blocks clicks } ∷ sl)
+            → IsLoose self.new cl sl }
     {
         self.texts[k as usize] = Some(TextRow {
             clicks,

@@ -15,5 +15,6 @@ pub mod AnswerLemmas
 pub mod RunLemmas
 pub mod CheckLemmas
 pub mod CommandLemmas
+pub mod OneWay
 pub mod MemoryLemmas
 pub mod DemoLemmas

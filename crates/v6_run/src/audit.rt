@@ -57,7 +57,8 @@ impl Reading {
     fn end_line(&mut self) -> Result<(), LogError>
         requires { HasRoom self.old }
         ensures read { OnOk result ((front : List ℕ) → HasRead front self.old → HasRead (front ++ 0o012 ∷ []) self.new) }
-        ensures fault { IfErr result (λ error. (front : List ℕ) → HasRead front self.old → IsAtFault (front ++ 0o012 ∷ []) error) }
+        ensures fault { IfErr result (λ error. (front : List ℕ) → HasRead front self.old
+            → IsAtFault (front ++ 0o012 ∷ []) error) }
     {
         match self.audit.line(self.line.as_slice()) {
             Judged::Good => {
@@ -74,7 +75,8 @@ impl Reading {
     fn take_byte(&mut self, byte: u8) -> Result<(), LogError>
         requires { HasRoom self.old }
         ensures read { OnOk result ((front : List ℕ) → HasRead front self.old → HasRead (front ++ byte ∷ []) self.new) }
-        ensures fault { IfErr result (λ error. (front : List ℕ) → HasRead front self.old → IsAtFault (front ++ byte ∷ []) error) }
+        ensures fault { IfErr result (λ error. (front : List ℕ) → HasRead front self.old
+            → IsAtFault (front ++ byte ∷ []) error) }
     {
         if byte == b'\n' {
             return self.end_line();

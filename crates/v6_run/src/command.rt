@@ -133,9 +133,9 @@ pub fn v6<H: Host>(alloc: Global, words: &Vec<String>, host: &mut H) -> Status
     ensures unopened { IsSome (refused_by (command_in words.now.items))
         → OnlyAt is_report (H.outside host.old) (H.outside host.new) }
 
-    // Done, ScriptFault, ImageFault, Panic, and the answers on a log are exactly what the command's files come to, and each file has got all of a text that may
-    // be written to it. At a write fault each has got a front of one, or nothing; and one of Report is answered only where the command
-    // would else be done.
+    // Done, ScriptFault, ImageFault, Panic, Unlawful, BadLog and LogTooLong are exactly what the command's files come to, and each
+    // file has got all of a text that may be written to it. At a write fault each has got a front of one, or nothing; and one of
+    // Report is answered only where the command would else be done.
     ensures complete { is_decided result ≡ true → TellsInputs (words_ports (command_in words.now.items)) (H.outside host.old)
         → IsKnownAnd (words_completion (command_in words.now.items) (H.outside host.old).fixed)
         (IsComplete result (H.outside host.old) (H.outside host.new)) }
