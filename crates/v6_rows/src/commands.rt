@@ -44,8 +44,22 @@ const RUNS: [Ended<'static>; 3] = [
     ),
 ];
 
-/// Where `check` is done, its fourth call is the report; of `demo` it is the first.
-const OTHERS: [Ended<'static>; 4] = [
+/// Where `check` is done, its fourth call is the report; of `demo` it is the first. The first two calls of `audit` open and read its
+/// log, and the third says what that is not; a report that fails leaves that.
+const OTHERS: [Ended<'static>; 7] = [
+    (
+        "audit script",
+        1,
+        Status::ReadFault(InPort::Log),
+        b"read fault: log\n",
+    ),
+    (
+        "audit script",
+        2,
+        Status::ReadFault(InPort::Log),
+        b"read fault: log\n",
+    ),
+    ("audit script", 3, Status::BadLog(1), b""),
     ("check image", 4, Status::WriteFault(OutPort::Report), b""),
     ("demo 12", 1, Status::WriteFault(OutPort::Report), b""),
     (
@@ -107,7 +121,7 @@ fn other_commands_whose_files_fail_end_as_the_manual_says(rt: HostRuntime) -> Re
 }
 
 /// The numbers that a program exits with.
-const NUMBERS: [(Status, u8); 9] = [
+const NUMBERS: [(Status, u8); 12] = [
     (Status::Done, 0),
     (Status::Usage, 1),
     (Status::ReadFault(InPort::Script), 2),
@@ -117,6 +131,9 @@ const NUMBERS: [(Status, u8); 9] = [
     (Status::ImageFault(ImageFault::TooLong), 6),
     (Status::Panic(PanicKind::Swap), 7),
     (Status::NoMemory, 8),
+    (Status::Unlawful(1), 9),
+    (Status::BadLog(1), 10),
+    (Status::LogTooLong, 13),
 ];
 
 #[test]
