@@ -1,5 +1,6 @@
 -- An image that grows and takes a new place in core: what becomes of the board.
-use Rattle.std.proofs.Common.{◌≡◌, ◌∙◌, ◌<◌, ◌≤◌, ◌+◌, ◌-◌, ℕ, Bool, true, false, cond, List, [], length, length-map, map, get_or, set, set-set, set-get_or, get_or-set_same, Option, Some, None, refl, sym, ap, arith}
+use Rattle.std.proofs.Common.{◌≡◌, ◌∙◌, ◌<◌, ◌≤◌, ◌+◌, ◌-◌, ℕ, Bool, true, false, cond, List, [], length, map, get_or, set, set-set, Option, Some, None, refl, sym, ap, arith}
+use Rattle.std.proofs.lemmas.List.{length-map, set-get_or, get_or-set_same}
 use Rattle.map_fit.specs.Fit.{Range}
 use Rattle.v6_base.specs.declared.entry.Place.TheVariants.{Core}
 use Rattle.pick_rules.specs.declared.row.TableRow.{TableRow}
