@@ -21,11 +21,12 @@ from files import place_of, read_bytes, replace, same_file, told
 from processes import Processes, programs_of
 from program import CORE, V6, ProgramError, add_version
 from screen import without_echo
-from scriptfile import HEADER
+from scriptfile import HEADER, head_of
 from silent import why_silent
 
 HELP = """~.      ends, and so does the end of a file that is read in the place of the keyboard
 ~^X     types a control character: ~^D is 004, ~^? is 0177
+~k KEYS types keys without a return: ~k abc^D is abc and 004
 ~:LINE  puts a line of a script: ~:clock 1000, ~:run 50000, ~:switch 000001
 ~~TEXT  types a line that begins with ~
 ~l      lists the lines so far
@@ -36,6 +37,7 @@ HELP = """~.      ends, and so does the end of a file that is read in the place 
 """
 ENDS = signal.SIGTERM, signal.SIGHUP
 LINE = re.compile(r"^(script: (?:too many slots at )?line )([0-9]+)")  # of a script that has a head, which a file needn't have
+CONTROL = re.compile(rb"\^([?-~])")  # a control character, as it is typed in ~k
 LONGEST = 254  # of a line that is tried with others in one run: more than 255 keys don't wait
 
 
@@ -83,11 +85,33 @@ class Keyboard:
     def __init__(self, file):
         self.file, self.person = file, file.isatty()
         self.waiting, self.rest, self.ended = [], b"", False
+        self.editor, self.prompt = None, lambda: b""
+
+    def edit(self, lines):
+        """Has a person's lines edited by readline, with those that were typed before as its history, where the terminal can."""
+        if self.person and sys.stdout.isatty() and os.environ.get("TERM", "dumb") != "dumb":
+            try:
+                import readline
+            except ImportError:
+                return
+            readline.parse_and_bind("tab: self-insert")
+            readline.parse_and_bind("set enable-bracketed-paste off")
+            for line in lines:
+                readline.add_history(line)
+            self.editor = readline
+
+    def edited(self):
+        """A line of a person, who edits it after what the machine's terminal shows on its last line; nothing at the end of a file."""
+        sys.stdout.write("\r")
+        try:
+            return input(self.prompt().decode("ascii", "replace")).encode("utf-8", "surrogateescape") + b"\n"
+        except EOFError:
+            return b""
 
     def fill(self):
         """Reads what there is; at least one line, but at the end."""
         while not self.waiting and not self.ended:
-            piece = self.file.read1(65536)
+            piece = self.edited() if self.editor else self.file.read1(65536)
             if self.person:
                 self.waiting = piece.splitlines(keepends=True) or [b""]
             elif piece:
@@ -134,6 +158,8 @@ class Keyboard:
             return Typed([line[1:]])
         if len(line) == 2 and line.startswith(b"^") and 0o77 <= line[1] <= 0o176:
             return Typed(keys(bytes([line[1] & 0o37 if line[1] != 0o77 else INTERRUPT])))
+        if line.startswith(b"k ") and len(line) > 2:
+            return Typed(keys(CONTROL.sub(lambda key: bytes([key[1][0] & 0o37 if key[1] != b"?" else INTERRUPT]), line[2:])))
         words = line.decode("ascii", "replace").split()
         if words and words[0] in ORDERS and len(words) <= 1 + (words[0] in "ug"):
             if words[1:] and not words[1].isdecimal():
@@ -201,7 +227,9 @@ class Console:
         if at < self.dialogue.first():
             most = self.dialogue.at - self.dialogue.first()
             raise ConsoleError(f"{lines(most)} can be taken back" + (f": ~u {most}, or ~g 0" if most else ""))
-        return self.dialogue.go_to(at)
+        found = self.dialogue.go_to(at)
+        self.stands()
+        return found
 
     def go(self, line):
         if line is None:
@@ -215,11 +243,18 @@ class Console:
             self.shown = old
             self.show(self.dialogue.played.term)
             self.write(b"\n" * self.keyboard.person)
+        self.stands()
         return found
 
     def who(self, _):
-        disk = self.dialogue.machine.disk(self.dialogue.lines())
-        tell("\n".join(Processes(self.dialogue.played.log).told(programs_of(disk))))
+        machine, lines = self.dialogue.machine, self.dialogue.lines()
+        commands = commands_of(machine.memory(lines), int(machine.core), self.dialogue.played.log)
+        tell("\n".join(Processes(self.dialogue.played.log).told(programs_of(machine.disk(lines)), commands)))
+
+    def stands(self):
+        """Tells after which line one is."""
+        at = self.dialogue.at - self.dialogue.first()
+        tell(f"after line {at}: {shown(self.dialogue.steps[self.dialogue.at - 1])}" if at > 0 else "before the first line")
 
     def processes(self):
         return Processes(self.dialogue.played.log).told()
@@ -236,6 +271,25 @@ ORDERS = {"?": Console.help, "l": Console.list, "u": Console.back, "g": Console.
 
 def lines(count):
     return f"{count} line{'' if count == 1 else 's'}"
+
+
+def commands_of(data, core, log):
+    """The words with which each process was executed, by its number, from the bytes of memory."""
+    from lookviews import arguments_of, text_of  # which has more to import than a console needs
+    from moments import Memory
+    from proctable import Table
+
+    if data is None:
+        return {}
+    table, memory, found = Table(), Memory(data, core), {}
+    for line in log.decode("ascii", "replace").split("\n"):
+        if line and line != "end":
+            table.take(line)
+    for slot, row in table.rows.items():
+        if slot and row.place and row.state != "dead":
+            words = arguments_of(memory.process(row, None if row.text is None else table.texts.get(row.text)))
+            found[row.number] = " ".join(text_of(word)[1:-1] for word in words)
+    return found
 
 
 def tell(text):
@@ -309,7 +363,7 @@ class Script:
     begun with the same name, isn't written over."""
 
     def __init__(self, name):
-        self.name, self.known, self.moved = name, None, False
+        self.name, self.known, self.moved, self.old = name, None, False, None
         if name:
             place_of(name)  # what can't be written is told before anything is typed
         if name and os.path.exists(name):
@@ -334,6 +388,16 @@ class Script:
         replace(self.name, data)
         self.known = data
 
+    def keep(self, data):
+        """Keeps a script with lines that were taken back beside it, in FILE.old."""
+        if not self.name:
+            return
+        if self.old is None:
+            self.old = self.name + ".old"
+            if os.path.lexists(self.old) and head_of(self.old) is None:
+                self.old = beside(self.old)  # one that isn't a console's stays
+        replace(self.old, data)
+
 
 def check_header(options, machine, found):
     """A script goes on only over the disk and the core that it was typed at."""
@@ -355,6 +419,8 @@ def run(options, folder):
 
     def save():
         script.save(console.dialogue.script())
+        if console.dialogue.at < len(console.dialogue.steps):
+            script.keep(machine.text([line for step in console.dialogue.steps for line in step]))
 
     if options.disk:
         place_of(options.disk)  # what can't be written is told before anything is typed
@@ -369,6 +435,8 @@ def run(options, folder):
         tell(error if head else LINE.sub(lambda line: f"{line[1]}{int(line[2]) - 1}", str(error), count=1))
         return 1
     save()
+    console.keyboard.prompt = lambda: console.dialogue.played.term.rsplit(b"\n", 1)[-1]
+    console.keyboard.edit([shown(step) for step in console.dialogue.steps[console.dialogue.first() :]])
     status = 0
     try:
         talk(console, found, save)

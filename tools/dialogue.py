@@ -69,6 +69,13 @@ class Machine:
         status, said = call(self.v6, "run", self.image, self.core, self.path("script"), *outs, disk)
         return Played(status, said, read_bytes(outs[0]), read_bytes(outs[1]))
 
+    def memory(self, lines):
+        """The bytes of core and of the swap area where a script ends, or None of a program that doesn't tell them."""
+        with open(self.path("script"), "wb") as file:
+            file.write(self.text(lines))
+        status, _ = call(self.v6, "memory", self.image, self.core, self.path("script"), self.path("memory"))
+        return None if status else read_bytes(self.path("memory"))
+
     def disk(self, lines):
         """The bytes of the disk that a script leaves, which was played before."""
         self.play(lines, self.path("disk"))

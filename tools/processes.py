@@ -116,12 +116,15 @@ class Processes:
             return RUNS
         return SLEEPS if self.sleepers(TIME) else OVER
 
-    def told(self, programs=None):
-        """What each process does, in words, and the programs whose image and text are as large as its own: see programs_of."""
+    def told(self, programs=None, commands=None):
+        """What each process does, in words, and the words of its command, by its number; where these aren't known, the programs
+        whose image and text are as large as its own: see programs_of."""
         lines = []
         for _, one in sorted(self.slots.items()):
             does = DOES.get(one.does) or "waits for a child"
-            if one.program in (programs or {}) and one.does != "ended":
+            if commands and commands.get(one.number):
+                does += f": {commands[one.number]}"
+            elif one.program in (programs or {}) and one.does != "ended":
                 does += f" ({' or '.join(programs[one.program])})"
             lines.append(f"process {one.number}, a child of {one.parent}, {does}" if one.parent else
                          f"process {one.number} {does}")

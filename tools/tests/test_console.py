@@ -1,5 +1,6 @@
 """The console: what it makes of what is typed, of the log, and of a run that goes on or isn't taken."""
 import hashlib
+import importlib.util
 import io
 import os
 import pty
@@ -51,7 +52,7 @@ rm core ^ ^ wc
 chdir /nowhere
 exit
 """
-LONG = 600  # seconds: what a busy machine never takes for one of these
+LONG = 300  # seconds: what a busy machine never takes for one of these
 OVER = "\nconsole: nobody waits for a key any more: the run is over\n"
 OTHER = """
 import os, subprocess, sys
@@ -368,13 +369,37 @@ class Sessions(Case):
                                           self.path("new"))
         root = b"LS\r\nBIN\r\nDEV\r\nETC\r\nUSR\r\n# "
         self.assertEqual(term, b"# CHDIR /USR\r\n# LS\r\nSYS\r\n# " + root + root + root)
-        self.assertIn("reads the terminal (", said)
-        said = said.replace(" (/bin/sh or /etc/init)", "")
-        self.assertEqual(said, "\nconsole: 0 lines, as they were typed\ntaken back:\n    1  chdir /usr\n    2  ls\n"
+        self.assertEqual(said, "\nconsole: before the first line\n"
+                               "\nconsole: 0 lines, as they were typed\ntaken back:\n    1  chdir /usr\n    2  ls\n"
+                               "\nconsole: after line 1: ls\n"
                                "\nconsole: 1 line, as it was typed\n    1  ls\ntaken back:\n    2  ls\n"
-                               "\nconsole: process 1 reads the terminal\n"
+                               "\nconsole: process 1 reads the terminal: /etc/init\n\nconsole: after line 2: ls\n"
                                "\nconsole: 2 lines can be taken back: ~u 2, or ~g 0\n\nconsole: there are 2 lines\n")
         self.assertEqual(read(self.path("new")), self.script("run 10000\n" + "type ls\nrun 10000\n" * 2))
+
+    def test_lines_taken_back_are_kept(self):
+        """In FILE.old, with those before them; a file of that name that isn't a console's stays."""
+        script = self.path("script")
+        self.session("ls\necho a\n~u\necho b\n", "--script", script)
+        lines = "run 10000\ntype ls\nrun 10000\ntype echo {}\nrun 10000\n"
+        self.assertEqual((read(script), read(script + ".old")), (self.script(lines.format("b")), self.script(lines.format("a"))))
+        self.session("~u\n", "--script", script)
+        self.assertEqual(read(script + ".old"), self.script(lines.format("b")))
+        self.put("script.old", b"mine\n")
+        self.session("~u\n", "--script", script)
+        self.assertEqual((read(script + ".old"), len(read(script + ".old.1").splitlines())), (b"mine\n", 4))
+
+    def test_arguments_of_processes(self):
+        """Those that memory has, of each that has any: a child in the background, and the shell that has read on."""
+        said = self.session("sleep 100 &\n~w\n")[2]
+        self.assertEqual(said, "\nconsole: process 1 reads the terminal: /etc/init\nprocess 2, a child of 1, sleeps for a time: "
+                               "sleep 100\n")
+
+    def test_keys_without_a_return(self):
+        script = self.path("script")
+        self.assertEqual(self.session("cat\n~k ab^D^D\n", "--script", script), (0, b"# CAT\r\nABAB# ", ""))
+        self.assertEqual(read(script), self.script("run 10000\ntype cat\nrun 10000\nbyte 141\nbyte 142\nbyte 004\nbyte 004\n"
+                                                   "run 10000\n"))
 
     def test_a_run_that_does_not_end(self):
         """A program that answers as v6 does where it comes to a panic."""
@@ -499,14 +524,16 @@ class Sessions(Case):
 
 
 class Terminals(Case):
-    """A person at a terminal of the host: a pair of pseudo-terminals."""
+    """A person at a terminal of the host: a pair of pseudo-terminals. A dumb one edits its lines by itself."""
+
+    TERM = "dumb"
 
     def setUp(self):
         super().setUp()
         self.ours, theirs = pty.openpty()
         self.addCleanup(os.close, self.ours)
         command = [sys.executable, os.path.join(TOOLS, "console.py"), self.image(), "--v6", V6]
-        self.console = subprocess.Popen(command, stdin=theirs, stdout=theirs, stderr=theirs)
+        self.console = subprocess.Popen(command, stdin=theirs, stdout=theirs, stderr=theirs, env={**os.environ, "TERM": self.TERM})
         os.close(theirs)
         self.addCleanup(self.console.wait)
         self.addCleanup(self.console.kill)
@@ -542,6 +569,38 @@ class Terminals(Case):
         os.write(self.ours, b"~l\n")
         self.assertIn(b"    1  a{b}\r\ntaken back:\r\n    2  a^Ib\r\n% ", self.until(b"a^Ib\r\n% "))
         os.write(self.ours, b"~.\n")
+        self.assertEqual(self.console.wait(LONG), 0)
+
+
+@unittest.skipUnless(importlib.util.find_spec("readline"), "Python has no readline")
+class Editing(Terminals):
+    TERM = "vt100"
+
+    def until(self, wanted):
+        """The same without carriage returns, by which the prompt is shown once more, and the host ends its lines."""
+        shown, end = b"", time.monotonic() + LONG
+        while wanted not in shown and select.select([self.ours], [], [], max(end - time.monotonic(), 0))[0]:
+            shown = (shown + os.read(self.ours, 4096)).replace(b"\r", b"")
+        self.assertIn(wanted, shown)
+        return shown
+
+    def test_the_end_of_a_file_on_a_line(self):
+        """It is typed where nothing stands on the line; keys without a return are those of ~k."""
+        self.until(b"% % ")
+        os.write(self.ours, b"~k abc^D\n")
+        self.until(b"\nABCABC% % ")
+
+    def test_echo_and_prompt(self):
+        """A line is edited, and an older one comes back by a key; a tab is a tab."""
+        self.until(b"% % ")
+        os.write(self.ours, b"axc\x1b[D\x7fb\n")  # to the left, and the x goes
+        self.until(b"\nABC\n% % ")
+        os.write(self.ours, b"a\tb\n")
+        self.until(b"\nA       B\n% % ")
+        os.write(self.ours, b"\x1b[A\x1b[A\n")
+        self.until(b"\nABC\n% % ")
+        os.write(self.ours, b"\4")
+        self.until(b"the run is over")
         self.assertEqual(self.console.wait(LONG), 0)
 
 

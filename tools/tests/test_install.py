@@ -92,9 +92,7 @@ class Install(Case):
         for name in ("disk", "log"):
             self.assertEqual(set(self.completed(f"{name}.py -", 1)), self.options(name))
             commands = self.completed(f"{name}.py ''", 1)
-            known = re.search(r"\n  COMMAND\n((?:    .*\n)+)|\{([\w,]+)\}", self.call(tool(name).main, "--help")[1])
-            listed = known[2].split(",") if known[2] else re.findall(r"^    (\w+)", known[1], re.M)
-            self.assertEqual(commands, listed)
+            self.assertEqual(commands, re.findall(r"^    (\w+)", self.call(tool(name).main, "--help")[1], re.M))
             self.assertEqual(set(self.completed(f"{name}.py x -", 2)), set().union(*(self.options(name, one) for one in commands)))
         self.assertEqual(self.completed(f"{TOP}/tools/row.py swapping/a_pass"), ["swapping/a_pass_of_64_moves"])
 

@@ -10,7 +10,7 @@ use v6_run::Status;
 /// Room for what the longest runs show.
 const ROOMS: Rooms = Rooms {
     term: 65_536,
-    log: 1_048_576,
+    log: 4_194_304,
     report: 200,
 };
 
