@@ -171,3 +171,10 @@ pub come_whole : (w v : World) (s c : ℕ) → IsWhole w → s < 50 → Living (
 come_whole w v s c h m a e l =
     let k : HasCome (board_of w) s (applied (board_of w) (line.SwapIn s c)) = comes_in (board_of w) s c (inside w s [] [] h.loose m) in
     row_whole w v s (loaded_row (row_at w.table s) k.click) h m (λ g. cc g) (record { used = a.used; alive = a.alive }) (ap (λ (b : Board). b.table) e ∙ k.table) l
+
+-- the row of an image that has given up its place
+pub released : (w v : World) (s : ℕ) → IsWhole w → s < 50 → v.table ≡ with_row w.table s (unplaced (row_at w.table s)) → row_at v.table s ≡ unplaced (row_at w.table s)
+released w v s h m e = ap (λ (t : Table). row_at t s) e ∙ get_or-set_same w.table.rows s (unplaced (row_at w.table s)) empty_row (inside w s [] [] h.loose m)
+
+pub inside_whole : (w : World) (s : ℕ) → IsWhole w → s < 50 → s < length w.table.rows
+inside_whole w s h m = inside w s [] [] h.loose m

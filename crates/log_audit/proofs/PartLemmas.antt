@@ -13,7 +13,7 @@ use Rattle.log_audit.specs.World.{text_place, board_of, unshared, less_loaded, l
 use Rattle.log_audit.specs.Sound.{IsLoose, IsWhole, entry_at}
 use Rattle.log_audit.proofs.MapLemmas.{text_is}
 use Rattle.log_audit.proofs.Moves.{Living}
-use Rattle.log_audit.proofs.Shared.{map_set, loaded_is}
+use Rattle.log_audit.proofs.Shared.{HasEntry, has_entry, map_set, loaded_is}
 use Rattle.log_audit.proofs.RowLemmas.{row_whole, sharer}
 
 abbrev one_less : TextPlace → TextPlace
@@ -88,3 +88,18 @@ kept_text w k t f z =
     ap (λ ts. record { table = w.table; texts = ts; core = w.core }) (sym (set-get_or (map text_place w.texts) k None) ∙ ap (set (map text_place w.texts) k) (there w k t f))
     ∙ ap (λ b. record { table = w.table; texts = set (map text_place w.texts) k (cond b None (Some (place_of t))); core = w.core }) (sym z)
     ∙ ap (λ o. record { table = w.table; texts = set (map text_place w.texts) k (kept o); core = w.core }) (sym (there w k t f))
+
+-- the text of a slot has a user, and one in core where the slot is there
+same_text : (w : World) (k : ℕ) (x y : TextRow) → entry_at w.texts k ≡ Some x → entry_at w.texts k ≡ Some y → x ≡ y
+same_text w k x y f g = some_is (sym f ∙ g)
+  where
+    some_is : {a b : TextRow} → ◌≡◌ {A = Option TextRow} (Some a) (Some b) → a ≡ b
+    some_is e = cc e
+
+pub entry_used : (w : World) (s k : ℕ) (t : TextRow) → IsWhole w → s < 50 → (row_at w.table s).text ≡ Some k → entry_at w.texts k ≡ Some t → 1 ≤ t.users
+entry_used w s k t h m e f =
+    let x : HasEntry w s k = has_entry w s k [] [] h.loose m e in subst (λ y. 1 ≤ y.users) (same_text w k x.text t x.there f) x.used
+
+pub entry_loaded : (w : World) (s k : ℕ) (t : TextRow) → IsWhole w → s < 50 → (row_at w.table s).text ≡ Some k → entry_at w.texts k ≡ Some t → is_in_core (row_at w.table s).place ≡ true → 1 ≤ t.loaded
+entry_loaded w s k t h m e f p =
+    let x : HasEntry w s k = has_entry w s k [] [] h.loose m e in subst (λ y. 1 ≤ y.loaded) (same_text w k x.text t x.there f) (x.loads p)

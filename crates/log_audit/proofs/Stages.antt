@@ -1,5 +1,5 @@
 -- How far a log has come after a line, and what holds there.
-use Rattle.std.proofs.Common.{◌≡◌, ◌≢◌, ◌∙◌, ◌<◌, ◌≤◌, ℕ, [], Option, Some, None, refl, sym, ap, subst, arith}
+use Rattle.std.proofs.Common.{◌≡◌, ◌≢◌, ◌∙◌, ◌<◌, ◌≤◌, ℕ, [], Option, Some, None, refl, sym, ap, subst, arith, inr}
 use Rattle.v6_base.specs.declared.entry.Entry.{Entry}
 use Rattle.v6_base.specs.declared.entry.Entry.TheVariants.{Boot, Go, Idle, Trap, TickUser, TickKernel, TickIdle, Sleep, Wake, Signal, Nice, Time, Size, SizeKeep, Fork, Leave, Bare, Text, Share, Image, SwapIn, SwapOut, Exit, Reap, Panic, End}
 use Rattle.pick_rules.specs.declared.table.Table.{Table}
@@ -7,13 +7,17 @@ use Rattle.pick_rules.specs.Ranges.{IsInRange}
 use Rattle.pick_rules.specs.Board.{Board}
 use Rattle.pick_rules.specs.Apply.{applied}
 use Rattle.pick_rules.specs.Lawful as log
-use Rattle.pick_rules.specs.Lawful.{Seen, IsFirstLine, IsOfExec, seen_after}
+use Rattle.pick_rules.specs.Lawful.{Seen, IsFirstLine, IsOfExec, FitsStage, seen_after}
+use Rattle.pick_rules.specs.Fits.{FitsBoard}
+use Rattle.pick_rules.specs.Priority.{pswp}
+use Rattle.v6_base.specs.declared.entry.Chan.TheVariants.{RunOut}
 use Rattle.log_audit.specs.declared.world.Stage.{Stage}
 use Rattle.log_audit.specs.declared.world.Stage.TheVariants as mine
 use Rattle.log_audit.specs.declared.world.World.{World}
 use Rattle.log_audit.specs.World.{board_of, board_at, stage_of, seen_of}
 use Rattle.log_audit.specs.Sound.{IsLoose, AllPlaced, IsAt, IsAlive, IsSound, IsWhole, IsStripped, IsAfter, IsAfterExec}
-use Rattle.log_audit.proofs.Owed.{Owed}
+use Rattle.log_audit.specs.After.{IsAfterAt}
+use Rattle.log_audit.proofs.Owed.{Owed, owes}
 
 -- what holds of a table, by the stage that the log tells
 abbrev pub LogAt : log.Stage → Table → Type 0
@@ -216,41 +220,40 @@ kept_exec r End v h = record { loose = h.loose; alive = h.alive }
 slot_in : (s : ℕ) → s ≤ 49 → s < 50
 slot_in s l = omega (arith, l)
 
-stage_open : (w v : World) (st : log.Stage) (e : Entry) → IsInRange e → Owed w e → IsAfter e v → (AllPlaced v.table None → LogAt st v.table) → LogAt (log.stage_after st e) v.table
-stage_open w v st (Boot core time) r o h k = absurd o
-stage_open w v st (Go s) r o h k = h.placed
-stage_open w v st Idle r o h k = h.placed
-stage_open w v st (Trap s) r o h k = h.placed
-stage_open w v st TickUser r o h k = h.placed
-stage_open w v st TickKernel r o h k = h.placed
-stage_open w v st TickIdle r o h k = h.placed
-stage_open w v st (Sleep s pri chan) r o h k = h.placed
-stage_open w v st (Wake chan) r o h k = h.placed
-stage_open w v st (Signal s n) r o h k = h.placed
-stage_open w v st (Nice s nice) r o h k = h.placed
-stage_open w v st (Time time) r o h k = h.placed
-stage_open w v st (Size s clicks place) r o h k = h.placed
-stage_open w v st (SizeKeep s clicks) r o h k = h.placed
-stage_open w v st (Fork s child place) r o h k = h.placed
-stage_open w v st (Leave s k sticky) r o h k = h.placed
-stage_open w v st (Bare s) r o h k = (h.user, slot_in s r, h.runs, h.placed)
-stage_open w v st (Text s k clicks block) r o h k = absurd o
-stage_open w v st (Share s k) r o h k = absurd o
-stage_open w v st (Image s clicks place) r o h k = h.placed
-stage_open w v st (SwapIn s c) r o h k = h.placed
-stage_open w v st (SwapOut s block) r o h k = h.placed
-stage_open w v st (Exit s block) r o h k = h.placed
-stage_open w v st (Reap s) r o h k = h.placed
-stage_open w v st (Panic kind) r o h k = tt
-stage_open w v st End r o h k = tt
+stage_open : (w v : World) (st : log.Stage) (e : Entry) → IsInRange e → Owed w e → IsAfter e v → LogAt (log.stage_after st e) v.table
+stage_open w v st (Boot core time) r o h = absurd o
+stage_open w v st (Go s) r o h = h.placed
+stage_open w v st Idle r o h = h.placed
+stage_open w v st (Trap s) r o h = h.placed
+stage_open w v st TickUser r o h = h.placed
+stage_open w v st TickKernel r o h = h.placed
+stage_open w v st TickIdle r o h = h.placed
+stage_open w v st (Sleep s pri chan) r o h = h.placed
+stage_open w v st (Wake chan) r o h = h.placed
+stage_open w v st (Signal s n) r o h = h.placed
+stage_open w v st (Nice s nice) r o h = h.placed
+stage_open w v st (Time time) r o h = h.placed
+stage_open w v st (Size s clicks place) r o h = h.placed
+stage_open w v st (SizeKeep s clicks) r o h = h.placed
+stage_open w v st (Fork s child place) r o h = h.placed
+stage_open w v st (Leave s k sticky) r o h = h.placed
+stage_open w v st (Bare s) r o h = (h.user, slot_in s r, h.runs, h.placed)
+stage_open w v st (Text s k clicks block) r o h = absurd o
+stage_open w v st (Share s k) r o h = absurd o
+stage_open w v st (Image s clicks place) r o h = h.placed
+stage_open w v st (SwapIn s c) r o h = h.placed
+stage_open w v st (SwapOut s block) r o h = h.placed
+stage_open w v st (Exit s block) r o h = h.placed
+stage_open w v st (Reap s) r o h = h.placed
+stage_open w v st (Panic kind) r o h = tt
+stage_open w v st End r o h = tt
 
-pub open_sound : (w v : World) (e : Entry) → IsInRange e → Owed w e → IsAfter e v → (AllPlaced v.table None → LogAt (stage_of w.stage) v.table)
-    → stage_of v.stage ≡ log.stage_after (stage_of w.stage) e → IsSound v
-open_sound w v e r o h k s =
+pub open_sound : (w v : World) (e : Entry) → IsInRange e → Owed w e → IsAfter e v → stage_of v.stage ≡ log.stage_after (stage_of w.stage) e → IsSound v
+open_sound w v e r o h s =
     let x : Kept v = kept_after e v h in
     record {
       loose = x.loose;
-      at = at_log v.stage v.table (subst (λ y. LogAt y v.table) (sym s) (stage_open w v (stage_of w.stage) e r o h k));
+      at = at_log v.stage v.table (subst (λ y. LogAt y v.table) (sym s) (stage_open w v (stage_of w.stage) e r o h));
       alive = x.alive;
     }
 
@@ -372,3 +375,64 @@ staged_exec q (Exit s block) w st h = staged_stripped w q st h
 staged_exec q (Reap s) w st h = staged_stripped w q st h
 staged_exec q (Panic kind) w st h = staged_stripped w q st h
 staged_exec q End w st h = staged_stripped w q st h
+
+-- what a sound world is at each stage
+pub sound_whole : (w : World) (st : Stage) → IsSound w → w.stage ≡ st → (IsAt st w.table → AllPlaced w.table None) → IsWhole w
+sound_whole w st h k f = record { loose = h.loose; placed = f (subst (λ y. IsAt y w.table) k h.at); alive = h.alive }
+
+pub sound_runs : (w : World) → IsSound w → w.stage ≡ mine.Booted → w.table.running ≡ Some 0
+sound_runs w h k = let a : IsAt mine.Booted w.table = subst (λ y. IsAt y w.table) k h.at in a.0
+
+pub sound_stripped : (w : World) (s : ℕ) → IsSound w → w.stage ≡ mine.Bared s → IsStripped w s
+sound_stripped w s h k =
+    let a : IsAt (mine.Bared s) w.table = subst (λ y. IsAt y w.table) k h.at in
+    record { loose = h.loose; placed = a.3; alive = h.alive; runs = a.2; user = a.0 }
+
+pub sound_slot : (w : World) (s : ℕ) → IsSound w → w.stage ≡ mine.Bared s → s < 50
+sound_slot w s h k = let a : IsAt (mine.Bared s) w.table = subst (λ y. IsAt y w.table) k h.at in a.1
+
+pub fits_at : (w : World) (st : Stage) (e : Entry) → w.stage ≡ st → FitsStage (stage_of w.stage) (board_at w.stage w) e → FitsStage (stage_of st) (board_at st w) e
+fits_at w st e k f = subst (λ y. FitsStage (stage_of y) (board_at y w) e) k f
+
+-- a line has been taken
+pub taken_seen : (w v : World) (e : Entry) (st : Stage) → FitsStage (stage_of w.stage) (board_at w.stage w) e → board_of v ≡ applied (board_of w) e
+    → stage_of st ≡ log.stage_after (stage_of w.stage) e → seen_of (record v { stage = st }) ≡ seen_after (seen_of w) e
+taken_seen w v e st f b s = by w.stage refl
+  where
+    other : (x : Stage) → w.stage ≡ x → stage_of x ≢ log.Blank → seen_of (record v { stage = st }) ≡ seen_after (seen_of w) e
+    other x k n = next_seen w (record v { stage = st }) e (λ g. n (sym (ap stage_of k) ∙ g)) s b
+
+    by : (x : Stage) → w.stage ≡ x → seen_of (record v { stage = st }) ≡ seen_after (seen_of w) e
+    by mine.Blank k = first_seen w (record v { stage = st }) e (fits_at w mine.Blank e k f) s b
+    by mine.Booted k = other mine.Booted k (λ g. cc g)
+    by mine.Open k = other mine.Open k (λ g. cc g)
+    by mine.Idling k = other mine.Idling k (λ g. cc g)
+    by (mine.Bared q) k = other (mine.Bared q) k (λ g. cc g)
+    by mine.Over k = other mine.Over k (λ g. cc g)
+
+pub taken_sound : (w v : World) (e : Entry) (st : Stage) → IsSound w → IsInRange e → FitsStage (stage_of w.stage) (board_at w.stage w) e → IsAfterAt w.stage e v
+    → stage_of st ≡ log.stage_after (stage_of w.stage) e → IsSound (record v { stage = st })
+taken_sound w v e st h r f a s = by w.stage refl
+  where
+    now : World
+    now = record v { stage = st }
+
+    after : (x : Stage) → w.stage ≡ x → IsAfterAt x e v
+    after x k = subst (λ y. IsAfterAt y e v) k a
+
+    open : (x : Stage) → w.stage ≡ x → (IsAt x w.table → AllPlaced w.table None) → FitsStage log.Idling (board_of w) e → IsAfter e v → IsSound now
+    open x k p g b = open_sound w now e r (owes w e (sound_whole w x h k p) g) (staged_after e v st b) s
+
+    by : (x : Stage) → w.stage ≡ x → IsSound now
+    by mine.Blank k =
+        let b : (v.table.running ≡ Some 0) × IsWhole v = after mine.Blank k in
+        first_sound w now e (fits_at w mine.Blank e k f) s b.0 (staged_whole v st b.1)
+    by mine.Booted k =
+        let g : e ≡ Sleep 0 pswp RunOut = fits_at w mine.Booted e k f in
+        open_sound w now e r (subst (Owed w) (sym g) (sound_runs w h k)) (staged_after e v st (after mine.Booted k)) s
+    by mine.Open k = open mine.Open k (λ p. p) (inr (fits_at w mine.Open e k f)) (after mine.Open k)
+    by mine.Idling k = open mine.Idling k (λ p. p) (fits_at w mine.Idling e k f) (after mine.Idling k)
+    by (mine.Bared q) k =
+        let g : IsOfExec q e × FitsBoard (board_of w) e = fits_at w (mine.Bared q) e k f in
+        exec_sound w now q e (sound_slot w q h k) g.0 (staged_exec q e v st (after (mine.Bared q) k)) (ap stage_of k) s
+    by mine.Over k = absurd (fits_at w mine.Over e k f)

@@ -72,10 +72,37 @@ impl World {
     {
         let _ = block;
         let size = self.table.rows[s as usize].size;
-        self.claim_core(c, size + text.clicks);
+        let both = size + text.clicks;
+        self.claim_core(c, both);
+        let behind = c + text.clicks;
         self.set_click(k, text, c);
         self.release(s);
-        self.stand_shared(s, size, c + text.clicks, k, TextRow { click: c, ..text });
+        self.stand_shared(s, size, behind, k, TextRow { click: c, ..text });
+    }
+
+    /// An image with a text comes to stand in core, behind the text where that isn't there.
+    fn come_shared(&mut self, s: Slot, block: u16, c: u16, k: u8)
+        requires whole { IsWhole self.old }
+        requires slot { s < 50 }
+        requires user { 0 < s }
+        requires place { (row_at self.old.table s).place ≡ Some (Place.Swap block) }
+        requires used { is_empty (row_at self.old.table s).stat ≡ false }
+        requires alive { is_zombie (row_at self.old.table s).stat ≡ false }
+        requires shared { (row_at self.old.table s).text ≡ Some k }
+        requires found { core_fit (board_of self.old) (need (board_of self.old) s) ≡ Some c }
+        ensures board { board_of self.new ≡ brought (board_of self.old) s (row_at self.old.table s).text c }
+        ensures loose { IsLoose self.new [] [] }
+    {
+        match self.text_of(k) {
+            Some(text) => {
+                if text.loaded == 0 {
+                    self.come_behind(s, block, c, k, text);
+                } else {
+                    self.come_beside(s, block, c);
+                }
+            }
+            None => unreachable!(),
+        }
     }
 
     /// An image comes to stand in core, and its text before it where that isn't there.
@@ -93,16 +120,7 @@ impl World {
         let row = self.table.rows[s as usize];
         match row.text {
             None => self.come_beside(s, block, c),
-            Some(k) => match self.text_of(k) {
-                Some(text) => {
-                    if text.loaded == 0 {
-                        self.come_behind(s, block, c, k, text);
-                    } else {
-                        self.come_beside(s, block, c);
-                    }
-                }
-                None => unreachable!(),
-            },
+            Some(k) => self.come_shared(s, block, c, k),
         }
     }
 

@@ -8,6 +8,7 @@ ghost use Rattle.pick_rules.specs.Lawful as log;
 ghost use Rattle.pick_rules.specs.Lawful.{IsFirstLine, IsOfExec, FitsStage, seen_after};
 ghost use Rattle.log_audit.specs.World.{board_of, board_at, stage_of, seen_of};
 ghost use Rattle.log_audit.specs.Sound.{IsWhole, IsStripped, IsSound, IsAfter, IsAfterExec};
+ghost use Rattle.log_audit.specs.After.{IsAfterAt};
 
 use crate::world::{Stage, World};
 use v6_base::{Entry, Slot};
@@ -109,6 +110,23 @@ impl World {
         }
     }
 
+    /// Does what a line that fits does, wherever the log has come to.
+    fn step(&mut self, e: Entry)
+        requires sound { IsSound self.old }
+        requires range { IsInRange e }
+        requires fits { FitsStage (stage_of self.old.stage) (board_at self.old.stage self.old) e }
+        ensures board { board_of self.new ≡ applied (board_of self.old) e }
+        ensures after { IsAfterAt self.old.stage e self.new }
+    {
+        match self.stage {
+            Stage::Blank => self.begin(e),
+            Stage::Booted => self.go_on(e),
+            Stage::Open | Stage::Idling => self.apply(e),
+            Stage::Bared(s) => self.apply_exec(s, e),
+            Stage::Over => unreachable!(),
+        }
+    }
+
     /// Takes a line that fits where the log has come to.
     pub(crate) fn take(&mut self, e: Entry)
         requires sound { IsSound self.old }
@@ -118,13 +136,7 @@ impl World {
         ensures sound { IsSound self.new }
     {
         let stage = self.stage;
-        match stage {
-            Stage::Blank => self.begin(e),
-            Stage::Booted => self.go_on(e),
-            Stage::Open | Stage::Idling => self.apply(e),
-            Stage::Bared(s) => self.apply_exec(s, e),
-            Stage::Over => unreachable!(),
-        }
+        self.step(e);
         self.stage = stage_after(stage, e);
     }
 }
