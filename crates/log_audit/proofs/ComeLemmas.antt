@@ -1,6 +1,6 @@
 -- An image that comes into core, and its text before it where that isn't there.
 use Rattle.std.proofs.Common.{◌≡◌, ◌≢◌, ◌∙◌, ◌<◌, ◌≤◌, ◌+◌, ◌-◌, ◌==◌, nat_lt, ℕ, zero, suc, Bool, true, false, not, cond, List, [], ◌∷◌, length, map, get_or, set, sum_by, Option, Some, None, refl, sym, ap, subst, arith}
-use Rattle.std.proofs.lemmas.Bool.{eq-eqb, ne_eqb}
+use Rattle.std.proofs.lemmas.Bool.{eq-eqb, ne_eqb, lt-ltb}
 use Rattle.std.proofs.lemmas.List.{get_or-set_same}
 use Rattle.std.proofs.lemmas.List.Sums.{sum_by-cons}
 use Rattle.map_fit.specs.Fit.{Range}
@@ -83,7 +83,7 @@ split_claim w c a b n cl sl p q e l =
       let g : one (is_within c n x) ≡ one (is_within c a x) + one (is_within (c + a) (n - a) x) = in_two c n a x (omega (arith, e)) in
       let h : one (is_within (c + a) (n - a) x) ≡ one (is_within (c + a) b x) = ap (λ y. one (is_within (c + a) y x)) m in
       omega (arith, i, j, k, g, h))
-    (λ x. refl) (q, p, l.core_some.1) l.swap_some
+    (λ x. refl) (q, (p, l.core_some.1)) l.swap_some
 
 -- the text's clicks stand before the image, since nobody uses it in core
 pub both_claimed : (w : World) (t : TextRow) (c size n : ℕ) → 0 < t.clicks → 0 < size → n ≡ size + t.clicks → t.loaded ≡ 0 → IsLoose w (range c n ∷ []) []
@@ -115,7 +115,7 @@ need_by w s k t e f = ap (clicks_of_text (board_of w)) e ∙ ap clicks_to_load (
 
 is_some_more : (n : ℕ) → (n == 0) ≡ false → nat_lt 0 n ≡ true
 is_some_more zero e = absurd (cc e)
-is_some_more (suc n) e = refl
+is_some_more (suc n) e = lt-ltb 0 (suc n) (omega arith)
 
 is_none_more : (n : ℕ) → n ≡ 0 → nat_lt 0 n ≡ false
 is_none_more n e = ap (nat_lt 0) e

@@ -58,7 +58,7 @@ module _ (b : Board) (s size c : ℕ) (l : s < length b.table.rows) where
       ∙ by_text (row_at b.table s).text refl h
 
 length_texts : (w : World) → length (map text_place w.texts) ≡ length w.texts
-length_texts w = length-map text_place w.texts
+length_texts w = length-map w.texts text_place
 
 -- where a row of a loose world stands in core, so it is
 pub seated : (w : World) (s c : ℕ) (cl sl : List Range) → IsLoose w cl sl → s < 50 → (row_at w.table s).place ≡ Some (Core c) → IsSeated (board_of w) (row_at w.table s).text

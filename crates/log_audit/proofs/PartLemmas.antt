@@ -29,7 +29,7 @@ there : (w : World) (k : ℕ) (t : TextRow) → entry_at w.texts k ≡ Some t �
 there w k t f = text_is w.texts k ∙ ap text_place f
 
 within : (w : World) (k : ℕ) → length w.texts ≡ 40 → k < 40 → k < length (map text_place w.texts)
-within w k n m = let l = length-map text_place w.texts in omega (arith, l, n, m)
+within w k n m = let l = length-map w.texts text_place in omega (arith, l, n, m)
 
 -- one of two changes of a text that follow each other
 twice : (texts : List (Option TextPlace)) (k : ℕ) (t : TextPlace) (f g : TextPlace → TextPlace) → k < length texts → get_or texts k None ≡ Some t

@@ -420,8 +420,8 @@ taken_sound w v e st h r f a s = by w.stage refl
     after : (x : Stage) → w.stage ≡ x → IsAfterAt x e v
     after x k = subst (λ y. IsAfterAt y e v) k a
 
-    open : (x : Stage) → w.stage ≡ x → (IsAt x w.table → AllPlaced w.table None) → FitsStage log.Idling (board_of w) e → IsAfter e v → IsSound now
-    open x k p g b = open_sound w now e r (owes w e (sound_whole w x h k p) g) (staged_after e v st b) s
+    goes_on : (x : Stage) → w.stage ≡ x → (IsAt x w.table → AllPlaced w.table None) → FitsStage log.Idling (board_of w) e → IsAfter e v → IsSound now
+    goes_on x k p g b = open_sound w now e r (owes w e (sound_whole w x h k p) g) (staged_after e v st b) s
 
     by : (x : Stage) → w.stage ≡ x → IsSound now
     by mine.Blank k =
@@ -430,8 +430,8 @@ taken_sound w v e st h r f a s = by w.stage refl
     by mine.Booted k =
         let g : e ≡ Sleep 0 pswp RunOut = fits_at w mine.Booted e k f in
         open_sound w now e r (subst (Owed w) (sym g) (sound_runs w h k)) (staged_after e v st (after mine.Booted k)) s
-    by mine.Open k = open mine.Open k (λ p. p) (inr (fits_at w mine.Open e k f)) (after mine.Open k)
-    by mine.Idling k = open mine.Idling k (λ p. p) (fits_at w mine.Idling e k f) (after mine.Idling k)
+    by mine.Open k = goes_on mine.Open k (λ p. p) (inr (fits_at w mine.Open e k f)) (after mine.Open k)
+    by mine.Idling k = goes_on mine.Idling k (λ p. p) (fits_at w mine.Idling e k f) (after mine.Idling k)
     by (mine.Bared q) k =
         let g : IsOfExec q e × FitsBoard (board_of w) e = fits_at w (mine.Bared q) e k f in
         exec_sound w now q e (sound_slot w q h k) g.0 (staged_exec q e v st (after (mine.Bared q) k)) (ap stage_of k) s

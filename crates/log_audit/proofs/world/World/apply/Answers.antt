@@ -1,4 +1,6 @@
-use Rattle.std.proofs.Common.{◌≡◌, ◌∙◌, sym, ap, subst}
+use Rattle.std.proofs.Common.{rules, ◌≡◌, ◌∙◌, ℤ, FitsSigned, w8, to_z, of_z, sym, ap, subst}
+use Rattle.std.proofs.lemmas.Int.{to_z-of_z}
+use Rattle.v6_base.specs.declared.entry.Entry.TheVariants as line
 use Rattle.pick_rules.specs.Apply.{applied}
 use Rattle.log_audit.specs.World.{board_of}
 use Rattle.log_audit.specs.Sound.{IsAfter}
@@ -162,7 +164,10 @@ pub returns-in-Sleep-clause-after : goal.returns-in-Sleep-clause-after
 returns-in-Sleep-clause-after c = subst (λ x. IsAfter x c.sleep.new.self) (sym c.in-Sleep.is) c.sleep.ensures.whole
 
 pub returns-in-Sleep-clause-board : goal.returns-in-Sleep-clause-board
-returns-in-Sleep-clause-board c = c.sleep.ensures.board ∙ ap (applied (board_of c.args.self.now)) (sym c.in-Sleep.is)
+returns-in-Sleep-clause-board c =
+    let fits : FitsSigned w8 c.in-Sleep.pri = search rules in
+    c.sleep.ensures.board ∙ ap (λ (n : ℤ). applied (board_of c.args.self.now) (line.Sleep c.in-Sleep.slot n c.in-Sleep.chan)) (to_z-of_z w8 c.in-Sleep.pri fits)
+    ∙ ap (applied (board_of c.args.self.now)) (sym c.in-Sleep.is)
 
 pub returns-in-Wake-clause-after : goal.returns-in-Wake-clause-after
 returns-in-Wake-clause-after c = subst (λ x. IsAfter x c.wake.new.self) (sym c.in-Wake.is) c.wake.ensures.whole
@@ -180,7 +185,10 @@ pub returns-in-Nice-clause-after : goal.returns-in-Nice-clause-after
 returns-in-Nice-clause-after c = subst (λ x. IsAfter x c.nice.new.self) (sym c.in-Nice.is) c.nice.ensures.whole
 
 pub returns-in-Nice-clause-board : goal.returns-in-Nice-clause-board
-returns-in-Nice-clause-board c = c.nice.ensures.board ∙ ap (applied (board_of c.args.self.now)) (sym c.in-Nice.is)
+returns-in-Nice-clause-board c =
+    let fits : FitsSigned w8 c.in-Nice.nice = search rules in
+    c.nice.ensures.board ∙ ap (λ (n : ℤ). applied (board_of c.args.self.now) (line.Nice c.in-Nice.slot n)) (to_z-of_z w8 c.in-Nice.nice fits)
+    ∙ ap (applied (board_of c.args.self.now)) (sym c.in-Nice.is)
 
 pub returns-in-Time-clause-after : goal.returns-in-Time-clause-after
 returns-in-Time-clause-after c = subst (λ x. IsAfter x c.time.new.self) (sym c.in-Time.is) c.time.ensures.whole
@@ -241,3 +249,7 @@ returns-in-Reap-clause-after c = subst (λ x. IsAfter x c.reap.new.self) (sym c.
 
 pub returns-in-Reap-clause-board : goal.returns-in-Reap-clause-board
 returns-in-Reap-clause-board c = c.reap.ensures.board ∙ ap (applied (board_of c.args.self.now)) (sym c.in-Reap.is)
+
+pub returns-in-Panic-clause-board : goal.returns-in-Panic-clause-board
+unfolding applied
+returns-in-Panic-clause-board c = ap (applied (board_of c.args.self.now)) (sym c.in-Panic.is)

@@ -91,3 +91,7 @@ returns-in-Image-clause-board c = c.image.ensures.board ∙ ap (applied (board_o
 
 pub returns-in-Image-clause-after : goal.returns-in-Image-clause-after
 returns-in-Image-clause-after c = subst (λ x. IsAfterExec c.args.s x c.image.new.self) (sym c.in-Image.is) c.image.ensures.whole
+
+pub returns-in-Panic-clause-board : goal.returns-in-Panic-clause-board
+unfolding applied
+returns-in-Panic-clause-board c = ap (applied (board_of c.args.self.now)) (sym c.in-Panic.is)

@@ -15,3 +15,24 @@ go_on-requires-clause-runs c = sound_runs c.args.self.now c.requires.sound c.in-
 
 pub go_on-requires-clause-second : goal.go_on-requires-clause-second
 go_on-requires-clause-second c = fits_at c.args.self.now Booted c.args.e c.in-Booted.is c.requires.fits
+
+pub apply_exec-requires-clause-slot : goal.apply_exec-requires-clause-slot
+apply_exec-requires-clause-slot c = sound_slot c.args.self.now c.in-Bared.s c.requires.sound c.in-Bared.is
+
+pub apply_exec-requires-clause-stripped : goal.apply_exec-requires-clause-stripped
+apply_exec-requires-clause-stripped c = sound_stripped c.args.self.now c.in-Bared.s c.requires.sound c.in-Bared.is
+
+pub apply_exec-requires-clause-of_exec : goal.apply_exec-requires-clause-of_exec
+apply_exec-requires-clause-of_exec c = (fits_at c.args.self.now (Bared c.in-Bared.s) c.args.e c.in-Bared.is c.requires.fits).0
+
+pub apply_exec-requires-clause-fits : goal.apply_exec-requires-clause-fits
+apply_exec-requires-clause-fits c = (fits_at c.args.self.now (Bared c.in-Bared.s) c.args.e c.in-Bared.is c.requires.fits).1
+
+pub returns-in-Blank-clause-after : goal.returns-in-Blank-clause-after
+returns-in-Blank-clause-after c = subst (λ y. IsAfterAt y c.args.e c.begin.new.self) (sym c.in-Blank.is) (c.begin.ensures.runs, c.begin.ensures.whole)
+
+pub returns-in-Booted-clause-after : goal.returns-in-Booted-clause-after
+returns-in-Booted-clause-after c = subst (λ y. IsAfterAt y c.args.e c.go_on.new.self) (sym c.in-Booted.is) c.go_on.ensures.after
+
+pub returns-in-Bared-clause-after : goal.returns-in-Bared-clause-after
+returns-in-Bared-clause-after c = subst (λ y. IsAfterAt y c.args.e c.apply_exec.new.self) (sym c.in-Bared.is) c.apply_exec.ensures.after
