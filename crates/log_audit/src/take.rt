@@ -90,7 +90,8 @@ impl World {
             Entry::SwapOut { slot, block } => self.swap_out(slot, block),
             Entry::Exit { slot, block } => self.exit(slot, block),
             Entry::Reap(s) => self.reap(s),
-            Entry::Panic(_) | Entry::End => {}
+            Entry::Panic(_) => {}
+            Entry::End => {}
             Entry::Boot { .. } | Entry::Text { .. } | Entry::Share { .. } | Entry::Image { .. } => unreachable!(),
         }
     }

@@ -253,3 +253,13 @@ returns-in-Reap-clause-board c = c.reap.ensures.board ∙ ap (applied (board_of 
 pub returns-in-Panic-clause-board : goal.returns-in-Panic-clause-board
 unfolding applied
 returns-in-Panic-clause-board c = ap (applied (board_of c.args.self.now)) (sym c.in-Panic.is)
+
+pub returns-in-End-clause-board : goal.returns-in-End-clause-board
+unfolding applied
+returns-in-End-clause-board c = ap (applied (board_of c.args.self.now)) (sym c.in-End.is)
+
+pub returns-in-Panic-clause-after : goal.returns-in-Panic-clause-after
+returns-in-Panic-clause-after c = subst (λ x. IsAfter x c.args.self.now) (sym c.in-Panic.is) c.requires.whole
+
+pub returns-in-End-clause-after : goal.returns-in-End-clause-after
+returns-in-End-clause-after c = subst (λ x. IsAfter x c.args.self.now) (sym c.in-End.is) c.requires.whole
