@@ -76,13 +76,13 @@ pub split_claim : (w : World) (c a b n : ℕ) (cl sl : List Range) → 0 < a →
 split_claim w c a b n cl sl p q e l =
     with_maps w w.core_map w.swap_map (range c n ∷ cl) sl (range (c + a) b ∷ range c a ∷ cl) sl l
     (λ x.
-      let i : sum_by (range_has x) (range c n ∷ cl) ≡ one (is_within c n x) + sum_by (range_has x) cl = sum_by-cons (range_has x) (range c n) cl in
-      let j : sum_by (range_has x) (range (c + a) b ∷ range c a ∷ cl) ≡ one (is_within (c + a) b x) + sum_by (range_has x) (range c a ∷ cl) = sum_by-cons (range_has x) (range (c + a) b) (range c a ∷ cl) in
-      let k : sum_by (range_has x) (range c a ∷ cl) ≡ one (is_within c a x) + sum_by (range_has x) cl = sum_by-cons (range_has x) (range c a) cl in
-      let m : n - a ≡ b = omega (arith, e) in
-      let g : one (is_within c n x) ≡ one (is_within c a x) + one (is_within (c + a) (n - a) x) = in_two c n a x (omega (arith, e)) in
-      let h : one (is_within (c + a) (n - a) x) ≡ one (is_within (c + a) b x) = ap (λ y. one (is_within (c + a) y x)) m in
-      omega (arith, i, j, k, g, h))
+    let i : sum_by (range_has x) (range c n ∷ cl) ≡ one (is_within c n x) + sum_by (range_has x) cl = sum_by-cons (range_has x) (range c n) cl in
+    let j : sum_by (range_has x) (range (c + a) b ∷ range c a ∷ cl) ≡ one (is_within (c + a) b x) + sum_by (range_has x) (range c a ∷ cl) = sum_by-cons (range_has x) (range (c + a) b) (range c a ∷ cl) in
+    let k : sum_by (range_has x) (range c a ∷ cl) ≡ one (is_within c a x) + sum_by (range_has x) cl = sum_by-cons (range_has x) (range c a) cl in
+    let m : n - a ≡ b = omega (arith, e) in
+    let g : one (is_within c n x) ≡ one (is_within c a x) + one (is_within (c + a) (n - a) x) = in_two c n a x (omega (arith, e)) in
+    let h : one (is_within (c + a) (n - a) x) ≡ one (is_within (c + a) b x) = ap (λ y. one (is_within (c + a) y x)) m in
+    omega (arith, i, j, k, g, h))
     (λ x. refl) (q, (p, l.core_some.1)) l.swap_some
 
 -- the text's clicks stand before the image, since nobody uses it in core

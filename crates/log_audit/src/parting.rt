@@ -25,8 +25,10 @@ impl World {
         requires used { 1 ≤ text.users }
         requires loaded { 1 ≤ text.loaded }
         ensures same { self.new
-            ≡ record self.old { table = with_row self.old.table s (unshared (row_at self.old.table s));
-            texts = slice_set self.old.texts k (Some (less_used (less_loaded text))) } }
+            ≡ record self.old {
+              table = with_row self.old.table s (unshared (row_at self.old.table s));
+              texts = slice_set self.old.texts k (Some (less_used (less_loaded text)));
+            } }
         ensures loose { (cl sl : List Range) → IsLoose self.old cl sl
             → IsLoose self.new (if text.loaded - 1 == 0 then record { at = text.click; size = text.clicks } ∷ cl else cl) sl }
     {
@@ -48,8 +50,10 @@ impl World {
         requires small { k < 40 }
         requires used { 1 ≤ text.users }
         ensures same { self.new
-            ≡ record self.old { table = with_row self.old.table s (unshared (row_at self.old.table s));
-            texts = slice_set self.old.texts k (Some (less_used text)) } }
+            ≡ record self.old {
+              table = with_row self.old.table s (unshared (row_at self.old.table s));
+              texts = slice_set self.old.texts k (Some (less_used text));
+            } }
         ensures loose { (cl sl : List Range) → IsLoose self.old cl sl → IsLoose self.new cl sl }
     {
         self.texts[k as usize] = Some(TextRow {

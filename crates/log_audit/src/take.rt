@@ -92,7 +92,8 @@ impl World {
             Entry::Reap(s) => self.reap(s),
             Entry::Panic(_) => {}
             Entry::End => {}
-            Entry::Boot { .. } | Entry::Text { .. } | Entry::Share { .. } | Entry::Image { .. } => unreachable!(),
+            Entry::Boot { .. } | Entry::Text { .. } | Entry::Share { .. } | Entry::Image { .. } =>
+                unreachable!(),
         }
     }
 

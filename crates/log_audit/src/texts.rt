@@ -24,8 +24,10 @@ impl World {
         requires text { entry_at self.old.texts k ≡ Some text }
         requires few { text.users ≤ 50 }
         ensures same { self.new
-            ≡ record self.old { table = with_row self.old.table s (sharing (row_at self.old.table s) k);
-            texts = slice_set self.old.texts k (Some (more_users text)) } }
+            ≡ record self.old {
+              table = with_row self.old.table s (sharing (row_at self.old.table s) k);
+              texts = slice_set self.old.texts k (Some (more_users text));
+            } }
         ensures loose { (cl sl : List Range) → IsLoose self.old cl sl → IsLoose self.new cl sl }
     {
         self.texts[k as usize] = Some(TextRow {
@@ -48,8 +50,10 @@ impl World {
         requires some { 1 ≤ clicks }
         requires most { clicks ≤ 2048 }
         ensures same { self.new
-            ≡ record self.old { table = with_row self.old.table s (sharing (row_at self.old.table s) k);
-            texts = slice_set self.old.texts k (Some (new_text clicks block)) } }
+            ≡ record self.old {
+              table = with_row self.old.table s (sharing (row_at self.old.table s) k);
+              texts = slice_set self.old.texts k (Some (new_text clicks block));
+            } }
         ensures loose { (cl sl : List Range) → IsLoose self.old cl (record { at = block; size = blocks clicks } ∷ sl)
             → IsLoose self.new cl sl }
     {
