@@ -18,3 +18,5 @@ pub mod CommandLemmas
 pub mod OneWay
 pub mod MemoryLemmas
 pub mod DemoLemmas
+mod PartsOfLogs
+mod ReadLines

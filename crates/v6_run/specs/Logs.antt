@@ -63,7 +63,7 @@ pub record IsUnfitAt (lines : List (List ℕ)) (n : ℕ) : Type 0 where
 pub record IsMissingAt (lines : List (List ℕ)) (n : ℕ) : Type 0 where
   pub log : List Entry
   pub before : FitBefore lines n log []
-  pub open : (seen_of log).stage ≢ Over
+  pub unended : (seen_of log).stage ≢ Over
 
 -- Line n is the first at fault, and is no log line.
 pub record IsBadAt (lines : List (List ℕ)) (n : ℕ) : Type 0 where
