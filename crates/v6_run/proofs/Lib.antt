@@ -18,5 +18,6 @@ pub mod CommandLemmas
 pub mod OneWay
 pub mod MemoryLemmas
 pub mod DemoLemmas
-mod PartsOfLogs
-mod ReadLines
+pub mod PartsOfLogs
+pub mod ReadLines
+pub mod FaultLemmas

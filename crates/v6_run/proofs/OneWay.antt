@@ -43,7 +43,7 @@ at_place : (p : Place) → IsPlace p → HoldsPlace p
 at_place (place.Core c) h = h
 at_place (place.Swap b) h = block b h.1
 
-held : (e : Entry) → IsInRange e → IsHeld e
+pub held : (e : Entry) → IsInRange e → IsHeld e
 held (kind.Boot core time) h = h
 held (kind.Go s) h = slot s h
 held kind.Idle h = tt
@@ -82,7 +82,7 @@ pub record GoesOn (s : Seen) (log : List Entry) (rest : List (List ℕ)) : Type 
   pub line : rest ≡ entry_line entry ∷ more
   pub fits : Fits (fold seen_after s log) entry
 
-meet : (s : Seen) (a b : List Entry) (ra rb : List (List ℕ)) → map entry_line a ++ ra ≡ map entry_line b ++ rb → FitAll s a → FitAll s b → Ends a b ra rb ⊎ (GoesOn s a ra ⊎ GoesOn s b rb)
+pub meet : (s : Seen) (a b : List Entry) (ra rb : List (List ℕ)) → map entry_line a ++ ra ≡ map entry_line b ++ rb → FitAll s a → FitAll s b → Ends a b ra rb ⊎ (GoesOn s a ra ⊎ GoesOn s b rb)
 unfolding FitAll
 meet s [] [] ra rb e f g = inl (record { log = refl; rest = e })
 meet s [] (y ∷ b) ra rb e f g = inr (inl (record { entry = y; more = map entry_line b ++ rb; line = e; fits = g.0 }))
@@ -111,11 +111,11 @@ module _ (lines : List (List ℕ)) where
   same_number n m a b ra rb x y e = x.number ∙ ap (λ (l : List Entry). length l + 1) e ∙ sym y.number
 
 -- no line goes on where there is none
-no_line : (s : Seen) (a : List Entry) → GoesOn s a [] → ⊥
+pub no_line : (s : Seen) (a : List Entry) → GoesOn s a [] → ⊥
 no_line s a k = let e = k.line in cc e
 
 -- a line that doesn't fit doesn't go on, nor one that is none of a log
-unfit_stops : (log : List Entry) (l : List ℕ) (after : List (List ℕ)) (e : Entry) → IsLine e l → (Fits (seen_of log) e → ⊥) → GoesOn nothing_seen log (l ∷ after) → ⊥
+pub unfit_stops : (log : List Entry) (l : List ℕ) (after : List (List ℕ)) (e : Entry) → IsLine e l → (Fits (seen_of log) e → ⊥) → GoesOn nothing_seen log (l ∷ after) → ⊥
 unfit_stops log l after e is n k = n (subst (Fits (seen_of log)) (sym same) k.fits)
   where
     here : l ≡ entry_line k.entry
@@ -124,7 +124,7 @@ unfit_stops log l after e is n k = n (subst (Fits (seen_of log)) (sym same) k.fi
     same : e ≡ k.entry
     same = one_line_each e k.entry (held e is.range) (held k.entry k.fits.0) (sym is.spelt ∙ here)
 
-bad_stops : (log : List Entry) (l : List ℕ) (after : List (List ℕ)) → ((e : Entry) → IsLine e l → ⊥) → GoesOn nothing_seen log (l ∷ after) → ⊥
+pub bad_stops : (log : List Entry) (l : List ℕ) (after : List (List ℕ)) → ((e : Entry) → IsLine e l → ⊥) → GoesOn nothing_seen log (l ∷ after) → ⊥
 bad_stops log l after n k = n k.entry (record { range = k.fits.0; spelt = here })
   where
     here : l ≡ entry_line k.entry

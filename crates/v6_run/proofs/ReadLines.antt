@@ -46,18 +46,20 @@ read_line front old new e h is f s n l = record {
   seen = s ∙ ap (λ x. seen_after x e) h.seen ∙ sym (seen_more nothing_seen h.log e);
   count = let a = h.count in let b = count_more h.log e in omega (arith, a, b, n);
   rest = rest_feed front ∙ sym l;
+  short = let a : length new.line.items ≡ 0 = ap length l in omega (arith, a);
   few = let a = h.few in let b = longer front 10 in omega (arith, a, b, n);
 }
 
-pub read_byte : (front : List ℕ) (byte : ℕ) (old new : Reading) → byte ≢ 10 → HasRead front old → new.audit ≡ old.audit → new.lines ≡ old.lines → new.line.items ≡ old.line.items ++ byte ∷ []
+pub read_byte : (front : List ℕ) (byte : ℕ) (old new : Reading) → byte ≢ 10 → HasRead front old → length old.line.items < 80 → new.audit ≡ old.audit → new.lines ≡ old.lines → new.line.items ≡ old.line.items ++ byte ∷ []
     → HasRead (front ++ byte ∷ []) new
-read_byte front byte old new t h s n l = record {
+read_byte front byte old new t h m s n l = record {
   log = h.log;
   spelt = ended_other front byte t ∙ h.spelt;
   fit = h.fit;
   seen = s ∙ h.seen;
   count = n ∙ h.count;
   rest = rest_other front byte t ∙ ap (λ x. x ++ byte ∷ []) h.rest ∙ sym l;
+  short = let a : length new.line.items ≡ length (old.line.items ++ byte ∷ []) = ap length l in let b = longer old.line.items byte in omega (arith, a, b, m);
   few = let a = h.few in let b = longer front byte in omega (arith, a, b, n);
 }
 
@@ -111,3 +113,11 @@ over_log lines log e f o = record { log = log; spelt = e; lawful = record { fit 
 
 pub open_log : (lines : List (List ℕ)) (log : List Entry) (n : ℕ) → lines ≡ map entry_line log → FitAll nothing_seen log → (seen_of log).stage ≢ Over → n ≡ length log + 1 → IsMissingAt lines n
 open_log lines log n e f o m = record { log = log; before = record { spelt = e ∙ sym (append-nil (map entry_line log)); fit = f; number = m }; unended = o }
+
+pub length_lines : (log : List Entry) → length (map entry_line log) ≡ length log
+length_lines [] = refl
+length_lines (x ∷ log) = let h = length_lines log in omega (arith, h)
+
+pub no_items : (items : List ℕ) → length items ≡ 0 → items ≡ []
+no_items [] e = refl
+no_items (x ∷ items) e = absurd (omega (arith, e))

@@ -22,6 +22,7 @@ pub record HasRead (front : List ℕ) (r : Reading) : Type 0 where
   pub seen : r.audit ≡ seen_of log
   pub count : r.lines ≡ length log
   pub rest : rest_of front ≡ r.line.items
+  pub short : length r.line.items ≤ longest_line
   pub few : r.lines ≤ length front
 
 -- no more was read than is read of a log
@@ -42,6 +43,14 @@ IsAtFault front Unread = ⊥
 IsAtFault front (Unlawful n) = IsUnfitAt (ended_lines front) n
 IsAtFault front (Bad n) = IsBadAt (ended_lines front) n ⊎ IsLongAt front n
 IsAtFault front TooLong = ⊥
+
+-- what comes of lines in each of which nothing is at fault
+abbrev pub Sums : List (List ℕ) → Result ℕ LogError → Type 0
+Sums lines (Ok count) = AreLawful lines × (count ≡ length lines)
+Sums lines (Err Unread) = ⊥
+Sums lines (Err (Unlawful n)) = IsMissingAt lines n
+Sums lines (Err (Bad n)) = ⊥
+Sums lines (Err TooLong) = ⊥
 
 -- what comes of a file of these bytes, of which no line before the last is at fault
 abbrev pub Closes : List ℕ → Result ℕ LogError → Type 0

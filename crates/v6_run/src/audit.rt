@@ -1,5 +1,5 @@
 //! The command `audit`.
-ghost use Rattle.std.specs.Prelude.{◌≡◌, ◌≤◌, ◌+◌, ◌++◌, [], ◌∷◌, ℕ, List, Some, length, take, true, IfOk, IfErr, OnOk, MatchResult};
+ghost use Rattle.std.specs.Prelude.{◌≡◌, ◌<◌, ◌≤◌, ◌+◌, ◌++◌, [], ◌∷◌, ℕ, List, Some, length, take, true, IfOk, IfErr, OnOk, MatchResult};
 ghost use Rattle.v6_port.specs.Outside.{In, IsOpen, OnlyAt, Tells, same};
 ghost use Rattle.v6_port.specs.declared.host.InPort.TheVariants.{Log};
 ghost use Rattle.v6_port.specs.Causes.{Calm};
@@ -9,7 +9,8 @@ ghost use Rattle.v6_run.specs.Report.{lawful_line};
 ghost use Rattle.v6_run.specs.Headline.{done_line};
 ghost use Rattle.v6_run.specs.Errors.{end_of, log_status};
 ghost use Rattle.v6_run.specs.Answers.{Answers};
-ghost use Rattle.v6_run.specs.Audit.{HasRead, HasRoom, IsAtFault, Closes, AuditsTo, StopsLog};
+ghost use Rattle.v6_run.specs.Audit.{HasRead, HasRoom, IsAtFault, Sums, Closes, AuditsTo, StopsLog};
+ghost use Rattle.v6_run.specs.Logs.{ended_lines};
 
 use arrayvec::ArrayVec;
 use log_audit::{Audit, Judged};
@@ -101,19 +102,28 @@ impl Reading {
         Ok(())
     }
 
-    /// The file has ended: what stands behind the last line is one too, if anything does. The answer is the number of lines.
-    fn close(&mut self) -> Result<u64, LogError>
-        requires { HasRoom self.old }
-        ensures { (front : List ℕ) → HasRead front self.old → Closes front result }
+    /// No line comes any more: how many there are, where the last ends the log.
+    fn sum(&self) -> Result<u64, LogError>
+        requires { HasRoom self.now }
+        ensures { (front : List ℕ) → HasRead front self.now → Sums (ended_lines front) result }
     {
-        if !self.line.is_empty() {
-            self.end_line()?;
-        }
         if self.audit.ended() {
             Ok(self.lines)
         } else {
             Err(LogError::Unlawful(self.lines + 1))
         }
+    }
+
+    /// The file has ended: what stands behind the last line is one too, if anything does. The answer is the number of lines.
+    fn close(&mut self) -> Result<u64, LogError>
+        requires { (front : List ℕ) × HasRead front self.old × (length front < LOG_LIMIT) }
+        ensures { (front : List ℕ) → HasRead front self.old → Closes front result }
+    {
+        if self.line.is_empty() {
+            return self.sum();
+        }
+        self.end_line()?;
+        self.sum()
     }
 }
 
