@@ -79,7 +79,8 @@ class Watch:
     def walk(self, pid, stats, below):
         for child in below[pid]:
             key = child, stats[child][3]
-            if key not in self.parts:
+            # one that was seen before it became a prover is asked again
+            if not self.parts.get(key):
                 self.parts[key] = self.named(child)
             if self.parts[key]:
                 self.costs[key] = max(self.costs.get(key, 0), self.whole(child, stats, below))

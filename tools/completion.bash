@@ -15,17 +15,19 @@ _v6() {
         case $word in -*) words='--clock --core --disk --help --replay --script --slots --v6 --version' ;; esac ;;
     v6-log | log.py)
         if [ "$COMP_CWORD" -eq 1 ]; then
-            words='show draw diff'
+            words='show draw diff ask'
             case $word in -*) words='--help --version' ;; esac
         else
-            case $word in -*) words='--disk --from --help --output --script --to -o' ;; esac
+            case $word in -*) words='--book --count --disk --from --help --output --script --to -o' ;; esac
         fi ;;
     v6-look | look.py) case $word in -*) words='--help --log --replay --symbols --v6 --version -c' ;; esac ;;
+    v6-page | page.py)
+        case $word in -*) words='--disk --help --log --marks --moments --output --replay --script --symbols --term --title --v6 --version -o' ;; esac ;;
     v6-as | as.py) case $word in -*) words='--disassemble --help --version -g -l -n -o -s' ;; esac ;;
     v6-cc | cc.py) case $word in -*) words='--compiler --gcc --help --version -D -I -S -g -n -o -s' ;; esac ;;
     v6-run | run.py) case $word in -*) words='--core --disk --help --log --replay --term --v6 --version' ;; esac ;;
     v6-trace | trace.py) case $word in -*) words='--from --help --process --replay --to --v6 --version' ;; esac ;;
-    v6-try | try.py) case $word in -*) words='--core --disk --file --final --help --slots --v6 --version --with -t' ;; esac ;;
+    v6-try | try.py) case $word in -*) words='--back --binary --core --disk --file --final --folder --help --slots --v6 --version --with -t' ;; esac ;;
     row.py)
         rows=$(dirname "${COMP_WORDS[0]}")/../crates/run_rows/data/rows
         case $word in
@@ -40,5 +42,5 @@ _v6() {
     fi
 }
 
-complete -o filenames -F _v6 v6 v6-as v6-cc v6-console v6-disk v6-log v6-look v6-run v6-trace v6-try as.py cc.py console.py disk.py \
-    log.py look.py row.py run.py trace.py try.py
+complete -o filenames -F _v6 v6 v6-as v6-cc v6-console v6-disk v6-log v6-look v6-page v6-run v6-trace v6-try as.py cc.py console.py disk.py \
+    log.py look.py page.py row.py run.py trace.py try.py

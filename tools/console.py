@@ -17,9 +17,9 @@ from dataclasses import dataclass
 sys.path.insert(0, os.path.dirname(os.path.abspath(__file__)))
 from dialogue import (END_OF_FILE, INTERRUPT, MANY, OVER, QUIT, RETURN, RUNS, SLEEPS, WAITS, Dialogue, DialogueError,
                       Machine, Refused, keys, shown)
-from files import place_of, read_bytes, replace, same_file, told
+from files import place_of, read_bytes, replace, same_file, told, uninterrupted
 from processes import Processes, programs_of
-from program import CORE, V6, ProgramError, add_version
+from program import CORE, TOP, V6, ProgramError, add_version
 from screen import without_echo
 from scriptfile import HEADER, head_of
 from silent import why_silent
@@ -35,6 +35,8 @@ HELP = """~.      ends, and so does the end of a file that is read in the place 
 ~w      tells what each process does
 ~?      prints these lines
 """
+SHELL = os.path.join(TOP, "examples", "shell", "image")
+COPY = "my.image"  # of the shell's disk, where no IMAGE is named
 ENDS = signal.SIGTERM, signal.SIGHUP
 LINE = re.compile(r"^(script: (?:too many slots at )?line )([0-9]+)")  # of a script that has a head, which a file needn't have
 CONTROL = re.compile(rb"\^([?-~])")  # a control character, as it is typed in ~k
@@ -340,7 +342,7 @@ def number(text):
 
 def options_of(words):
     parser = argparse.ArgumentParser(prog="console.py", description="The terminal of a machine: docs/tools/console.md")
-    parser.add_argument("image", help="the disk; it isn't changed")
+    parser.add_argument("image", nargs="?", help=f"the disk; it isn't changed. Without it, {COPY}, a copy of the shell's disk")
     parser.add_argument("--script", metavar="FILE", help="where the dialogue is kept; one that is there is gone on with")
     parser.add_argument("--disk", metavar="FILE", help="where the disk goes that the dialogue leaves")
     parser.add_argument("--v6", metavar="COMMAND", default=V6, help="the program (bin/v6)")
@@ -352,10 +354,28 @@ def options_of(words):
     options = parser.parse_args(words)
     if options.slots < 1:
         parser.error("--slots: at least 1")
+    options.is_copy = options.image is None
+    options.image = options.image or COPY
     for one, other in (("script", "disk"), ("script", "image")):
         if same_file(getattr(options, one), getattr(options, other)):
             parser.error(f"{'--' * (one != 'image')}{one} and {'--' * (other != 'image')}{other} are the same file")
     return options
+
+
+def make_copy():
+    """Makes a copy of the shell's disk, and tells it. One that is there already is typed at as it is."""
+    data = read_bytes(SHELL)
+    try:
+        with uninterrupted(), open(COPY, "xb") as file:
+            file.write(data)
+    except FileExistsError:
+        tell(f"the disk is {COPY}, which was here")
+    except OSError as error:
+        if error.filename is None:  # it was made, and has no room
+            os.unlink(COPY)
+        raise OSError(error.errno, error.strerror, os.path.abspath(COPY)) from None
+    else:
+        tell(f"{COPY} is a copy of the shell's disk; --disk {COPY} keeps in it what is done")
 
 
 class Script:
@@ -411,6 +431,8 @@ def check_header(options, machine, found):
 
 def run(options, folder):
     script = Script(options.script)
+    if options.is_copy:
+        make_copy()
     old, head = script.lines()
     core = options.core if options.core is not None else int(head[2]) if head else CORE
     machine = Machine(options.v6, options.image, core, folder)

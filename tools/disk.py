@@ -19,7 +19,7 @@ from program import V6, ProgramError, add_version, call
 from repair import Repair, grow
 from survey import Survey, behind_end, damaged, walk
 from tree import KINDS, MOST_TIME, PERMISSIONS, Item, above, apply_table, number, own, place_all, plain_name, row, scan
-from volume import BLOCK, BLOCKS, DIRECTORY, PACK, PLAIN, ROOT, DiskError, Volume, check_name, components, shown
+from volume import BLOCK, BLOCKS, DIRECTORY, PACK, PLAIN, ROOT, DiskError, Volume, check_name, components, plural, shown
 
 MOST = PACK * BLOCK + 1  # what is read of a disk: one that is longer is too long
 
@@ -185,8 +185,8 @@ class Folder:
             absent.discard(path)
             self.put(number, path)
         if not self.table and (self.devices or self.others):
-            print(f"disk.py: {self.devices} devices, and modes, owners or times of {self.others} files are not in the folder"
-                  ": --table FILE keeps them", file=sys.stderr)
+            lost = f"{plural(self.devices, 'device')}, and modes, owners or times of {plural(self.others, 'file')}"
+            print(f"disk.py: {lost} are not in the folder: --table FILE keeps them", file=sys.stderr)
 
     def put(self, number, path):
         inode = self.volume.inode(number)

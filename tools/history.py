@@ -59,7 +59,7 @@ class History:
     def __init__(self, run):
         self.run, self.last = run, run.end()
         self.tables, self.built = [Table()], Table()  # before the lines 0, APART and so on; and the table that makes more of them
-        self.memories, self.guard = OrderedDict(), threading.Lock()
+        self.memories, self.guard, self.outside = OrderedDict(), threading.Lock(), None
 
     def table(self, lines):
         """The table after so many lines of the log."""
@@ -117,6 +117,16 @@ class History:
             if entry["word"] == "fork" and table.last == number:
                 found.append((line, None))
         return found
+
+    def events(self):
+        """After which slots something comes from outside, and how many ticks, or 0 where it isn't ticks alone."""
+        if self.outside is None:
+            self.outside = {slots: ticks for slots, ticks in self.run.script.events().items() if slots <= self.last}
+        return self.outside
+
+    def signalled(self):
+        """The slots of the table in which a process was ever sent a signal."""
+        return {int(line.split(" ")[1]) for line in self.run.lines if line.startswith("signal ")}
 
     def each(self, does, wanted):
         """What `does` makes of each of these, several at a time."""

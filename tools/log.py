@@ -1,5 +1,5 @@
 #!/usr/bin/env python3
-"""Tells, draws and compares the logs of runs: see docs/tools/log.md."""
+"""Tells, draws and compares the logs of runs, and asks about them: see docs/tools/log.md."""
 import signal
 
 if __name__ == "__main__":
@@ -12,16 +12,20 @@ import sys
 
 sys.path.insert(0, os.path.dirname(os.path.abspath(__file__)))
 from files import guarded, put_out, read_bytes
+from lions import OF_WORDS, told
 from logpicture import Picture
 from logwords import Teller
 from processes import programs_of
 from proctable import SLOTS, LogFault, Table
 from program import add_version
-from scriptfile import ScriptError, ticks_of, read_script
+from scriptfile import ScriptError, read_script, slots_of, ticks_of
 from volume import DiskError
 
+WIDEST = len("newproc (1826)")  # of the procedures that `show --book` names
 COMMON, MORE = 3, 5  # lines that are shown before the place where two logs part, and behind it
 OTHER = "the script isn't that of this run: it has {} ticks, and the log {}"
+HELP = {"show": "tells a log in words", "draw": "makes a picture of it", "diff": "tells where two logs part",
+        "ask": "hides each choice, and tells by the rules who was right"}
 CUT = "the log ends within a run: its last line is neither `end` nor `panic`"
 
 
@@ -34,8 +38,8 @@ def lines_of(data):
 class Story:
     """A log, told line by line. `moments` has how many slots have passed at each tick."""
 
-    def __init__(self, data, programs=None, moments=()):
-        self.lines, self.table, self.moments = lines_of(data), Table(), iter(moments)
+    def __init__(self, data, programs=None, moments=(), table=None):
+        self.lines, self.table, self.moments = lines_of(data), table or Table(), iter(moments)
         self.teller = Teller(self.table, programs)
         self.ticks, self.timed = 0, 0  # of the lines so far, and those of them that the script has too
 
@@ -69,10 +73,10 @@ class Story:
         return "".join(self.table.letter(slot) for slot in range(width))
 
 
-def story_of(options, name):
+def story_of(options, name, table=None):
     programs = programs_of(read_bytes(options.disk)) if options.disk else None
     moments = ticks_of(read_script(options.script)) if options.script else ()
-    return Story(read_bytes(name), programs, moments)
+    return Story(read_bytes(name), programs, moments, table)
 
 
 # show
@@ -92,8 +96,13 @@ def show(options):
         words, passed = story.take(line)
         if options.first <= number <= options.last:
             at = f" {'' if passed is None else passed:>8}" if options.script else " "
-            print(f"{number:>{number_width}}{at} {story.letters(width)}  {words}")
+            print(f"{number:>{number_width}}{at} {story.letters(width)}  {procedure(line) if options.book else ''}{words}")
     return ended(story, options)
+
+
+def procedure(line):
+    """The procedure of Lions' book that does what a line tells, with the line at which it stands there."""
+    return f"{told(OF_WORDS.get(line.partition(' ')[0], '')):{WIDEST}}  "
 
 
 def ended(story, options):
@@ -112,8 +121,11 @@ def ended(story, options):
 def draw(options):
     story = story_of(options, options.log)
     picture = Picture(len(story.lines), story.width(), story.teller)
-    for line in story.lines:
+    slots = slots_of(read_script(options.script)) if options.script else None
+    for number, line in enumerate(story.lines):
         _, passed = story.take(line)
+        if slots is not None and (number == 0 or line == "end"):
+            passed = slots if number else 0
         picture.take(story.table, passed)
     put_out(options.output, picture.drawn(story.table).encode())
     return ended(story, options)
@@ -166,31 +178,50 @@ def counts(one, other):
         print("from there on: " + ", ".join(told))
 
 
+# ask
+
+
+def ask(options):
+    from choices import Ruled
+    from quiz import Quiz
+
+    sys.stdin.reconfigure(errors="backslashreplace")
+    story = story_of(options, options.log, Ruled())
+    return ended(story, options) if Quiz(story, sys.stdin).play(options.first, options.count) else 0
+
+
 # the command
 
 
 def options_of(words):
     parser = argparse.ArgumentParser(prog="log.py", description="Tells, draws and compares logs: docs/tools/log.md")
     add_version(parser)
-    commands = parser.add_subparsers(dest="command", required=True, metavar="show, draw, diff")
-    for name, help_of in (("show", "tells a log in words"), ("draw", "makes a picture of it"), ("diff", "tells where two logs part")):
+    commands = parser.add_subparsers(dest="command", required=True, metavar="show, draw, diff, ask")
+    for name, help_of in HELP.items():
         command = commands.add_parser(name, help=help_of, description=f"log.py {name}: docs/tools/log.md")
         command.add_argument("log", help="the log of a run: docs/manual/log.md")
         if name == "diff":
             command.add_argument("other", help="the log of another run")
         command.add_argument("--disk", metavar="IMAGE", help="names programs by the size of their images on this disk")
         command.add_argument("--script", metavar="FILE", help="tells by the script of the run how many slots have passed")
+        if name == "ask":
+            command.add_argument("--from", dest="first", type=int, default=1, metavar="LINE", help="the first that is asked for")
+            command.add_argument("--count", type=int, default=sys.maxsize, metavar="N", help="how many choices are asked for")
         if name == "show":
             command.add_argument("--from", dest="first", type=int, default=1, metavar="LINE", help="the first line that is shown")
             command.add_argument("--to", dest="last", type=int, default=sys.maxsize, metavar="LINE", help="the last one")
+            command.add_argument("--book", action="store_true", help="names the procedures of Lions' book, with their lines")
         if name == "draw":
             command.add_argument("-o", "--output", metavar="FILE", default="-", help="where the picture goes, in SVG")
-    return parser.parse_args(words)
+    options = parser.parse_args(words)
+    if options.command == "ask" and options.log == "-":
+        parser.error("ask reads answers from the standard input, so its log is a file")
+    return options
 
 
 def main(words):
     options = options_of(words)
-    does = {"show": show, "draw": draw, "diff": diff}[options.command]
+    does = {"show": show, "draw": draw, "diff": diff, "ask": ask}[options.command]
     return guarded("log.py", lambda: does(options), LogFault, ScriptError, DiskError)
 
 

@@ -10,8 +10,9 @@ from proctable import CORE_FIRST, SWAP_FIRST, SWAP_LAST
 
 COLUMNS, LEFT, LANE, GAP, TOP = 1000, 150, 16, 6, 58
 CORE_HEIGHT, SWAP_HEIGHT = 240, 150
-LEAST = 31  # units that a map shows at least, less one
+SWAP_LEAST = 24
 MARKS = 10  # places with a number under the picture
+APART = 50  # between two numbers of slots, at least
 STATES = {  # letter: how it is filled, and what it means. They differ in brightness and in pattern, for paper
     "R": ("#000000", "runs"),
     "r": ("#8c8c8c", "could run"),
@@ -34,6 +35,7 @@ text { font: 11px sans-serif; fill: #000 }
 .edge { fill: none; stroke: #555; stroke-width: 1 }
 .held { stroke: #444; stroke-width: 0.5 }
 .tick { stroke: #999; stroke-width: 0.5 }
+.axis { stroke: #000; stroke-width: 0.8 }
 @page { size: %s; margin: 10mm }
 @media print { svg { width: 100%%; height: auto; max-height: 100vh } }
 """
@@ -105,15 +107,16 @@ class Picture:
         self.lanes = [Lane(self.columns) for _ in range(width)]
         self.holders = []  # of each column that is done: what is held at its end
         self.names = [[] for _ in range(width)]  # the numbers of the processes that a slot has had
-        self.passed = {}  # column -> the slots of the run, where a tick tells them
+        self.passed = {}  # column -> how many slots of the run had passed, where a tick tells it
         self.teller, self.line = teller, 0
+        self.heights = CORE_HEIGHT, SWAP_HEIGHT  # of the maps
 
     def take(self, table, passed=None):
         """The table after one more line."""
         for slot in table.touched - {None} if self.line else range(len(self.lanes)):
             self.lanes[slot].change(self.line, table.letter(slot))
         if passed is not None:
-            self.passed.setdefault(self.columns.of(self.line), passed)
+            self.known(passed)
         if table.entry["word"] in ("boot", "fork"):
             for slot in [0, 1] if table.entry["word"] == "boot" else [table.entry["T"]]:
                 self.names[slot].append(table.rows[slot].number)
@@ -121,21 +124,25 @@ class Picture:
         if self.line == self.columns.starts[len(self.holders) + 1]:
             self.holders.append(set(table.holders()))
 
+    def known(self, passed):
+        """So many slots have passed before the line; of a column's numbers the roundest is kept."""
+        column = min(self.columns.of(self.line), self.columns.count - 1)
+        if column not in self.passed or roundness(passed) > roundness(self.passed[column]):
+            self.passed[column] = passed
+
     def drawn(self, table):
         """The picture, when all lines were taken."""
         for lane in self.lanes:
             lane.add(self.line)
         lanes_end = TOP + len(self.lanes) * (LANE + GAP)
-        core_top, core_end = lanes_end + 44, lanes_end + 44 + CORE_HEIGHT
-        swap_top, swap_end = core_end + 30, core_end + 30 + SWAP_HEIGHT
-        width, height = LEFT + COLUMNS + 20, swap_end + 20
+        core_top = lanes_end + 44 + 14 * bool(self.passed)
+        maps, end = self.maps(table.core, core_top)
+        width, height = LEFT + COLUMNS + 20, end + 20
         style = STYLE % ("portrait" if height > width else "landscape")  # of the page, where it is printed
         out = [f'<svg xmlns="http://www.w3.org/2000/svg" viewBox="0 0 {width} {height}" '
                f'width="{width}" height="{height}">', f"<style>{style}</style>", PATTERNS,
                '<rect width="100%" height="100%" fill="#fff"/>']
-        out += self.legend() + self.drawn_lanes() + self.marks(lanes_end)
-        out += self.map(f"core: {table.core} clicks", "at", CORE_FIRST, table.core, core_top, CORE_HEIGHT)
-        out += self.map("swap area: blocks", "swap", SWAP_FIRST, SWAP_LAST, swap_top, SWAP_HEIGHT)
+        out += self.legend() + self.drawn_lanes() + self.marks(lanes_end) + self.slots(lanes_end + 22) + maps
         return "\n".join([*out, "</svg>", ""])
 
     def legend(self):
@@ -169,40 +176,103 @@ class Picture:
         return first + ", ".join(map(str, numbers[:count])) + " .." * (count < len(numbers))
 
     def marks(self, y):
-        """The numbers of lines, and of slots where they are known."""
-        out = [text(4, y + 14, "line of the log", "small")] + [text(4, y + 26, "slots passed", "small")] * bool(self.passed)
+        """The numbers of lines."""
+        out = [text(4, y + 14, "line of the log", "small")]
         for mark in range(MARKS + 1):
             column = min(mark * self.columns.count // MARKS, self.columns.count - 1)
-            x, side = self.columns.x(column), "unit" if mark == MARKS else "small"  # the last number ends at the edge
+            x = self.columns.x(column)
             out.append(f'<path class="tick" d="M{x} {TOP}V{y + 4}"/>')
-            out.append(text(x, y + 14, str(self.columns.starts[column] + 1), side))
-            known = [at for at in self.passed if at <= column]
-            if known:
-                out.append(text(x, y + 26, str(self.passed[max(known)]), side))
+            out.append(text(x, y + 14, str(self.columns.starts[column] + 1), side_of(x)))
         return out
 
-    def map(self, name, where, first, most, top, height):
-        """Who holds what over the columns, up to the last unit that is ever held."""
+    def slots(self, y):
+        """An axis of slots: the lines at which it is known how many have passed, the roundest numbers of them."""
+        if not self.passed:
+            return []
+        out = [text(4, y + 14, "slots passed", "small"), f'<path class="tick" d="M{LEFT} {y}h{COLUMNS}"/>']
+        for column in self.moments():
+            x = self.columns.x(column)
+            out.append(f'<path class="axis" d="M{x} {y}v4"/>')
+            out.append(text(x, y + 14, str(self.passed[column]), side_of(x)))
+        return out
+
+    def moments(self):
+        """The columns that have a number of slots: the first and the last that are known, and the first at or after each round
+        number, as far as they are apart."""
+        first, *known = sorted(self.passed)
+        if not known:
+            return [first]
+        step, x = step_of(self.passed[known[-1]] - self.passed[first]), self.columns.x
+        found, wanted = [first], step
+        for column in known:
+            if self.passed[column] >= wanted:
+                wanted = (self.passed[column] // step + 1) * step
+                if min(x(column) - x(found[-1]), x(known[-1]) - x(column)) >= APART:
+                    found.append(column)
+        return [*found, known[-1]]
+
+    def maps(self, core, top):
+        """The maps, from here on, and where they end. That of a large core has a point for four clicks, up to twice the height;
+        that of the swap area is lower where fewer than 32 blocks are held, and isn't there where none is."""
+        core_high, swap_most = self.heights
+        end = top + min(max(core_high, core // 4), 2 * core_high)
+        maps, blocks = self.map(f"core: {core} clicks", "at", CORE_FIRST, core, top, end - top), self.swap_held()
+        if blocks:
+            top, high = end + 30, min(max(swap_most * blocks // 32, SWAP_LEAST), swap_most)
+            maps, end = maps + self.map("swap area: blocks", "swap", SWAP_FIRST, SWAP_FIRST + blocks - 1, top, high), top + high
+        return maps, end
+
+    def swap_held(self):
+        """How many blocks of the swap area there are up to the last that anybody ever holds."""
+        ends = [place.start + units for held in self.holders for place, units, _ in held if place.where == "swap"]
+        return min(max(ends, default=SWAP_FIRST), SWAP_LAST + 1) - SWAP_FIRST
+
+    def map(self, name, where, first, last, top, height):
+        """Who holds what over the columns, from the first unit to the last."""
         spans = {}  # (start, units, holder) -> the columns
         for column, held in enumerate(self.holders):
             for place, units, holder in held:
-                if place.where == where:
+                if place.where == where and place.start <= last:
                     spans.setdefault((place.start, units, holder), []).append(column)
-        last = min(max([start + units for start, units, _ in spans] + [first + LEAST]), most)
         scale, out = height / (last + 1 - first), [text(4, top + 12, name)]
         for (start, units, holder), columns in sorted(spans.items()):
             for begin, end in stretches(columns):
                 x, y = self.columns.x(begin), round(top + (start - first) * scale, 2)
-                wide, high = round(self.columns.x(end) - x, 2), round(max(units * scale, 0.5), 2)
+                wide, high = round(self.columns.x(end) - x, 2), round(max(min(units, last + 1 - start) * scale, 0.5), 2)
                 called = holder if holder.startswith("text") else f"process {holder}"
                 edge = "held" if min(wide, high) > 2 else ""
                 out.append(rect(x, y, wide, high, colour(holder), edge, f"{called}: {start} to {start + units - 1}"))
                 if wide > 8 * len(holder) and high > 8:
                     out.append(text(x + 2, round(y + min(high / 2 + 3, 11), 2), holder, "small"))
         out.append(rect(LEFT, top, COLUMNS, height, "none", "edge"))
-        for unit in (first, (first + last) // 2, last):
-            out.append(text(LEFT - 5, round(top + (unit - first) * scale + 8 * (unit < last), 2), str(unit), "unit"))
+        held = min(max((start + units - 1 for start, units, _ in spans), default=first), last)  # the last that ever is
+        out.append(text(LEFT - 5, top + 8, str(first), "unit"))
+        for unit in sorted({held, last} - {first}):
+            end = round(top + (unit + 1 - first) * scale, 2)
+            if unit == last or 18 < end - top < height - 9:
+                out.append(text(LEFT - 5, end, str(unit), "unit"))
         return out
+
+
+def side_of(x):
+    """Where the number at a mark stands: after it, and before it at the right edge."""
+    return "unit" if x > LEFT + COLUMNS - APART else "small"
+
+
+def roundness(number):
+    """By how large a power of ten a number can be divided, and whether by five times that; 0 is the roundest."""
+    zeros = len(str(number)) - len(str(number).rstrip("0")) if number else 99
+    return zeros, number % (5 * 10**zeros) == 0
+
+
+def step_of(most):
+    """The least of 1, 2, 5, 10, 20 .. of which no more than MARKS fit."""
+    power = 1
+    while True:
+        for step in (power, 2 * power, 5 * power):
+            if most <= MARKS * step:
+                return step
+        power *= 10
 
 
 def stretches(columns):

@@ -1,8 +1,9 @@
 """The commands of look.py: docs/tools/look.md."""
 import re
 
-from looksearch import Event, Search, State, usual
+from looksearch import Event, Search, State
 from proctable import FORMS
+from walk import Sought
 
 NUMBER = re.compile("[0-9]+")
 LETTERS = "RrowWsSz"
@@ -25,7 +26,6 @@ until WHAT, since WHAT   forwards and backwards to where WHAT becomes so:
     call [NAME]              it stands at this call, or at any
     pc PLACE [PLACE]         its PC is there, or between two places
     word PLACE [VALUE]       a word of it changes, or becomes a value
-near [COUNT]             for pc and word: how many of the nearest moments are looked at one by one
 watch PLACE              shows a word at each moment from now on; unwatch: none any more
 help, quit (or q)
 of N, at the end of a command, is process N. A number with a 0 before it is octal. A PLACE is an address,
@@ -43,7 +43,6 @@ class Looker:
         self.history, self.views = history, views
         self.moment = history.moment(0)
         self.watched = []  # (number of the process, address), one after the other
-        self.near = None  # how many moments a search looks at one by one, where it isn't as usual
         self.is_over = False
 
     def lines_of(self, text):
@@ -253,19 +252,13 @@ class Looker:
         text, here = " ".join([kind, *words]), self.moment
         if forwards and kind in ("pc", "word") and words:
             self.look_on(words[0])
-        search = Search(self.history, self.moment, forwards, self.near)
+        search = Search(self.history, self.moment, forwards)
         try:
             is_there = self.moment is not here and kind == "pc" and self.is_at(*words)
             slots = self.moment.slots if is_there else does(search, *words)
         finally:
             self.moment = here
-        if not search.left_out(slots):
-            return self.found(slots, text, forwards) + self.stands(kind)
-        if slots is None:
-            raise LookError(f"{text}: not found {'behind' if forwards else 'before'} slot {self.moment.slots}; "
-                            f"each moment was looked at {'up' if forwards else 'down'} to slot {search.sure}, and some further on")
-        return self.go(slots) + self.stands(kind) + [f"each moment was looked at {'up' if forwards else 'down'} to slot {search.sure}; from there to "
-                                 f"slot {slots} it may have come and gone"]
+        return self.found(slots, text, forwards) + self.stands(kind)
 
     def look_on(self, place):
         """Where the program of a process hasn't the name of a place, goes on to the first one that it executes which has it."""
@@ -294,12 +287,6 @@ class Looker:
         number, process = self.memory_of()
         return self.views.place(process.pc, self.views.program(self.moment, number))
 
-    def do_near(self, count=None):
-        if count is not None:
-            self.near = self.number_of(count, "moments")
-        near = usual(self.history) if self.near is None else self.near
-        return [f"the nearest {near} moments are looked at one by one"]
-
     def where_state(self, search, letters):
         if not set(letters) <= set(LETTERS):
             raise LookError(f"{letters}: a state is one of the letters {LETTERS}")
@@ -326,7 +313,7 @@ class Looker:
     def where_pc(self, search, first, last=None):
         number = self.chosen()
         low, high = self.range_of(first, last)
-        return search.value(lambda moment: is_alive(moment, number) and low <= moment.process(number).pc <= high)
+        return search.sought(Sought(number, ranges=[(low, high)]))
 
     def range_of(self, first, last=None):
         """The addresses from one place to another; without that all of a name, up to the next."""
@@ -341,10 +328,8 @@ class Looker:
 
     def where_word(self, search, place, value=None):
         number, at = self.chosen(), self.word_address(place)
-        if value is None:
-            return search.value(lambda moment: self.word(moment, number, at))
-        value = self.number_of(value, "a word", 65535)
-        return search.value(lambda moment: self.word(moment, number, at) == value)
+        value = None if value is None else self.number_of(value, "a word", 65535)
+        return search.sought(Sought(number, words={at: value}))
 
     def do_watch(self, place=None):
         if place is not None:
@@ -356,11 +341,6 @@ class Looker:
     def do_unwatch(self):
         self.watched = []
         return []
-
-
-def is_alive(moment, number):
-    process = moment.process(number)
-    return bool(process and process.parts)
 
 
 def shown(value):

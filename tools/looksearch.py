@@ -1,24 +1,15 @@
 """Searches over the moments of a run, forwards and backwards.
 
-What the log tells is found by its lines, exactly. What memory alone tells is found exactly among the nearest moments, which are
-looked at one by one. Further on some are looked at in each stretch, and where two of them differ it is halved between them: so what
-comes and goes between two of them may be missed. A search tells how far each was looked at."""
+What the log tells is found by its lines. What memory alone tells is found by going through the slots of the run, each one: walk.py."""
 import itertools
 
 from callwords import call_at
 from moments import is_turn
+from walk import found
 
-NEAR, MOST_NEAR = 24, 512  # moments that are looked at one by one: the fewest, and the most, if nobody asks for more
-WORK = 20_000_000  # slots that may be run for them, where they are more than the fewest
-PROBES, WIDER = 8, 8  # moments that are looked at in a stretch, and how much longer than the last a stretch is
-PARTS = 4  # of a stretch that is halved
+NEAREST, WIDER, LONGEST = 4096, 4, 1_000_000  # slots of a stretch backwards: the first, how much longer each next one is, the most
 AT_ONCE = 16  # calls that are looked at together
 BLOCK = 4096  # lines of the log that are gone through together, backwards
-
-
-def usual(history):
-    """How many of the nearest moments are looked at one by one, where nobody says another number."""
-    return max(NEAR, min(MOST_NEAR, WORK // (history.last + 1)))
 
 
 class Event:
@@ -61,13 +52,10 @@ class State(Event):
 
 
 class Search:
-    """From a moment of a history, forwards or backwards; each gives the slots of the moment that is found, or None. `near` is how
-    many of the nearest moments are looked at one by one where memory is asked for, and `sure` up to which slot all were."""
+    """From a moment of a history, forwards or backwards; each gives the slots of the moment that is found, or None."""
 
-    def __init__(self, history, moment, forwards, near=None):
+    def __init__(self, history, moment, forwards):
         self.history, self.moment, self.forwards = history, moment, forwards
-        self.near = usual(history) if near is None else near
-        self.sure = None
 
     # by the log
 
@@ -138,76 +126,18 @@ class Search:
 
     # by memory
 
-    def value(self, look):
-        """The next moment at which `look`, of a moment, gives another value than just before it, or the last one. Where it gives
-        a truth value, it is the next one at which it becomes true."""
-        seen = {}
-
-        def at(slots):
-            if slots not in seen:
-                seen[slots] = look(self.history.moment(slots))
-            return seen[slots]
-
-        def fetch(wanted):
-            ends = {min(wanted), max(wanted)}  # first, since between two moments with the same lines no log is asked for
-            for slots in (ends, set(wanted) - ends):
-                self.history.each(at, sorted(slots - set(seen)))
-
-        def begins(low, high):
-            return at(low) != at(high) and at(high) is not False
-
-        low, high = self.nearest()
-        for first, last in self.pieces(low, high):
-            fetch(range(first, last + 1))
-            pairs = [(slots - 1, slots) for slots in range(first + 1, last + 1)]
-            for pair in pairs if self.forwards else reversed(pairs):
-                if begins(*pair):
-                    return pair[1]
-        self.sure = high if self.forwards else low
-        for stretch in self.stretches(low, high):
-            fetch(stretch)
-            pairs = list(zip(stretch, stretch[1:]))
-            for low, high in pairs if self.forwards else reversed(pairs):
-                if begins(low, high):
-                    return self.halve(at, fetch, low, high)
+    def sought(self, sought):
+        """The next moment at which what is looked for of a process becomes so, or the last one. All of them are gone through: forwards
+        one after the other, backwards in stretches that become longer and longer, each of them forwards."""
+        if self.forwards:
+            return next(found(self.history, sought, self.moment.slots, self.history.last), None)
+        high, size = max(self.moment.slots - 1, 0), NEAREST
+        while high:
+            low = max(high - size, 0)
+            last = None
+            for last in found(self.history, sought, low, high):
+                pass
+            if last is not None:
+                return last
+            high, size = low, min(size * WIDER, LONGEST)
         return None
-
-    def nearest(self):
-        here = self.moment.slots
-        if self.forwards:
-            return here, min(here + self.near, self.history.last)
-        return max(here - 1 - self.near, 0), max(here - 1, 0)
-
-    def pieces(self, low, high):
-        """The stretch from one moment to the other in pieces, those first that are nearer."""
-        if self.forwards:
-            return [(first, min(first + MOST_NEAR, high)) for first in range(low, high, MOST_NEAR)]
-        return [(max(last - MOST_NEAR, low), last) for last in range(high, low, -MOST_NEAR)]
-
-    def left_out(self, slots):
-        """Whether moments before the one that was found, or before the end of the run, were not looked at."""
-        if self.sure is None:
-            return False
-        if self.forwards:
-            return self.sure < (self.history.last if slots is None else slots - 1)
-        return self.sure > (0 if slots is None else slots)
-
-    def stretches(self, low, high):
-        """Moments to be looked at, in stretches that become longer and longer."""
-        size = NEAR * WIDER
-        while low > 0 if not self.forwards else high < self.history.last:
-            first, last = (high, min(high + size, self.history.last)) if self.forwards else (max(low - size, 0), low)
-            yield sorted({first + (last - first) * n // PROBES for n in range(PROBES + 1)})
-            low, high, size = first, last, size * WIDER
-
-    def halve(self, at, fetch, low, high):
-        """Between two moments of which the later one has what is wanted: one that has it, behind one that hasn't. The stretch is
-        cut into several at a time, since they are looked at together."""
-        first, last = at(low), at(high)
-        while high - low > 1:
-            ends = sorted({low + (high - low) * n // PARTS for n in range(PARTS + 1)})
-            fetch(ends)
-            past = [at(slots) == last if last is True or not self.forwards else at(slots) != first for slots in ends]
-            place = past.index(True) if self.forwards else len(past) - past[::-1].index(False)
-            low, high = ends[place - 1], ends[place]
-        return high

@@ -13,6 +13,8 @@ DEPTH, MOST_ARGUMENTS = 16, 256  # words of a stack that are shown, and words of
 TOP = 512  # bytes at the top of a stack in which ps(I) looks for arguments
 STATES = {"R": "runs", "r": "can run", "o": "could run, and is out of core", "z": "has ended, and its parent hasn't waited for it"}
 FILES, SIGNALS = 15, 20
+HEAD = "S SLOT   PID  PPID UID PRI PLACE      TIME SIZE TEXT WAITS     COMMAND"
+ROW = "{} {:4} {:5} {:5} {:>3} {:>3} {:10} {:4} {:>4} {:>4} {:9} {}"
 JSR, JSR_MASK, LONG = 0o004000, 0o177000, (0o27, 0o37, 0o60, 0o70)
 NO_IMAGE = "it has no image at this moment"
 
@@ -106,15 +108,11 @@ class Views:
 
     def ps(self, moment):
         """The processes as ps(I) and pstat show them."""
-        out = ["S SLOT   PID  PPID UID PRI PLACE      TIME SIZE TEXT WAITS     COMMAND"]
+        out = [HEAD]
         for slot, row in sorted(moment.table.rows.items()):
             process = moment.process(row.number) if slot else None
             user = "-" if process is None else str(process.u[18])
-            priority = str(row.priority) if row.state == "asleep" else "-"
-            text = "-" if row.text is None else str(row.text)
-            command = self.command(moment, row.number) if slot else "(the swapper)"
-            out.append(f"{moment.table.letter(slot)} {slot:4} {row.number:5} {row.parent:5} {user:>3} {priority:>3} "
-                       f"{place_of(row):10} {row.time:4} {row.size if slot else '-':>4} {text:>4} {row.channel or '-':9} {command}".rstrip())
+            out.append(ROW.format(*cells(moment.table, slot, user, self.command(moment, row.number) if slot else "")).rstrip())
         return out
 
     def process(self, moment, number):
@@ -261,28 +259,10 @@ class Views:
 
     def map(self, moment, where):
         """Who holds which clicks of core, or which blocks of the swap area, and what is free."""
-        first, last = (1, moment.table.core) if where == "at" else (SWAP_FIRST, SWAP_LAST)
-        held = sorted((place.start, units, name) for place, units, name in moment.table.holders() if place.where == where)
-        out, at, free = [], first, 0
-        for start, units, name in [*held, (last + 1, 0, None)]:
-            if start > at:
-                out.append(f"{at:5} to {start - 1:5} {start - at:5}  free")
-                free += start - at
-            if name:
-                who = name if name.startswith("text") else self.who(moment, int(name))
-                out.append(f"{start:5} to {start + units - 1:5} {units:5}  {who}")
-            at = max(at, start + units)
-        return [*out, f"{free} of {last - first + 1} {'clicks' if where == 'at' else 'blocks'} are free"]
+        return map_of(moment.table, where, lambda number: self.who(moment, number))
 
     def texts(self, moment):
-        if not moment.table.texts:
-            return ["there are no shared texts"]
-        out = ["TEXT CLICKS BLOCKS        USERS LOADED  CORE"]
-        for number, text in sorted(moment.table.texts.items()):
-            core = f"at {text.click}" if text.loaded else "-"
-            out.append(f"{number:4} {text.clicks:6} {text.block:5} to {text.block + blocks(text.clicks) - 1:5} {text.users:5} {text.loaded:6}  "
-                       f"{core}")
-        return out
+        return shared_texts(moment.table)
 
     def words(self, process, program, at, count):
         """Words of memory, eight a line, and their bytes as text."""
@@ -303,6 +283,42 @@ def char(byte):
 def long(data, at):
     """A number of two words, the high one first."""
     return word(data, at) << 16 | word(data, at + 2)
+
+
+def cells(table, slot, user, command):
+    """What HEAD names, of the process in a slot; its user and its command are memory's to tell."""
+    row = table.rows[slot]
+    return [table.letter(slot), slot, row.number, row.parent, user, row.priority if row.state == "asleep" else "-", place_of(row),
+            row.time, row.size if slot else "-", "-" if row.text is None else row.text, row.channel or "-",
+            command if slot else "(the swapper)"]
+
+
+def map_of(table, where, who):
+    """Who holds which clicks of core, or which blocks of the swap area, and what is free; `who` tells a process by its number."""
+    first, last = (1, table.core) if where == "at" else (SWAP_FIRST, SWAP_LAST)
+    held = sorted((place.start, units, name) for place, units, name in table.holders() if place.where == where)
+    out, at, free = [], first, 0
+    for start, units, name in [*held, (last + 1, 0, None)]:
+        if start > at:
+            out.append(f"{at:5} to {start - 1:5} {start - at:5}  free")
+            free += start - at
+        if name:
+            told = name if name.startswith("text") else who(int(name))
+            out.append(f"{start:5} to {start + units - 1:5} {units:5}  {told}")
+        at = max(at, start + units)
+    return [*out, f"{free} of {last - first + 1} {'clicks' if where == 'at' else 'blocks'} are free"]
+
+
+def shared_texts(table):
+    """The table of shared texts."""
+    if not table.texts:
+        return ["there are no shared texts"]
+    out = ["TEXT CLICKS BLOCKS        USERS LOADED  CORE"]
+    for number, text in sorted(table.texts.items()):
+        core = f"at {text.click}" if text.loaded else "-"
+        out.append(f"{number:4} {text.clicks:6} {text.block:5} to {text.block + blocks(text.clicks) - 1:5} {text.users:5} {text.loaded:6}  "
+                   f"{core}")
+    return out
 
 
 def place_of(row):

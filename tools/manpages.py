@@ -1,28 +1,53 @@
 #!/usr/bin/env python3
-"""Makes the manual pages v6(1), v6script(5) and v6log(5) of docs/manual, for `make install`."""
+"""The pages as `make install` puts them: those of docs, which name the installed commands, and manual pages made of them."""
 import argparse
 import os
 import re
 import sys
 
 TOP = os.path.dirname(os.path.dirname(os.path.abspath(__file__)))
-TOOLS = ("as", "cc", "console", "disk", "log", "look", "run", "trace", "try")  # those of the Makefile
 BULLET = "\\(bu"
-PAGES = {  # by its name and section: the source, and what it is in a line
-    ("v6", 1): ("commands.md", "run, check and make disks of Sixth Edition UNIX"),
-    ("v6script", 5): ("scripts.md", "what comes to the machine of v6 from outside"),
-    ("v6log", 5): ("log.md", "what the kernel of v6 decides"),
+PAGE_OF = {"cc": "c"}  # whose page hasn't its name
+
+
+def tools():
+    """The tools that have a page in docs/tools: these are installed."""
+    names = (name[:-3] for name in os.listdir(os.path.join(TOP, "tools")) if name.endswith(".py"))
+    folder = os.path.join(TOP, "docs", "tools")
+    return [name for name in sorted(names) if os.path.exists(os.path.join(folder, PAGE_OF.get(name, name) + ".md"))]
+
+
+TOOLS = tools()
+PAGES = {  # by its name and section: the source, and what it is in a line; that of a tool is the head of its page
+    ("v6", 1): ("manual/commands.md", "run, check and make disks of Sixth Edition UNIX"),
+    ("v6script", 5): ("manual/scripts.md", "what comes to the machine of v6 from outside"),
+    ("v6log", 5): ("manual/log.md", "what the kernel of v6 decides"),
+    **{(f"v6-{name}", 1): (f"tools/{PAGE_OF.get(name, name)}.md", None) for name in TOOLS},
+    ("v6shell", 7): ("tools/shell.md", "the shell on the disk of v6 and its commands"),
 }
+HOME = re.compile(r"[ \n]*<!-- in the repository -->.*?<!-- -->", re.S)  # a part that is of the repository alone
+LINK = re.compile(r"(!?)\[([^\]]*)\]\(([^)#]*)(#[^)]*)?\)")
 
 
-def installed(text):
-    """A text with the names of the commands as `make install` puts them: v6-log is tools/log.py."""
-    return re.sub(r"\bbin/v6\b", "v6", re.sub(rf"\b(?:tools/)?({'|'.join(TOOLS)})\.py\b", r"v6-\1", text))
+def installed(text, lib):
+    """A text with the names of the installed commands: v6-log is tools/log.py. `lib` is where their files are."""
+    text = HOME.sub("", text)
+    text = re.sub(r"(?<![\w/.$-])bin/v6\b", "v6", text)
+    text = re.sub(rf"(?<![\w/.-])(?:tools/)?({'|'.join(TOOLS)})\.py\b", r"v6-\1", text)
+    return re.sub(r"(?<![\w/.$-])(examples|tools/c|docs/(?:lions|manual|tools))/", rf"{lib}/\1/", text)
+
+
+def installed_page(text, name, names, lib):
+    """A page of docs, of this name in the repository, as it is installed: a link to what isn't among the names is its words."""
+    def link(found):
+        target = os.path.normpath(os.path.join(os.path.dirname(name), found[3])) if found[3] else name
+        return found[0] if "://" in found[3] or target in names else found[2]
+
+    return LINK.sub(link, installed(text, lib))
 
 
 def plain(text):
     """A piece of a line for roff: marks of Markdown go, and what roff would take is escaped."""
-    text = installed(re.sub(r"\[([^\]]*)\]\([^)]*\)", r"\1", text))
     text = text.replace("\\|", "|").replace("\\", "\\e").replace("-", "\\-")
     text = re.sub(r"\*\*([^*]+)\*\*", r"\\fB\1\\fR", text)
     text = re.sub(r"`([^`]+)`", r"\\fB\1\\fR", text)
@@ -63,7 +88,7 @@ def body(lines):
         elif code:
             out.append(verbatim(line))
         elif line.startswith("    "):
-            out += [".br", verbatim(line)]
+            out += [".br", verbatim(line.strip())]
         elif line.startswith("#"):
             level, _, title = line.partition(" ")
             out.append(f".SH {plain(title).upper()}" if len(level) <= 2 else f".SS {plain(title)}")
@@ -79,27 +104,32 @@ def body(lines):
 
 
 def verbatim(line):
-    return "\\&" + installed(line.strip()).replace("\\", "\\e").replace("-", "\\-")
+    return "\\&" + line.rstrip().expandtabs().replace("\\", "\\e").replace("-", "\\-")
 
 
-def page(name, section):
+def page(name, section, lib):
+    """A manual page."""
     source, about = PAGES[name, section]
-    with open(os.path.join(TOP, "docs", "manual", source), encoding="utf-8") as file:
-        lines = file.read().split("\n")[1:]
-    text = [f'.TH {name.upper()} {section} "" "v6" "Sixth Edition UNIX"', ".SH NAME", f"{name} \\- {plain(about)}",
-            ".SH DESCRIPTION"]
-    return "\n".join(text + body(lines)) + "\n"
+    with open(os.path.join(TOP, "docs", source), encoding="utf-8") as file:
+        head, _, text = LINK.sub(lambda found: "" if found[1] else found[2], installed(file.read(), lib)).partition("\n")
+    about = about or head.lstrip("# ").rpartition(": ")[2]
+    first = [f'.TH {name.upper()} {section} "" "v6" "Sixth Edition UNIX"', ".SH NAME", f"{plain(name)} \\- {plain(about)}",
+             ".SH DESCRIPTION"]
+    last = [".SH SEE ALSO", ", ".join(f"\\fB{plain(one)}\\fR({at})" for one, at in PAGES if (one, at) != (name, section)) + ".",
+            "All pages, with their links, are in", f"\\fB{plain(lib)}/docs\\fR."]
+    return "\n".join(first + body(text.split("\n")) + last) + "\n"
 
 
 def main(words):
-    parser = argparse.ArgumentParser(prog="manpages.py", description="Makes the manual pages of v6, for make install.")
-    parser.add_argument("folder", metavar="FOLDER", help="where man1 and man5 are made")
+    parser = argparse.ArgumentParser(prog="manpages.py", description="Makes the manual pages of v6 and its tools.")
+    parser.add_argument("folder", metavar="FOLDER", help="where man1, man5 and man7 are made")
+    parser.add_argument("--lib", metavar="FOLDER", default="/usr/local/lib/v6", help="where the files are (/usr/local/lib/v6)")
     options = parser.parse_args(words)
     for name, section in PAGES:
         folder = os.path.join(options.folder, f"man{section}")
         os.makedirs(folder, exist_ok=True)
         with open(os.path.join(folder, f"{name}.{section}"), "w", encoding="utf-8") as file:
-            file.write(page(name, section))
+            file.write(page(name, section, options.lib))
     return 0
 
 

@@ -1,5 +1,6 @@
 """Moments of a run: its script is cut there and run again, for its log and for the bytes of core and of the swap area."""
 import bisect
+import collections
 import os
 import threading
 from concurrent.futures import ThreadPoolExecutor
@@ -7,7 +8,7 @@ from concurrent.futures import ThreadPoolExecutor
 from files import read_bytes
 from program import ProgramError, call, named
 from proctable import SWAP_FIRST, SWAP_LAST
-from scriptfile import COUNT, OTHER, fault, lines_of, with_line
+from scriptfile import COUNT, OTHER, fault, lines_of, ticks_of, with_line
 
 CLICK, BLOCK, SEGMENT, U_AREA, ADDRESSES = 64, 512, 8192, 1024, 65536
 SWAP_BYTES = (SWAP_LAST - SWAP_FIRST + 1) * BLOCK
@@ -30,7 +31,7 @@ class Script:
     """The lines of a script, and how many slots they ask for."""
 
     def __init__(self, data):
-        self.lines = []  # of each line its bytes, and the slots of a `run`, or None
+        self.data, self.lines = data, []  # of each line its bytes, and the slots of a `run`, or None
         self.pauses = set()  # after how many slots something else comes
         for number, line in enumerate(lines_of(data), 1):
             found = COUNT.fullmatch(line)
@@ -42,6 +43,15 @@ class Script:
             if count is None:
                 self.pauses.add(self.slots)
             self.slots += count or 0
+
+    def events(self):
+        """After which slots something comes from outside, and how many ticks; 0 where something else comes too."""
+        found, slots = collections.Counter(ticks_of(self.data)), 0
+        for line, count in self.lines:
+            slots += count or 0
+            if line.startswith((b"type", b"byte")):
+                found[slots] = 0
+        return found
 
     def cut(self, slots, more=False):
         """The script up to where so many slots have passed; with `more` also what comes before the next slot."""

@@ -89,3 +89,9 @@ def ticks_of(data):
             yield slots
         elif not OTHER.fullmatch(line):
             raise fault(number, line)
+
+
+def slots_of(data):
+    """How many slots a script asks for, all told."""
+    asked = filter(None, map(COUNT.fullmatch, lines_of(data)))
+    return sum(int(found[2]) for found in asked if found[1] == b"run")

@@ -5,14 +5,10 @@ names and blocks that are lost.
 """
 import struct
 
-from volume import BLOCK, GROUP, LARGE, PACK, ROOT, SWAP, USED, Volume, shown
+from volume import BLOCK, GROUP, LARGE, PACK, ROOT, SWAP, USED, Volume, plural, shown
 
 FREE = 0  # stands for the free list where the owners of a block are told
 INODES = 16  # in a block
-
-
-def plural(count, one, more=None):
-    return f"{count} {one if count == 1 else more or one + 's'}"
 
 
 def walk(volume, number, path):
@@ -216,7 +212,7 @@ class Survey:
         inode = self.volume.inode(number)
         if inode.is_device():
             return "a device"
-        return f"a {'directory' if inode.is_directory() else 'file'} of {inode.size} bytes"
+        return f"a {'directory' if inode.is_directory() else 'file'} of {plural(inode.size, 'byte')}"
 
     def nameless(self):
         """The inodes without a name that aren't below a directory without one either."""

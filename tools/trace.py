@@ -15,15 +15,18 @@ from concurrent.futures import ThreadPoolExecutor
 from dataclasses import dataclass
 
 sys.path.insert(0, os.path.dirname(os.path.abspath(__file__)))
-from callwords import Call, answer, call_at, kept, name_of
+from callwords import Call, answer, kept
 from files import guarded
+from history import History
 from logwords import CHANNELS, clicks
 from moments import WORKERS, MomentError, Run, is_turn
 from program import CORE, V6, ProgramError, add_version
 from proctable import LogFault, Table
 from scriptfile import ScriptError, add_replay, check_head, read_script
+from walk import Before, Walk, before_call
 
 AT_ONCE = 32  # moments whose memory is kept at a time
+SLOTS_A_TURN = 20_000  # of a run that is gone through slot by slot; of one with fewer turns in the kernel these are found by halving
 
 
 @dataclass
@@ -85,7 +88,7 @@ class Tracer:
         execs = {turn.line for turn in found if turn.line and lines[turn.line - 1].startswith("image ")}
         for turn in found:
             turn.is_shown = self.options.first <= turn.line + 1 <= self.options.last
-        wanted = [turn for turn in found if turn.line < self.options.last and (turn.is_shown or turn.line in execs)]
+        wanted = [turn for turn in found if self.is_wanted(turn, turn.line in execs)]
         slots = self.run.slots_of([turn.line for turn in wanted])
         with ThreadPoolExecutor(WORKERS) as pool:
             before = pool.map(lambda turn: self.run.count(slots[turn.line] - 1, True), wanted)
@@ -100,6 +103,10 @@ class Tracer:
                 if turn.is_shown or turn.line in execs:
                     yield turn
 
+    def is_wanted(self, turn, is_exec):
+        """Whether a turn is looked at."""
+        return turn.line < self.options.last and (turn.is_shown or is_exec)
+
     def row(self, slot, count):
         """The row of a slot and its text after so many lines of the log."""
         while self.taken < count:
@@ -109,23 +116,44 @@ class Tracer:
         return row, None if row.text is None else copy.copy(self.table.text(row.text))
 
     def look(self, turn):
-        """What the process has before its turn and after it."""
+        """What the process is about to do before its turn, and what it has after it."""
         old = self.run.memory(turn.slot - 1, True).process(*turn.old)
         new = self.run.memory(turn.slot).process(*turn.new) if turn.kind() == "trap" else None
-        return old, new
+        before = before_call(old)
+        return (Before(kept(old), True) if before.pending else before), new
 
-    def follow(self):
-        turns, forks = self.turns(), iter(self.forks())
-        fork = next(forks, None)
+    def halved(self):
+        """The turns, each with what is known of it, where the slots of their lines are found by halving."""
+        turns = self.turns()
         with ThreadPoolExecutor(WORKERS) as pool:
             while chunk := list(itertools.islice(turns, AT_ONCE)):
-                for turn, (old, new) in zip(chunk, pool.map(self.look, chunk)):
-                    while fork and fork[0] < turn.line:
-                        self.names[fork[2]] = self.names.get(fork[1], "")
-                        fork = next(forks, None)
-                    said = self.told(turn, old, new)
-                    if turn.is_shown:
-                        yield turn, said
+                yield from zip(chunk, pool.map(self.look, chunk))
+
+    def walked(self):
+        """The same, where all slots are gone through, up to the last line that is wanted."""
+        walk, lines = Walk(History(self.run), 0), self.run.lines
+        last = walk.history.last
+        while walk.at < last and walk.line < self.options.last:
+            walk.met = None
+            walk.go(last)
+            met = walk.met
+            if met:
+                place = next(number for number in range(met.first, walk.line) if is_turn(lines[number]))
+                turn = Turn(place, lines[place].split(" "), met.at, met.number, lines[met.first : walk.line])
+                turn.is_shown = self.options.first <= place + 1 <= self.options.last and self.options.process in (None, met.number)
+                yield turn, (met.before, walk.process(met.slot) if turn.kind() == "trap" else None)
+
+    def follow(self):
+        forks = iter(self.forks())
+        fork = next(forks, None)
+        turns = sum(map(is_turn, self.run.lines))
+        for turn, (old, new) in self.walked() if self.run.script.slots <= SLOTS_A_TURN * (turns + 1) else self.halved():
+            while fork and fork[0] < turn.line:
+                self.names[fork[2]] = self.names.get(fork[1], "")
+                fork = next(forks, None)
+            said = self.told(turn, old, new)
+            if turn.is_shown:
+                yield turn, said
 
     def forks(self):
         """(line, parent, child) of each fork of the log."""
@@ -139,9 +167,7 @@ class Tracer:
         slot = turn.place()
         if slot in self.waiting:
             return self.waiting[slot], False
-        if old.pending:
-            return kept(old), False
-        return call_at(old), True
+        return old.call, not old.pending
 
     def told(self, turn, old, new):
         """What a turn tells, in words."""
@@ -161,7 +187,7 @@ class Tracer:
             fault = f"a fault, which is signal {sent[2]}" if sent else "a fault"
             return who + (f"a larger stack: the image has {grown[2]} clicks" if grown and not sent else fault)
         if call.name == "exec" and turn.made("image"):
-            self.names[slot] = name_of(old)
+            self.names[slot] = old.name
         return f"{who}{call.told()} = {answer(call, new)}{self.waited(turn, call)}{shared(turn)}"
 
     def ends(self, turn, call):

@@ -15,11 +15,12 @@ sys.path.insert(0, os.path.dirname(os.path.abspath(__file__)))
 import compiler
 from assembler import Assembler
 from dialogue import MOST_SLOTS, Dialogue, DialogueError, Machine, Refused, total
-from files import guarded, read_bytes, replace
+from files import guarded, place_of, read_bytes, replace
 from processes import BUSY, RUNS, WAITS
 from program import CORE, V6, ProgramError, add_version, call
-from volume import CHARACTER, ROOT, DiskError, Volume, check_name
+from volume import CHARACTER, ROOT, DiskError, Volume, check_name, plural
 
+HERE, WRITTEN = b"here", b"written"  # the directory of the root that is the folder, and the file of /etc that is the output
 FAILED, OUT_OF_SLOTS, STOPPED = 125, 124, 126  # the status where it isn't the program's own
 ENDS = 20  # how often the end of a file is typed to a program that reads on
 PIECE = 200  # keys that are typed at once: 256 may wait
@@ -30,7 +31,8 @@ WHY = {2: "no such file", 7: "its arguments have more than 510 bytes", 8: "it is
 # how a program ends by a signal, in the words of sh(I)
 SIGNALS = {1: "Hangup", 2: "Interrupt", 3: "Quit", 4: "Illegal instruction", 5: "Trace/BPT trap", 6: "IOT trap", 7: "EMT trap",
            8: "Floating exception", 9: "Killed", 10: "Bus error", 11: "Memory fault", 12: "Bad system call", 13: "Broken pipe"}
-# The first program of the machine: it opens the console for what it runs, waits for that, and keeps how it ended.
+# The first program of the machine: it opens the console for what it runs, waits for that, and keeps how it ended. What the
+# child does before its exec is put in.
 FIRST = """
 	sys	open; tty; 2
 	sys	dup
@@ -47,7 +49,8 @@ FIRST = """
 	mov	r1,word
 	mov	$0f,r1
 	br	keep
-child:	sys	exec; name; list
+child:{before}
+	sys	exec; name; list
 	mov	r0,word
 	mov	$1f,r1
 keep:	mov	r1,2f
@@ -61,10 +64,15 @@ tty:	</dev/tty8\\0>
 modes:	0; -1; 0		/ no key erases, none is shown, and what is written goes out as it is
 word:	0
 """
+IN_FOLDER = "\n	sys	chdir; here"
+TO_FILE = "\n	mov	$1,r0\n	sys	close\n	sys	open; out; 1"
 
 
 class TryError(Exception):
     """Why the program can't be run; the text tells it."""
+
+
+KNOWN = (TryError, DiskError, DialogueError, ProgramError)
 
 
 def program_of(options):
@@ -88,11 +96,14 @@ def text(data):
     return "".join(f".byte {byte:o}\n" for byte in data + b"\0")
 
 
-def first_program(path, arguments):
+def first_program(path, options):
     """The first program of the machine, for a program and its arguments."""
-    words = [os.path.basename(path), *arguments]
-    source = FIRST + "list:	" + "; ".join(f"arg{n}" for n in range(len(words))) + "; 0\nname:\n" + text(path)
+    words = [os.path.basename(path), *(os.fsencode(word) for word in options.arguments)]
+    before = IN_FOLDER * has_folder(options) + TO_FILE * options.binary
+    addresses = "; ".join(f"arg{n}" for n in range(len(words)))
+    source = FIRST.format(before=before) + f"list:	{addresses}; 0\nname:\n{text(path)}"
     source += "".join(f"arg{n}:\n{text(word)}" for n, word in enumerate(words))
+    source += f"here:\n{text(b'/' + HERE)}out:\n{text(b'/etc/' + WRITTEN)}"
     return Assembler().assemble([("try.py", source)])
 
 
@@ -110,14 +121,25 @@ def disk_of(options, program, name):
     if volume.look(dev, b"tty8") is None:
         volume.make(dev, b"tty8", CHARACTER | 0o666, volume.time)
     put(volume, programs, name, program, 0o755)
-    put(volume, etc, b"init", first_program(b"/bin/" + name, [os.fsencode(word) for word in options.arguments]), 0o755)
+    put(volume, etc, b"init", first_program(b"/bin/" + name, options), 0o755)
+    put(volume, etc, b"ended", b"\0", 0o600)  # keeps a block for how the program ends, should it fill the disk
+    if options.binary:
+        put(volume, etc, WRITTEN, b"", 0o600)
     for file in options.files:
         put(volume, ROOT, os.fsencode(os.path.basename(file)), read_bytes(file), 0o644)
+    if has_folder(options):
+        import tryback
+
+        tryback.put_folder(volume, options.folder, HERE)
     if not options.disk:
         for major, minor, device in ((8, 2, b"null"),):
             volume.make(dev, device, CHARACTER | 0o666, 0, major << 8 | minor)
         directory(volume, b"tmp")
     return volume.image(short=True)
+
+
+def has_folder(options):
+    return options.folder is not None or options.back is not None
 
 
 def directory(volume, name):
@@ -167,15 +189,25 @@ def escaped(data):
     return bytes(keys)
 
 
-class Run:
-    """A program as it runs, with what is typed to it."""
+class Remembering(Machine):
+    """A machine that knows what it has played last, so that a run that the system stops leaves its disk too."""
 
-    def __init__(self, machine, limit):
-        self.dialogue, self.machine, self.shown = Dialogue(machine, limit), machine, 0
+    lines = ()
+
+    def play(self, lines, *words):
+        self.lines = list(lines)
+        return super().play(lines, *words)
+
+
+class Run:
+    """A program as it runs, with what is typed to it. What it shows goes to a stream of the host."""
+
+    def __init__(self, machine, limit, stream):
+        self.dialogue, self.machine, self.stream, self.shown = Dialogue(machine, limit), machine, stream, 0
 
     def show(self, term):
-        sys.stdout.buffer.write(term[self.shown :])
-        sys.stdout.buffer.flush()
+        self.stream.write(term[self.shown :])
+        self.stream.flush()
         self.shown = len(term)
 
     def add(self, keys):
@@ -222,24 +254,48 @@ class Run:
             if not n:
                 count -= self.least(done, step, b"\nimage 2 ")
             done += step
-        return f"{'about ' if count > EXACT else ''}{count} slots"
+        return f"{'about ' if count > EXACT else ''}{plural(count, 'slot')}"
+
+
+def bytes_of(volume, path):
+    return volume.read(volume.inode(volume.find(path)))
 
 
 def word_of(volume, path):
     """A word that the first program has kept in a file, or None."""
     try:
-        data = volume.read(volume.inode(volume.find(path)))
+        data = bytes_of(volume, path)
     except DiskError:
         return None
     return struct.unpack("<H", data)[0] if len(data) == 2 else None
 
 
-def finish(run, found, options):
-    """Tells how the program ended; gives its status."""
-    image = run.machine.disk(run.dialogue.lines())
+def come_home(run, lines, options):
+    """Brings home what the run with these lines leaves: its disk, its folder, and its output where that is a file. Gives the
+    disk, and whether it is full."""
+    image = run.machine.disk(lines)
+    volume = Volume(image)
     if options.final:
         replace(options.final, image)
-    volume = Volume(image)
+    try:
+        if options.back is not None:
+            import tryback
+
+            for line in tryback.bring(image, volume, HERE, options):
+                tell(line)
+    finally:
+        if options.binary:
+            sys.stdout.buffer.write(bytes_of(volume, b"/etc/" + WRITTEN))
+            sys.stdout.buffer.flush()
+    is_full = (options.binary or options.back is not None) and not volume.count_free()
+    if is_full:
+        tell("the disk is full, so what was written may have been cut")
+    return volume, is_full
+
+
+def finish(run, found, options):
+    """Tells how the program ended; gives its status."""
+    volume, is_full = come_home(run, run.dialogue.lines(), options)
     refused, ended = word_of(volume, b"/etc/refused"), word_of(volume, b"/etc/ended")
     if refused is not None:
         raise TryError(f"{options.program}: {WHY.get(refused, f'error {refused}')}")
@@ -252,14 +308,32 @@ def finish(run, found, options):
         tell(SIGNALS.get(by, f"Signal {by}") + " -- Core dumped" * bool(ended & 0o200))
     if options.tell:
         tell(f"status {status}, {run.slots()}")
-    return status
+    return status or FAILED * is_full
 
 
 def tell(text):
     print(f"try.py: {text}", file=sys.stderr, flush=True)
 
 
+def stopped(run, error, options):
+    """The status of a run that the system has stopped, of which all comes home that there is."""
+    run.show(error.term)
+    tell(str(error))
+    if options.binary or options.back is not None:
+        come_home(run, run.machine.lines, options)
+    return STOPPED
+
+
+def refuse_early(options):
+    """Refuses before the run what could not be written behind it."""
+    if options.back is not None and os.path.lexists(options.back):
+        raise TryError(f"{options.back}: there already, and a folder is to be made")
+    for name in filter(None, (options.back, options.final)):
+        place_of(name)
+
+
 def run_program(options):
+    refuse_early(options)
     program, assembler = program_of(options)
     name = os.fsencode(os.path.basename(options.program).removesuffix(".s").removesuffix(".c"))
     try:
@@ -270,13 +344,12 @@ def run_program(options):
         image = os.path.join(folder, "image")
         with open(image, "wb") as file:
             file.write(disk_of(options, program, name))
-        run = Run(Machine(options.v6, image, options.core, folder), options.slots)
+        stream = sys.stderr.buffer if options.binary else sys.stdout.buffer
+        run = Run(Remembering(options.v6, image, options.core, folder), options.slots, stream)
         try:
             found = run.run(Input(sys.stdin.buffer))
         except Refused as error:
-            run.show(error.term)
-            tell(str(error))
-            return STOPPED
+            return stopped(run, error, options)
         return finish(run, found, options)
 
 
@@ -286,6 +359,9 @@ def options_of(words):
     parser.add_argument("--with", dest="sources", metavar="FILE", action="append", default=[], help="another source")
     parser.add_argument("--file", dest="files", metavar="FILE", action="append", default=[],
                         help="a file for the disk's root")
+    parser.add_argument("--folder", metavar="DIR", help="a folder whose copy is the program's current directory")
+    parser.add_argument("--back", metavar="NEW", help="a new folder for what stands there when the program has ended")
+    parser.add_argument("--binary", action="store_true", help="the output is a file of the disk, and comes home byte for byte")
     parser.add_argument("--disk", metavar="IMAGE", help="a copy of this disk in the place of a small one")
     parser.add_argument("--final", metavar="FILE", help="where the disk goes that the run leaves")
     parser.add_argument("--core", type=int, default=CORE, help=f"the size of core, in clicks ({CORE})")
@@ -302,7 +378,7 @@ def options_of(words):
 
 def main(words):
     options = options_of(words)
-    return guarded("try.py", lambda: run_program(options), TryError, DiskError, DialogueError, ProgramError, failed=FAILED)
+    return guarded("try.py", lambda: run_program(options), *KNOWN, failed=FAILED)
 
 
 if __name__ == "__main__":

@@ -29,6 +29,11 @@ class DiskError(Exception):
     """What can't be done with a disk; the text tells it."""
 
 
+def plural(count, one, more=None):
+    """A number and what is counted: `1 block`, `2 blocks`."""
+    return f"{count} {one if count == 1 else more or one + 's'}"
+
+
 def shown(name):
     """The bytes of a name for people to read: what isn't printed, and a backslash, in three octal digits."""
     return "".join(chr(b) if 0o40 <= b < 0o177 and b != 0o134 else f"\\{b:03o}" for b in name)
@@ -305,7 +310,8 @@ class Volume:
         held = sorted(set(range(length(len(data)))) - set(holes))
         needs, free = blocks_for(held), self.count_free()
         if needs > free:
-            raise DiskError(f"no room for {len(data)} bytes: they need {needs} blocks, and {free} are free")
+            told = f"{plural(len(data), 'byte')}: {'it needs' if len(data) == 1 else 'they need'} {plural(needs, 'block')}"
+            raise DiskError(f"no room for {told}, and {free} {'is' if free == 1 else 'are'} free")
         for number in held:
             self.change(self.touch(inode, number), 0, data[number * BLOCK : number * BLOCK + BLOCK])
         inode.size = len(data)

@@ -200,7 +200,8 @@ class Folders(Disks):
 """)
         volume = Volume(read(image))
         self.assertEqual((volume.time, volume.inode(8).changed, len(read(image))), (65537, 65537, 200 * 512))
-        self.assertEqual(self.disk("get", image, "/", self.path("folder")), (0, "", UNKEPT.format(2, 1)))
+        self.assertEqual(self.disk("get", image, "/", self.path("folder")),
+                         (0, "", UNKEPT.format(2, 1).replace("1 files", "1 file")))
         self.done("get", image, "/", self.path("back"), "--table", self.path("table2"))
         self.assertIn("/a\\040b 0644 0 0\n", read(self.path("table2")).decode())
 
@@ -276,7 +277,7 @@ class Refusals(Disks):
                          "new", self.path("x"), self.path("from"), "--blocks", blocks, "--inodes", inodes)
         image = self.new({}, "--blocks", "4", "--inodes", "16")
         self.done("put", image, self.put("empty", b""), "/a")
-        self.refused("/b: no room for 1 bytes: they need 1 blocks, and 0 are free", "put", image, file, "/b")
+        self.refused("/b: no room for 1 byte: it needs 1 block, and 0 are free", "put", image, file, "/b")
         os.makedirs(self.path("from/d"), exist_ok=True)
         self.refused("/d: no block is free", "put", image, self.path("from/d"), "/d")
 

@@ -5,6 +5,7 @@ import re
 import shutil
 import subprocess
 import sys
+import tempfile
 import unittest
 
 from common import TOP, Case, read, tool
@@ -16,63 +17,210 @@ ENVIRONMENT = {**{key: value for key, value in os.environ.items() if key != "V6"
 class Words(Case):
     def test_help_and_version(self):
         program = hashlib.sha256(read(os.path.join(TOP, "bin", "v6"))).hexdigest()[:12]
-        for name in ("as", "cc", "console", "disk", "log", "look", "row", "run", "trace", "try"):
+        for name in ("as", "cc", "console", "disk", "log", "look", "page", "row", "run", "trace", "try"):
             self.assertEqual(self.call(tool(name).main, "--version"),
                              (0, f"{name}.py of the repository whose bin/v6 is {program}\n", ""))
-        for name in ("as", "cc", "console", "disk", "log", "look", "manpages", "row", "run", "trace", "try"):
+        for name in ("as", "cc", "console", "disk", "install", "log", "look", "manpages", "page", "row", "run", "trace", "try"):
             status, said, _ = self.call(tool(name).main, "--help")
             self.assertEqual((status, said.split()[:2]), (0, ["usage:", name + ".py"]))
         self.assertFalse(os.path.exists("--help"))
 
 
+def make(*words):
+    return subprocess.run(["make", "-s", "-C", TOP, *words], env=ENVIRONMENT, capture_output=True, text=True)
+
+
 @unittest.skipUnless(shutil.which("make"), "make isn't there")
 class Install(Case):
-    def make(self, *words):
-        done = subprocess.run(["make", "-s", "-C", TOP, *words, f"DESTDIR={self.folder}"], env=ENVIRONMENT,
-                              capture_output=True)
-        self.assertEqual((done.returncode, done.stderr), (0, b""))
+    """What is put, and what goes."""
 
-    def files(self):
-        return sorted(os.path.relpath(os.path.join(folder, name), self.folder) for folder, _,
-                      names in os.walk(self.folder) for name in names)
+    def make(self, *words, status=0):
+        """What make says, where it ends so."""
+        done = make(*words)
+        self.assertEqual((done.returncode, done.stdout), (status, ""), done.stderr)
+        return done.stderr
 
-    def test_install(self):
-        self.make("install", "PREFIX=/usr")
-        found = self.files()
+    def below(self, folder=""):
+        """All names below a folder of the test's."""
+        return sorted(os.path.relpath(os.path.join(place, name), self.path(folder)) for place, folders, names
+                      in os.walk(self.path(folder)) for name in folders + names)
+
+    def test_uninstall_leaves_nothing(self):
+        """All goes, with the folders that were made, and what Python has compiled; what was there before stays."""
+        os.makedirs(self.path("usr/bin"))
+        self.put("usr/bin/mine", b"mine")
+        before, words = self.below(), ("PREFIX=/usr", f"DESTDIR={self.folder}")
+        self.assertEqual(self.make("install", *words), "")
+        found = self.below()
         for name in ("usr/bin/v6", "usr/bin/v6-console", "usr/bin/v6-try", "usr/lib/v6/tools/volume.py",
-                     "usr/lib/v6/tools/c/build-gcc.sh", "usr/share/man/man1/v6.1",
-                     "usr/share/man/man5/v6log.5", "usr/share/bash-completion/completions/v6-disk"):
+                     "usr/lib/v6/examples/shell/image", "usr/lib/v6/examples/shell/src/lib.s", "usr/lib/v6/tools/c/build-gcc.sh", "usr/lib/v6/docs/tools/log.svg",
+                     "usr/share/doc/v6", "usr/share/man/man1/v6.1", "usr/share/man/man5/v6log.5", "usr/share/man/man1/v6-cc.1",
+                     "usr/share/bash-completion/completions/v6-disk"):
             self.assertIn(name, found)
         self.assertEqual(read(self.path("usr/bin/v6")), read(os.path.join(TOP, "bin", "v6")))
-        self.make("uninstall", "PREFIX=/usr")
-        self.assertEqual(self.files(), [])
+        self.assertEqual(self.make("install", *words), "")  # a second time nothing has changed
+        self.assertEqual(self.below(), found)
+        self.assertEqual(self.make("uninstall", *words), "")
+        self.assertEqual(self.below(), before)
+        self.assertIn("v6 isn't installed there\n", self.make("uninstall", *words, status=2))
+
+    def test_what_was_changed_is_kept(self):
+        """A disk of the user's, in the place of the one that was installed, and another program's file."""
+        words, image = ("PREFIX=", f"DESTDIR={self.folder}"), "lib/v6/examples/shell/image"
+        os.mkdir(self.path("bin"))
+        other = self.put("bin/v6-as", b"another")
+        self.assertEqual(self.make("install", *words), f"install.py: {other} isn't as it was installed, and is {other}.1 now\n")
+        self.assertEqual(read(other + ".1"), b"another")
+        self.put(image, b"typed at")
+        self.assertIn("/image.1 now\n", self.make("install", *words))
+        self.assertEqual(read(self.path(image + ".1")), b"typed at")
+        self.assertEqual(read(self.path(image)), read(os.path.join(TOP, "examples", "shell", "image")))
+        self.put(image, b"typed at again")
+        self.assertIn("/image isn't as it was installed, and stays\n", self.make("uninstall", *words))
+        self.assertEqual([name for name in self.below() if os.path.isfile(self.path(name))],
+                         ["bin/v6-as.1", image, image + ".1"])
+
+    def test_a_folder_that_can_t_be_written(self):
+        """A line names it, and nothing is put."""
+        name = self.put("share", b"")
+        said = self.make("install", f"PREFIX={self.folder}", status=2).splitlines()
+        self.assertEqual([line for line in said if not line.startswith("make")], [f"install.py: {name}: Not a directory"])
+        self.assertEqual(self.below(), ["share"])
+        said = self.make("install", f"PREFIX={self.path('a b')}", status=2).splitlines()
+        self.assertIn(f"install.py: error: {self.path('a b')!r}: a name without quotes, blanks and backslashes is wanted", said)
+
+
+
+@unittest.skipUnless(shutil.which("make"), "make isn't there")
+class Installed(Case):
+    """What was put, as a user meets it who has nothing of the repository."""
+
+    @classmethod
+    def setUpClass(cls):
+        folder = tempfile.TemporaryDirectory()
+        cls.addClassCleanup(folder.cleanup)
+        cls.there, done = folder.name, make("install", f"PREFIX={folder.name}")
+        assert (done.returncode, done.stderr) == (0, ""), done.stderr
+
+    def setUp(self):
+        super().setUp()
+        os.mkdir(self.path("mine"))
+
+    def test_completion_and_links_lead_somewhere(self):
+        places = [os.path.join(place, name) for place, folders, names in os.walk(self.there) for name in folders + names]
+        for place in places:
+            self.assertTrue(os.path.exists(place), place)
+            if place.endswith(".md"):
+                for target in re.findall(r"\]\(([^)#]+)(?:#[^)]*)?\)", read(place).decode()):
+                    self.assertTrue(os.path.exists(os.path.join(os.path.dirname(place), target)), (place, target))
+                self.assertNotIn("in the repository -->", read(place).decode())
+
+    def user(self, command, status=0):
+        """What a user sees who has the installed commands on the PATH and nothing of the repository."""
+        path = f"{self.there}/bin:{os.path.dirname(sys.executable)}:/usr/bin:/bin"
+        done = subprocess.run(["sh", "-ec", command], cwd=self.path("mine"), env={"PATH": path, "HOME": self.folder},
+                              stdin=subprocess.DEVNULL, capture_output=True, text=True)
+        self.assertEqual(done.returncode, status, done.stderr)
+        return done.stdout, done.stderr
+
+    def blocks(self, name):
+        return re.findall(r"^```\n(.*?)^```$", read(os.path.join(self.there, "lib/v6/docs", name)).decode(), re.M | re.S)
+
+    def test_a_first_evening_as_its_page_stands(self):
+        """The commands of the installed page, in a folder outside the repository."""
+        source, make, dialogue, home, *_ = self.blocks("tools/README.md")
+        self.put("mine/hello.s", source.encode())
+        self.user(make)
+        command, _, screen = dialogue.partition("\n\n")
+        typed = "".join(line[2:].lower() + "\n" for line in screen.splitlines() if line.startswith("# "))
+        self.put("mine/typed", typed.encode())
+        self.assertEqual(self.user(command + " <typed")[0].replace("\r", ""), screen)
+        self.user(home)
+        self.assertEqual(read(self.path("mine/who")), b"hello, ken\nhello, dennis\n")
+        for block in self.blocks("tools/try.md")[:1]:
+            *_, last = re.split(r"^\$ ", block, flags=re.M)
+            command, _, shown = last.partition("\n")
+            self.assertEqual("".join(self.user(command)), shown)
+
+    def test_a_lesson_as_its_page_stands(self):
+        for block in self.blocks("lions/main.md"):
+            for command, shown in re.findall(r"^\$ (.*)\n((?:(?!\$ ).*\n)*)", block, re.M):
+                self.assertEqual(self.user(command)[0].replace("\r", ""), shown, command)
+
+    def test_a_console_without_an_image(self):
+        """It types at a copy of the shell's disk, which is made once, and changed where it is asked for alone."""
+        original, copy = read(os.path.join(TOP, "examples", "shell", "image")), self.path("mine/my.image")
+        out, said = self.user("echo 'cat /usr/sys/ken/slp.c' | v6-console --script evening")
+        self.assertIn("YOU ARE NOT EXPECTED TO UNDERSTAND THIS", out)
+        self.assertIn("console: my.image is a copy of the shell's disk", said)
+        self.assertEqual(read(copy), original)
+        self.user("echo 'echo hi >/usr/x' | v6-console --disk my.image")
+        kept = read(copy)
+        out, said = self.user("echo 'cat /usr/x' | v6-console")
+        self.assertEqual(out.replace("\r", ""), "# CAT /USR/X\nHI\n# ")
+        self.assertIn("console: the disk is my.image, which was here\n", said)
+        self.assertEqual(read(copy), kept)
+        self.put("mine/my.image", b"no disk")
+        _, said = self.user("echo ls | v6-console", status=1)
+        self.assertEqual(read(copy), b"no disk")
+        self.assertEqual(len(said.strip().split("\nconsole: ")), 2)
+        os.unlink(copy)
+        os.symlink("nowhere/there", copy)
+        _, said = self.user("echo ls | v6-console", status=1)
+        self.assertEqual(said.splitlines()[-1], "console: my.image: No such file or directory")
 
     def test_a_tool_from_there(self):
-        prefix = self.path("here")
-        done = subprocess.run(["make", "-s", "-C", TOP, "install", f"PREFIX={prefix}"], env=ENVIRONMENT, capture_output=True)
-        self.assertEqual((done.returncode, done.stderr), (0, b""))
-        plain = self.put("it.s", b"\t.globl\t_main\n_main:\n\tclr\tr0\n\trts\tpc\n")
-        done = subprocess.run([prefix + "/bin/v6-cc", "-o", self.path("it"), plain], env=ENVIRONMENT, capture_output=True)
-        self.assertEqual((done.returncode, done.stderr), (0, b""))
-        image = os.path.join(TOP, "examples", "shell", "image")
-        done = subprocess.run([prefix + "/bin/v6-disk", "cat", image, "/usr/sys/ken/slp.c"], env=ENVIRONMENT,
-                              capture_output=True)
-        self.assertEqual((done.returncode, done.stderr, done.stdout[:4]), (0, b"", b"\t/*\n"))
+        """Also where DESTDIR stands before it, and by a link; it calls itself as it is called."""
+        self.assertEqual(make("install", "PREFIX=/usr", f"DESTDIR={self.folder}").stderr, "")
+        self.put("it.s", b"\t.globl\t_main\n_main:\n\tclr\tr0\n\trts\tpc\n")
+        self.user(f"{self.folder}/usr/bin/v6-cc -o it ../it.s")
+        os.symlink("../usr/bin/v6-disk", self.path("mine/disk"))
+        self.assertEqual(self.user("./disk cat ../usr/lib/v6/examples/shell/image /usr/sys/ken/slp.c")[0][:4], "\t/*\n")
+        self.assertEqual(self.user("./disk cat nofile /x", status=1)[1], "v6-disk: nofile: No such file or directory\n")
+        self.assertEqual(self.user("./disk --help")[0][:14], "usage: v6-disk")
+        self.assertIn(b"/usr/lib/v6/tools/program.py", read(self.compiled("program")))  # so a fault would name it, too
+        self.assertNotIn(self.folder.encode(), read(self.compiled("program")))
+
+    def compiled(self, name):
+        folder = self.path("usr/lib/v6/tools/__pycache__")
+        return os.path.join(folder, next(one for one in os.listdir(folder) if one.startswith(name + ".")))
+
+    def pages(self):
+        folder = os.path.join(self.there, "share/man")
+        return {name: read(os.path.join(place, name)).decode() for place, _, names in os.walk(folder) for name in names}
 
     def test_pages(self):
-        """Each request of roff is one of man(7), and what Markdown has for marks is gone."""
-        self.make("install", "PREFIX=")
-        for name in ("man1/v6.1", "man5/v6script.5", "man5/v6log.5"):
-            page = read(self.path("share/man/" + name)).decode()
+        """Each tool has one; each request of roff is one of man(7), and what Markdown has for marks is gone."""
+        pages, commands = self.pages(), os.listdir(os.path.join(self.there, "bin"))
+        tools = "|".join(command[3:] for command in commands if command[2:])
+        self.assertEqual(set(pages), {name + ".1" for name in commands} | {"v6script.5", "v6log.5", "v6shell.7"})
+        self.assertGreater(len(commands), 9)
+        for name, page in pages.items():
             lines = page.split("\n")
             self.assertEqual(lines[1], ".SH NAME")
+            self.assertEqual(lines[2].replace("\\-", "-").split(" - ")[0], name[:-2])
             requests = {line.split()[0] for line in lines if line.startswith(".")}
             self.assertLessEqual(requests, {".TH", ".SH", ".SS", ".PP", ".TP", ".IP", ".nf", ".fi", ".br"})
-            self.assertIsNone(re.search(r"\]\(|^\||`|\*\*", page, re.M))
-            self.assertIsNone(re.search(r"\w\.py\b|bin/v6", page.replace("\\-", "-")), name)
-        self.assertIn("v6-disk check IMAGE", read(self.path("share/man/man1/v6.1")).decode().replace("\\-", "-"))
-        self.assertIn("\n.TP\n\\fBtick\\fR\none tick of the clock\n", read(self.path("share/man/man5/v6script.5")).decode())
+            prose = "\n".join(line for line in lines if not line.startswith("\\&"))  # what is code stays as it is
+            self.assertIsNone(re.search(r"\]\(|^\||`|\*\*|<!--", prose, re.M), name)
+            self.assertIsNone(re.search(rf"(?<![\w/])(tools/)?({tools})\.py|bin/v6|(?<!/)\bexamples/", page.replace("\\-", "-")), name)
+        self.assertIn("v6-disk check IMAGE", pages["v6.1"].replace("\\-", "-"))
+        self.assertIn("\n.TP\n\\fBtick\\fR\none tick of the clock\n", pages["v6script.5"])
 
+    @unittest.skipUnless(shutil.which("man"), "man isn't there")
+    def test_man(self):
+        """It shows each page without a warning, and what stands in code as it stands there."""
+        for name in self.pages():
+            place = os.path.join(self.there, f"share/man/man{name[-1]}", name)
+            done = subprocess.run(["man", "--warnings", "-l", place], capture_output=True, text=True,
+                                  env={**ENVIRONMENT, "MANWIDTH": "100", "LC_ALL": "C.UTF-8"})
+            self.assertEqual((done.returncode, done.stderr), (0, ""), name)
+            if name == "v6-as.1":
+                self.assertIn("\n       tty:    </dev/tty8\\0>\n", done.stdout)
+            self.assertRegex(done.stdout, rf"\n +{name[:-2]} - .")
+
+
+class Completion(Case):
     def completed(self, words, at=None):
         """What the words are completed to, the last of them or one by its place."""
         at = len(words.split()) - 1 if at is None else at
@@ -87,7 +235,7 @@ class Install(Case):
     @unittest.skipUnless(shutil.which("bash"), "bash isn't there")
     def test_completion_knows_all_options(self):
         """Those that the help of each tool, and of each command of disk.py and log.py, names."""
-        for name in ("as", "cc", "console", "look", "row", "run", "trace", "try"):
+        for name in ("as", "cc", "console", "look", "page", "row", "run", "trace", "try"):
             self.assertEqual(set(self.completed(f"{TOP}/tools/{name}.py x -", 2)), self.options(name), name)
         for name in ("disk", "log"):
             self.assertEqual(set(self.completed(f"{name}.py -", 1)), self.options(name))

@@ -1,61 +1,17 @@
 """The runs for the chapters of Lions' book: what each command on the pages prints is what the page shows."""
 import os
 import re
-import subprocess
 import unittest
 
-from common import TOP, V6, Case, read
+from common import TOP, read
+from pages import PICTURE, Runs, broken_links, commands
 
 LIONS = os.path.join(TOP, "docs", "lions")
-BLOCK = re.compile(r"^```\n(\$ .*?)^```$", re.M | re.S)
-PICTURE = re.compile(r"!\[[^]]*\]\(([a-z]+\.svg)\)")
-LINK = re.compile(r"\]\(([^)#]*)(?:#([^)]*))?\)")
 QUESTION = re.compile(r"\[the answer\]\(answers\.md#([a-z0-9-]+)\)")
 
 
-def commands(page):
-    """The commands of a page, each with what the page shows that it prints."""
-    found = []
-    for block in BLOCK.findall(page):
-        for line in block.splitlines(True):
-            if line.startswith("$ "):
-                found.append([line[2:-1], ""])
-            else:
-                found[-1][1] += line
-    return found
-
-
-def anchors(page):
-    return {re.sub(r"[^a-z0-9 _-]", "", line.lstrip("# ").lower()).replace(" ", "-")
-            for line in page.splitlines() if line.startswith("#")}
-
-
-class Runs(Case):
-    """A folder in which the commands are played, one page after the other in folders of their own."""
-
-    def setUp(self):
-        super().setUp()
-        for name in ("docs", "examples", "tools"):
-            os.symlink(os.path.join(TOP, name), self.path(name))
-        os.mkdir(self.path("bin"))
-        self.put("bin/v6", f'#!/bin/sh\nexec {V6} "$@"\n'.encode())
-        os.chmod(self.path("bin/v6"), 0o755)
-
-    def play(self, command):
-        done = subprocess.run(["sh", "-c", command], cwd=self.folder, env={**os.environ, "V6": self.path("bin/v6")},
-                              stdout=subprocess.PIPE, stderr=subprocess.STDOUT)
-        return done.returncode, done.stdout.decode().replace("\r\n", "\n")
-
-    def played(self, name):
-        page = read(os.path.join(LIONS, name)).decode()
-        for command, shown in commands(page):
-            self.assertEqual(self.play(command), (0, shown), command)
-        for picture in PICTURE.findall(page):
-            self.assertEqual(read(self.path(picture)), read(os.path.join(LIONS, picture)))
-
-
 def page_class(name):
-    return type(name.title(), (Runs,), {"test_page": lambda self: self.played(name + ".md"), "__module__": __name__,
+    return type(name.title(), (Runs,), {"test_page": lambda self: self.played("lions", name + ".md"), "__module__": __name__,
                                         "__doc__": f"The page {name}."})
 
 
@@ -63,7 +19,7 @@ class First(Runs):
     """The page that leads to the others."""
 
     def test_page(self):
-        self.played("README.md")
+        self.played("lions", "README.md")
 
 
 PAGES = sorted(name[:-3] for name in os.listdir(LIONS) if name.endswith(".md") and name not in ("README.md", "answers.md"))
@@ -78,11 +34,7 @@ class Links(unittest.TestCase):
     def test_links(self):
         """Each leads to a file that is there, and to a heading of it."""
         for name in (*(page + ".md" for page in PAGES), "README.md", "answers.md"):
-            for file, heading in LINK.findall(self.page(name)):
-                target = os.path.normpath(os.path.join(LIONS, file)) if file else os.path.join(LIONS, name)
-                self.assertTrue(os.path.exists(target), (name, file))
-                if heading:
-                    self.assertIn(heading, anchors(read(target).decode()), (name, file))
+            self.assertEqual(broken_links("lions", name), [], name)
 
     def test_pictures(self):
         """Each page has one, which one of its commands makes."""

@@ -208,6 +208,50 @@ class Log(Case):
                                 "process 1: 21 to 50", "process 2: 4003 to 4006", "process 1: 4007 to 4010", "process 2: 21 to 50",
                                 "process 2: 4003 to 4003"})
 
+    def drawn(self, text, *words):
+        """The height of a picture of a log, its texts as (x, y, text), and its pieces as (y, height, text)."""
+        status, shown, error = self.log("draw", *words, self.text("log", text))
+        self.assertEqual((status, error), (0, ""))
+        picture = tree.fromstring(shown)
+        pieces = [(float(rect.get("y")), float(rect.get("height")), rect.find(SVG + "title").text) for rect in picture.iter(SVG + "rect")
+                  if rect.find(SVG + "title") is not None and ":" in rect.find(SVG + "title").text]
+        return (int(picture.get("height")), [(float(one.get("x")), float(one.get("y")), one.text) for one in picture.iter(SVG + "text")],
+                pieces)
+
+    def test_a_map_is_as_high_as_core(self):
+        """An image of 17 clicks is that part of the map of core, whatever is held; a large core has a higher map."""
+        for core, high in ((100, 240), (1200, 300), (3968, 480)):
+            _, texts, pieces = self.drawn(f"boot {core} 0\nsleep 0 -100 runout\ngo 1\nend\n")
+            (top, height, told), = pieces
+            self.assertEqual((told, round(height, 1)), ("process 1: 1 to 17", round(17 * high / core, 1)))
+            numbers = [(at, text) for x, at, text in texts if x == 145]
+            self.assertEqual((numbers[0], numbers[-1]), ((top + 8, "1"), (top + high, str(core))))
+
+    def test_no_empty_swap_map(self):
+        """Where nobody ever held a block there is no map of the swap area; else it ends where the last was held."""
+        begins = "boot 100 0\nsleep 0 -100 runout\ngo 1\n"
+        without, texts, _ = self.drawn(begins + "end\n")
+        self.assertNotIn("swap area: blocks", [text for *_, text in texts])
+        for line, last, high in (("out 1 4000", 4002, 24), ("out 1 4010", 4012, 60), ("out 1 4869", 4871, 150)):
+            height, texts, _ = self.drawn(begins + line + "\nend\n")
+            self.assertIn("swap area: blocks", [text for *_, text in texts])
+            self.assertEqual([text for x, _, text in texts if x == 145], ["1", "17", "100", "4000", str(last)])
+            self.assertEqual(height, without + 30 + high)
+
+    def test_an_axis_of_slots(self):
+        """Slots are known at the beginning, at ticks, and at the end: with a tick in each ten, 60 ticks are at lines 4 to 63."""
+        text = "boot 100 0\nsleep 0 -100 runout\ngo 1\n" + "tick u\n" * 60 + "end\n"
+        script = self.text("script", "clock 10\nrun 605\n")
+        _, texts, _ = self.drawn(text, "--script", script)
+        y, = [at for _, at, told in texts if told == "slots passed"]
+        shown = [(x, told) for x, at, told in texts if at == y][1:]
+        # 64 lines, a column each; the tick of slot 100 is the tenth, on line 13; those after 550 are too near to the end
+        places = {0: 1, 100: 13, 200: 23, 300: 33, 400: 43, 500: 53, 605: 64}
+        self.assertEqual(shown, [(round(150 + (line - 1) * 1000 / 64, 2), str(slots)) for slots, line in places.items()])
+        self.assertNotIn("slots passed", [told for *_, told in self.drawn(text)[1]])
+        cut = self.drawn(text.replace("end\n", "panic swap\n"), "--script", script)[1]
+        self.assertNotIn("605", [told for *_, told in cut])  # how far a run came that stopped isn't known
+
     def test_page(self):
         """The page shows what the commands on it show."""
         shell, names = os.path.join(TOP, "examples", "shell"), [self.path(name) for name in ("term", "log", "final")]
@@ -216,6 +260,19 @@ class Log(Case):
         shown = self.log("show", "--disk", os.path.join(shell, "image"), "--from", "26", "--to", "38", names[1])[1]
         self.assertIn("\n\n" + shown + "```\n", page)
         self.assertEqual(self.log("draw", names[1])[1], read(os.path.join(TOP, "docs", "tools", "log.svg")).decode())
+
+    def test_book(self):
+        """The procedure of each line stands before what it tells, with its line in the book; the end of a script has none."""
+        name = self.text("log", "boot 64 0\nsleep 0 -100 runout\ngo 1\ntick u\nend\n")
+        self.assertEqual(self.log("show", "--book", name)[1].splitlines()[1:], [
+            "   1  Rr  main (1550)     the system begins, with 64 clicks of core, at 0 seconds",
+            "   2  sr  sleep (2066)    the swapper waits until somebody out of core can run, at priority -100",
+            "   3  sR  swtch (2178)    process 1 runs", "   4  sR  clock (3725)    a tick in a program",
+            "   5  sR                  the script has ended"])
+        shell, names = os.path.join(TOP, "examples", "shell"), [self.path(name) for name in ("term", "log", "final")]
+        self.assertEqual(v6("run", os.path.join(shell, "image"), "1200", os.path.join(shell, "script"), *names)[0], 0)
+        shown = self.log("show", "--book", "--disk", os.path.join(shell, "image"), "--from", "26", "--to", "35", names[1])[1]
+        self.assertIn("\n\n" + shown + "```\n", read(os.path.join(TOP, "docs", "tools", "log.md")).decode())
 
     def test_page_of_seconds(self):
         """The page's lines of the example crowd, in which a second is 600 slots."""
@@ -227,6 +284,8 @@ class Log(Case):
         self.assertEqual(v6("run", image, "100", script, *names)[0], 0)
         shown = self.log("show", "--script", script, "--from", "269", "--to", "277", names[1])[1]
         self.assertIn("\n\n" + shown + "```\n", read(os.path.join(TOP, "docs", "tools", "log.md")).decode())
+        drawn = self.log("draw", "--script", script, names[1])[1]
+        self.assertEqual(drawn, read(os.path.join(crowd, "crowd.svg")).decode())
         self.assertIn("     2400 rWrRo  a tick in a program; second 4 ends\n", shown)
 
     def test_on_paper(self):

@@ -322,63 +322,6 @@ class Moves(unittest.TestCase):
         self.looker = looker_of(ByHand(20, lines, self.held))
         self.assertEqual([self.at("slot 4", "next line of 1"), self.at("slot 4", "next line of 2")], [8, 5])
 
-    def test_words(self):
-        """The changes of a word, and a value of it, forwards and backwards, with few looks."""
-        self.assertEqual(self.at("until word 040"), 1234567)
-        self.assertEqual(self.at("until word 040"), 7654321)
-        self.assertEqual(self.at("slot 10000000", "since word 040"), 7654321)
-        self.assertEqual(self.at("since word 040"), 1234567)
-        self.assertEqual(self.at("slot 10000000", "since word 040 1"), 1234567)
-        self.assertLess(self.run_.looks, 5 * 160)
-        with self.assertRaisesRegex(LookError, "word 040 3: not found behind slot 1234567"):
-            self.looker.lines_of("until word 040 3")
-
-    def test_near(self):
-        """Of the nearest slots each one is looked at: a word that changes in the next ones is found in the first of them."""
-        self.run_.held = lambda slots: placed((1, image((0,) * 8, text=TEXT.ljust(32, b"\0") + struct.pack("<H", slots % 7 == 3))))
-        self.assertEqual([self.at("slot 11", "until word 040"), self.at("until word 040"), self.at("since word 040 1")], [17, 18, 17])
-
-    def test_short_runs(self):
-        """In a short run the nearest 512 slots are looked at one by one: a word that is 1 in slot 500 alone is found from slot 0 on."""
-        text = TEXT.ljust(32, b"\0")
-        self.looker = looker_of(ByHand(30000, START, lambda slots: placed(
-            (1, image((0,) * 8, text=text + struct.pack("<H", slots in (500, 29000)))))))
-        self.assertEqual([self.at("slot 1", "until word 040 1"), self.at("slot 29400", "since word 040 1")], [500, 29000])
-
-    def test_what_is_missed(self):
-        """Behind the nearest moments what comes and goes may be missed, and that is said; `near` finds it."""
-        text = TEXT.ljust(32, b"\0")
-        self.looker = looker_of(ByHand(30000, START, lambda slots: placed(
-            (1, image((0,) * 8, text=text + struct.pack("<H", slots in (1501, 28501)))))))
-        with self.assertRaisesRegex(LookError, "word 040 1: not found behind slot 1; each moment was looked at up to slot 513, and some"):
-            self.at("slot 1", "until word 040 1")
-        with self.assertRaisesRegex(LookError, "not found before slot 30000; each moment was looked at down to slot 29487, and some"):
-            self.at("slot 30000", "since word 040 1")
-        self.assertEqual(self.looker.lines_of("near"), ["the nearest 512 moments are looked at one by one"])
-        self.assertEqual(self.looker.lines_of("near 1500"), ["the nearest 1500 moments are looked at one by one"])
-        self.assertEqual([self.at("slot 1", "until word 040 1"), self.at("slot 30000", "since word 040 1")], [1501, 28501])
-        self.looker.lines_of("slot 1")
-        self.assertEqual(len(self.looker.lines_of("until word 040 1")), 1)  # the head alone: each was looked at
-
-    def test_how_far_each_was_looked_at(self):
-        """It is said where it wasn't each, and not where it was."""
-        said = "each moment was looked at up to slot 24; from there to slot 1234567 it may have come and gone"
-        self.assertEqual(self.looker.lines_of("until word 040")[-1], said)
-        said = "each moment was looked at down to slot 9999975; from there to slot 7654321 it may have come and gone"
-        self.looker.lines_of("slot 10000000")
-        self.assertEqual(self.looker.lines_of("since word 040")[-1], said)
-        self.looker.lines_of("slot 1234560")
-        self.assertNotIn("each moment", "".join(self.looker.lines_of("until word 040")))
-        self.looker.lines_of("slot 1234570")
-        self.assertNotIn("each moment", "".join(self.looker.lines_of("since word 040")))
-
-    def test_pc(self):
-        """A name is all of its routine, up to the next name."""
-        self.assertEqual(self.at("slot 1", "until pc sub"), 5000000)
-        self.assertEqual(self.at("until pc start"), 6000000)
-        self.assertEqual(self.at("slot 10000000", "since pc 012"), 5000000)
-        self.assertEqual(self.at("slot 10000000", "since pc 4 11"), 5000000)
-
     def test_calls(self):
         """A process stands at a call just before the slot in which it is made."""
         text = words("104402 104424 104424 000777")
@@ -425,7 +368,7 @@ class Moves(unittest.TestCase):
                 ("words 0 9999", "9999: words is 4096 at most"), ("process 3", "process 3 isn't there in slot 200, and never in this run"),
                 ("until state x", "x: a state is one of the letters RrowWsSz"), ("until place top", "top: a place is in core or swap"),
                 ("until what", "what: it's state, place, call, pc or word"), ("until pc 010 06", "06: it is before 010"),
-                ("code nosuch", "nosuch: /etc/init has no such name"), ("until word 040 9 of 1", "word 040 9: not found behind slot 200")):
+                ("code nosuch", "nosuch: /etc/init has no such name")):
             with self.assertRaisesRegex(LookError if "has 1000" not in why else MomentError, why):
                 self.looker.lines_of(command)
             self.assertEqual(self.looker.moment.slots, 200, command)

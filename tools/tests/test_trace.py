@@ -32,7 +32,7 @@ TOLD = """\
 126 [2 /etc/init] write(0, "Ctwo\\n", 5) = 5
 129 [2 /etc/init] read(0, 063, 100) waits for keys
 """
-# The memory of examples/hi after each of its first slots: the registers R0 and PC, and the clicks of the stack.
+# The memory of examples/hi after each of its first slots: the registers R0 and PC, the clicks of the stack, and the codes.
 STANDS = """
 import subprocess, sys
 sys.path.insert(0, {tools!r})
@@ -41,9 +41,9 @@ if sys.argv[2] != "memory":
     sys.exit(subprocess.run(sys.argv[1:]).returncode)
 image, core, script, final = sys.argv[3:]
 slots = sum(int(COUNT.fullmatch(line)[2]) for line in lines_of(open(script, "rb").read()))
-r0, pc, stack = {{0: (0, 0, 0), 1: (0, 0, 20), 2: (0, 6, 20), 3: (3, 12, 20), 4: (0, 16, 20)}}[slots]
+r0, pc, stack, codes = {{0: (0, 0, 0, 0), 1: (0, 0, 20, 0), 2: (0, 6, 20, 0), 3: (3, 12, 20, 0), 4: (0, 16, 20, 4)}}[slots]
 u = bytearray(1024)
-u[0:2], u[14:16], u[16:18] = (one.to_bytes(2, "little") for one in (r0, pc, 0o170000))
+u[0:2], u[14:16], u[16:18] = (one.to_bytes(2, "little") for one in (r0, pc, 0o170000 | codes))
 u[26], u[28] = 1, stack
 data = bytes.fromhex({icode!r} if not slots else {program!r}).ljust(64, b"\\0")
 open(final, "wb").write(bytes(u + data).ljust(64 * int(core) + 446464, b"\\0"))
@@ -182,9 +182,13 @@ class Traces(Case):
     def test_two_readers(self):
         image, script = self.pair()
         self.assertEqual(self.trace("--v6", V6, image, "1200", script), (0, TOLD, ""))
-        # from the middle on, the descriptor of a call that waits already isn't known, and neither is when it began
-        told = [" 61 [1 /etc/init] read(.., 063, 100) = 4 \"one\\n\"", " 62 [2 /etc/init] read(.., 063, 100) waits for keys"]
-        self.assertEqual(self.trace("--v6", V6, "--from", "18", "--to", "22", image, "1200", script)[1].splitlines(), told)
+        some = "--v6", V6, "--from", "18", "--to", "22", image, "1200", script
+        self.assertEqual(self.trace(*some)[1].splitlines(), TOLD.splitlines()[5:7])
+        with unittest.mock.patch.object(trace, "SLOTS_A_TURN", 0):  # as in a long run with few calls
+            self.assertEqual(self.trace("--v6", V6, image, "1200", script), (0, TOLD, ""))
+            # from the middle on, the descriptor of a call that waits already isn't known, and neither is when it began
+            told = [" 61 [1 /etc/init] read(.., 063, 100) = 4 \"one\\n\"", " 62 [2 /etc/init] read(.., 063, 100) waits for keys"]
+            self.assertEqual(self.trace(*some)[1].splitlines(), told)
         told = [line for line in TOLD.splitlines() if "[2 " in line]
         self.assertEqual(self.trace("--v6", V6, "--process", "2", image, "1200", script)[1].splitlines(), told)
 

@@ -230,7 +230,7 @@ calm_walks old s = record {
     numbers = record { count = p.numbers.count; pipes = pipes_gone h.files h.pipes ino none p.numbers.pipes };
   };
   known = λ h entry is p. end_known h entry p.numbers.pipes is;
-  console = λ h console p. record { same = p.same; numbers = record { count = p.numbers.count; pipes = p.numbers.pipes } };
+  typewriter = λ h t p. record { same = p.same; numbers = record { count = p.numbers.count; pipes = p.numbers.pipes } };
   enters = λ h dir moves p. record { same = same_call_in p; numbers = record { count = p.numbers.count; pipes = p.numbers.pipes } };
   terminal = λ h tty p. record { same = p.same; numbers = record { count = p.numbers.count; pipes = p.numbers.pipes } };
   signalled = λ h p. record { same = p.same; numbers = record { count = p.numbers.count; pipes = p.numbers.pipes } };

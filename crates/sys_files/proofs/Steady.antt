@@ -174,7 +174,7 @@ confined_walks old slot = record {
   marked = λ h pipe s. record { row = s.row; area = s.area; image = s.image; marks = s.marks };
   gone = λ h ino none s. record { row = s.row; area = s.area; image = s.image; marks = s.marks };
   known = λ h entry is s. (tt, tt);
-  console = λ h console s. record { row = s.row; area = s.area; image = s.image; marks = s.marks };
+  typewriter = λ h typewriter s. record { row = s.row; area = s.area; image = s.image; marks = s.marks };
   enters = λ h dir moves s. steady_moved old h h.files h.u.files dir s;
   terminal = λ h tty s. record {
     row = record { pid = s.row.pid; ppid = s.row.ppid; uid = s.row.uid };

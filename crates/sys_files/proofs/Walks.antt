@@ -131,7 +131,7 @@ pub record Walks (P : Handed → Type 0) (Q : Did → Type 0) (Few Known : ℕ �
   pub gone : (h : Handed) (ino : ℕ) → has_end h.files ino ≡ false → P h → P (record h { pipes = without_pipe h.pipes ino })
   pub known : (h : Handed) (entry : ℕ) → (file_of h entry).kind.pipe ≡ true → P h
       → Known (file_of h entry).ino × Known (pipe_at h entry).ino
-  pub console : (h : Handed) (console : Terminal) → P h → P (record h { line = console })
+  pub typewriter : (h : Handed) (typewriter : Terminal) → P h → P (record h { line = typewriter })
   pub enters : (h : Handed) (dir : ℕ) → Moves → P h → P (record h { u = record h.u { dir = dir } })
   pub terminal : (h : Handed) (tty : ℕ) → P h → P (record h { row = record h.row { tty = tty } })
   pub signalled : (h : Handed) → P h → P (record h { row = posted h.row SIGPIPE })
@@ -242,7 +242,7 @@ module _ {P : Handed → Type 0} {Q : Did → Type 0} {Few Known : ℕ → Type 
               u = with_number now.u fd (entry + 1);
               line = next.line;
             })
-        entered now number free p = k.console _ next.line (k.opened
+        entered now number free p = k.typewriter _ next.line (k.opened
             (with_inodes now (with_reference now.inodes ino)) ino kind fd entry plain number free moves
             (k.inodes now (with_reference now.inodes ino) refl p))
 
@@ -290,7 +290,7 @@ module _ {P : Handed → Type 0} {Q : Did → Type 0} {Few Known : ℕ → Type 
         let reading : Reading = line_read h l at count in
         walk_line (with_line_read h l reading) l entry at count reading.took
         (k.stored (record h { line = reading.terminal }) reading.image (line_lengths h.line h.image at count)
-        (k.console h reading.terminal p))
+        (k.typewriter h reading.terminal p))
 
     read_by : (h : Handed) (entry at count now : ℕ) (line : Option ℕ) → P h
         → Q (reads_by (with_read h entry (read_of h entry at count now)) line entry at count (read_of h entry at count now))
@@ -314,10 +314,10 @@ module _ {P : Handed → Type 0} {Q : Did → Type 0} {Few Known : ℕ → Type 
         })
     shown_by h image at count true few p =
         let after : Handed = record h { line = after_shown h.line (readable image at count) } in
-        k.showing h.line image at count (returns after count) few (k.done after count (r1 after) (k.console h after.line p))
+        k.showing h.line image at count (returns after count) few (k.done after count (r1 after) (k.typewriter h after.line p))
     shown_by h image at count false few p =
         let after : Handed = record h { line = after_shown h.line (readable image at count) } in
-        k.showing h.line image at count (fails after EFAULT) few (k.refused after EFAULT (k.console h after.line p))
+        k.showing h.line image at count (fails after EFAULT) few (k.refused after EFAULT (k.typewriter h after.line p))
 
     write_by : (h : Handed) (entry at count now : ℕ) (line : Option ℕ) → ((l : ℕ) → line ≡ Some l → l ≡ 0) → Few count → P h
         → Q (writes_by (with_moved h entry (write_of h entry at count now)) line (is_device (node_at h (file_of h entry).ino).mode)
@@ -512,7 +512,7 @@ module _ {P : Handed → Type 0} {Q : Did → Type 0} {Few Known : ℕ → Type 
         either l true = stays
         either l false =
             closes_by (let_go (shut l) file.ino) a b file.ino file.kind.pipe true known
-            (k.inodes (shut l) (let_go h file.ino).inodes (put_back_count h.inodes file.ino) (k.console h (shut l).line p))
+            (k.inodes (shut l) (let_go h file.ino).inodes (put_back_count h.inodes file.ino) (k.typewriter h (shut l).line p))
 
         by : (line : Option ℕ) → Q (record {
           answer = Ret a b;
@@ -673,7 +673,7 @@ module _ {P : Handed → Type 0} {Q : Did → Type 0} {Few Known : ℕ → Type 
         walk_terminal h (λ l. check h (need EFAULT (words_at h at)) (sets_modes h l)) p (λ l.
         checks h (need EFAULT (words_at h at)) (sets_modes h l) p (λ bytes.
         closes_by (sets_modes h l bytes).state (r0 h) (r1 h) 0 false true (λ none. absurd (cc none))
-        (k.console h (sets_modes h l bytes).state.line p)))
+        (k.typewriter h (sets_modes h l bytes).state.line p)))
 
     pub walk_gtty : (h : Handed) (at : ℕ) → P h → Q (gtty_get h at)
     walk_gtty h at p = walk_terminal h (λ l. tells_modes h l at) p (λ l. walk_told h at (at % 2 == 1) p)

@@ -1,0 +1,137 @@
+#!/usr/bin/env python3
+"""Makes a page of each run of the lessons for Lions' book, docs/lions, and one that leads to them: docs/tools/page.md."""
+import argparse
+import html
+import os
+import re
+import shlex
+import subprocess
+import sys
+import tempfile
+
+sys.path.insert(0, os.path.dirname(os.path.abspath(__file__)))
+import page
+from files import guarded, put_out, read_bytes
+from program import CORE, TOP, V6, ProgramError, add_version
+
+LIONS = os.path.join(TOP, "docs", "lions")
+BLOCK = re.compile(r"^```\n(\$ .*?)^```$", re.M | re.S)
+RUN = re.compile(r"bin/v6 run (?P<image>\S+) (?P<core>\d+) (?P<script>\w\S*) ")
+PLAYED = re.compile(r"tools/run\.py (?P<image>\S+) (?P<script>\S+) --core (?P<core>\d+)")
+TYPED = re.compile(r"tools/console\.py (?P<image>\S+) ")
+OTHERS = "README", "answers"  # pages that are no lessons
+INDEX = """<!DOCTYPE html>
+<html lang="en"><head><meta charset="utf-8"><title>Runs for Lions' book</title></head><body><h1>Runs for Lions' book</h1>
+<ul>
+{}
+</ul></body></html>
+"""
+
+
+class LessonError(Exception):
+    """Why a lesson has no page; the text tells it."""
+
+
+def lessons():
+    return sorted(name[:-3] for name in os.listdir(LIONS) if name.endswith(".md") and name[:-3] not in OTHERS)
+
+
+def commands(text):
+    """The commands of a page, each with what the page shows that it prints."""
+    found = []
+    for block in BLOCK.findall(text):
+        for line in block.splitlines(True):
+            if line.startswith("$ "):
+                found.append([line[2:-1], ""])
+            else:
+                found[-1][1] += line
+    return found
+
+
+def runs_of(command, number):
+    """A command with which lines are typed also keeps them in a script; and of each run of a command its image, core and script."""
+    typed = TYPED.search(command)
+    if typed:
+        script = f"typed.{number}"
+        return TYPED.sub(lambda one: f"{one[0]}--script {script} ", command), [(typed["image"], CORE, script)]
+    found = [*RUN.finditer(command), *PLAYED.finditer(command)]
+    return command, [(one["image"], int(one["core"]), one["script"]) for one in found]
+
+
+class Folder:
+    """A folder in which the commands of a lesson are played, as they stand there."""
+
+    def __init__(self, name, v6):
+        self.name = name
+        for link in ("docs", "examples", "tools"):
+            os.symlink(os.path.join(TOP, link), self.path(link))
+        os.mkdir(self.path("bin"))
+        with open(self.path("bin/v6"), "w") as file:
+            file.write(f'#!/bin/sh\nexec {v6} "$@"\n')
+        os.chmod(self.path("bin/v6"), 0o755)
+
+    def path(self, name):
+        return os.path.join(self.name, name)
+
+    def play(self, command):
+        done = subprocess.run(["sh", "-c", command], cwd=self.name, env={**os.environ, "V6": self.path("bin/v6")}, capture_output=True)
+        if done.returncode not in range(128):
+            raise LessonError(f"{command}: status {done.returncode}")
+
+
+def pages_of(lesson, options):
+    """Plays a lesson, and makes its pages: the name and the title of each."""
+    text, made = read_bytes(os.path.join(LIONS, lesson + ".md")).decode(), []
+    title = text.partition("\n")[0].lstrip("# ")
+    with tempfile.TemporaryDirectory() as name:
+        folder = Folder(name, options.v6)
+        for number, (command, _) in enumerate(commands(text)):
+            command, runs = runs_of(command, number)
+            folder.play(command)
+            for image, core, script in runs:
+                if os.path.exists(folder.path(script)):
+                    made.append((f"{lesson}-{len(made) + 1}.html", f"{title}: run {len(made) + 1}"))
+                    make(folder, (image, core, script), made[-1], options)
+    return made
+
+
+def make(folder, run, made, options):
+    """The page of one run, by page.py."""
+    image, core, script = run
+    words = [folder.path(image), str(core), folder.path(script), "--replay", "--title", made[1], "--v6", options.v6,
+             "--moments", str(options.moments), "-o", os.path.join(options.output, made[0])]
+    if page.main(words):
+        raise LessonError(f"{made[0]}: the page wasn't made")
+
+
+def make_all(options):
+    unknown = sorted(set(options.lessons) - set(lessons()))
+    if unknown:
+        raise LessonError(f"{unknown[0]}: no such lesson; there are {', '.join(lessons())}")
+    os.makedirs(options.output, exist_ok=True)
+    made = [one for lesson in options.lessons or lessons() for one in pages_of(lesson, options)]
+    items = [f'<li><a href="{html.escape(name)}">{html.escape(title)}</a></li>' for name, title in made]
+    put_out(os.path.join(options.output, "index.html"), INDEX.format("\n".join(items)).encode())
+
+
+def main(words):
+    parser = argparse.ArgumentParser(prog="lessonpages.py", description="Makes a page of each run of docs/lions: docs/tools/page.md")
+    parser.add_argument("lessons", nargs="*", metavar="LESSON", help="a lesson, as slp; all of them without one")
+    parser.add_argument("-o", "--output", metavar="FOLDER", default="lessons", help="where the pages go (lessons)")
+    parser.add_argument("--moments", type=int, default=page.MOMENTS, metavar="N", help="how many moments of a run are looked at, at most")
+    parser.add_argument("--v6", metavar="COMMAND", default=V6, help="the program (bin/v6)")
+    add_version(parser)
+    options = parser.parse_args(words)
+    options.v6 = absolute(options.v6)
+    return guarded("lessonpages.py", lambda: make_all(options), LessonError, ProgramError)
+
+
+def absolute(command):
+    """A command whose program is named by a path from here, so that it is found from elsewhere too."""
+    first, *rest = shlex.split(command) or [""]
+    first = os.path.abspath(first) if os.path.dirname(first) else first
+    return shlex.join([first, *rest])
+
+
+if __name__ == "__main__":
+    sys.exit(main(sys.argv[1:]))

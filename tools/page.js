@@ -1,0 +1,506 @@
+"use strict";
+// The program of a page that tools/page.py makes: docs/tools/page.md. Everything that comes from a run is put into the page as text.
+
+const CHOICE = 1, CALL = 2, SECOND = 4;   // what a line of the log is
+const APART = 2048;                       // lines between two states of the panels that are kept
+const AROUND = 7;                         // lines that are shown before and after the one at the cursor
+const KINDS = { choice: CHOICE, call: CALL, second: SECOND };
+const MOST_SHOWN = 100000;                 // bytes of a terminal that are shown, from its end
+
+const $ = (id) => document.getElementById(id);
+
+/** The numbers and texts of the run, unpacked. */
+async function unpacked(text) {
+  const packed = Uint8Array.from(atob(text.trim()), (one) => one.charCodeAt(0));
+  const stream = new Blob([packed]).stream().pipeThrough(new DecompressionStream("deflate"));
+  const buffer = await new Response(stream).arrayBuffer();
+  const size = new DataView(buffer).getUint32(0, true);
+  const head = JSON.parse(new TextDecoder().decode(new Uint8Array(buffer, 4, size)));
+  const types = { 1: Uint8Array, 2: Uint16Array, 4: Uint32Array };
+  const columns = {};
+  for (const [name, [at, count, width]] of Object.entries(head.columns)) {
+    columns[name] = new types[width](buffer, 4 + size + at, count);
+  }
+  return { head, columns };
+}
+
+/** A run: at each line of the log, counted from 1 on, the texts of all rows of all panels. */
+class Run {
+  constructor({ head, columns }) {
+    Object.assign(this, { head, columns, lines: head.lines, texts: head.texts });
+    this.starts = new Uint32Array(this.lines + 1);
+    for (let line = 0; line < this.lines; line++) this.starts[line + 1] = this.starts[line] + columns.counts[line];
+    this.kept = [new Uint32Array(head.fields)];
+    this.rows = new Uint32Array(head.fields);
+    this.at = 0;
+  }
+
+  /** Goes to a line: from the nearest state that is kept, or from where it is, by the changes between. */
+  seek(line) {
+    if (line < this.at || line - this.at > APART) {
+      const place = Math.min(Math.floor(line / APART), this.kept.length - 1);
+      if (line < this.at || place * APART > this.at) {
+        this.rows = this.kept[place].slice();
+        this.at = place * APART;
+      }
+    }
+    const { fields, values } = this.columns;
+    while (this.at < line) {
+      for (let one = this.starts[this.at]; one < this.starts[this.at + 1]; one++) this.rows[fields[one]] = values[one];
+      this.at++;
+      if (this.at % APART === 0 && this.kept.length === this.at / APART) this.kept.push(this.rows.slice());
+    }
+  }
+
+  /** The rows of a panel at the line that was gone to last. */
+  panel(name) {
+    const [first, count] = this.head.places[name];
+    const found = [];
+    for (let row = first; row < first + count; row++) found.push(this.texts[this.rows[row]]);
+    return found;
+  }
+
+  shown(name) {
+    return this.panel(name).filter((text) => text);
+  }
+
+  one(name) {
+    return this.texts[this.rows[this.head.places[name][0]]];
+  }
+
+  /** The first row of a panel at a line that isn't before that one. */
+  after(name, line) {
+    const field = this.head.places[name][0], { fields, values } = this.columns;
+    for (let one = this.starts[line] - 1; one >= this.starts[this.at]; one--) if (fields[one] === field) return this.texts[values[one]];
+    return this.one(name);
+  }
+
+  words(line) {
+    return this.texts[this.columns.words[line - 1]];
+  }
+
+  raw(line) {
+    return this.texts[this.columns.raw[line - 1]];
+  }
+
+  is(line, kind) {
+    return (this.columns.kinds[line - 1] & kind) !== 0;
+  }
+
+  /** The moment of a line: its slot, what the terminal has shown, and whether it is the line's own, or one that was looked at before. */
+  moment(line) {
+    const place = this.columns.moments[line - 1];
+    if (!this.head.isRun || !place) return null;
+    const { slots, shown, ends } = this.columns;
+    const end = ends[place - 1];
+    return { slot: slots[place - 1], shown: shown[place - 1], isExact: line <= end, isLast: line >= end, place, end };
+  }
+
+  /** The first line with which the moment at this place came. */
+  first(place) {
+    let low = 1, high = this.lines;
+    while (low < high) {
+      const middle = (low + high) >> 1;
+      if (this.columns.moments[middle - 1] < place) low = middle + 1; else high = middle;
+    }
+    return low;
+  }
+
+  /** The next line of a kind, or the last before; the end that is nearer where there is none. */
+  next(line, kind, by) {
+    let one = line + by;
+    while (one > 1 && one < this.lines && !this.is(one, kind)) one += by;
+    return Math.max(1, Math.min(one, this.lines));
+  }
+
+  /** Whether each text is about a word: that with which lines of the log begin, a number of a process, or any other piece of text. */
+  about(word) {
+    const low = word.toLowerCase();
+    if (this.texts.some((text) => text === low || text.startsWith(low + " ") && this.isRaw(text))) {
+      return this.texts.map((text) => this.isRaw(text) && text.split(" ")[0] === low);
+    }
+    if (!/^[0-9]+$/.test(word)) return this.texts.map((text) => text.toLowerCase().includes(low));
+    const number = new RegExp(`\\bprocess ${word}\\b|^[0-9 ]*\\[${word}[ \\]]`);
+    return this.texts.map((text) => !this.isRaw(text) && number.test(text));
+  }
+
+  /** Whether a text is a line of the log as it stands there. */
+  isRaw(text) {
+    this.raws = this.raws || new Set(Array.from(new Set(this.columns.raw), (one) => this.texts[one]));
+    return this.raws.has(text);
+  }
+
+  /** The next line about a word, or the last before, or 0. */
+  search(word, line, by) {
+    const has = this.about(word);
+    const { words, raw, fields, values } = this.columns;
+    const call = this.head.places.call[0];
+    const isThere = (one) => {
+      if (has[words[one]] || has[raw[one]]) return true;
+      for (let at = this.starts[one]; at < this.starts[one + 1]; at++) if (fields[at] === call && has[values[at]]) return true;
+      return false;
+    };
+    for (let one = line - 1 + by; one >= 0 && one < this.lines; one += by) if (isThere(one)) return one + 1;
+    return 0;
+  }
+}
+
+/** Bytes of a terminal as pieces: texts, and bytes without a sign as their octal numbers. A return just before a new line shows nothing. */
+function typed(bytes) {
+  const pieces = [];
+  let text = "";
+  bytes.forEach((byte, at) => {
+    if (byte === 13 && bytes[at + 1] === 10) return;
+    if (byte === 9 || byte === 10 || byte >= 32 && byte < 127) {
+      text += String.fromCharCode(byte);
+      return;
+    }
+    const code = document.createElement("span");
+    code.className = "control";
+    code.textContent = "\\" + byte.toString(8).padStart(3, "0");
+    pieces.push(text, code);
+    text = "";
+  });
+  return [...pieces, text];
+}
+
+/** What the page shows, and where one is in it. */
+class Page {
+  constructor(run) {
+    this.run = run;
+    this.line = 1;
+    this.isQuiz = false;
+    this.timer = null;
+    this.mark = this.cursorOf(document.querySelector("#paper svg"));
+    this.begin();
+  }
+
+  // the timeline
+
+  cursorOf(svg) {
+    const make = (name, attributes) => {
+      const one = document.createElementNS("http://www.w3.org/2000/svg", name);
+      for (const [key, value] of Object.entries(attributes)) one.setAttribute(key, value);
+      svg.append(one);
+      return one;
+    };
+    const [, , , height] = svg.getAttribute("viewBox").split(" ").map(Number);
+    svg.setAttribute("role", "img");
+    svg.setAttribute("aria-label", "Lanes of the processes, and who holds core and the swap area");
+    this.veil = make("rect", { y: 44, height: height - 44, fill: "#fff", visibility: "hidden" });
+    const band = make("rect", { y: 44, height: height - 64, fill: "#0048c8", "fill-opacity": 0.35, stroke: "#0048c8" });
+    const to = (event) => {
+      const point = new DOMPoint(event.clientX, event.clientY).matrixTransform(svg.getScreenCTM().inverse());
+      const share = (point.x - this.run.head.left_of_lanes) / this.run.head.lanes;
+      this.go(Math.floor(share * this.run.lines) + 1);
+    };
+    svg.addEventListener("pointerdown", (event) => { svg.setPointerCapture(event.pointerId); to(event); });
+    svg.addEventListener("pointermove", (event) => { if (event.buttons & 1) to(event); });
+    return band;
+  }
+
+  drawCursor() {
+    const { left_of_lanes: left, lanes } = this.run.head;
+    const x = left + (this.line - 1) * lanes / this.run.lines, wide = Math.max(lanes / this.run.lines, 2);
+    this.mark.setAttribute("x", x);
+    this.mark.setAttribute("width", wide);
+    this.veil.setAttribute("x", x + wide);
+    this.veil.setAttribute("width", Math.max(left + lanes - x - wide, 0) + 2);
+    this.veil.setAttribute("visibility", this.isQuiz ? "visible" : "hidden");
+  }
+
+  // where one is
+
+  begin() {
+    const { head } = this.run;
+    $("cursor").max = $("number").max = this.run.lines;
+    const said = [head.said && `The run ends so: ${head.said}.`, head.left && `Left out: ${head.left}.`,
+      head.isCut && "The log ends within a run."].filter(Boolean);
+    $("note").textContent = said.join(" ");
+    for (const id of ["p-call", "p-process"]) $(id).hidden = !head.isRun;
+    this.listMarks();
+    this.listTerminals();
+    document.querySelector("main").hidden = false;
+    this.listen();
+    this.fromAddress();
+  }
+
+  fromAddress() {
+    const found = /line=([0-9]+)/.exec(location.hash);
+    this.go(found ? Number(found[1]) : 1);
+  }
+
+  go(line) {
+    const last = this.run.lines;
+    this.line = Math.max(1, Math.min(Math.floor(line) || 1, last));
+    this.run.seek(this.line);
+    this.show();
+    clearTimeout(this.later);
+    this.later = setTimeout(() => this.toAddress(), 200);
+  }
+
+  toAddress() {
+    const wanted = `#line=${this.line}`;
+    if (location.hash !== wanted && (location.hash || this.line > 1)) history.replaceState(null, "", wanted);
+  }
+
+  step(way, what) {
+    const by = way === "on" ? 1 : -1;
+    this.go(what === "line" ? this.line + by : this.run.next(this.line, KINDS[what], by));
+  }
+
+  // what is shown
+
+  show() {
+    const { run, line } = this;
+    const moment = run.moment(line);
+    $("cursor").value = $("number").value = line;
+    $("head").textContent = this.headOf(moment);
+    $("cursor").setAttribute("aria-valuetext", `line ${line}: ${run.words(line)}`);
+    $("raw").textContent = run.raw(line);
+    $("words").textContent = run.words(line);
+    $("rule").textContent = run.one("rule");
+    this.list($("book"), run.shown("book"), (text) => text);
+    $("call").textContent = run.one("call") || "No call ends with this line, and none begins to wait.";
+    for (const name of ["core", "swap", "texts"]) $(name).textContent = run.shown(name).join("\n");
+    this.showLog();
+    this.showProcesses();
+    this.showTerminal(moment);
+    this.showProcess(moment);
+    this.drawCursor();
+    if (this.isQuiz) this.showQuestion();
+  }
+
+  headOf(moment) {
+    const { run, line } = this;
+    const running = run.one("running");
+    const who = running ? running.slice(running.indexOf(" ") + 1) : this.nobody();
+    const parts = [];
+    if (moment) parts.push(moment.isExact ? `slot ${moment.slot} of ${run.head.last}` : `after slot ${moment.slot} of ${run.head.last}`);
+    parts.push(`second ${run.one("second")}`, `line ${line} of ${run.lines}`);
+    return `${parts.join(", ")}${this.within(moment)}: ${who}`;
+  }
+
+  within(moment) {
+    if (!moment || !moment.isExact || moment.isLast) return "";
+    return ` (of the lines ${this.run.first(moment.place)} to ${moment.end} of the moment)`;
+  }
+
+  nobody() {
+    const could = this.line < this.run.lines && this.run.one("letters").includes("r");
+    return could ? "nobody runs yet" : "nobody can run";
+  }
+
+  showLog() {
+    const { run, line } = this;
+    const first = Math.max(1, line - AROUND), last = this.isQuiz ? line : Math.min(run.lines, line + AROUND);
+    const here = run.at, lines = [];
+    for (let one = first; one <= last; one++) {
+      run.seek(one);
+      lines.push([one, `${String(one).padStart(7)}  ${run.one("letters")}  ${run.words(one)}`]);
+    }
+    run.seek(here);
+    this.list($("log"), lines, ([, text]) => text, (item, [one]) => {
+      item.className = one === line ? "here" : "";
+      if (one === line) item.setAttribute("aria-current", "step");
+      item.addEventListener("click", () => this.go(one));
+    });
+  }
+
+  /** Puts texts into a list, an item each. */
+  list(place, texts, told, more) {
+    place.replaceChildren(...texts.map((one) => {
+      const item = document.createElement("li");
+      item.textContent = told(one);
+      if (more) more(item, one);
+      return item;
+    }));
+  }
+
+  showProcesses() {
+    const rows = this.run.panel("ps").map((text, slot) => [slot, text.split("\t")]).filter(([, found]) => found.length > 1);
+    const cells = (kind, texts) => texts.map((text) => {
+      const cell = document.createElement(kind);
+      cell.textContent = text;
+      if (kind === "th") cell.scope = "col";
+      return cell;
+    });
+    const made = (kind, texts, name) => {
+      const row = document.createElement("tr");
+      row.className = name;
+      row.append(...cells(kind, texts));
+      return row;
+    };
+    const chosen = String(this.chosenSlot());
+    const kind = (slot, found) => [found[0] === "R" && "runs", String(slot) === chosen && "chosen"].filter(Boolean).join(" ");
+    $("ps").replaceChildren(made("th", this.run.head.ps, ""), ...rows.map(([slot, found]) => made("td", found, kind(slot, found))));
+    this.offer(rows);
+  }
+
+  /** The processes that may be chosen to be shown whole. */
+  offer(rows) {
+    const wanted = [["", "who runs, or process 1"], ...rows.map(([slot, found]) => [String(slot), `process ${found[2]}, in slot ${slot}`])];
+    const was = $("chosen").value;
+    const same = [...$("chosen").options].map((one) => one.value + one.textContent).join() === wanted.map((one) => one.join("")).join();
+    if (same) return;
+    $("chosen").replaceChildren(...wanted.map(([value, text]) => {
+      const option = document.createElement("option");
+      option.value = value;
+      option.textContent = text;
+      return option;
+    }));
+    $("chosen").value = wanted.some(([value]) => value === was) ? was : "";
+  }
+
+  /** The slot of the table of the process that is shown whole. */
+  chosenSlot() {
+    const chosen = $("chosen").value;
+    if (chosen !== "") return Number(chosen);
+    const moment = this.run.moment(this.line);
+    const running = moment && moment.isExact && !this.isQuiz ? this.run.after("running", moment.end) : this.run.one("running");
+    return running ? Number(running.split(" ")[0]) : 1;
+  }
+
+  showProcess(moment) {
+    if (!this.run.head.isRun) return;
+    const slot = this.chosenSlot();
+    const parts = { process: "process", code: "code", stack: "stack", area: "u area" };
+    for (const [id, name] of Object.entries(parts)) $(id).textContent = this.run.shown(`${name} ${slot}`).join("\n");
+    if (moment && !moment.isLast && moment.isExact) {
+      $("process").textContent = `after all lines of the moment, up to ${moment.end}, since memory isn't known within it:\n` + $("process").textContent;
+    } else if (moment && !moment.isExact) {
+      $("process").textContent = `as in slot ${moment.slot}, where core was looked at last:\n` + $("process").textContent;
+    }
+  }
+
+  showTerminal(moment) {
+    const { terminals } = this.run.head;
+    const which = Number($("terminal").value || 0);
+    const start = terminals.slice(0, which).reduce((sum, one) => sum + one, 0);
+    const end = start + (moment ? moment.shown : this.run.head.isRun ? 0 : terminals[which] || 0);
+    const from = Math.max(start, end - MOST_SHOWN);
+    $("term").replaceChildren(from > start ? ".. " : "", ...typed(this.run.columns.term.subarray(from, end)));
+    $("term").scrollTop = $("term").scrollHeight;
+  }
+
+  listTerminals() {
+    const { terminals } = this.run.head;
+    $("which").hidden = terminals.length < 2;
+    $("terminal").replaceChildren(...terminals.map((_, number) => {
+      const option = document.createElement("option");
+      option.value = number;
+      option.textContent = number + 1;
+      return option;
+    }));
+  }
+
+  listMarks() {
+    const { marks } = this.run.head;
+    $("p-marks").hidden = !marks.length;
+    this.list($("marks"), marks, () => "", (item, [line, sentence]) => {
+      const button = document.createElement("button");
+      button.textContent = `line ${line}: ${sentence}`;
+      button.addEventListener("click", () => this.go(line));
+      item.append(button);
+    });
+  }
+
+  // play, search and quiz
+
+  play(isOn = this.timer === null) {
+    clearInterval(this.timer);
+    this.timer = null;
+    $("play").setAttribute("aria-pressed", String(isOn));
+    $("play").textContent = isOn ? "Stop" : "Play";
+    if (!isOn) return;
+    this.timer = setInterval(() => this.line === this.run.lines ? this.play(false) : this.go(this.line + 1), 1000 / Number($("pace").value));
+  }
+
+  search(by) {
+    const word = $("word").value.trim();
+    const found = word ? this.run.search(word, this.line, by) : 0;
+    $("found").textContent = !word ? "" : found ? `line ${found}` : by > 0 ? "not found behind this line" : "not found before this line";
+    if (found) this.go(found);
+  }
+
+  quiz() {
+    this.isQuiz = !this.isQuiz;
+    this.play(false);
+    $("quiz").setAttribute("aria-pressed", String(this.isQuiz));
+    $("ask").hidden = !this.isQuiz;
+    if (this.isQuiz) this.ask(); else this.show();
+  }
+
+  /** Goes to just before the next choice from a line on, which is then hidden. */
+  ask(from = this.line) {
+    const next = this.run.next(from, CHOICE, 1);
+    this.go(this.run.is(next, CHOICE) ? next - 1 : this.line);
+  }
+
+  isAsked() {
+    return this.line < this.run.lines && this.run.is(this.line + 1, CHOICE);
+  }
+
+  showQuestion() {
+    const isAsked = this.isAsked();
+    $("answer").disabled = !isAsked;
+    $("question").textContent = isAsked ? "A choice comes next. Who runs, and by which rule?"
+      : this.run.is(this.line, CHOICE) ? `${this.run.words(this.line)}. ${this.run.one("rule")}` : "No choice comes with the next line.";
+  }
+
+  // keys and buttons
+
+  listen() {
+    for (const button of document.querySelectorAll("[data-go]")) {
+      button.setAttribute("aria-label", button.dataset.go.replace("on ", "on to the next ").replace("back ", "back to the last "));
+      button.addEventListener("click", () => this.step(...button.dataset.go.split(" ")));
+    }
+    $("cursor").addEventListener("input", () => this.go(Number($("cursor").value)));
+    $("number").addEventListener("change", () => this.go(Number($("number").value)));
+    $("chosen").addEventListener("change", () => this.show());
+    $("terminal").addEventListener("change", () => this.show());
+    $("play").addEventListener("click", () => this.play());
+    $("pace").addEventListener("change", () => this.timer !== null && this.play(true));
+    $("before").addEventListener("click", () => this.search(-1));
+    $("search").addEventListener("submit", (event) => { event.preventDefault(); this.search(1); });
+    $("quiz").addEventListener("click", () => this.quiz());
+    $("answer").addEventListener("click", () => this.step("on", "line"));
+    $("another").addEventListener("click", () => this.ask(this.line + (this.isAsked() ? 1 : 0)));
+    $("keys").addEventListener("click", () => {
+      $("help").hidden = !$("help").hidden;
+      $("keys").setAttribute("aria-expanded", String(!$("help").hidden));
+    });
+    window.addEventListener("hashchange", () => this.fromAddress());
+    document.addEventListener("keydown", (event) => this.key(event));
+  }
+
+  key(event) {
+    const inField = /^(INPUT|SELECT|TEXTAREA)$/.test(event.target.tagName);
+    if (event.ctrlKey || event.altKey || event.metaKey || inField) return;
+    const way = event.shiftKey ? "back" : "on";
+    const does = {
+      ArrowLeft: () => this.step("back", "line"), ArrowRight: () => this.step("on", "line"),
+      Home: () => this.go(1), End: () => this.go(this.run.lines),
+      c: () => this.step(way, "choice"), a: () => this.step(way, "call"), s: () => this.step(way, "second"),
+      p: () => this.play(), q: () => this.quiz(), n: () => this.search(event.shiftKey ? -1 : 1), "/": () => $("word").focus(),
+      Enter: () => this.isQuiz && event.target === document.body && !$("answer").disabled && this.step("on", "line"),
+    }[event.key.length === 1 ? event.key.toLowerCase() : event.key];
+    if (!does || event.key === "Enter" && event.target !== document.body) return;
+    event.preventDefault();
+    does();
+  }
+}
+
+async function open() {
+  try {
+    if (typeof DecompressionStream === "undefined") throw new Error("this browser is too old: it can't unpack the run");
+    const place = $("data");
+    window.page = new Page(new Run(await unpacked(place.textContent)));
+    place.remove();
+  } catch (error) {
+    $("note").textContent = `The page can't be shown: ${error.message}`;
+    throw error;
+  }
+}
+
+open();

@@ -1,0 +1,133 @@
+"""A browser without a window, driven by its debugging protocol over a pipe: for the tests of pages."""
+import base64
+import fcntl
+import json
+import os
+import pathlib
+import select
+import shutil
+import signal
+import subprocess
+import sys
+import tempfile
+import time
+
+NAMES = "chromium", "chromium-browser", "google-chrome", "chrome"
+FOUND = next(filter(None, map(shutil.which, NAMES)), None)
+WORDS = ["--headless", "--no-sandbox", "--disable-gpu", "--remote-debugging-pipe", "--no-first-run", "--disable-extensions",
+         "--disable-background-networking", "--disable-dev-shm-usage", "--disable-component-update", "--disable-sync"]
+LONGEST = 60  # seconds for one answer
+BEGIN = "import os, sys; os.dup2(int(sys.argv[1]), 3); os.dup2(int(sys.argv[2]), 4); os.execv(sys.argv[3], sys.argv[3:])"
+
+
+class Browser:
+    """One browser, with one page. `errors` has what went wrong in the page, and `requests` what it has asked for."""
+
+    def __init__(self):
+        self.folder = tempfile.TemporaryDirectory()
+        to_read, self.to = os.pipe()
+        self.source, to_write = os.pipe()
+        ends = [fcntl.fcntl(one, fcntl.F_DUPFD, 5) for one in (to_read, to_write)]  # neither is 3 or 4, as which the browser wants them
+        words = [sys.executable, "-c", BEGIN, *map(str, ends), FOUND, *WORDS, f"--user-data-dir={self.folder.name}"]
+        self.process = subprocess.Popen(words, pass_fds=ends, stdout=subprocess.DEVNULL, stderr=subprocess.DEVNULL, start_new_session=True)
+        for one in (to_read, to_write, *ends):
+            os.close(one)
+        self.number, self.rest, self.events = 0, b"", []
+        self.session = None
+        target = self.ask("Target.createTarget", url="about:blank")["targetId"]
+        self.session = self.ask("Target.attachToTarget", targetId=target, flatten=True)["sessionId"]
+        for name in ("Page", "Runtime", "Network", "Log"):
+            self.ask(name + ".enable")
+
+    def close(self):
+        os.close(self.to)
+        try:
+            self.process.wait(5)
+        except subprocess.TimeoutExpired:
+            os.killpg(self.process.pid, signal.SIGKILL)
+            self.process.wait()
+        os.close(self.source)
+        for _ in range(20):  # its helpers may still write there
+            try:
+                self.folder.cleanup()
+                return
+            except OSError:
+                time.sleep(0.1)
+
+    def ask(self, method, **parameters):
+        """The answer to a command of the protocol."""
+        self.number += 1
+        message = {"id": self.number, "method": method, "params": parameters}
+        if self.session:
+            message["sessionId"] = self.session
+        os.write(self.to, json.dumps(message).encode() + b"\0")
+        return self.answer(self.number)
+
+    def answer(self, number):
+        end = time.monotonic() + LONGEST
+        while True:
+            while b"\0" in self.rest:
+                text, _, self.rest = self.rest.partition(b"\0")
+                found = json.loads(text)
+                if found.get("id") == number:
+                    if "error" in found:
+                        raise RuntimeError(found["error"]["message"])
+                    return found["result"]
+                self.events.append(found)
+            if not select.select([self.source], [], [], max(end - time.monotonic(), 0))[0]:
+                raise TimeoutError("the browser gives no answer")
+            more = os.read(self.source, 1 << 20)
+            if not more:
+                raise EOFError("the browser has ended")
+            self.rest += more
+
+    def open(self, name, at=""):
+        """Opens a file, and waits until its page is shown; how many seconds that took."""
+        self.events.clear()
+        begun = time.monotonic()
+        self.ask("Page.navigate", url="about:blank")
+        self.ask("Page.navigate", url=pathlib.Path(name).resolve().as_uri() + at)
+        while not self.value("typeof page === 'object' && !document.querySelector('main').hidden"):
+            if self.errors() or time.monotonic() - begun > LONGEST:
+                raise AssertionError(self.errors() or "the page isn't shown")
+            time.sleep(0.02)
+        return time.monotonic() - begun
+
+    def value(self, expression):
+        """The value of an expression in the page."""
+        found = self.ask("Runtime.evaluate", expression=expression, returnByValue=True, awaitPromise=True)
+        if "exceptionDetails" in found:
+            raise AssertionError(found["exceptionDetails"].get("exception", {}).get("description", found["exceptionDetails"]["text"]))
+        return found["result"].get("value")
+
+    def key(self, name, shift=False):
+        """Presses a key."""
+        text = {"text": name} if len(name) == 1 else {}
+        code = {"Enter": 13, "Tab": 9, "ArrowLeft": 37, "ArrowRight": 39, "Home": 36, "End": 35}.get(name, ord(name[0].upper()))
+        for kind in ("keyDown", "keyUp"):
+            self.ask("Input.dispatchKeyEvent", type=kind, key=name, modifiers=8 * shift, windowsVirtualKeyCode=code,
+                     **(text if kind == "keyDown" else {}))
+
+    def errors(self):
+        """What went wrong: exceptions, and errors and warnings that the browser tells."""
+        found = [event["params"] for event in self.events if event["method"] in ("Runtime.exceptionThrown", "Log.entryAdded")]
+        return [str(one.get("exceptionDetails", {}).get("exception", {}).get("description") or one.get("entry", {}).get("text")) for one in found
+                if one.get("entry", {}).get("level") != "verbose"]
+
+    def requests(self):
+        """The addresses that were asked for, without the page itself."""
+        found = [event["params"]["request"]["url"] for event in self.events if event["method"] == "Network.requestWillBeSent"]
+        return [url for url in found if url != "about:blank" and not url.endswith(".html")]
+
+    def size(self, width, height, dark=False):
+        self.ask("Emulation.setDeviceMetricsOverride", width=width, height=height, deviceScaleFactor=1, mobile=False)
+        self.ask("Emulation.setEmulatedMedia", features=[{"name": "prefers-color-scheme", "value": "dark" if dark else "light"}])
+
+    def picture(self, name, whole=False):
+        """A picture of what is shown, or of the whole page, goes to a file."""
+        data = self.ask("Page.captureScreenshot", format="png", captureBeyondViewport=whole)["data"]
+        pathlib.Path(name).write_bytes(base64.b64decode(data))
+
+    def printed(self):
+        """The bytes of the page as it is printed."""
+        return base64.b64decode(self.ask("Page.printToPDF", landscape=True, printBackground=True)["data"])

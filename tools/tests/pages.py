@@ -1,0 +1,51 @@
+"""Pages whose commands are played, and print what the pages show."""
+import os
+import re
+import subprocess
+
+from common import TOP, V6, Case, read
+
+from lessonpages import commands
+
+PICTURE = re.compile(r"!\[[^]]*\]\(([a-z]+\.svg)\)")
+LINK = re.compile(r"\]\(([^)#]*)(?:#([^)]*))?\)")
+
+
+def anchors(page):
+    return {re.sub(r"[^a-z0-9 _-]", "", line.lstrip("# ").lower()).replace(" ", "-")
+            for line in page.splitlines() if line.startswith("#")}
+
+
+def broken_links(*path):
+    """The links of a page that lead to no file, or to no heading of one."""
+    page, broken = os.path.join(TOP, "docs", *path), []
+    for file, heading in LINK.findall(read(page).decode()):
+        target = os.path.normpath(os.path.join(os.path.dirname(page), file)) if file else page
+        if not os.path.exists(target) or heading and heading not in anchors(read(target).decode()):
+            broken.append((file, heading))
+    return broken
+
+
+class Runs(Case):
+    """A folder in which the commands are played, one page after the other in folders of their own."""
+
+    def setUp(self):
+        super().setUp()
+        for name in ("docs", "examples", "tools"):
+            os.symlink(os.path.join(TOP, name), self.path(name))
+        os.mkdir(self.path("bin"))
+        self.put("bin/v6", f'#!/bin/sh\nexec {V6} "$@"\n'.encode())
+        os.chmod(self.path("bin/v6"), 0o755)
+
+    def play(self, command):
+        done = subprocess.run(["sh", "-c", command], cwd=self.folder, env={**os.environ, "V6": self.path("bin/v6")},
+                              stdout=subprocess.PIPE, stderr=subprocess.STDOUT)
+        return done.returncode, done.stdout.decode().replace("\r\n", "\n")
+
+    def played(self, *path):
+        """Plays a page, by the names of its path; its pictures are those that its commands make."""
+        page = read(os.path.join(TOP, "docs", *path)).decode()
+        for command, shown in commands(page):
+            self.assertEqual(self.play(command), (0, shown), command)
+        for picture in PICTURE.findall(page):
+            self.assertEqual(read(self.path(picture)), read(os.path.join(TOP, "docs", *path[:-1], picture)))

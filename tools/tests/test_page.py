@@ -1,0 +1,199 @@
+"""page.py: what its pages hold at each line of a log, and what is refused. test_page_browser.py opens them in a browser."""
+import os
+import re
+import tempfile
+import unittest
+
+from common import TOP, V6, Case, read, tool
+from pagereader import Read, process_of, shown, table_of
+
+from lookviews import ROW
+from pagepack import Panels, Texts
+
+page, look, as_main, disk_main = tool("page"), tool("look"), tool("as").main, tool("disk").main
+LIONS = os.path.join(TOP, "docs", "lions", "src")
+OUT = re.compile(r"^.*out of core, to block")
+
+
+class Made(Case):
+    """Runs of the lessons, and their pages."""
+
+    def disk(self, source, name="image"):
+        """A disk whose /etc/init is this program of the lessons."""
+        self.assertEqual(self.call(as_main, "-s", "-o", self.path("program"), os.path.join(LIONS, source))[0], 0)
+        self.assertEqual(os.system(f"{V6} make 0 {self.path(name)}"), 0)
+        self.assertEqual(self.call(disk_main, "put", self.path(name), self.path("program"), "/etc/init")[0], 0)
+        return self.path(name)
+
+    def made(self, *words):
+        """The page of a command."""
+        status, out, error = self.call(page.main, *words, "-o", self.path("page.html"))
+        self.assertEqual((status, out), (0, ""), error)
+        return Read(read(self.path("page.html"))), error
+
+    def pair(self):
+        return self.disk("pair.s"), "1200", self.put("script", b"run 60\ntype one\nrun 60\ntype two\nrun 60\n")
+
+    def crowd(self, slots=700):
+        return self.disk("crowd.s"), "100", self.put("script", b"clock 10\nrun %d\n" % slots)
+
+
+class Runs(Made):
+    def looker(self, words):
+        folder = tempfile.TemporaryDirectory()
+        self.addCleanup(folder.cleanup)
+        return look.looker_of(look.options_of(list(words)), folder.name)
+
+    def compare(self, words, lines):
+        """What a page has at some lines is what look.py shows there."""
+        found, said = self.made(*words)
+        self.assertEqual(said, "")
+        looker = self.looker(words)
+        log = looker.history.run.log
+        self.assertEqual([found.head["texts"][one] for one in found.columns["raw"]], log)
+        for line in sorted({1, len(log), *self.random.sample(range(1, len(log) + 1), lines)}):
+            looker.lines_of(f"line {line}")
+            moment, panels = looker.moment, found.at(line)
+            self.assertEqual(found.slot(line), moment.slots, line)
+            self.assertIn(found.words(line), looker.lines_of("log 1")[-1])
+            self.assertEqual(table_of(panels, ROW), looker.lines_of("ps")[1:], line)
+            for name in ("core", "swap"):
+                self.assertEqual(shown(panels[name]), looker.lines_of(name), line)
+            for slot, row in moment.whole.table.rows.items():
+                self.assertEqual(process_of(panels, slot), looker.views.process(moment.whole, row.number), (line, row.number))
+        return found
+
+    def test_two_readers(self):
+        """All panels are what look.py shows; the terminal and the calls are those worked out by hand from docs/lions/slp.md."""
+        found = self.compare(self.pair(), 12)
+        self.assertEqual(found.terminal(len(found.columns["raw"])), b"one\r\nPone\r\ntwo\r\nCtwo\r\n".upper())
+        self.assertEqual(found.terminal(19), b"ONE\r\n")  # the echo of what was typed before process 1 runs
+        self.assertEqual(found.terminal(24), b"ONE\r\nPONE\r\n")  # process 1 has written
+        self.assertEqual(found.at(22)["call"], ["62 [2 /etc/init] read(0, 063, 100) waits for keys again"])
+        self.assertEqual(found.at(24)["call"], ['66 [1 /etc/init] write(0, "Pone\\n", 5) = 5'])
+        self.assertEqual(found.at(16)["call"], [""])
+
+    def test_four_in_a_core_for_two(self):
+        """Also within the moments of the swapper, which have several lines."""
+        found = self.compare(self.crowd(), 6)
+        within = next(line for line in range(1, found.head["lines"]) if OUT.match(found.words(line)))
+        self.assertEqual(found.slot(within), found.slot(within + 1))
+
+    def test_rules(self):
+        """Why each process went out and came in is what docs/lions/sched.md works out."""
+        found, _ = self.made(*self.crowd(2500), "--moments", "2")
+        for line, words in {82: ("rules 3 and 5", "slot 3 has been out of core for longest, 1 second (1)", "slot 1 is the lowest in core that waits"),
+                            273: ("slot 4 has been out of core for longest, 3 seconds (1)", "no room for 37 clicks (2)",
+                                  "slot 2 has been there for longest, 4 seconds (5)"),
+                            274: ("there is room for 37 clicks at click 38 (2)",), 13: ("less than three seconds are too few",),
+                            2: ("nobody who can run is out of core",), 276: ("from the slot after the one that was chosen last",)}.items():
+            for one in words:
+                self.assertIn(one, found.at(line)["rule"][0], line)
+        self.assertTrue(found.at(273)["book"][0].startswith("sched (1940) of slp.c; here swap_sched"))
+
+    def test_few_moments(self):
+        """Where fewer moments are looked at than have lines, the page says so; what it shows of each is right."""
+        words = self.crowd()
+        found, said = self.made(*words, "--moments", "8")
+        self.assertRegex(said, r"were looked at in \d+ moments, with \d+ of \d+ lines")
+        self.assertEqual(found.head["left"], said.partition(": ")[2].strip())
+        looker = self.looker(words)
+        self.assertLessEqual(len(found.columns["slots"]), 8)
+        at = found.columns["moments"].index(len(found.columns["slots"]) // 2) + 1
+        slots = found.slot(at)
+        looker.lines_of(f"slot {slots}")
+        self.assertEqual(process_of(found.at(at), 1), looker.views.process(looker.moment, 1))
+
+    def test_panic(self):
+        """The page goes to the end of the log; core is shown up to the slot before."""
+        image = self.disk("full.s")
+        found, said = self.made(image, "900", self.put("script", b"run 100\n"))
+        self.assertRegex(said, r"panic: out of swap space: core is shown up to slot \d+")
+        self.assertEqual(found.words(found.head["lines"]), "the system stops, for there is no room in the swap area")
+        self.assertEqual(found.head["said"], "panic: out of swap space")
+
+
+class Logs(Made):
+    LOG = b"boot 100 7\nsleep 0 -100 runout\ngo 1\nfork 1 2 at 18\ntrap 1\nsleep 1 40 wait.1\ngo 2\n"
+
+    def test_log_alone(self):
+        """A log that is cut gives a page, which says so; what comes from core is left out, and said to be."""
+        log = self.put("log", self.LOG)
+        status, _, said = self.call(page.main, "--log", log, "--term", self.put("term", b"<b>&\0\x7f"), "-o", self.path("page.html"))
+        self.assertEqual((status, "ends within a run" in said), (1, True))
+        found = Read(read(self.path("page.html")))
+        self.assertEqual((found.head["isCut"], found.head["isRun"]), (True, False))
+        self.assertIn("registers", found.head["left"])
+        self.assertEqual(bytes(found.columns["term"]), b"<b>&\0\x7f")
+        self.assertEqual(shown(found.at(7)["ps"]), ["s\t0\t0\t0\t-\t-100\t-\t0\t-\t-\trunout\t(the swapper)",
+                                                    "w\t1\t1\t0\t-\t40\tat 1\t0\t17\t-\twait.1\t",
+                                                    "R\t2\t2\t1\t-\t-\tat 18\t0\t17\t-\t-\t"])
+        self.assertEqual(shown(found.at(7)["core"]), ["    1 to    17    17  process 1", "   18 to    34    17  process 2",
+                                                      "   35 to   100    66  free", "66 of 100 clicks are free"])
+
+    def test_size(self):
+        """100,000 lines of six processes are at most 4 MB."""
+        turns = b"".join(b"tick u\ntrap %d\nsleep %d 1 read.%d\ngo %d\nwake read.%d\n" % (n % 5 + 1, n % 5 + 1, n % 97 + 1, (n + 1) % 5 + 1, n % 97 + 1)
+                         for n in range(20000))
+        forks = b"".join(b"fork 1 %d at %d\n" % (slot, 17 * slot) for slot in range(2, 6))
+        log = self.put("log", b"boot 200 0\ngo 1\n" + forks + turns + b"end\n")
+        found, _ = self.made("--log", log)
+        self.assertEqual(found.head["lines"], 100007)
+        self.assertLess(os.path.getsize(self.path("page.html")), 4_000_000)
+        self.assertEqual(found.words(100006), "woken are those who wait for bytes in the pipe of inode 18: process 5")
+
+    def refused(self, *words, why, status=1):
+        kept = read(self.path("page.html")) if os.path.exists(self.path("page.html")) else None
+        found, out, said = self.call(page.main, *words)
+        self.assertEqual((found, out), (status, ""), said)
+        self.assertRegex(said, why)
+        self.assertEqual(said.count("\n"), 1 if status == 1 else said.count("\n"))
+        self.assertEqual(kept, read(self.path("page.html")) if os.path.exists(self.path("page.html")) else None)
+
+    def test_refused(self):
+        """Bad words, files that can't be there, and marks of lines that aren't: a line says why, and no file changes."""
+        log, out = self.put("log", self.LOG + b"idle\nend\n"), self.path("page.html")
+        self.put("page.html", b"kept")
+        self.refused("--log", log, "-o", log, why="would take the place")
+        self.refused("--log", self.path("none"), "-o", out, why="none: No such file")
+        self.refused("--log", self.put("bad", b"boot 100 7\ngo 7\n"), "-o", out, why="line 2: slot 7 is free there")
+        self.refused("--log", log, "-o", self.path("no/folder"), why="No such file")
+        for marks, why in ((b"10 behind the end\n", "line 1: it begins with '10'"), (b"; well\none\n", "line 2: it begins with 'one'")):
+            self.refused("--log", log, "--marks", self.put("marks", marks), "-o", out, why=why)
+        self.refused("-o", out, why="either IMAGE CORE SCRIPT or --log", status=2)
+        self.refused("image", "100", "script", "--term", log, "-o", out, why="stand beside --log", status=2)
+        self.refused(self.path("none"), "100", self.put("script", b"run 9\n"), "-o", out, why="none: No such file")
+
+
+class Safe(Made):
+    def test_nothing_of_a_run_is_markup(self):
+        """Titles and marks with signs of HTML are text; the page lets no program run but its own, and asks for nothing."""
+        log = self.put("log", Logs.LOG + b"idle\nend\n")
+        evil = "</script><script>alert(1)</script>\"'&<img src=x onerror=alert(2)>"
+        found, _ = self.made("--log", log, "--title", evil, "--marks", self.put("marks", f"3 {evil}\n".encode()))
+        self.assertEqual(found.html.count("<script"), 2)
+        self.assertNotIn("<img", found.html)
+        self.assertEqual((found.head["title"], found.head["marks"]), (evil, [[3, evil]]))
+        self.assertRegex(found.html, "Content-Security-Policy\" content=\"default-src 'none'; style-src 'unsafe-inline'; script-src 'sha256-")
+        self.assertNotRegex(re.sub("http://www.w3.org/2000/svg", "", found.html), "https?://")
+
+
+class Packed(unittest.TestCase):
+    def test_rows(self):
+        """A panel with fewer rows than its text says how many are left; a row that is as before is no change."""
+        texts = Texts()
+        panels = Panels(texts)
+        panels.add("one", 3)
+        panels.show("one", ["a", "b", "c", "d"])
+        panels.end_line()
+        panels.show("one", ["a"])
+        panels.end_line()
+        panels.row("one", 0, "x")
+        panels.row("one", 0, "a")
+        panels.end_line()
+        self.assertEqual(texts.all(), ["", "a", "b", "and 2 more", "x"])
+        self.assertEqual((list(panels.counts), list(panels.fields), list(panels.values)), ([3, 2, 1], [0, 1, 2, 1, 2, 0], [1, 2, 3, 0, 0, 1]))
+
+
+if __name__ == "__main__":
+    unittest.main()

@@ -1,0 +1,151 @@
+"""Searches that look at each slot, and the stepper by which they do, beside what `v6 memory` tells. The slots of the programs here are
+counted by hand."""
+import os
+import random
+import sys
+import unittest
+import unittest.mock
+
+from common import TOP, V6, Case, read, tool, v6, words
+
+import stepper
+import walk as walk_module
+from history import History
+from moments import MomentError, Run
+from stepper import Stepper
+from walk import Sought, Walk, found
+
+sys.path.append(os.path.join(TOP, "bench"))
+from random_instructions import InstructionCase
+
+look, as_main, disk_main = tool("look"), tool("as").main, tool("disk").main
+# Each eighth time round calls a routine: 5 instructions each time, and 3 more then. The word `seen` becomes k in slot 42 + 43(k - 1).
+COUNTS = b"""
+	mov	$20000.,r4
+1:	inc	count
+	bit	$7,count
+	bne	2f
+	jsr	pc,eighth
+2:	dec	r4
+	bne	1b
+	sys	getpid
+	mov	r0,who
+	br	.
+eighth:	inc	seen
+	rts	pc
+	.data
+count:	0
+seen:	0
+who:	0
+"""
+
+
+class Searches(Case):
+    def disk(self, source):
+        image, program = self.path("image"), self.path("program")
+        self.assertEqual(v6("make", "0", image), (0, ""))
+        self.assertEqual(self.call(as_main, "-s", "-o", program, source), (0, "", ""))
+        self.assertEqual(self.call(disk_main, "--v6", V6, "put", image, program, "/etc/init"), (0, "", ""))
+        return image
+
+    def slots(self, image, script, *commands):
+        """Where these commands come to, one after the other."""
+        words_ = [word for command in commands for word in ("-c", command)]
+        status, out, error = self.call(look.main, "--v6", V6, image, "1200", script, *words_)
+        self.assertEqual((status, error), (0, ""))
+        return [int(line.split()[1]) for line in out.splitlines() if line.startswith("slot ")]
+
+    def test_each_slot(self):
+        """What comes and goes in one slot of many is found, forwards and backwards."""
+        image, script = self.disk(self.put("counts.s", COUNTS)), self.put("script", b"clock 100\nrun 120000\n")
+        self.assertEqual(self.slots(image, script, "slot 1", "until pc eighth", "until word seen", "until word seen 7", "until word seen 2000",
+                                    "until word who", "slot 1000", "since pc eighth", "slot 1000", "since word seen",
+                                    "slot 110000", "since word seen 3"),
+                         [1, 41, 42, 300, 85999, 107504, 1000, 987, 1000, 988, 110000, 128])
+
+    def test_what_is_not_found(self):
+        image, script = self.disk(self.put("counts.s", COUNTS)), self.put("script", b"run 2000\n")
+        words_ = "--v6", V6, image, "1200", script, "-c", "slot 1", "-c", "until word seen 60", "-c", "slot 300", "-c", "since word who"
+        self.assertEqual(self.call(look.main, *words_)[::2], (1, "look.py: word seen 60: not found behind slot 1\n"
+                                                                 "look.py: word who: not found before slot 300\n"))
+
+    def test_two_processes(self):
+        """Each moment of the two readers is asked for one by one, and the same is found."""
+        image = self.disk(os.path.join(TOP, "docs", "lions", "src", "pair.s"))
+        history = History(Run(V6, image, 1200, b"run 60\ntype one\nrun 30\ntick\ntype two\nrun 40\n", self.folder))
+        seen = {number: [self.pc(history.moment(slots), number) for slots in range(131)] for number in (1, 2)}
+        for number, low, high in ((1, 0o20, 0o20), (1, 0o40, 0o46), (2, 0o20, 0o32), (2, 0o36, 0o50)):
+            is_in = [pc is not None and low <= pc <= high for pc in seen[number]]
+            wanted = [slots for slots in range(1, 131) if is_in[slots] and not is_in[slots - 1]]
+            self.assertTrue(wanted)
+            for few, near in ((walk_module.FEW, walk_module.NEAR), (-1, walk_module.NEAR), (100, 1)):  # by the log where others do much
+                with unittest.mock.patch.multiple(walk_module, FEW=few, NEAR=near):
+                    self.assertEqual(list(found(history, Sought(number, [(low, high)]), 0, 130)), wanted, (number, low, few))
+
+    def pc(self, moment, number):
+        process = moment.process(number)
+        return process.pc if process and process.parts else None
+
+    def test_random_instructions(self):
+        """Programs of random instructions, with faults that are caught: registers, codes and memory at moments of each run."""
+        for seed in (3, 8):
+            case = InstructionCase(seed)
+            image = self.path("random")
+            with open(image, "wb") as out:
+                out.write(case.image)
+            history = History(Run(V6, image, case.core, b"run 400\n", self.folder))
+            walk, compared = Walk(history, 0), 0
+            while walk.at < 400:
+                walk.go(min(400, walk.at + 1 + random.Random(f"{seed} {walk.at}").randrange(6)))
+                slot = walk.table.running
+                if slot and walk.at % 5 == 0:
+                    compared += 1
+                    self.same(walk.stepper(slot), history.moment(walk.at).process(walk.table.rows[slot].number), (seed, walk.at))
+            self.assertGreater(compared, 15)
+
+    def same(self, one, process, where):
+        self.assertEqual((one.registers[:8], one.code()), (process.registers, process.u[16] & 15), where)
+        self.assertEqual(one.fill_again(process), [], where)
+
+    def test_a_difference(self):
+        """Where a stepper does an instruction in another way than the program, that is said at the next call."""
+        image, script = self.disk(self.put("p.s", b"\tsys\tgetpid\n\tinc\tr3\n\tsys\tgetpid\n\tbr\t.\n")), self.put("script", b"run 20\n")
+        self.assertEqual(self.slots(image, script, "slot 1", "until pc 6"), [1, 4])
+        wrong = {0o5203: lambda r, memory, kept, p: r.__setitem__(7, p + 2) or 1}  # inc r3 that does nothing
+        with unittest.mock.patch.dict(stepper.SINGLES, wrong):
+            self.assertEqual(self.call(look.main, "--v6", V6, image, "1200", script, "-c", "until pc 6")[::2], (1,
+                             "look.py: slot 4: what was followed from slot 0 on differs from what the program tells: process 1 has other "
+                             "registers or words\n"))
+
+
+class Rows(unittest.TestCase):
+    """Instructions in a row do what each of them does alone."""
+
+    def stepper(self, text, codes=0):
+        process = unittest.mock.Mock(registers=[0, 1, 2, 3, 4, 5, 64, 0], u=bytes(16) + bytes([codes]), text=0, pending=0,
+                                     data=words(text).ljust(128, b"\0"), parts=[(0, 128, 0)])
+        return Stepper(process)
+
+    def test_rows(self):
+        text = "005201 060102 010203 006303 005504 020304 100401 005205 077011 000240 000777"
+        for codes in range(16):
+            one, other = self.stepper(text, codes), self.stepper(text, codes)
+            other.make(0)
+            one.registers[0] = other.registers[0] = 300
+            done = other.run(2000)
+            with unittest.mock.patch.object(stepper, "HOT", -1):
+                self.assertEqual(one.run(2000), done)
+            self.assertEqual((one.registers[:8], one.code()), (other.registers[:8], other.code()))
+            self.assertIn(0, other.rows)
+            self.assertNotIn(0, one.rows)
+
+    def test_a_program_that_changes_itself(self):
+        """inc of a word that was executed: mov r1,r2 becomes mov r1,r3."""
+        one = self.stepper("010102 005237 000000 000774")
+        one.make(0)
+        self.assertEqual(one.run(4), 4)
+        self.assertEqual((one.registers[2], one.registers[3], one.words[0]), (1, 1, 0o010103))
+
+
+if __name__ == "__main__":
+    unittest.main()

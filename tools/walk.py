@@ -1,0 +1,267 @@
+"""Goes through the slots of a run, each one: what comes between two lines of the log a stepper does here, and what the kernel does is
+asked for by the program's command `memory`. Where the two differ, that is said: see docs/tools/look.md."""
+import bisect
+
+from dataclasses import dataclass
+
+from callwords import call_at, name_of
+from moments import ENDS, MomentError, is_turn
+from proctable import TICKS_OF_A_SECOND
+from stepper import Stepper
+
+NEAR = 20_000  # slots of other processes that are gone through, and
+FEW = 12  # turns in the kernel of theirs, before it is asked when the one that is looked for runs again
+ANSWERS = {"read": (1, None), "stat": (1, 36), "fstat": (1, 36), "gtty": (1, 6), "times": (0, 12)}  # which argument of a call says where
+# it writes, and how many bytes; those of a read are its count
+CHANGES = ("image", "size", "signal", "bare")  # lines of a turn after which more has changed than a call's answer
+
+
+class Sought:
+    """What is looked for of a process: PC in a range, or words, each with the value that it is to become, or None where any other."""
+
+    def __init__(self, number, ranges=(), words=None):
+        self.number, self.ranges, self.words = number, ranges, words or {}
+
+    def comes(self, before, after):
+        """Whether with a state something has become so that wasn't before it."""
+        if after[0] & ~before[0]:
+            return True
+        return any(old != new and wanted in (None, new) for old, new, wanted in zip(before[1], after[1], self.words.values()))
+
+
+@dataclass
+class Before:
+    """What a process is about to do in the kernel: a call, where it is at one, and the name of the program of an exec; or it goes on
+    with one that is pending."""
+
+    call: object
+    pending: bool = False
+    name: str = ""
+
+
+@dataclass
+class Met:
+    """A turn in the kernel of the process in a slot of the table: the slot of the run, its number, and its first line of the log."""
+
+    slot: int
+    at: int
+    number: int
+    first: int
+    before: Before
+
+
+def before_call(process):
+    """What a process is about to do, by its memory."""
+    if process.pending:
+        return Before(None, True)
+    call = call_at(process)
+    return Before(call, False, name_of(process) if call and call.name == "exec" else "")
+
+
+def answer_of(call):
+    """Where a call writes its answer, and how many bytes at most."""
+    if call is None or call.name not in ANSWERS:
+        return 0, 0
+    which, size = ANSWERS[call.name]
+    return int(call.arguments[which], 8), int(call.arguments[2]) if size is None else size
+
+
+class Walk:
+    """The moments of a run from one on, slot by slot. What stays as it is needn't be looked at: it goes from one line of the log to the
+    next, or to a moment at which something that is looked for becomes so."""
+
+    def __init__(self, history, slots, sought=None):
+        self.history, self.lines, self.at, self.sought = history, history.run.lines, slots, sought
+        self.line = min(history.count(slots), len(self.lines))
+        self.table, self.memory, self.steppers = history.table(self.line), None, {}
+        self.events = history.events()
+        self.pauses = sorted(self.events)
+        self.signalled = history.signalled()
+        self.hit, self.began, self.goal = None, slots, (0, 0)  # and how many turns others take up to which line
+        self.met = None  # the turn in the kernel that came last, where nothing is sought
+
+    # who there is
+
+    def slot(self):
+        """The slot of the table of the process that is looked for."""
+        return next((slot for slot, row in self.table.rows.items() if row.number == self.sought.number), None)
+
+    def state(self):
+        """What the process that is looked for has of what is."""
+        slot = self.slot()
+        row = self.table.rows.get(slot)
+        if row is None or row.place is None or row.state == "dead" or not slot:
+            return 0, [None] * len(self.sought.words)
+        return self.stepper(slot).state()
+
+    def process(self, slot):
+        if self.memory is None:
+            self.memory = self.history.memory(self.at)
+        row = self.table.rows[slot]
+        return self.memory.process(row, None if row.text is None else self.table.texts.get(row.text))
+
+    def stepper(self, slot):
+        if slot not in self.steppers:
+            row, sought = self.table.rows[slot], self.sought
+            wanted = (sought.ranges, tuple(sought.words)) if sought and row.number == sought.number else ()
+            self.steppers[slot] = Stepper(self.process(slot), *wanted)
+        return self.steppers[slot]
+
+    # further
+
+    def go(self, limit):
+        """To a later moment, `limit` at most: behind a turn in the kernel, what comes from outside, or what was looked for."""
+        self.hit = None
+        if self.sought and self.is_far():
+            return self.jump(limit)
+        place = bisect.bisect_right(self.pauses, self.at)
+        stop = min(limit, self.pauses[place]) if place < len(self.pauses) else limit
+        slot = self.table.running
+        if slot is None:
+            self.at = stop
+        elif slot and not self.stepper(slot).pending:
+            stepper = self.stepper(slot)
+            most = stop if not self.is_other(slot) else min(stop, self.at + NEAR)
+            self.at += stepper.run(most - self.at)
+            self.hit = stepper.hit
+            if not self.hit and self.at < most:
+                self.turn(slot)
+            elif not self.hit and self.at < stop:
+                return self.jump(limit)
+        else:
+            self.turn(slot)
+        if self.at in self.events:
+            self.pause()
+
+    def is_other(self, slot):
+        return self.sought is not None and self.table.rows[slot].number != self.sought.number
+
+    def is_far(self):
+        """Whether others do much before the one that is looked for runs again."""
+        running = self.table.running
+        if not running or not self.is_other(running) or self.line < self.goal[1]:
+            return False
+        goal, _ = self.goal_of()
+        turns = sum(is_turn(line) for line in self.lines[self.line : goal])
+        self.goal = turns, goal
+        return turns > FEW
+
+    def goal_of(self):
+        """The next line of the log with which the one that is looked for runs again, or comes; the last where there is none."""
+        slot, number = self.slot(), self.sought.number
+        if slot is not None:
+            wanted = f"go {slot}"
+            return next((line for line in range(self.line, len(self.lines)) if self.lines[line] == wanted), len(self.lines)), slot
+        table = self.history.table(self.line)
+        for line in range(self.line, len(self.lines)):
+            if table.take(self.lines[line])["word"] == "fork" and table.last == number:
+                return line, None
+        return len(self.lines), None
+
+    def take(self):
+        """The next line of the log."""
+        text = self.lines[self.line]
+        self.table.take(text)
+        self.line += 1
+        return text.split(" ")
+
+    def next(self):
+        """The word of the next line, or nothing."""
+        return self.lines[self.line].partition(" ")[0] if self.line < len(self.lines) else ""
+
+    def choice(self):
+        if self.next() in ("go", "idle"):
+            self.take()
+
+    def turn(self, slot):
+        """What the kernel does in the next slot, for the process in a slot of the table, or as the swapper."""
+        first, row, old = self.line, self.table.rows[slot], self.steppers.get(slot)
+        if self.sought is None and slot:
+            self.met = Met(slot, self.at + 1, row.number, first, before_call(old))
+        self.at, self.memory, words = self.at + 1, None, []
+        while self.line < len(self.lines) and words[:1] not in [[end] for end in ENDS]:
+            words = self.take()
+        if words[1:2] != [str(slot)] or words[0] not in ENDS:
+            raise self.differs(f"no line of the log tells of the call that process {row.number} makes")
+        while words[0] == "exit" and self.next() == "wake":
+            self.take()
+        self.choice()
+        self.done(slot, old, first, words[0])
+
+    def done(self, slot, old, first, kind):
+        """Compares what was done here with what the program tells, and goes on from that."""
+        told = [line.partition(" ")[0] for line in self.lines[first : self.line]]
+        if kind == "sleep" and self.sought is None and old:
+            old.pending = True  # what it has stays as it is
+            return
+        if old is None or old.pending or self.is_other(slot):
+            self.steppers.pop(slot, None)
+            return
+        if kind == "exit" or set(told) & set(CHANGES) or slot in self.signalled:
+            self.compare(slot, old, first)
+            self.steppers.pop(slot, None)
+            return
+        place, size = answer_of(call_at(old))
+        registers = old.registers[2:7]
+        changed = old.fill_again(self.process(slot))
+        if changed is None:
+            self.steppers.pop(slot, None)
+        elif registers != old.registers[2:7] or any(not -1 <= at - place < size for at in changed):
+            raise self.differs(f"process {self.table.rows[slot].number} has other registers or words")
+
+    def compare(self, slot, old, lines):
+        """Looks whether a process was as it was left here, before the call with which it is as it was no more."""
+        before = Walk.__new__(Walk)
+        before.history, before.memory, before.at = self.history, None, self.at - 1
+        before.table = self.history.table(lines)
+        process = before.process(slot)
+        if process.registers != old.registers[:8] or process.u[16] & 15 != old.code() or old.fill_again(process) != []:
+            raise self.differs(f"process {before.table.rows[slot].number} has other registers or words")
+
+    def differs(self, what):
+        return MomentError(f"slot {self.at}: what was followed from slot {self.began} on differs from what the program tells: {what}")
+
+    def pause(self):
+        """What comes from outside after a slot."""
+        ran, first, ticks = self.table.running, self.line, self.events[self.at]
+        is_plain = ticks > 0
+        for _ in range(ticks):
+            self.take()
+            is_second = not self.table.ticks % TICKS_OF_A_SECOND
+            if is_second and self.line < len(self.lines) and self.lines[self.line] == "wake tout":
+                self.take()
+            if is_second and ran in self.signalled:
+                is_plain = False  # a signal may be delivered, and only the program tells where its lines end
+                break
+            self.choice()
+        if not is_plain:
+            for _ in range(self.line, min(self.history.count(self.at), len(self.lines))):
+                self.take()
+        told = {line.partition(" ")[0] for line in self.lines[first : self.line]}
+        if not is_plain and ran and told & {"tick", *CHANGES, "exit"}:
+            self.steppers.pop(ran, None)
+            self.memory = None
+
+    def jump(self, limit):
+        """To where the process that is looked for runs again, or comes, where others do much until then."""
+        goal, slot = self.goal_of()
+        slots = self.history.slot_of_line(goal) if goal < len(self.lines) else limit
+        if slots >= limit:
+            self.at = limit
+            return
+        own = self.steppers.get(slot)
+        self.__init__(self.history, slots, self.sought)
+        if own is not None:
+            self.steppers[slot] = own
+
+
+def found(history, sought, low, high):
+    """The moments behind one, up to another, with which what is looked for becomes so, one after the other."""
+    walk = Walk(history, low, sought)
+    before = walk.state()
+    while walk.at < high:
+        walk.go(high)
+        after = walk.state()
+        if walk.hit == "pc" or sought.comes(before, after):
+            yield walk.at
+        before = after
