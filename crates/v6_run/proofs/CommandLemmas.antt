@@ -20,7 +20,7 @@ use Rattle.v6_run.specs.declared.make.MakeError.TheVariants as make_error
 use Rattle.v6_run.specs.declared.error.CommandError.{CommandError}
 use Rattle.v6_run.specs.declared.error.CommandError.TheVariants as error
 use Rattle.v6_run.specs.declared.report.Found.{Found}
-use Rattle.v6_run.specs.Words.{Outputs, Command, Run, Check, Make, Demo}
+use Rattle.v6_run.specs.Words.{Outputs, Command, Run, Check, Make, Demo, Audit}
 use Rattle.v6_run.specs.Outputs.{is_output}
 use Rattle.v6_run.specs.Status.{fault_port, is_decided, has_written, is_closed}
 use Rattle.v6_run.specs.Errors.{read_status, image_status, command_status, end_of}
@@ -54,6 +54,7 @@ unnamed (Run words) = named_outputs words out_port.Report ∙ unwritten_report w
 unnamed (Check image) = refl
 unnamed (Make number final) = refl
 unnamed (Demo number) = refl
+unnamed (Audit log) = refl
 
 at_fault : (p : Port) (known : Port → Bool) (a b : Outside) → FaultAt p (known p) a b → Tells a → (q : Port) → known q ≡ true → (b.port q).missing ≡ (a.port q).missing
 at_fault p known a b fault told q is = by_test (same p q) _
@@ -252,6 +253,7 @@ module _ (command : Option Command) (answer : Result (Option Found) CommandError
   may_lose (Check image) tells = refl
   may_lose (Make number final) tells = not_so _ tells
   may_lose (Demo number) tells = refl
+  may_lose (Audit log) tells = refl
 
   pub of_words : MatchOption (refused_by command) (words_may_end command status ≡ true) (λ s. status ≡ s)
   of_words = go came

@@ -21,3 +21,4 @@ pub mod DemoLemmas
 pub mod PartsOfLogs
 pub mod ReadLines
 pub mod FaultLemmas
+pub mod AuditLemmas
