@@ -35,7 +35,7 @@ use Rattle.v6_run.proofs.FaultLemmas.{fault_ends, close_ends, long_ends}
 
 -- a test that is true isn't false
 pub not_both : (b : Bool) → b ≡ true → b ≡ false → ⊥
-not_both b yes no = false≢true (sym no ∙ yes)
+not_both b is not = false≢true (sym not ∙ is)
 
 -- bytes that are some are not none
 pub not_none : (items : List ℕ) → (length items == 0) ≡ false → items ≡ [] → ⊥

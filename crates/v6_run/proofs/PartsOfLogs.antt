@@ -14,7 +14,7 @@ pub record First (parts : Lines) : Type 0 where
   pub more : Lines
   pub is : parts ≡ part ∷ more
 
-first : (bytes : List ℕ) → First (parts_of bytes)
+pub first : (bytes : List ℕ) → First (parts_of bytes)
 first [] = record { part = []; more = []; is = refl }
 first (x ∷ bytes) = by (x == 10) (first bytes)
   where

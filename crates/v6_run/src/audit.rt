@@ -36,6 +36,7 @@ pub(crate) enum LogError {
 }
 
 /// What was read of a log: its lines, each of which fits, how many they are, and the bytes of one that isn't ended.
+#[derive(Drop)]
 struct Reading {
     audit: Audit,
     lines: u64,

@@ -4,8 +4,8 @@ use Rattle.log_audit.specs.declared.audit.Judged.TheVariants.{Good, Unlawful, Ba
 use Rattle.v6_run.proofs.ReadLines.{read_line, unfit_line, bad_line}
 use Rattle.v6_run.proofs.audit.Reading.end_line.Goals as goal
 
-pub overflow_add-lines : goal.overflow_add-lines
-overflow_add-lines c = let a = c.requires.1.few in let b = c.requires.2 in omega (arith, a, b)
+pub overflow_add-self : goal.overflow_add-self
+overflow_add-self c = let a = c.requires.1.few in let b = c.requires.2 in omega (arith, a, b)
 
 pub returns-in-Good-clause-read : goal.returns-in-Good-clause-read
 returns-in-Good-clause-read c front h =
