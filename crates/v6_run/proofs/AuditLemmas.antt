@@ -234,16 +234,44 @@ abbrev pub HasTaken : Reading → ℕ → Outside → Outside → Type 0
 HasTaken reading total old now =
     (front : List ℕ) × HasRead front reading × (length front ≡ total) × (Tells old → (old.port (In in_port.Log)).bytes ≡ front ++ (now.port (In in_port.Log)).bytes)
 
-pub room_for : (reading : Reading) (total : ℕ) (old now : Outside) (piece : List ℕ) → HasTaken reading total old now → total + length piece ≤ LOG_LIMIT
-    → (front : List ℕ) × HasRead front reading × (length front + length piece ≤ LOG_LIMIT)
-room_for reading total old now piece h room = let l = h.2 in (h.0, h.1, omega (arith, l, room))
+-- so many bytes were read, which are this piece
+pub record IsPiece (piece buffer : List ℕ) (count : ℕ) (now new : Outside) : Type 0 where
+  pub is : piece ≡ take count buffer
+  pub long : length piece ≡ count
+  pub split : Tells now → (now.port (In in_port.Log)).bytes ≡ piece ++ (new.port (In in_port.Log)).bytes
 
-pub taken_more : (reading after : Reading) (total count : ℕ) (old now new : Outside) (piece : List ℕ) → HasTaken reading total old now
-    → (Tells old → (now.port (In in_port.Log)).bytes ≡ piece ++ (new.port (In in_port.Log)).bytes) → length piece ≡ count
+pub piece_read : (now new : Outside) (piece buffer : List ℕ) (r : Result ℕ Failed) (n : ℕ) → Reads in_port.Log now buffer r new → r ≡ Ok n → piece ≡ take n buffer → IsPiece piece buffer n now new
+piece_read now new piece buffer r n reads is same_piece = record {
+  is = same_piece;
+  long = ap length same_piece ∙ length-take-le n buffer (read_within in_port.Log now new buffer r n reads is);
+  split = λ told. read_piece in_port.Log now new buffer r n reads is told ∙ ap (λ l. l ++ (new.port (In in_port.Log)).bytes) (sym same_piece);
+}
+
+pub room_for : (reading : Reading) (total count : ℕ) (old now new : Outside) (piece buffer : List ℕ) → HasTaken reading total old now → IsPiece piece buffer count now new → total + count ≤ LOG_LIMIT
+    → (front : List ℕ) × HasRead front reading × (length front + length piece ≤ LOG_LIMIT)
+room_for reading total count old now new piece buffer h p room = let l = h.2 in let k = p.long in (h.0, h.1, omega (arith, l, k, room))
+
+pub taken_more : (reading after : Reading) (total count : ℕ) (old now new : Outside) (piece buffer : List ℕ) → HasTaken reading total old now → IsPiece piece buffer count now new → (Tells old → Tells now)
     → ((front : List ℕ) → HasRead front reading → HasRead (front ++ piece) after) → HasTaken after (total + count) old new
-taken_more reading after total count old now new piece h split long takes = (
+taken_more reading after total count old now new piece buffer h p still takes = (
   h.0 ++ piece,
   takes h.0 h.1,
-  (let a = length-append h.0 piece in let l = h.2 in omega (arith, a, l, long)),
-  λ told. h.3 told ∙ ap (λ l. h.0 ++ l) (split told) ∙ sym (append_assoc h.0 piece (new.port (In in_port.Log)).bytes),
+  (let a = length-append h.0 piece in let l = h.2 in let k = p.long in omega (arith, a, l, k)),
+  λ told. h.3 told ∙ ap (λ l. h.0 ++ l) (p.split (still told)) ∙ sym (append_assoc h.0 piece (new.port (In in_port.Log)).bytes),
 )
+
+-- a line is at fault within this piece
+abbrev pub FaultWithin : Reading → List ℕ → LogError → Type 0
+FaultWithin reading piece error = (front : List ℕ) → HasRead front reading → (k : ℕ) × (k ≤ length piece) × IsAtFault (front ++ take k piece) error
+
+pub fault_taken : (reading : Reading) (total count : ℕ) (old now new : Outside) (piece buffer : List ℕ) (error : LogError) → HasTaken reading total old now → IsPiece piece buffer count now new
+    → (Tells old → Tells now) → total + count ≤ LOG_LIMIT → FaultWithin reading piece error → Tells old → AuditsTo (old.port (In in_port.Log)).bytes (Err error)
+fault_taken reading total count old now new piece buffer error h p still room fault told =
+    let l = h.2 in
+    let k = p.long in
+    let f = fault h.0 h.1 in
+    fault_read h.0 piece (new.port (In in_port.Log)).bytes _ f.0 error (h.3 told ∙ ap (λ m. h.0 ++ m) (p.split (still told))) f.1 (omega (arith, l, k, room)) f.2
+
+pub fault_stops : (reading : Reading) (total : ℕ) (old now : Outside) (piece : List ℕ) (error : LogError) (a b : Outside) → HasTaken reading total old now → FaultWithin reading piece error → Calm a b
+    → StopsLog true error a b
+fault_stops reading total old now piece error a b h fault calm = let f = fault h.0 h.1 in fault_calm (h.0 ++ take f.0 piece) error a b f.2 calm

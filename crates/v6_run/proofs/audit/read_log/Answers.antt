@@ -3,8 +3,9 @@ use Rattle.std.proofs.lemmas.List.{length-take-le}
 use Rattle.v6_port.specs.Outside.{Environment, Outside}
 use Rattle.v6_port.proofs.CauseLemmas.{calm_then}
 use Rattle.v6_run.specs.declared.audit.TheConstants.{LOG_LIMIT}
+use Rattle.v6_run.specs.Audit.{AuditsTo}
 use Rattle.v6_run.proofs.ResultLemmas.{error_where_err, result_passed, match_passed}
-use Rattle.v6_run.proofs.AuditLemmas.{calm_read, read_within, read_piece, read_none, end_read, most_read, fault_read, fault_calm, close_calm, room_for, taken_more}
+use Rattle.v6_run.proofs.AuditLemmas.{calm_read, read_within, read_piece, read_none, end_read, most_read, fault_read, fault_calm, close_calm, room_for, taken_more, piece_read, fault_taken, fault_stops}
 use Rattle.v6_run.proofs.audit.read_log.Goals as goal
 
 pub file-init : goal.file-init
@@ -36,3 +37,31 @@ returns-clause-answer g c told =
     let most = c.file-test.false in
     let within = c.file.invariant.within in
     most_read h.0 _ _ c.file.reading (h.3 told) h.1 (omega (arith, l, most, within))
+
+pub take-requires : goal.take-requires
+take-requires g c =
+    let within = read_within _ _ _ _ _ _ c.read.ensures c.in-Ok.is in
+    room_for c.file.reading c.file.total c.in-Ok.count _ _ _ _ _ c.file.invariant.read (piece_read _ _ _ _ _ _ c.read.ensures c.in-Ok.is (search rules)) (omega (arith, within))
+
+pub returns-in_err-take-clause-answer : goal.returns-in_err-take-clause-answer
+returns-in_err-take-clause-answer g c told =
+    let within = read_within _ _ _ _ _ _ c.read.ensures c.in-Ok.is in
+    result_passed (AuditsTo _) _ _ c.from_residual.ensures.1
+    (fault_taken c.file.reading c.file.total c.in-Ok.count _ _ _ _ _ _ c.file.invariant.read (piece_read _ _ _ _ _ _ c.read.ensures c.in-Ok.is (search rules)) (λ told. ap (λ (f : Environment). f.tells) c.file.invariant.only.fixed ∙ told) (omega (arith, within))
+    (error_where_err _ _ _ c.in_err-take.was c.take.ensures.fault) told)
+
+pub returns-in_err-take-clause-cause : goal.returns-in_err-take-clause-cause
+returns-in_err-take-clause-cause g c =
+    match_passed _ _ _ _ c.from_residual.ensures.1
+    (fault_stops c.file.reading c.file.total _ _ _ _ _ _ c.file.invariant.read (error_where_err _ _ _ c.in_err-take.was c.take.ensures.fault)
+    (calm_then _ _ _ c.file.invariant.calm (calm_read _ _ _ _ _ _ c.read.ensures c.in-Ok.is)))
+
+pub file-preserved : goal.file-preserved
+file-preserved g c =
+    let within = read_within _ _ _ _ _ _ c.read.ensures c.in-Ok.is in record {
+      only = search rules;
+      calm = search rules;
+      is_open = search rules;
+      read = taken_more c.file.reading _ c.file.total c.in-Ok.count _ _ _ _ _ c.file.invariant.read (piece_read _ _ _ _ _ _ c.read.ensures c.in-Ok.is (search rules)) (λ told. ap (λ (f : Environment). f.tells) c.file.invariant.only.fixed ∙ told) c.in_ok-take.ensures.read;
+      within = omega (arith, within);
+    }

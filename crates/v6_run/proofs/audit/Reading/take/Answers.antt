@@ -21,13 +21,13 @@ returns-in_err-take_byte-clause-fault c =
     error_passed _ _ _ c.from_residual.ensures.1 (λ (front : List ℕ) h. (
       i + 1,
       omega (arith, at),
-      subst (λ ls. IsAtFault ls _) (one_more front c.args.bytes.now i at)
+      subst (λ ls. IsAtFault ls c.in_err-take_byte.field-0.0) (one_more front c.args.bytes.now i at)
       (error_where_err _ _ _ c.in_err-take_byte.was c.take_byte.ensures.fault (front ++ take i c.args.bytes.now) (c.loop-byte.invariant front h)),
     ))
 
 pub loop-byte-preserved : goal.loop-byte-preserved
 loop-byte-preserved c front h =
-    subst (λ ls. HasRead ls _) (one_more front c.args.bytes.now c.loop-byte.byte-index c.loop-byte-test.true)
+    subst (λ ls. HasRead ls c.take_byte.new.self) (one_more front c.args.bytes.now c.loop-byte.byte-index c.loop-byte-test.true)
     (c.in_ok-take_byte.ensures.read (front ++ take c.loop-byte.byte-index c.args.bytes.now) (c.loop-byte.invariant front h))
 
 pub returns-clause-read : goal.returns-clause-read

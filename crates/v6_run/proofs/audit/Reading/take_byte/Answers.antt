@@ -16,8 +16,8 @@ pub returns-then-is_full-clause-fault : goal.returns-then-is_full-clause-fault
 returns-then-is_full-clause-fault c front h =
     inr (long_line front c.args.byte c.args.self.now (c.args.self.now.lines + 1) c.if-byte-eq10.false h refl (eqb-true _ _ (sym c.is_full.ensures.value ∙ c.if-is_full.true)))
 
-pub returns-else-is_full-clause-read : goal.returns-else-is_full-clause-read
-returns-else-is_full-clause-read c front h =
+pub returns-clause-read : goal.returns-clause-read
+returns-clause-read c front h =
     let full : (length c.args.self.now.line.items == 80) ≡ false = sym c.is_full.ensures.value ∙ c.if-is_full.false in
     let most = h.short in
     let less : length c.args.self.now.line.items < 80 = omega (arith, most, λ e. let g = eq-eqb (length c.args.self.now.line.items) 80 e in cc (g, full)) in
