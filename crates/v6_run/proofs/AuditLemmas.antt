@@ -37,6 +37,10 @@ use Rattle.v6_run.proofs.FaultLemmas.{fault_ends, close_ends, long_ends}
 pub not_both : (b : Bool) → b ≡ true → b ≡ false → ⊥
 not_both b is not = false≢true (sym not ∙ is)
 
+-- there is room where not all is taken
+pub below_full : (n most : ℕ) → n ≤ most → (n == most) ≡ false → n < most
+below_full n most within free = let other : n ≡ most → ⊥ = (λ e. not_both (n == most) (eq-eqb n most e) free) in omega (arith, within, other)
+
 -- bytes that are some are not none
 pub not_none : (items : List ℕ) → (length items == 0) ≡ false → items ≡ [] → ⊥
 not_none items some e = not_both (length items == 0) (eq-eqb (length items) 0 (ap length e)) some
@@ -272,6 +276,9 @@ fault_taken reading total count old now new piece buffer error h p still room fa
     let f = fault h.0 h.1 in
     fault_read h.0 piece (new.port (In in_port.Log)).bytes _ f.0 error (h.3 told ∙ ap (λ m. h.0 ++ m) (p.split (still told))) f.1 (omega (arith, l, k, room)) f.2
 
-pub fault_stops : (reading : Reading) (total : ℕ) (old now : Outside) (piece : List ℕ) (error : LogError) (a b : Outside) → HasTaken reading total old now → FaultWithin reading piece error → Calm a b
-    → StopsLog true error a b
-fault_stops reading total old now piece error a b h fault calm = let f = fault h.0 h.1 in fault_calm (h.0 ++ take f.0 piece) error a b f.2 calm
+pub fault_stops : (reading : Reading) (front piece : List ℕ) (error : LogError) (a b : Outside) → HasRead front reading → FaultWithin reading piece error → Calm a b → StopsLog true error a b
+fault_stops reading front piece error a b h fault calm = let f = fault front h in fault_calm (front ++ take f.0 piece) error a b f.2 calm
+
+-- a buffer keeps its length
+pub as_long : (buffer new : List ℕ) (wanted : ℕ) → length new ≡ length (take wanted buffer) → wanted ≤ length buffer → length new ≡ wanted
+as_long buffer new wanted same_length small = same_length ∙ length-take-le wanted buffer small

@@ -11,4 +11,4 @@ returns-clause-answers g c =
 
 pub returns-clause-line : goal.returns-clause-line
 returns-clause-line g c =
-    read_tells c.args.name.now (g.H.Host.outside c.args.host.now) _ _ c.open_read.result c.open_read.ensures c.if-is_err.ensures.value c.read_log.result c.read_log.ensures.answer
+    read_tells c.args.name.now (g.H.Host.outside c.args.host.now) _ (g.H.Host.outside c.read_log.new.host) c.open_read.result c.open_read.ensures c.if-is_err.ensures.value c.read_log.result c.read_log.ensures.answer

@@ -1,11 +1,11 @@
 use Rattle.std.proofs.Common.{rules, ◌≡◌, ◌∙◌, ◌+◌, ◌<◌, ◌≤◌, ◌++◌, List, ℕ, [], length, length-append, take, refl, sym, ap, arith}
-use Rattle.std.proofs.lemmas.List.{length-take-le}
+use Rattle.std.proofs.lemmas.List.{take-append-le}
 use Rattle.v6_port.specs.Outside.{Environment, Outside}
 use Rattle.v6_port.proofs.CauseLemmas.{calm_then}
 use Rattle.v6_run.specs.declared.audit.TheConstants.{LOG_LIMIT}
 use Rattle.v6_run.specs.Audit.{AuditsTo}
 use Rattle.v6_run.proofs.ResultLemmas.{error_where_err, result_passed, match_passed}
-use Rattle.v6_run.proofs.AuditLemmas.{calm_read, read_within, read_piece, read_none, end_read, most_read, fault_read, fault_calm, close_calm, room_for, taken_more, piece_read, fault_taken, fault_stops}
+use Rattle.v6_run.proofs.AuditLemmas.{calm_read, read_within, read_piece, read_none, end_read, most_read, fault_read, fault_calm, close_calm, room_for, as_long, taken_more, piece_read, fault_taken, fault_stops}
 use Rattle.v6_run.proofs.audit.read_log.Goals as goal
 
 pub file-init : goal.file-init
@@ -23,7 +23,8 @@ returns-then-count-eq0-clause-answer g c told =
     let l = h.2 in
     let low = c.file-test.true in
     let still = ap (λ (f : Environment). f.tells) c.file.invariant.only.fixed ∙ told in
-    end_read h.0 _ _ c.close.result (h.3 told) (read_none _ _ _ _ _ _ c.read.ensures c.in-Ok.is c.if-count-eq0.true (omega arith) still) (omega (arith, l, low)) (c.close.ensures h.0 h.1)
+    let long = as_long c.file.buffer c.read.new.buf c.min-wanted.result c.read.auto.buf (omega arith) in
+    end_read h.0 _ _ c.close.result (h.3 told) (read_none _ _ _ _ _ _ c.read.ensures c.in-Ok.is c.if-count-eq0.true (omega (arith, long, low)) still) (omega (arith, l, low)) (c.close.ensures h.0 h.1)
 
 pub returns-then-count-eq0-clause-cause : goal.returns-then-count-eq0-clause-cause
 returns-then-count-eq0-clause-cause g c =
@@ -41,27 +42,30 @@ returns-clause-answer g c told =
 pub take-requires : goal.take-requires
 take-requires g c =
     let within = read_within _ _ _ _ _ _ c.read.ensures c.in-Ok.is in
-    room_for c.file.reading c.file.total c.in-Ok.count _ _ _ _ _ c.file.invariant.read (piece_read _ _ _ _ _ _ c.read.ensures c.in-Ok.is (search rules)) (omega (arith, within))
+    let long = as_long c.file.buffer c.read.new.buf c.min-wanted.result c.read.auto.buf (omega arith) in
+    room_for c.file.reading c.file.total c.in-Ok.count _ _ _ _ _ c.file.invariant.read (piece_read _ _ _ _ _ _ c.read.ensures c.in-Ok.is (take-append-le c.in-Ok.count c.read.new.buf _ within)) (omega (arith, within, long))
 
 pub returns-in_err-take-clause-answer : goal.returns-in_err-take-clause-answer
 returns-in_err-take-clause-answer g c told =
     let within = read_within _ _ _ _ _ _ c.read.ensures c.in-Ok.is in
+    let long = as_long c.file.buffer c.read.new.buf c.min-wanted.result c.read.auto.buf (omega arith) in
     result_passed (AuditsTo _) _ _ c.from_residual.ensures.1
-    (fault_taken c.file.reading c.file.total c.in-Ok.count _ _ _ _ _ _ c.file.invariant.read (piece_read _ _ _ _ _ _ c.read.ensures c.in-Ok.is (search rules)) (λ told. ap (λ (f : Environment). f.tells) c.file.invariant.only.fixed ∙ told) (omega (arith, within))
+    (fault_taken c.file.reading c.file.total c.in-Ok.count _ _ _ _ _ _ c.file.invariant.read (piece_read _ _ _ _ _ _ c.read.ensures c.in-Ok.is (take-append-le c.in-Ok.count c.read.new.buf _ within)) (λ told. ap (λ (f : Environment). f.tells) c.file.invariant.only.fixed ∙ told) (omega (arith, within, long))
     (error_where_err _ _ _ c.in_err-take.was c.take.ensures.fault) told)
 
 pub returns-in_err-take-clause-cause : goal.returns-in_err-take-clause-cause
 returns-in_err-take-clause-cause g c =
     match_passed _ _ _ _ c.from_residual.ensures.1
-    (fault_stops c.file.reading c.file.total _ _ _ _ _ _ c.file.invariant.read (error_where_err _ _ _ c.in_err-take.was c.take.ensures.fault)
+    (fault_stops c.file.reading c.file.invariant.read.0 _ _ _ _ c.file.invariant.read.1 (error_where_err _ _ _ c.in_err-take.was c.take.ensures.fault)
     (calm_then _ _ _ c.file.invariant.calm (calm_read _ _ _ _ _ _ c.read.ensures c.in-Ok.is)))
 
 pub file-preserved : goal.file-preserved
 file-preserved g c =
-    let within = read_within _ _ _ _ _ _ c.read.ensures c.in-Ok.is in record {
+    let within = read_within _ _ _ _ _ _ c.read.ensures c.in-Ok.is in
+    let long = as_long c.file.buffer c.read.new.buf c.min-wanted.result c.read.auto.buf (omega arith) in record {
       only = search rules;
       calm = search rules;
       is_open = search rules;
-      read = taken_more c.file.reading _ c.file.total c.in-Ok.count _ _ _ _ _ c.file.invariant.read (piece_read _ _ _ _ _ _ c.read.ensures c.in-Ok.is (search rules)) (λ told. ap (λ (f : Environment). f.tells) c.file.invariant.only.fixed ∙ told) c.in_ok-take.ensures.read;
-      within = omega (arith, within);
+      read = taken_more c.file.reading _ c.file.total c.in-Ok.count _ _ _ _ _ c.file.invariant.read (piece_read _ _ _ _ _ _ c.read.ensures c.in-Ok.is (take-append-le c.in-Ok.count c.read.new.buf _ within)) (λ told. ap (λ (f : Environment). f.tells) c.file.invariant.only.fixed ∙ told) c.in_ok-take.ensures.read;
+      within = omega (arith, within, long);
     }

@@ -1,6 +1,7 @@
-use Rattle.std.proofs.Common.{◌≡◌, ◌∙◌, ◌+◌, ◌<◌, ◌==◌, ◌++◌, ◌∷◌, [], List, ℕ, OnOk, IfErr, length, refl, sym, subst, arith, inr}
-use Rattle.std.proofs.lemmas.Bool.{eqb-true, eq-eqb}
+use Rattle.std.proofs.Common.{◌≡◌, false, ◌∙◌, ◌+◌, ◌<◌, ◌==◌, ◌++◌, ◌∷◌, [], List, ℕ, OnOk, IfErr, length, refl, sym, subst, arith, inr}
+use Rattle.std.proofs.lemmas.Bool.{eqb-true}
 use Rattle.v6_run.specs.Audit.{HasRead, IsAtFault}
+use Rattle.v6_run.proofs.AuditLemmas.{below_full}
 use Rattle.v6_run.proofs.ReadLines.{read_byte, long_line}
 use Rattle.v6_run.proofs.audit.Reading.take_byte.Goals as goal
 
@@ -19,6 +20,5 @@ returns-then-is_full-clause-fault c front h =
 pub returns-clause-read : goal.returns-clause-read
 returns-clause-read c front h =
     let full : (length c.args.self.now.line.items == 80) ≡ false = sym c.is_full.ensures.value ∙ c.if-is_full.false in
-    let most = h.short in
-    let less : length c.args.self.now.line.items < 80 = omega (arith, most, λ e. let g = eq-eqb (length c.args.self.now.line.items) 80 e in cc (g, full)) in
+    let less : length c.args.self.now.line.items < 80 = below_full (length c.args.self.now.line.items) 80 h.short full in
     read_byte front c.args.byte c.args.self.now _ c.if-byte-eq10.false h less refl refl c.push.ensures.items
