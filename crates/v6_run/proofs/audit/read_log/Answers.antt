@@ -1,6 +1,7 @@
 use Rattle.std.proofs.Common.{rules, ◌≡◌, ◌∙◌, ◌+◌, ◌<◌, ◌≤◌, ◌++◌, List, ℕ, [], length, length-append, take, refl, sym, ap, arith}
 use Rattle.std.proofs.lemmas.List.{take-append-le}
-use Rattle.v6_port.specs.Outside.{Environment, Outside}
+use Rattle.v6_port.specs.declared.host.InPort.TheVariants.{Log}
+use Rattle.v6_port.specs.Outside.{In, Environment}
 use Rattle.v6_port.proofs.CauseLemmas.{calm_then}
 use Rattle.v6_run.specs.declared.audit.TheConstants.{LOG_LIMIT}
 use Rattle.v6_run.specs.Audit.{AuditsTo}
@@ -43,14 +44,14 @@ pub take-requires : goal.take-requires
 take-requires g c =
     let within = read_within _ _ _ _ _ _ c.read.ensures c.in-Ok.is in
     let long = as_long c.file.buffer c.read.new.buf c.min-wanted.result c.read.auto.buf (omega arith) in
-    room_for c.file.reading c.file.total c.in-Ok.count _ _ _ _ _ c.file.invariant.read (piece_read _ _ _ _ _ _ c.read.ensures c.in-Ok.is (take-append-le c.in-Ok.count c.read.new.buf _ within)) (omega (arith, within, long))
+    room_for c.file.reading c.file.total c.in-Ok.count (g.H.Host.outside c.args.host.now) (g.H.Host.outside c.file.host) _ _ _ c.file.invariant.read (piece_read _ _ _ _ _ _ c.read.ensures c.in-Ok.is (take-append-le c.in-Ok.count c.read.new.buf _ within)) (omega (arith, within, long))
 
 pub returns-in_err-take-clause-answer : goal.returns-in_err-take-clause-answer
 returns-in_err-take-clause-answer g c told =
     let within = read_within _ _ _ _ _ _ c.read.ensures c.in-Ok.is in
     let long = as_long c.file.buffer c.read.new.buf c.min-wanted.result c.read.auto.buf (omega arith) in
-    result_passed (AuditsTo _) _ _ c.from_residual.ensures.1
-    (fault_taken c.file.reading c.file.total c.in-Ok.count _ _ _ _ _ _ c.file.invariant.read (piece_read _ _ _ _ _ _ c.read.ensures c.in-Ok.is (take-append-le c.in-Ok.count c.read.new.buf _ within)) (λ told. ap (λ (f : Environment). f.tells) c.file.invariant.only.fixed ∙ told) (omega (arith, within, long))
+    result_passed (AuditsTo ((g.H.Host.outside c.args.host.now).port (In Log)).bytes) _ _ c.from_residual.ensures.1
+    (fault_taken c.file.reading c.file.total c.in-Ok.count (g.H.Host.outside c.args.host.now) (g.H.Host.outside c.file.host) _ _ _ _ c.file.invariant.read (piece_read _ _ _ _ _ _ c.read.ensures c.in-Ok.is (take-append-le c.in-Ok.count c.read.new.buf _ within)) (λ told. ap (λ (f : Environment). f.tells) c.file.invariant.only.fixed ∙ told) (omega (arith, within, long))
     (error_where_err _ _ _ c.in_err-take.was c.take.ensures.fault) told)
 
 pub returns-in_err-take-clause-cause : goal.returns-in_err-take-clause-cause
@@ -66,6 +67,6 @@ file-preserved g c =
       only = search rules;
       calm = search rules;
       is_open = search rules;
-      read = taken_more c.file.reading _ c.file.total c.in-Ok.count _ _ _ _ _ c.file.invariant.read (piece_read _ _ _ _ _ _ c.read.ensures c.in-Ok.is (take-append-le c.in-Ok.count c.read.new.buf _ within)) (λ told. ap (λ (f : Environment). f.tells) c.file.invariant.only.fixed ∙ told) c.in_ok-take.ensures.read;
+      read = taken_more c.file.reading _ c.file.total c.in-Ok.count (g.H.Host.outside c.args.host.now) (g.H.Host.outside c.file.host) _ _ _ c.file.invariant.read (piece_read _ _ _ _ _ _ c.read.ensures c.in-Ok.is (take-append-le c.in-Ok.count c.read.new.buf _ within)) (λ told. ap (λ (f : Environment). f.tells) c.file.invariant.only.fixed ∙ told) c.in_ok-take.ensures.read;
       within = omega (arith, within, long);
     }
