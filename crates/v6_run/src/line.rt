@@ -38,6 +38,15 @@ pub(crate) fn push_number(line: &mut Line, number: u32)
     push_digits(line, u64::from(number));
 }
 
+/// Appends a number of at most twenty digits.
+fn push_long(line: &mut Line, number: u64)
+    requires { array_string_len line.old ≤ 118 }
+    ensures bytes { line.new.bytes ≡ line.old.bytes ++ decimal number }
+    ensures len { array_string_len line.new ≤ array_string_len line.old + 20 }
+{
+    push_digits(line, number);
+}
+
 /// A text and an LF.
 pub(crate) fn plain(text: &str) -> Line
     requires { length text.now ≤ 240 }
@@ -69,7 +78,7 @@ pub(crate) fn long_numbered(head: &str, number: u64, tail: &str) -> Line
 {
     let mut line = Line::new();
     line.push_str(head);
-    push_digits(&mut line, number);
+    push_long(&mut line, number);
     line.push_str(tail);
     line.push_str("\n");
     line
