@@ -169,8 +169,8 @@ class Dialogue:
 
     def begin(self, lines):
         """Plays a script that is there already, or what the machine does before the first key."""
-        if not lines:
-            return self.add(self.start)
+        if not total(lines):  # as a switch alone: before its first slots the machine loses what is typed
+            return self.add([*lines, *self.start])
         played = self.play(lines)
         self.steps = steps_of(lines)
         self.at, self.played = len(self.steps), played

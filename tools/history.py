@@ -1,6 +1,7 @@
 """The moments of a run, one by one: the table of processes by the log, and core and the swap area by the program's command."""
 import copy
 import functools
+import itertools
 import threading
 from collections import OrderedDict
 from concurrent.futures import ThreadPoolExecutor
@@ -59,7 +60,7 @@ class History:
     def __init__(self, run):
         self.run, self.last = run, run.end()
         self.tables, self.built = [Table()], Table()  # before the lines 0, APART and so on; and the table that makes more of them
-        self.memories, self.guard, self.outside = OrderedDict(), threading.Lock(), None
+        self.memories, self.guard, self.outside, self.sent = OrderedDict(), threading.Lock(), None, None
 
     def table(self, lines):
         """The table after so many lines of the log."""
@@ -124,9 +125,16 @@ class History:
             self.outside = {slots: ticks for slots, ticks in self.run.script.events().items() if slots <= self.last}
         return self.outside
 
-    def signalled(self):
-        """The slots of the table in which a process was ever sent a signal."""
-        return {int(line.split(" ")[1]) for line in self.run.lines if line.startswith("signal ")}
+    def signalled(self, lines):
+        """The slots of the table in which a signal may wait after so many lines of the log: it was sent to who is there still."""
+        if self.sent is None:
+            told = ((number, line.split(" ")) for number, line in enumerate(self.run.lines))
+            self.sent = [(number, words[0], int(words[1 if words[0] == "signal" else 2])) for number, words in told
+                         if words[0] in ("signal", "fork")]
+        found = set()
+        for _, word, slot in itertools.takewhile(lambda one: one[0] < lines, self.sent):
+            (found.add if word == "signal" else found.discard)(slot)
+        return found
 
     def each(self, does, wanted):
         """What `does` makes of each of these, several at a time."""

@@ -21,7 +21,7 @@ from manpages import PAGES, TOOLS, TOP, installed, installed_page, page
 
 LIB = "lib/v6"
 KNOWN = LIB + "/installed"  # the file that tells what was put
-AT_HOME = ("install.py", "manpages.py", "row.py", "rowfile.py", "rownew.py")  # tools for the repository alone
+AT_HOME = ("install.py", "lessonhtml.py", "lessonpages.py", "manpages.py", "row.py", "rowfile.py", "rownew.py")  # tools for the repository alone
 KINDS = (".py", ".js", ".css", ".html")
 DOCS = ("docs/lions", "docs/manual", "docs/tools")
 COMPLETION = "share/bash-completion/completions"

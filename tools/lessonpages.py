@@ -1,31 +1,29 @@
 #!/usr/bin/env python3
-"""Makes a page of each run of the lessons for Lions' book, docs/lions, and one that leads to them: docs/tools/page.md."""
+"""Makes pages for a browser of the lessons for Lions' book, docs/lions, and of each of their runs: docs/tools/page.md."""
 import argparse
 import html
 import os
 import re
 import shlex
+import shutil
 import subprocess
 import sys
 import tempfile
 
 sys.path.insert(0, os.path.dirname(os.path.abspath(__file__)))
+import lessonhtml
 import page
 from files import guarded, put_out, read_bytes
 from program import CORE, TOP, V6, ProgramError, add_version
 
 LIONS = os.path.join(TOP, "docs", "lions")
+TITLE = "Runs for Lions' book"
 BLOCK = re.compile(r"^```\n(\$ .*?)^```$", re.M | re.S)
 RUN = re.compile(r"bin/v6 run (?P<image>\S+) (?P<core>\d+) (?P<script>\w\S*) ")
 PLAYED = re.compile(r"tools/run\.py (?P<image>\S+) (?P<script>\S+) --core (?P<core>\d+)")
 TYPED = re.compile(r"tools/console\.py (?P<image>\S+) ")
 OTHERS = "README", "answers"  # pages that are no lessons
-INDEX = """<!DOCTYPE html>
-<html lang="en"><head><meta charset="utf-8"><title>Runs for Lions' book</title></head><body><h1>Runs for Lions' book</h1>
-<ul>
-{}
-</ul></body></html>
-"""
+PICTURE = re.compile(r"!\[[^]]*\]\(([a-z]+\.svg)\)")
 
 
 class LessonError(Exception):
@@ -79,10 +77,13 @@ class Folder:
             raise LessonError(f"{command}: status {done.returncode}")
 
 
+def text_of(lesson):
+    return read_bytes(os.path.join(LIONS, lesson + ".md")).decode()
+
+
 def pages_of(lesson, options):
-    """Plays a lesson, and makes its pages: the name and the title of each."""
-    text, made = read_bytes(os.path.join(LIONS, lesson + ".md")).decode(), []
-    title = text.partition("\n")[0].lstrip("# ")
+    """Plays a lesson, and makes its pages: of each command that has runs, by its number, the names and the titles of these."""
+    text, made, count = text_of(lesson), {}, 0
     with tempfile.TemporaryDirectory() as name:
         folder = Folder(name, options.v6)
         for number, (command, _) in enumerate(commands(text)):
@@ -90,9 +91,15 @@ def pages_of(lesson, options):
             folder.play(command)
             for image, core, script in runs:
                 if os.path.exists(folder.path(script)):
-                    made.append((f"{lesson}-{len(made) + 1}.html", f"{title}: run {len(made) + 1}"))
-                    make(folder, (image, core, script), made[-1], options)
+                    count += 1
+                    one = f"{lesson}-{count}.html", f"run {count}"
+                    make(folder, (image, core, script), (one[0], f"{title_of(text)}: {one[1]}"), options)
+                    made.setdefault(number, []).append(one)
     return made
+
+
+def title_of(text):
+    return text.partition("\n")[0].lstrip("# ")
 
 
 def make(folder, run, made, options):
@@ -109,13 +116,31 @@ def make_all(options):
     if unknown:
         raise LessonError(f"{unknown[0]}: no such lesson; there are {', '.join(lessons())}")
     os.makedirs(options.output, exist_ok=True)
-    made = [one for lesson in options.lessons or lessons() for one in pages_of(lesson, options)]
-    items = [f'<li><a href="{html.escape(name)}">{html.escape(title)}</a></li>' for name, title in made]
-    put_out(os.path.join(options.output, "index.html"), INDEX.format("\n".join(items)).encode())
+    chosen, items = options.lessons or lessons(), []
+    for lesson in chosen:
+        made = pages_of(lesson, options)
+        tell(lesson, made, chosen, options.output)
+        runs = [link_to(*one) for pages in made.values() for one in pages]
+        items.append(f"<li>{link_to(lesson + '.html', title_of(text_of(lesson)))}: {', '.join(runs)}</li>")
+    tell("answers", {}, chosen, options.output)
+    index = "\n".join([f"<h1>{TITLE}</h1>", "<ul>", *items, "</ul>", f"<p>{link_to('answers.html', 'Answers')}</p>"])
+    put_out(os.path.join(options.output, "index.html"), lessonhtml.page(TITLE, index))
+
+
+def tell(lesson, made, chosen, folder):
+    """The page of a lesson, and its pictures."""
+    text = text_of(lesson)
+    put_out(os.path.join(folder, lesson + ".html"), lessonhtml.Lesson(text, made, {*chosen, "answers"}).told())
+    for name in PICTURE.findall(text):
+        shutil.copyfile(os.path.join(LIONS, name), os.path.join(folder, name))
+
+
+def link_to(name, words):
+    return f'<a href="{html.escape(name)}">{html.escape(words)}</a>'
 
 
 def main(words):
-    parser = argparse.ArgumentParser(prog="lessonpages.py", description="Makes a page of each run of docs/lions: docs/tools/page.md")
+    parser = argparse.ArgumentParser(prog="lessonpages.py", description="Makes pages of docs/lions and of its runs: docs/tools/page.md")
     parser.add_argument("lessons", nargs="*", metavar="LESSON", help="a lesson, as slp; all of them without one")
     parser.add_argument("-o", "--output", metavar="FOLDER", default="lessons", help="where the pages go (lessons)")
     parser.add_argument("--moments", type=int, default=page.MOMENTS, metavar="N", help="how many moments of a run are looked at, at most")

@@ -26,6 +26,8 @@ until WHAT, since WHAT   forwards and backwards to where WHAT becomes so:
     call [NAME]              it stands at this call, or at any
     pc PLACE [PLACE]         its PC is there, or between two places
     word PLACE [VALUE]       a word of it changes, or becomes a value
+    break                    it comes to one of the breaks; watch: one of the words that are watched changes
+break [PLACE]            a break at an instruction, or all of them; unbreak [PLACE]: without it, or without any
 watch PLACE              shows a word at each moment from now on; unwatch: none any more
 help, quit (or q)
 of N, at the end of a command, is process N. A number with a 0 before it is octal. A PLACE is an address,
@@ -42,7 +44,7 @@ class Looker:
     def __init__(self, history, views):
         self.history, self.views = history, views
         self.moment = history.moment(0)
-        self.watched = []  # (number of the process, address), one after the other
+        self.watched, self.breaks = [], []  # (number of the process, address), one after the other
         self.is_over = False
 
     def lines_of(self, text):
@@ -248,7 +250,7 @@ class Looker:
     def where(self, kind, words, forwards):
         does = getattr(self, "where_" + kind, None)
         if does is None:
-            raise LookError(f"{kind}: it's state, place, call, pc or word that becomes so")
+            raise LookError(f"{kind}: it's state, place, call, pc, word, break or watch that becomes so")
         text, here = " ".join([kind, *words]), self.moment
         if forwards and kind in ("pc", "word") and words:
             self.look_on(words[0])
@@ -282,10 +284,18 @@ class Looker:
 
     def stands(self, kind):
         """Where a process stands that was looked for by its PC."""
+        if kind == "break":
+            now, before = self.moment, self.history.moment(self.moment.slots - 1)
+            return [self.at_break(*one) for one in self.breaks if pc_of(now, one[0]) == one[1] != pc_of(before, one[0])]
         if kind != "pc":
             return []
         number, process = self.memory_of()
         return self.views.place(process.pc, self.views.program(self.moment, number))
+
+    def at_break(self, number, at):
+        """A break in words, with the name of its place and its line of the source."""
+        told = self.views.place(at, self.views.program(self.moment, number)) if self.moment.slot_of(number) is not None else []
+        return f"  break {at:06o} of process {number}" + (told[0][len("  pc 000000") :] if told else "")
 
     def where_state(self, search, letters):
         if not set(letters) <= set(LETTERS):
@@ -331,6 +341,46 @@ class Looker:
         value = None if value is None else self.number_of(value, "a word", 65535)
         return search.sought(Sought(number, words={at: value}))
 
+    def where_break(self, search):
+        places = self.wanted(self.breaks, "break", "set")
+        return search.sought(*(Sought(number, ranges=[(at, at) for at in found]) for number, found in places.items()))
+
+    def where_watch(self, search):
+        places = self.wanted(self.watched, "word", "watched")
+        return search.sought(*(Sought(number, words=dict.fromkeys(found)) for number, found in places.items()))
+
+    def wanted(self, places, what, how):
+        """Addresses that are looked for, by the numbers of their processes; of one process, where it is named."""
+        found = {}
+        for number, at in places:
+            if self.number in (None, number):
+                found.setdefault(number, []).append(at)
+        if not found:
+            raise LookError(f"no {what} is {how}" if self.number is None else f"no {what} of process {self.number} is {how}")
+        return found
+
+    def do_break(self, place=None):
+        if place is not None:
+            here, self.number = self.moment, self.chosen()
+            try:
+                self.look_on(place)
+                one = self.number, self.word_address(place)
+            finally:
+                self.moment = here
+            if one not in self.breaks:
+                self.breaks.append(one)
+        return [self.at_break(*one) for one in self.breaks] or ["no break is set"]
+
+    def do_unbreak(self, place=None):
+        if place is None:
+            self.breaks = []
+            return []
+        one = self.chosen(), self.word_address(place)
+        if one not in self.breaks:
+            raise LookError(f"{place}: no break of process {one[0]} is there")
+        self.breaks.remove(one)
+        return self.do_break()
+
     def do_watch(self, place=None):
         if place is not None:
             one = self.chosen(), self.word_address(place)
@@ -341,6 +391,11 @@ class Looker:
     def do_unwatch(self):
         self.watched = []
         return []
+
+
+def pc_of(moment, number):
+    process = moment.process(number)
+    return process.pc if process and process.parts else None
 
 
 def shown(value):

@@ -4,10 +4,11 @@ What the log tells is found by its lines. What memory alone tells is found by go
 import itertools
 
 from callwords import call_at
-from moments import is_turn
+from moments import WORKERS, is_turn
 from walk import found
 
 NEAREST, WIDER, LONGEST = 4096, 4, 1_000_000  # slots of a stretch backwards: the first, how much longer each next one is, the most
+PART = 65536  # slots of a part of one, the least
 AT_ONCE = 16  # calls that are looked at together
 BLOCK = 4096  # lines of the log that are gone through together, backwards
 
@@ -126,18 +127,30 @@ class Search:
 
     # by memory
 
-    def sought(self, sought):
-        """The next moment at which what is looked for of a process becomes so, or the last one. All of them are gone through: forwards
-        one after the other, backwards in stretches that become longer and longer, each of them forwards."""
+    def sought(self, *wanted):
+        """The next moment at which what is looked for of a process, or of several, becomes so, or the last one. All moments are gone
+        through: forwards one after the other, backwards in stretches that become longer and longer, each of them forwards."""
         if self.forwards:
-            return next(found(self.history, sought, self.moment.slots, self.history.last), None)
+            nearest = None
+            for one in wanted:
+                nearest = next(found(self.history, one, self.moment.slots, nearest or self.history.last), nearest)
+            return nearest
         high, size = max(self.moment.slots - 1, 0), NEAREST
         while high:
             low = max(high - size, 0)
-            last = None
-            for last in found(self.history, sought, low, high):
-                pass
+            parts = [(one, *part) for one in wanted for part in self.parts(low, high)]
+            last = max(filter(None, self.history.each(self.last_of, parts)), default=None)
             if last is not None:
                 return last
             high, size = low, min(size * WIDER, LONGEST)
         return None
+
+    def parts(self, low, high):
+        """A stretch of the run, as parts that are gone through at the same time where they are long."""
+        size = max(PART, -(-(high - low) // WORKERS))
+        return [(start, min(start + size, high)) for start in range(low, high, size)]
+
+    def last_of(self, part):
+        """The last moment of a part of the run with which what is looked for becomes so, or None."""
+        sought, low, high = part
+        return max(found(self.history, sought, low, high), default=None)

@@ -1,6 +1,7 @@
 """Moments of a run: its script is cut there and run again, for its log and for the bytes of core and of the swap area."""
 import bisect
 import collections
+import mmap
 import os
 import threading
 from concurrent.futures import ThreadPoolExecutor
@@ -171,10 +172,19 @@ class Run:
             raise ProgramError(f"{self.v6} has no command `memory`, which tells what core and the swap area hold")
         if status != DONE:
             raise MomentError(said)
-        data = read_bytes(final)
+        data = mapped(final)
         if len(data) != self.core * CLICK + SWAP_BYTES:
             raise MomentError(f"the memory has {len(data)} bytes, and {self.core * CLICK + SWAP_BYTES} are wanted")
         return Memory(data, self.core)
+
+
+def mapped(name):
+    """The bytes of a file, of which only those are read that are asked for. The file itself is no more."""
+    with open(name, "rb") as file:
+        size = os.fstat(file.fileno()).st_size
+        data = mmap.mmap(file.fileno(), size, access=mmap.ACCESS_READ) if size else b""
+    os.unlink(name)
+    return data
 
 
 def word(data, at):

@@ -5,15 +5,37 @@ const CHOICE = 1, CALL = 2, SECOND = 4;   // what a line of the log is
 const APART = 2048;                       // lines between two states of the panels that are kept
 const AROUND = 7;                         // lines that are shown before and after the one at the cursor
 const KINDS = { choice: CHOICE, call: CALL, second: SECOND };
-const MOST_SHOWN = 100000;                 // bytes of a terminal that are shown, from its end
+const MOST_SHOWN = 100000;                // bytes of a terminal that are shown, from its end
+const HIDDEN = "hidden in the quiz: it is known after the next choice alone";
 
 const $ = (id) => document.getElementById(id);
 
+/** The bytes of a text in base 64. */
+function bytesOf(text) {
+  const letters = atob(text), bytes = new Uint8Array(letters.length);
+  for (let at = 0; at < letters.length; at++) bytes[at] = letters.charCodeAt(at);
+  return bytes;
+}
+
+/** The bytes that were packed. They come in pieces, which are put together here: streams of the browser's own take much longer. */
+async function inflated(packed) {
+  const { readable, writable } = new DecompressionStream("deflate");
+  const writer = writable.getWriter(), reader = readable.getReader(), pieces = [];
+  const written = Promise.all([writer.write(packed), writer.close()]);
+  for (let piece = await reader.read(); !piece.done; piece = await reader.read()) pieces.push(piece.value);
+  await written;
+  const bytes = new Uint8Array(pieces.reduce((sum, one) => sum + one.length, 0));
+  let at = 0;
+  for (const one of pieces) {
+    bytes.set(one, at);
+    at += one.length;
+  }
+  return bytes.buffer;
+}
+
 /** The numbers and texts of the run, unpacked. */
 async function unpacked(text) {
-  const packed = Uint8Array.from(atob(text.trim()), (one) => one.charCodeAt(0));
-  const stream = new Blob([packed]).stream().pipeThrough(new DecompressionStream("deflate"));
-  const buffer = await new Response(stream).arrayBuffer();
+  const buffer = await inflated(bytesOf(text.trim()));
   const size = new DataView(buffer).getUint32(0, true);
   const head = JSON.parse(new TextDecoder().decode(new Uint8Array(buffer, 4, size)));
   const types = { 1: Uint8Array, 2: Uint16Array, 4: Uint32Array };
@@ -87,13 +109,15 @@ class Run {
     return (this.columns.kinds[line - 1] & kind) !== 0;
   }
 
-  /** The moment of a line: its slot, what the terminal has shown, and whether it is the line's own, or one that was looked at before. */
+  /** The moment of a line: its slot, what the terminal has shown after it and before it, and whether it is the line's own, or one that was
+      looked at before. */
   moment(line) {
     const place = this.columns.moments[line - 1];
     if (!this.head.isRun || !place) return null;
     const { slots, shown, ends } = this.columns;
     const end = ends[place - 1];
-    return { slot: slots[place - 1], shown: shown[place - 1], isExact: line <= end, isLast: line >= end, place, end };
+    const was = place > 1 ? shown[place - 2] : 0;
+    return { slot: slots[place - 1], shown: shown[place - 1], was, isExact: line <= end, isLast: line >= end, place, end };
   }
 
   /** The first line with which the moment at this place came. */
@@ -184,7 +208,8 @@ class Page {
       svg.append(one);
       return one;
     };
-    const [, , , height] = svg.getAttribute("viewBox").split(" ").map(Number);
+    const [, , width, height] = svg.getAttribute("viewBox").split(" ").map(Number);
+    this.width = width;
     svg.setAttribute("role", "img");
     svg.setAttribute("aria-label", "Lanes of the processes, and who holds core and the swap area");
     this.veil = make("rect", { y: 44, height: height - 44, fill: "#fff", visibility: "hidden" });
@@ -207,6 +232,13 @@ class Page {
     this.veil.setAttribute("x", x + wide);
     this.veil.setAttribute("width", Math.max(left + lanes - x - wide, 0) + 2);
     this.veil.setAttribute("visibility", this.isQuiz ? "visible" : "hidden");
+    this.showCursor((x + wide / 2) / this.width);
+  }
+
+  /** Where the picture is wider than its place, the part of it is shown in which the cursor is: it is at this share of the width. */
+  showCursor(share) {
+    const paper = $("paper"), at = share * paper.scrollWidth, room = paper.clientWidth;
+    if (room < paper.scrollWidth && (at < paper.scrollLeft || at > paper.scrollLeft + room)) paper.scrollLeft = at - room / 2;
   }
 
   // where one is
@@ -253,7 +285,7 @@ class Page {
 
   show() {
     const { run, line } = this;
-    const moment = run.moment(line);
+    const moment = run.moment(line), isHidden = this.isHidden(moment);
     $("cursor").value = $("number").value = line;
     $("head").textContent = this.headOf(moment);
     $("cursor").setAttribute("aria-valuetext", `line ${line}: ${run.words(line)}`);
@@ -261,14 +293,20 @@ class Page {
     $("words").textContent = run.words(line);
     $("rule").textContent = run.one("rule");
     this.list($("book"), run.shown("book"), (text) => text);
-    $("call").textContent = run.one("call") || "No call ends with this line, and none begins to wait.";
+    $("book").previousElementSibling.hidden = !$("book").hasChildNodes();
+    $("call").textContent = isHidden && !run.is(line, CALL) ? HIDDEN : run.one("call") || "No call ends with this line, and none begins to wait.";
     for (const name of ["core", "swap", "texts"]) $(name).textContent = run.shown(name).join("\n");
     this.showLog();
     this.showProcesses();
-    this.showTerminal(moment);
-    this.showProcess(moment);
+    this.showTerminal(moment, isHidden);
+    this.showProcess(moment, isHidden);
     this.drawCursor();
     if (this.isQuiz) this.showQuestion();
+  }
+
+  /** Whether what is known of a moment would give away a choice of a quiz: it is known after all lines of the moment. */
+  isHidden(moment) {
+    return this.isQuiz && moment !== null && moment.isExact && !moment.isLast;
   }
 
   headOf(moment) {
@@ -294,10 +332,10 @@ class Page {
   showLog() {
     const { run, line } = this;
     const first = Math.max(1, line - AROUND), last = this.isQuiz ? line : Math.min(run.lines, line + AROUND);
-    const here = run.at, lines = [];
+    const here = run.at, lines = [], digits = String(run.lines).length;
     for (let one = first; one <= last; one++) {
       run.seek(one);
-      lines.push([one, `${String(one).padStart(7)}  ${run.one("letters")}  ${run.words(one)}`]);
+      lines.push([one, `${String(one).padStart(digits)}  ${run.one("letters")}  ${run.words(one)}`]);
     }
     run.seek(here);
     this.list($("log"), lines, ([, text]) => text, (item, [one]) => {
@@ -333,7 +371,9 @@ class Page {
     };
     const chosen = String(this.chosenSlot());
     const kind = (slot, found) => [found[0] === "R" && "runs", String(slot) === chosen && "chosen"].filter(Boolean).join(" ");
-    $("ps").replaceChildren(made("th", this.run.head.ps, ""), ...rows.map(([slot, found]) => made("td", found, kind(slot, found))));
+    const told = rows.map(([slot, found]) => made("td", found, kind(slot, found)));
+    rows.forEach(([slot], at) => told[at].addEventListener("click", () => this.choose(String(slot))));
+    $("ps").replaceChildren(made("th", this.run.head.ps, ""), ...told);
     this.offer(rows);
   }
 
@@ -352,32 +392,47 @@ class Page {
     $("chosen").value = wanted.some(([value]) => value === was) ? was : "";
   }
 
+  /** Shows the process in a slot whole from here on. */
+  choose(slot) {
+    $("chosen").value = slot;
+    this.show();
+  }
+
   /** The slot of the table of the process that is shown whole. */
   chosenSlot() {
     const chosen = $("chosen").value;
     if (chosen !== "") return Number(chosen);
     const moment = this.run.moment(this.line);
     const running = moment && moment.isExact && !this.isQuiz ? this.run.after("running", moment.end) : this.run.one("running");
-    return running ? Number(running.split(" ")[0]) : 1;
+    return Number(running.split(" ")[0]) || 1;  // where the swapper runs too
   }
 
-  showProcess(moment) {
-    if (!this.run.head.isRun) return;
+  showProcess(moment, isHidden) {
+    const { run } = this;
+    if (!run.head.isRun) return;
     const slot = this.chosenSlot();
     const parts = { process: "process", code: "code", stack: "stack", area: "u area" };
-    for (const [id, name] of Object.entries(parts)) $(id).textContent = this.run.shown(`${name} ${slot}`).join("\n");
-    if (moment && !moment.isLast && moment.isExact) {
-      $("process").textContent = `after all lines of the moment, up to ${moment.end}, since memory isn't known within it:\n` + $("process").textContent;
-    } else if (moment && !moment.isExact) {
-      $("process").textContent = `as in slot ${moment.slot}, where core was looked at last:\n` + $("process").textContent;
-    }
+    for (const [id, name] of Object.entries(parts)) $(id).textContent = isHidden ? "" : run.shown(`${name} ${slot}`).join("\n");
+    const said = isHidden ? HIDDEN : this.when(moment, slot);
+    if (said) $("process").textContent = `${said}\n${$("process").textContent}`;
   }
 
-  showTerminal(moment) {
+  /** Of when the memory is that is shown of a process, where that isn't just after the line; and whether it was another's then. */
+  when(moment, slot) {
+    if (!moment || moment.isExact && moment.isLast) return "";
+    const [first] = this.run.shown(`process ${slot}`), now = this.run.panel("ps")[slot].split("\t")[2];
+    if (moment.isExact && !first) return `process ${now} has gone by line ${moment.end}, the last of the moment, and memory isn't known within it`;
+    if (moment.isExact) return `after all lines of the moment, up to ${moment.end}, since memory isn't known within it:`;
+    const was = !first || slot && first.split(" ")[1] !== now ? `process ${now} wasn't there in slot ${moment.slot}` : `as in slot ${moment.slot}`;
+    return `${was}, where core was looked at last${first ? ":" : ""}`;
+  }
+
+  showTerminal(moment, isHidden) {
     const { terminals } = this.run.head;
     const which = Number($("terminal").value || 0);
     const start = terminals.slice(0, which).reduce((sum, one) => sum + one, 0);
-    const end = start + (moment ? moment.shown : this.run.head.isRun ? 0 : terminals[which] || 0);
+    const known = isHidden ? moment.was : moment && moment.shown;
+    const end = start + (moment ? known : this.run.head.isRun ? 0 : terminals[which] || 0);
     const from = Math.max(start, end - MOST_SHOWN);
     $("term").replaceChildren(from > start ? ".. " : "", ...typed(this.run.columns.term.subarray(from, end)));
     $("term").scrollTop = $("term").scrollHeight;
@@ -462,7 +517,11 @@ class Page {
     $("play").addEventListener("click", () => this.play());
     $("pace").addEventListener("change", () => this.timer !== null && this.play(true));
     $("before").addEventListener("click", () => this.search(-1));
-    $("search").addEventListener("submit", (event) => { event.preventDefault(); this.search(1); });
+    $("search").addEventListener("submit", (event) => {
+      event.preventDefault();
+      $("word").blur();  // so that N goes on
+      this.search(1);
+    });
     $("quiz").addEventListener("click", () => this.quiz());
     $("answer").addEventListener("click", () => this.step("on", "line"));
     $("another").addEventListener("click", () => this.ask(this.line + (this.isAsked() ? 1 : 0)));

@@ -4,7 +4,7 @@ import json
 import zlib
 from array import array
 
-WIDTHS = {"B": 1, "H": 2, "I": 4}  # bytes of a number
+WIDTHS = {"B": 1, "H": 2, "I": 4}  # bytes of a number, the fewest first
 LEVEL = 9  # of packing
 NOTHING = 0  # the number of the empty text
 
@@ -76,12 +76,20 @@ def packed(head, columns):
     """A head and columns of numbers as one text. First come the bytes of the head and its length, then the columns, the widest first,
     so that each begins at a multiple of its width."""
     blob, places = bytearray(), {}
+    columns = {name: narrowed(column) for name, column in columns.items()}
     for name, column in sorted(columns.items(), key=lambda one: -WIDTHS[one[1].typecode]):
         places[name] = [len(blob), len(column), WIDTHS[column.typecode]]
         blob += little(column)
     text = json.dumps({**head, "columns": places}, ensure_ascii=True, separators=(",", ":")).encode()
     text += b" " * (-len(text) % 4)
     return base64.b64encode(zlib.compress(len(text).to_bytes(4, "little") + text + bytes(blob), LEVEL)).decode()
+
+
+def narrowed(column):
+    """A column with as few bytes for a number as its largest one asks for: what a browser needn't unpack opens sooner."""
+    most = max(column, default=0)
+    code = next(code for code, width in WIDTHS.items() if most < 256**width)
+    return column if code == column.typecode else array(code, column)
 
 
 def little(column):

@@ -14,8 +14,13 @@ class Version(argparse.Action):
     """Tells which program the tools stand beside: the first digits of the sha256 of bin/v6."""
 
     def __call__(self, parser, *_):
-        with open(os.path.join(TOP, "bin", "v6"), "rb") as file:
-            print(f"{parser.prog} of the repository whose bin/v6 is {hashlib.sha256(file.read()).hexdigest()[:12]}")
+        name = os.path.join(TOP, "bin", "v6")
+        try:
+            with open(name, "rb") as file:
+                digest = hashlib.sha256(file.read()).hexdigest()[:12]
+        except OSError as error:
+            parser.exit(1, f"{parser.prog}: {name}: {error.strerror}: --version tells the program beside the tool\n")
+        print(f"{parser.prog} of the repository whose bin/v6 is {digest}")
         parser.exit()
 
 
@@ -30,11 +35,11 @@ class ProgramError(Exception):
 def call(command, *words, data=None):
     """The program's status, and the line that it says. It gets these bytes as its standard input."""
     try:
-        done = subprocess.run([*shlex.split(command), *words], input=data, capture_output=True)
+        done = subprocess.run([*shlex.split(command), *words], input=data, stdout=subprocess.PIPE, stderr=subprocess.STDOUT)
     except (OSError, ValueError) as error:
         why = error.strerror if isinstance(error, OSError) else error
         raise ProgramError(f"{command}: {why}: the program v6 is wanted; --v6 names it") from None
-    said = (done.stdout + done.stderr).decode("utf-8", "replace").strip()
+    said = done.stdout.decode("utf-8", "replace").strip()
     return done.returncode, said or f"status {done.returncode}"
 
 

@@ -6,8 +6,10 @@ import struct
 from stepcode import MASK, STORED, TOP, row_at, single
 
 ADDRESSES = 65536
-HOT = 12  # times that an instruction is done alone before a row is made of it and those behind it
-SINGLES, ROWS = {}, {}  # functions by the first word of an instruction; rows by their address and words
+HOT = 100  # times that an instruction is done alone before a row is made of it and those behind it
+SINGLES = {}  # functions by the first word of an instruction
+ROWS = {}  # by an address the rows that were made there, each with its words, for whichever process
+MOST_ROWS = 8  # that are kept for one address
 
 
 def single_of(word):
@@ -22,7 +24,7 @@ class Stepper:
 
     def __init__(self, process, ranges=(), words=()):
         self.words, self.kept, self.heat, self.rows, self.covered = [None] * ADDRESSES, [1] * ADDRESSES, {}, {}, {}
-        self.zones = bytearray(ADDRESSES) if ranges else None
+        self.zones = [0] * ADDRESSES if ranges else None
         for number, (low, high) in enumerate(ranges):
             for at in range(low, high + 1):
                 self.zones[at] |= 1 << number
@@ -48,22 +50,25 @@ class Stepper:
         n, z, v, c = self.registers[8:12]
         return (n & TOP) >> 12 | (0 if z else 4) | (2 if v else 0) | (1 if c else 0)
 
-    def fill_again(self, process):
-        """What the same process has after the kernel has done something for it: the addresses of the words that have changed, or None
-        where it has another size."""
+    def changes(self, process):
+        """What the same process has after the kernel has done something for it: the words that are others, by their addresses, or
+        None where it has another size."""
         if [part[:2] for part in process.parts] != [part[:2] for part in self.parts]:
             return None
-        self.registers, self.pending = [*process.registers, *codes(process.u[16]), -1], process.pending
-        changed = []
+        changed = {}
         for first, size, at in process.parts:
             found, old = struct.unpack_from(f"<{size // 2}H", process.data, at), self.words[first : first + size : 2]
             if list(found) != old:
-                changed += [first + 2 * place for place, word in enumerate(found) if word != old[place]]
-                self.words[first : first + size : 2] = found
-        for at in changed:
+                changed.update((first + 2 * place, word) for place, word in enumerate(found) if word != old[place])
+        return changed
+
+    def take(self, process, changed):
+        """Goes on with the registers of a process and with words that are others."""
+        self.registers, self.pending = [*process.registers, *codes(process.u[16]), -1], process.pending
+        for at, word in changed.items():
+            self.words[at] = word
             if self.kept[at] and not self.closed[at]:
                 self.touch(at)
-        return changed
 
     # what a process has, for those who ask a moment for it
 
@@ -79,10 +84,13 @@ class Stepper:
         return None if found is None else found >> 8 if at & 1 else found & 255
 
     def bytes(self, at, most):
-        out = bytearray()
-        while len(out) < most and (byte := self.byte(at + len(out))) is not None:
-            out.append(byte)
-        return bytes(out)
+        at &= MASK
+        found = self.words[at & MASK - 1 : at + most : 2]
+        found = found[: found.index(None)] if None in found else found
+        out = struct.pack(f"<{len(found)}H", *found)[at & 1 :][:most]
+        if at + len(out) == ADDRESSES and len(out) < most:
+            out += self.bytes(0, most - len(out))  # behind the last address comes the first
+        return out
 
     def string(self, at, most=510):
         return self.bytes(at, most).partition(b"\0")[0]
@@ -123,8 +131,8 @@ class Stepper:
         if at >= 0 and self.kept[at]:
             self.touch(at)
         heat = self.heat[pc] = self.heat.get(pc, 0) + 1
-        if heat == HOT:
-            self.make(pc)
+        if heat == HOT or heat == 1 and pc in ROWS:
+            self.make(pc, heat == HOT)
         return 1
 
     def touch(self, at):
@@ -138,11 +146,25 @@ class Stepper:
             if self.words[at] != self.watched[at]:
                 self.watched[at], self.hit = self.words[at], "word"
 
-    def make(self, pc):
-        """Makes a row of the instructions at an address, where they can stand in one."""
-        zones = self.zones
-        goes_on = (lambda at: True) if zones is None else (lambda at: zones[at] == zones[pc])
-        found = row_at(self.words, pc, goes_on)
+    def known(self, pc):
+        """A row that was made of the same words at an address, perhaps for another process, or None."""
+        words, zones = self.words, self.zones
+        for found, had in ROWS.get(pc, ()):
+            is_within = not zones or all(zones[at] == zones[pc] for at in found[2])
+            if is_within and all(words[at] == word for at, word in zip(found[2], had)):
+                return found
+        return None
+
+    def make(self, pc, is_hot=True):
+        """Makes a row of the instructions at an address, where they can stand in one. Where that isn't hot yet, only a known one is
+        taken."""
+        zones, found = self.zones, self.known(pc)
+        if found is None and is_hot:
+            found = row_at(self.words, pc, (lambda at: True) if zones is None else (lambda at: zones[at] == zones[pc]))
+            if found:
+                rows = ROWS.setdefault(pc, [])
+                rows.append((found, [self.words[at] for at in found[2]]))
+                del rows[:-MOST_ROWS]
         if found is None:
             return
         self.rows[pc] = found

@@ -26,6 +26,7 @@ from scriptfile import ScriptError, add_replay, check_head, read_script
 from walk import Before, Walk, before_call
 
 AT_ONCE = 32  # moments whose memory is kept at a time
+BAD_CALL = "12"  # the signal of a call that there isn't, or of a bad address in one
 SLOTS_A_TURN = 20_000  # of a run that is gone through slot by slot; of one with fewer turns in the kernel these are found by halving
 
 
@@ -188,7 +189,9 @@ class Tracer:
             return who + (f"a larger stack: the image has {grown[2]} clicks" if grown and not sent else fault)
         if call.name == "exec" and turn.made("image"):
             self.names[slot] = old.name
-        return f"{who}{call.told()} = {answer(call, new)}{self.waited(turn, call)}{shared(turn)}"
+        is_bad = (turn.made("signal") or [""])[-1] == BAD_CALL  # no process sends a signal to itself
+        said = f"signal {BAD_CALL}" if is_bad else answer(call, new)
+        return f"{who}{call.told()} = {said}{self.waited(turn, call)}{shared(turn)}"
 
     def ends(self, turn, call):
         """What is told where a process ends: it has called exit(II), or it ends by the signal that was sent to it last."""

@@ -1,19 +1,21 @@
 """Goes through the slots of a run, each one: what comes between two lines of the log a stepper does here, and what the kernel does is
 asked for by the program's command `memory`. Where the two differ, that is said: see docs/tools/look.md."""
 import bisect
+import copy
 
 from dataclasses import dataclass
 
 from callwords import call_at, name_of
 from moments import ENDS, MomentError, is_turn
 from proctable import TICKS_OF_A_SECOND
+from stepcode import MASK
 from stepper import Stepper
 
 NEAR = 20_000  # slots of other processes that are gone through, and
 FEW = 12  # turns in the kernel of theirs, before it is asked when the one that is looked for runs again
 ANSWERS = {"read": (1, None), "stat": (1, 36), "fstat": (1, 36), "gtty": (1, 6), "times": (0, 12)}  # which argument of a call says where
 # it writes, and how many bytes; those of a read are its count
-CHANGES = ("image", "size", "signal", "bare")  # lines of a turn after which more has changed than a call's answer
+CHANGES = {"image", "size", "signal", "bare"}  # lines of a turn after which more has changed than a call's answer
 
 
 class Sought:
@@ -76,7 +78,7 @@ class Walk:
         self.table, self.memory, self.steppers = history.table(self.line), None, {}
         self.events = history.events()
         self.pauses = sorted(self.events)
-        self.signalled = history.signalled()
+        self.signalled = history.signalled(self.line)
         self.hit, self.began, self.goal = None, slots, (0, 0)  # and how many turns others take up to which line
         self.met = None  # the turn in the kernel that came last, where nothing is sought
 
@@ -163,7 +165,12 @@ class Walk:
         text = self.lines[self.line]
         self.table.take(text)
         self.line += 1
-        return text.split(" ")
+        words = text.split(" ")
+        if words[0] == "signal":
+            self.signalled.add(int(words[1]))
+        elif words[0] == "fork":
+            self.signalled.discard(int(words[2]))
+        return words
 
     def next(self):
         """The word of the next line, or nothing."""
@@ -176,6 +183,7 @@ class Walk:
     def turn(self, slot):
         """What the kernel does in the next slot, for the process in a slot of the table, or as the swapper."""
         first, row, old = self.line, self.table.rows[slot], self.steppers.get(slot)
+        was = copy.copy(row), None if row.text is None else copy.copy(self.table.texts.get(row.text))
         if self.sought is None and slot:
             self.met = Met(slot, self.at + 1, row.number, first, before_call(old))
         self.at, self.memory, words = self.at + 1, None, []
@@ -186,37 +194,45 @@ class Walk:
         while words[0] == "exit" and self.next() == "wake":
             self.take()
         self.choice()
-        self.done(slot, old, first, words[0])
+        told = {line.partition(" ")[0] for line in self.lines[first : self.line]}
+        self.done(slot, old, was, words[0], told)
 
-    def done(self, slot, old, first, kind):
-        """Compares what was done here with what the program tells, and goes on from that."""
-        told = [line.partition(" ")[0] for line in self.lines[first : self.line]]
+    def done(self, slot, old, was, kind, told):
+        """Compares what was done here with what the program tells, and goes on from that. `was` has the process's row and its text
+        before, `told` the words of the lines."""
         if kind == "sleep" and self.sought is None and old:
             old.pending = True  # what it has stays as it is
             return
-        if old is None or old.pending or self.is_other(slot):
+        if old is None or self.is_other(slot) or old.pending and kind != "trap":
             self.steppers.pop(slot, None)
             return
-        if kind == "exit" or set(told) & set(CHANGES) or slot in self.signalled:
-            self.compare(slot, old, first)
+        is_same = kind != "exit" and not told & CHANGES
+        if is_same:
+            process = self.process(slot)
+            changed = old.changes(process)
+            is_same = changed is not None and self.is_answer(old, process, changed)
+            if is_same:
+                old.take(process, changed)
+            elif changed is not None and not old.pending and slot not in self.signalled:
+                raise self.others(was)
+        if not is_same:  # more is as it was no more: of a call that has begun here, that it was so until then
+            if not old.pending:
+                self.compare(old, was)
             self.steppers.pop(slot, None)
-            return
-        place, size = answer_of(call_at(old))
-        registers = old.registers[2:7]
-        changed = old.fill_again(self.process(slot))
-        if changed is None:
-            self.steppers.pop(slot, None)
-        elif registers != old.registers[2:7] or any(not -1 <= at - place < size for at in changed):
-            raise self.differs(f"process {self.table.rows[slot].number} has other registers or words")
 
-    def compare(self, slot, old, lines):
+    def is_answer(self, old, process, changed):
+        """Whether nothing has changed but what the call of a process may change; behind the last address comes the first."""
+        place, size = answer_of(call_at(old))
+        return process.registers[2:7] == old.registers[2:7] and all(at - place + 1 & MASK <= size for at in changed)
+
+    def compare(self, old, was):
         """Looks whether a process was as it was left here, before the call with which it is as it was no more."""
-        before = Walk.__new__(Walk)
-        before.history, before.memory, before.at = self.history, None, self.at - 1
-        before.table = self.history.table(lines)
-        process = before.process(slot)
-        if process.registers != old.registers[:8] or process.u[16] & 15 != old.code() or old.fill_again(process) != []:
-            raise self.differs(f"process {before.table.rows[slot].number} has other registers or words")
+        process = self.history.memory(self.at - 1).process(*was)
+        if process.registers != old.registers[:8] or process.u[16] & 15 != old.code() or old.changes(process) != {}:
+            raise self.others(was)
+
+    def others(self, was):
+        return self.differs(f"process {was[0].number} has other registers or words")
 
     def differs(self, what):
         return MomentError(f"slot {self.at}: what was followed from slot {self.began} on differs from what the program tells: {what}")

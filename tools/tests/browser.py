@@ -102,11 +102,16 @@ class Browser:
 
     def key(self, name, shift=False):
         """Presses a key."""
-        text = {"text": name} if len(name) == 1 else {}
+        text = {"text": "\r" if name == "Enter" else name} if len(name) == 1 or name == "Enter" else {}
         code = {"Enter": 13, "Tab": 9, "ArrowLeft": 37, "ArrowRight": 39, "Home": 36, "End": 35}.get(name, ord(name[0].upper()))
         for kind in ("keyDown", "keyUp"):
             self.ask("Input.dispatchKeyEvent", type=kind, key=name, modifiers=8 * shift, windowsVirtualKeyCode=code,
                      **(text if kind == "keyDown" else {}))
+
+    def keys(self, text):
+        """Types a text."""
+        for one in text:
+            self.key(one)
 
     def errors(self):
         """What went wrong: exceptions, and errors and warnings that the browser tells."""
@@ -119,9 +124,11 @@ class Browser:
         found = [event["params"]["request"]["url"] for event in self.events if event["method"] == "Network.requestWillBeSent"]
         return [url for url in found if url != "about:blank" and not url.endswith(".html")]
 
-    def size(self, width, height, dark=False):
+    def size(self, width, height, dark=False, media="screen"):
+        """Shows pages on a screen of this size, or on paper, with `print`."""
         self.ask("Emulation.setDeviceMetricsOverride", width=width, height=height, deviceScaleFactor=1, mobile=False)
-        self.ask("Emulation.setEmulatedMedia", features=[{"name": "prefers-color-scheme", "value": "dark" if dark else "light"}])
+        scheme = {"name": "prefers-color-scheme", "value": "dark" if dark else "light"}
+        self.ask("Emulation.setEmulatedMedia", media=media, features=[scheme])
 
     def picture(self, name, whole=False):
         """A picture of what is shown, or of the whole page, goes to a file."""
@@ -130,4 +137,4 @@ class Browser:
 
     def printed(self):
         """The bytes of the page as it is printed."""
-        return base64.b64decode(self.ask("Page.printToPDF", landscape=True, printBackground=True)["data"])
+        return base64.b64decode(self.ask("Page.printToPDF", preferCSSPageSize=True, printBackground=True)["data"])

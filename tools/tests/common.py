@@ -5,15 +5,18 @@ import io
 import os
 import random
 import shlex
+import signal
 import subprocess
 import sys
 import tempfile
 import unittest
+import unittest.mock
 
 TESTS = os.path.dirname(os.path.abspath(__file__))
 TOOLS = os.path.dirname(TESTS)
 TOP = os.path.dirname(TOOLS)
 DISK_BYTES = 2494464  # of a disk that a run leaves
+HANDLED = signal.SIGINT, signal.SIGQUIT, signal.SIGTERM, signal.SIGHUP  # signals for which tools have a handler
 sys.path.insert(0, TOOLS)
 from program import V6
 
@@ -62,13 +65,26 @@ class Case(unittest.TestCase):
         write(self.path(name), data)
         return self.path(name)
 
-    def call(self, main, *words):
-        """The status of a tool, and what it says on its two outputs."""
-        out, error = io.TextIOWrapper(io.BytesIO(), encoding="utf-8", newline="\n"), io.StringIO()
-        with contextlib.redirect_stdout(out), contextlib.redirect_stderr(error):
+    def ran(self, main, *words, typed=None):
+        """The status of a tool, the bytes of its standard output, and what it says on the other one. It is called here, which is
+        cheaper than a process of its own; it reads what is typed, where there is anything."""
+        out, error = (io.TextIOWrapper(io.BytesIO(), encoding="utf-8", errors="backslashreplace", newline="\n") for _ in range(2))
+        handlers = {number: signal.getsignal(number) for number in HANDLED}
+        with contextlib.redirect_stdout(out), contextlib.redirect_stderr(error), contextlib.ExitStack() as streams:
+            if typed is not None:
+                streams.enter_context(unittest.mock.patch("sys.stdin", io.TextIOWrapper(io.BytesIO(typed))))
             try:
                 status = main(list(words))
             except SystemExit as ended:
                 status = ended.code
+            finally:
+                for number, handler in handlers.items():
+                    signal.signal(number, handler)
         out.flush()
-        return status, out.buffer.getvalue().decode(), error.getvalue()
+        error.flush()
+        return status, out.buffer.getvalue(), error.buffer.getvalue().decode()
+
+    def call(self, main, *words):
+        """The status of a tool, and what it says on its two outputs."""
+        status, out, error = self.ran(main, *words)
+        return status, out.decode(), error

@@ -1,8 +1,9 @@
 #!/usr/bin/env python3
-"""Runs all tests of the tools, those of one class in one process. The program v6 is bin/v6, or the command in the
-environment's V6."""
+"""Runs all tests of the tools, those of one class in one process. With --times it tells how long a processor worked for each class,
+the dearest first. The program v6 is bin/v6, or the command in the environment's V6."""
 import io
 import os
+import resource
 import sys
 import time
 import unittest
@@ -18,12 +19,18 @@ def classes(suite):
         yield from classes(one) if isinstance(one, unittest.TestSuite) else [f"{type(one).__module__}.{type(one).__qualname__}"]
 
 
+def worked():
+    """How long processors have worked for this process and for those that it has started and that have ended, in seconds."""
+    return sum(used.ru_utime + used.ru_stime for used in map(resource.getrusage, (resource.RUSAGE_SELF, resource.RUSAGE_CHILDREN)))
+
+
 def run(name):
-    """How many tests a class has, how many failed, what is to be said of these, and why others were skipped."""
-    out = io.StringIO()
+    """How many tests a class has, how many failed, what is to be said of these, why others were skipped, and how long it took."""
+    out, before = io.StringIO(), worked()
     done = unittest.TextTestRunner(out).run(unittest.defaultTestLoader.loadTestsFromName(name))
     failed = len(done.failures) + len(done.errors) + len(done.unexpectedSuccesses)
-    return done.testsRun, failed, "" if done.wasSuccessful() else out.getvalue(), [why for _, why in done.skipped]
+    said = "" if done.wasSuccessful() else out.getvalue()
+    return done.testsRun, failed, said, [why for _, why in done.skipped], worked() - before
 
 
 if __name__ == "__main__":
@@ -33,9 +40,12 @@ if __name__ == "__main__":
         sys.exit("\n".join(unittest.defaultTestLoader.errors))
     with ProcessPoolExecutor() as pool:
         results = list(pool.map(run, names))
-    print("".join(text for _, _, text, _ in results), end="", file=sys.stderr)
+    print("".join(text for _, _, text, _, _ in results), end="", file=sys.stderr)
+    if "--times" in sys.argv[1:]:
+        for took, name in sorted(((result[4], name) for name, result in zip(names, results)), reverse=True):
+            print(f"{took:7.2f} s  {name}", file=sys.stderr)
     count, failed = (sum(numbers) for numbers in list(zip(*results))[:2])
-    skipped = [why for *_, reasons in results for why in reasons]
+    skipped = [why for *_, reasons, _ in results for why in reasons]
     for why in sorted(set(skipped)):
         print(f"skipped {skipped.count(why)}: {why}", file=sys.stderr)
     count -= len(skipped)

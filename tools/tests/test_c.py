@@ -2,7 +2,6 @@
 import os
 import random
 import subprocess
-import sys
 import unittest
 
 import expressions
@@ -10,7 +9,7 @@ from common import TOOLS, TOP, V6, Case, read, tool, v6
 
 import symbols
 
-cc, disk_main = tool("cc"), tool("disk").main
+cc, disk_main, try_main = tool("cc"), tool("disk").main, tool("try").main
 EXAMPLE = os.path.join(TOP, "examples", "c")
 HERE = os.path.isfile(os.path.join(cc.HOME, "ccom"))
 WITH_GCC = os.path.isfile(os.path.join(cc.HOME, "cc1"))
@@ -25,9 +24,8 @@ class Program(Case):
 
     def run_it(self, *words, typed=b""):
         """The status of a program under try.py, what it prints, and what try.py says."""
-        done = subprocess.run([sys.executable, os.path.join(TOOLS, "try.py"), "--v6", V6, *words], input=typed,
-                              capture_output=True)
-        return done.returncode, done.stdout.decode("latin-1"), done.stderr.decode()
+        status, out, error = self.ran(try_main, "--v6", V6, *words, typed=typed)
+        return status, out.decode("latin-1"), error
 
     def made(self, source, name="it.c", *options):
         """The program of a source."""

@@ -207,9 +207,7 @@ class Parts(unittest.TestCase):
 
 class Sessions(Case):
     def session(self, typed, *words, image=os.path.join(SHELL, "image")):
-        command = [sys.executable, os.path.join(TOOLS, "console.py"), image, "--v6", V6, *words]
-        done = subprocess.run(command, input=typed.encode(), capture_output=True)
-        return done.returncode, done.stdout, done.stderr.decode()
+        return self.ran(console.main, image, "--v6", V6, *words, typed=typed.encode())
 
     def script(self, lines, image=os.path.join(SHELL, "image"), core=3968):
         """A script of the console, with the line with which it begins."""
@@ -301,6 +299,12 @@ class Sessions(Case):
         wanted = self.script("run 10000\ntype chdir /usr\nrun 10000\ntype ls\nrun 10000\n")
         self.assertEqual(read(script), wanted)
         self.assertEqual(self.session("", "--script", script)[0], 0)
+
+    def test_a_script_without_slots(self):
+        """The machine starts before the first line is typed."""
+        script = self.put("script", b"switch 173030\n")
+        self.assertEqual(self.session("ls\n", "--script", script), (0, b"# LS\r\nBIN\r\nDEV\r\nETC\r\nUSR\r\n# ", ""))
+        self.assertEqual(read(script), self.script("switch 173030\nrun 10000\ntype ls\nrun 10000\n"))
 
     def test_a_script_of_another_disk(self):
         """After --disk has written the disk back, its script would do all once more."""

@@ -7,9 +7,11 @@ import subprocess
 import sys
 import tempfile
 import unittest
+import unittest.mock
 
 from common import TOP, Case, read, tool
 
+install = tool("install")
 ENVIRONMENT = {**{key: value for key, value in os.environ.items() if key != "V6"},
                "PATH": f"{os.path.dirname(sys.executable)}:{os.environ['PATH']}"}
 
@@ -25,6 +27,12 @@ class Words(Case):
             self.assertEqual((status, said.split()[:2]), (0, ["usage:", name + ".py"]))
         self.assertFalse(os.path.exists("--help"))
 
+    def test_no_program_beside(self):
+        with unittest.mock.patch("program.TOP", self.folder):
+            for name in ("as", "log", "look", "trace"):
+                said = f"{self.folder}/bin/v6: No such file or directory: --version tells the program beside the tool"
+                self.assertEqual(self.call(tool(name).main, "--version"), (1, "", f"{name}.py: {said}\n"))
+
 
 def make(*words):
     return subprocess.run(["make", "-s", "-C", TOP, *words], env=ENVIRONMENT, capture_output=True, text=True)
@@ -39,6 +47,13 @@ class Install(Case):
         done = make(*words)
         self.assertEqual((done.returncode, done.stdout), (status, ""), done.stderr)
         return done.stderr
+
+    def installed(self, command):
+        """What install.py says that does it as make has it do, but that Python compiles nothing."""
+        with unittest.mock.patch("compileall.compile_dir"):
+            status, out, error = self.call(install.main, command, "", self.folder)
+        self.assertEqual((status, out), (0, ""), error)
+        return error
 
     def below(self, folder=""):
         """All names below a folder of the test's."""
@@ -66,17 +81,17 @@ class Install(Case):
 
     def test_what_was_changed_is_kept(self):
         """A disk of the user's, in the place of the one that was installed, and another program's file."""
-        words, image = ("PREFIX=", f"DESTDIR={self.folder}"), "lib/v6/examples/shell/image"
+        image = "lib/v6/examples/shell/image"
         os.mkdir(self.path("bin"))
         other = self.put("bin/v6-as", b"another")
-        self.assertEqual(self.make("install", *words), f"install.py: {other} isn't as it was installed, and is {other}.1 now\n")
+        self.assertEqual(self.installed("install"), f"install.py: {other} isn't as it was installed, and is {other}.1 now\n")
         self.assertEqual(read(other + ".1"), b"another")
         self.put(image, b"typed at")
-        self.assertIn("/image.1 now\n", self.make("install", *words))
+        self.assertIn("/image.1 now\n", self.installed("install"))
         self.assertEqual(read(self.path(image + ".1")), b"typed at")
         self.assertEqual(read(self.path(image)), read(os.path.join(TOP, "examples", "shell", "image")))
         self.put(image, b"typed at again")
-        self.assertIn("/image isn't as it was installed, and stays\n", self.make("uninstall", *words))
+        self.assertIn("/image isn't as it was installed, and stays\n", self.installed("uninstall"))
         self.assertEqual([name for name in self.below() if os.path.isfile(self.path(name))],
                          ["bin/v6-as.1", image, image + ".1"])
 

@@ -367,7 +367,7 @@ class Moves(unittest.TestCase):
                 ("words 1", "1: 000001 is odd"), ("words 0200000", "0200000: an address is 65535 at most"), ("words 08", "08: no number"),
                 ("words 0 9999", "9999: words is 4096 at most"), ("process 3", "process 3 isn't there in slot 200, and never in this run"),
                 ("until state x", "x: a state is one of the letters RrowWsSz"), ("until place top", "top: a place is in core or swap"),
-                ("until what", "what: it's state, place, call, pc or word"), ("until pc 010 06", "06: it is before 010"),
+                ("until what", "what: it's state, place, call, pc, word, break or watch"), ("until pc 010 06", "06: it is before 010"),
                 ("code nosuch", "nosuch: /etc/init has no such name")):
             with self.assertRaisesRegex(LookError if "has 1000" not in why else MomentError, why):
                 self.looker.lines_of(command)
@@ -612,6 +612,12 @@ class Commands(Case):
         self.assertIn("slot 65 of 180", out)
         self.assertIn('call       write(0, "Pone\\n", 5) comes next', out)
         self.assertIn("sp 177760  pc 000040", out)
+        # each writes what it has read: process 1 in slot 66, which was typed after slot 60, and process 2 in slot 126
+        commands = "break 040 of 1", "slot 100", "break 040 of 2", "since break", "until break"
+        status, out, error = self.look(disk, "1200", script, *[word for one in commands for word in ("-c", one)])
+        self.assertEqual((status, error), (0, ""))
+        self.assertIn("\n\n" + out + "```\n", page)
+        self.assertEqual([line.split()[1] for line in out.splitlines() if line.startswith("slot")], ["100", "65", "125"])
 
 
 if __name__ == "__main__":

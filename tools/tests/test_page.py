@@ -3,16 +3,67 @@ import os
 import re
 import tempfile
 import unittest
+from array import array
 
 from common import TOP, V6, Case, read, tool
 from pagereader import Read, process_of, shown, table_of
 
 from lookviews import ROW
-from pagepack import Panels, Texts
+from moments import Script
+from pagepack import Panels, Texts, packed
+from rowfile import HI, Row, names
 
 page, look, as_main, disk_main = tool("page"), tool("look"), tool("as").main, tool("disk").main
 LIONS = os.path.join(TOP, "docs", "lions", "src")
 OUT = re.compile(r"^.*out of core, to block")
+NAME = b"<img src=x>&\"'"  # of a program, of a file and of arguments
+ODD = """
+	sys	open; tty; 2
+	sys	exec; name; list
+list:	name+1; name; codes; 0
+tty:	</dev/tty8\\0>
+name:	{name}
+codes:	{codes}
+"""
+WRITES = """
+	sys	creat; name; 666	/ file 1
+	mov	$1,r0
+	sys	write; codes; 128.
+	sys	open; name; 0		/ file 2
+1:
+	mov	$2,r0
+	sys	read; line; 32.
+	tst	r0
+	beq	.
+	clr	r0
+	sys	write; line; 32.
+	br	1b
+name:	{name}
+codes:	{codes}
+	.even
+line:	.=.+32.
+"""
+WAITS = b"""
+	sys	open; tty; 2
+	sys	fork
+	br	1f
+	sys	fork
+	br	2f
+	sys	wait
+	br	.
+1:
+	clr	r0
+	sys	read; line; 100.
+	br	1b
+2:
+	mov	$100.,r0
+	sys	sleep
+	br	2b
+tty:	</dev/tty8\\0>
+	.even
+line:	.=.+100.
+"""
+LINES, SLOTS = range(6, 61), 16  # of a row that is taken: the lines of its log after the boot, and the most slots
 
 
 class Made(Case):
@@ -37,12 +88,57 @@ class Made(Case):
     def crowd(self, slots=700):
         return self.disk("crowd.s"), "100", self.put("script", b"clock 10\nrun %d\n" % slots)
 
+    def odd(self):
+        """A run in which a program, its arguments and a file have signs of HTML in their names; it reads all codes, and writes them."""
+        def octal(data):
+            return ".byte\t" + ",".join(f"{byte:o}" for byte in data)
 
-class Runs(Made):
+        image = self.path("image")
+        self.assertEqual(os.system(f"{V6} make 0 {image}"), 0)
+        texts = {"/etc/init": (ODD, b"/" + NAME, bytes(range(1, 128))), "/" + NAME.decode(): (WRITES, NAME[:-2] + b"o", bytes(range(128)))}
+        for place, (source, name, codes) in texts.items():
+            source = self.put("odd.s", source.format(name=octal(name + b"\0"), codes=octal(codes + b"\0")).encode())
+            self.assertEqual(self.call(as_main, "-s", "-o", self.path("program"), source), (0, "", ""))
+            self.assertEqual(self.call(disk_main, "put", image, self.path("program"), place)[:2], (0, ""))
+        return image, "1200", self.put("script", b"run 400\n")
+
+    def rows(self, count):
+        """So many rows, drawn at random, as runs: of those that are done within few slots, with some lines."""
+        known, base, found = names(), read(HI), {}
+        while len(found) < count:
+            row = Row(self.random.choice(known))
+            lines = (row.log or b"").count(b"\n")
+            if row.ends() and row.numbers["made"] is None and lines in LINES and Script(row.script).slots <= SLOTS:
+                image, script = self.put(f"image.{len(found)}", row.image(base)), self.put(f"script.{len(found)}", row.script)
+                found.setdefault(row.name, (image, str(row.numbers["core"]), script))
+        return found
+
     def looker(self, words):
         folder = tempfile.TemporaryDirectory()
         self.addCleanup(folder.cleanup)
         return look.looker_of(look.options_of(list(words)), folder.name)
+
+
+class Runs(Made):
+    def same(self, found, looker, line):
+        """What a page has at a line is what look.py shows there."""
+        moment, panels = looker.moment, found.at(line)
+        self.assertTrue(moment.first < line <= moment.lines and found.slot(line) == moment.slots, (line, moment.slots))
+        self.assertIn(found.words(line), looker.lines_of("log 1")[-1])
+        second, who = re.search(r", second (\d+), .*: ([^:]*)$", looker.views.head(moment)).groups()
+        self.assertEqual(panels["second"], [second], line)
+        self.assertEqual(panels["running"][0].partition(" ")[2], who if moment.running() is not None else "", line)
+        self.assertEqual(table_of(panels, ROW), looker.lines_of("ps")[1:], line)
+        for name in ("core", "swap", "texts"):
+            self.assertEqual(shown(panels[name]), looker.lines_of(name), line)
+        for slot, row in moment.whole.table.rows.items():
+            self.assertEqual(process_of(panels, slot), looker.views.process(moment.whole, row.number), (line, row.number))
+
+    def same_terminal(self, found, looker, line):
+        """What the terminal has shown at a line is what it shows in the run that is cut at its moment."""
+        run = looker.history.run
+        run.played(run.script.cut(looker.moment.slots, True))
+        self.assertEqual(found.terminal(line), read(run.names("term")[0]), line)
 
     def compare(self, words, lines):
         """What a page has at some lines is what look.py shows there."""
@@ -53,19 +149,12 @@ class Runs(Made):
         self.assertEqual([found.head["texts"][one] for one in found.columns["raw"]], log)
         for line in sorted({1, len(log), *self.random.sample(range(1, len(log) + 1), lines)}):
             looker.lines_of(f"line {line}")
-            moment, panels = looker.moment, found.at(line)
-            self.assertEqual(found.slot(line), moment.slots, line)
-            self.assertIn(found.words(line), looker.lines_of("log 1")[-1])
-            self.assertEqual(table_of(panels, ROW), looker.lines_of("ps")[1:], line)
-            for name in ("core", "swap"):
-                self.assertEqual(shown(panels[name]), looker.lines_of(name), line)
-            for slot, row in moment.whole.table.rows.items():
-                self.assertEqual(process_of(panels, slot), looker.views.process(moment.whole, row.number), (line, row.number))
+            self.same(found, looker, line)
         return found
 
     def test_two_readers(self):
         """All panels are what look.py shows; the terminal and the calls are those worked out by hand from docs/lions/slp.md."""
-        found = self.compare(self.pair(), 12)
+        found = self.compare(self.pair(), 4)
         self.assertEqual(found.terminal(len(found.columns["raw"])), b"one\r\nPone\r\ntwo\r\nCtwo\r\n".upper())
         self.assertEqual(found.terminal(19), b"ONE\r\n")  # the echo of what was typed before process 1 runs
         self.assertEqual(found.terminal(24), b"ONE\r\nPONE\r\n")  # process 1 has written
@@ -73,11 +162,26 @@ class Runs(Made):
         self.assertEqual(found.at(24)["call"], ['66 [1 /etc/init] write(0, "Pone\\n", 5) = 5'])
         self.assertEqual(found.at(16)["call"], [""])
 
-    def test_four_in_a_core_for_two(self):
-        """Also within the moments of the swapper, which have several lines."""
-        found = self.compare(self.crowd(), 6)
+    def test_three_in_a_core_for_two(self):
+        """Also within the moments of the swapper, which have several lines. Each of the three waits in another call in the end."""
+        words = self.disk(self.put("waits.s", WAITS)), "100", self.put("script", b"run 30\n")
+        found = self.compare(words, 6)
         within = next(line for line in range(1, found.head["lines"]) if OUT.match(found.words(line)))
         self.assertEqual(found.slot(within), found.slot(within + 1))
+        self.assertIn("slot 2 is the lowest in core that waits so that a signal wakes it", found.at(within)["rule"][0])
+        last = found.at(found.head["lines"])
+        for slot, call in enumerate(("wait()", "read(.., 056, 100)", "sleep()"), 1):
+            self.assertIn(f"call       {call} has begun, and isn't done", last[f"process {slot}"])
+
+    def test_random_rows(self):
+        """100 moments of 20 runs: all panels, and of each run what the terminal shows at one of them."""
+        for name, words in self.rows(20).items():
+            with self.subTest(name):
+                found, looker = self.made(*words)[0], self.looker(words)
+                for line in self.random.sample(range(1, found.head["lines"] + 1), 5):
+                    looker.go(found.slot(line), line)
+                    self.same(found, looker, line)
+                self.same_terminal(found, looker, line)
 
     def test_rules(self):
         """Why each process went out and came in is what docs/lions/sched.md works out."""
@@ -132,15 +236,15 @@ class Logs(Made):
                                                       "   35 to   100    66  free", "66 of 100 clicks are free"])
 
     def test_size(self):
-        """100,000 lines of six processes are at most 4 MB."""
+        """A line of six processes takes 40 bytes at most, so that 100,000 lines are at most 4 MB."""
         turns = b"".join(b"tick u\ntrap %d\nsleep %d 1 read.%d\ngo %d\nwake read.%d\n" % (n % 5 + 1, n % 5 + 1, n % 97 + 1, (n + 1) % 5 + 1, n % 97 + 1)
-                         for n in range(20000))
+                         for n in range(4000))
         forks = b"".join(b"fork 1 %d at %d\n" % (slot, 17 * slot) for slot in range(2, 6))
         log = self.put("log", b"boot 200 0\ngo 1\n" + forks + turns + b"end\n")
         found, _ = self.made("--log", log)
-        self.assertEqual(found.head["lines"], 100007)
-        self.assertLess(os.path.getsize(self.path("page.html")), 4_000_000)
-        self.assertEqual(found.words(100006), "woken are those who wait for bytes in the pipe of inode 18: process 5")
+        self.assertEqual(found.head["lines"], 20007)
+        self.assertLess(os.path.getsize(self.path("page.html")), 40 * 20007)
+        self.assertEqual(found.words(20006), "woken are those who wait for bytes in the pipe of inode 23: process 5")
 
     def refused(self, *words, why, status=1):
         kept = read(self.path("page.html")) if os.path.exists(self.path("page.html")) else None
@@ -178,7 +282,26 @@ class Safe(Made):
         self.assertNotRegex(re.sub("http://www.w3.org/2000/svg", "", found.html), "https?://")
 
 
+    def test_nothing_of_memory_is_markup(self):
+        """Names on a disk, arguments, and the bytes of a file: none is markup."""
+        found, _ = self.made(*self.odd())
+        self.assertEqual((found.html.count("<script"), found.html.count("<img")), (2, 0))
+        last = found.at(found.head["lines"])
+        self.assertIn('process 1 (/<img src=x>&"\') runs', last["running"][0])
+        for name in ("ps", "process 1", "core"):
+            self.assertTrue(any("<img src=x>&" in row for row in last[name]), name)
+
+
 class Packed(unittest.TestCase):
+    def test_widths(self):
+        """A number takes no more bytes than the largest of its column: a browser needn't unpack them."""
+        columns = {"small": array("I", [0, 255]), "middle": array("I", [256, 65535, 1]), "large": array("I", [65536]), "none": array("I")}
+        found = Read(b'<script type="text/plain" id="data">%s</script>' % packed({"head": "<"}, columns).encode())
+        self.assertEqual({name: width for name, (_, _, width) in found.head["columns"].items()},
+                         {"small": 1, "middle": 2, "large": 4, "none": 1})
+        for name, column in columns.items():
+            self.assertEqual(list(column), list(found.columns[name]), name)
+
     def test_rows(self):
         """A panel with fewer rows than its text says how many are left; a row that is as before is no change."""
         texts = Texts()

@@ -119,7 +119,7 @@ class Command(Case):
     def test_rows_hold(self):
         """Each row, by the program as it is built and by its own host; the gate runs them over files in memory."""
         names = rowfile.names()
-        status, out, error = self.call(row_main, "-q", *names)
+        status, out, error = self.call(row_main, "-q", "*")
         self.assertEqual([line for line in out.split("\n") if line and not line.startswith("ok ")], [])
         self.assertEqual((status, out, error), (0, "".join(f"ok {name}\n" for name in sorted(names)), ""))
 

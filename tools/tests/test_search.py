@@ -8,9 +8,11 @@ import unittest.mock
 
 from common import TOP, V6, Case, read, tool, v6, words
 
+import looksearch
 import stepper
 import walk as walk_module
 from history import History
+from looksearch import Search
 from moments import MomentError, Run
 from stepper import Stepper
 from walk import Sought, Walk, found
@@ -63,6 +65,29 @@ class Searches(Case):
                                     "slot 110000", "since word seen 3"),
                          [1, 41, 42, 300, 85999, 107504, 1000, 987, 1000, 988, 110000, 128])
 
+    def test_in_parts(self):
+        """A stretch whose parts are gone through at the same time."""
+        image, script = self.disk(self.put("counts.s", COUNTS)), self.put("script", b"run 6000\n")
+        with unittest.mock.patch.object(looksearch, "PART", 1):
+            commands = "slot 5000", "since word seen 3", "slot 5000", "since pc eighth"
+            self.assertEqual(self.slots(image, script, *commands), [5000, 128, 5000, 4986])
+
+    def test_breaks_and_watches(self):
+        """`eighth` is at 040; PC comes there in slot 41 and each 43 later, and behind its first instruction in the next."""
+        image, script = self.disk(self.put("counts.s", COUNTS)), self.put("script", b"run 2000\n")
+        commands = ("break eighth", "slot 1", "break eighth+4", "until break", "until break", "until break", "since break",
+                    "unbreak eighth+4", "slot 84", "since break", "unbreak", "watch seen", "until watch", "slot 1000", "since watch",
+                    "slot 1", "watch count", "until watch", "until watch")
+        self.assertEqual(self.slots(image, script, *commands), [1, 41, 42, 84, 42, 84, 41, 42, 1000, 988, 1, 3, 8])
+        commands = ("break eighth", "slot 1", "break 044", "until break", "unbreak 040", "until break of 2", "unbreak 040",
+                    "until watch")
+        status, out, error = self.call(look.main, "--v6", V6, image, "1200", script, *[word for one in commands for word in ("-c", one)])
+        self.assertEqual((status, out.splitlines()[0]), (1, "  break 000040 of process 1"))
+        breaks = ["  break 000040 of process 1: eighth", "  break 000044 of process 1: eighth+4"]
+        self.assertEqual([line for line in out.splitlines()[1:] if "break" in line], [*breaks, breaks[0], breaks[1]])
+        self.assertEqual(error, "look.py: no break of process 2 is set\nlook.py: 040: no break of process 1 is there\n"
+                                "look.py: no word is watched\n")
+
     def test_what_is_not_found(self):
         image, script = self.disk(self.put("counts.s", COUNTS)), self.put("script", b"run 2000\n")
         words_ = "--v6", V6, image, "1200", script, "-c", "slot 1", "-c", "until word seen 60", "-c", "slot 300", "-c", "since word who"
@@ -72,15 +97,21 @@ class Searches(Case):
     def test_two_processes(self):
         """Each moment of the two readers is asked for one by one, and the same is found."""
         image = self.disk(os.path.join(TOP, "docs", "lions", "src", "pair.s"))
-        history = History(Run(V6, image, 1200, b"run 60\ntype one\nrun 30\ntick\ntype two\nrun 40\n", self.folder))
-        seen = {number: [self.pc(history.moment(slots), number) for slots in range(131)] for number in (1, 2)}
+        history = History(Run(V6, image, 1200, b"run 12\ntype one\nrun 14\ntick\ntype two\nrun 14\n", self.folder))
+        seen = {number: [self.pc(history.moment(slots), number) for slots in range(41)] for number in (1, 2)}
         for number, low, high in ((1, 0o20, 0o20), (1, 0o40, 0o46), (2, 0o20, 0o32), (2, 0o36, 0o50)):
             is_in = [pc is not None and low <= pc <= high for pc in seen[number]]
-            wanted = [slots for slots in range(1, 131) if is_in[slots] and not is_in[slots - 1]]
+            wanted = [slots for slots in range(1, 41) if is_in[slots] and not is_in[slots - 1]]
             self.assertTrue(wanted)
             for few, near in ((walk_module.FEW, walk_module.NEAR), (-1, walk_module.NEAR), (100, 1)):  # by the log where others do much
                 with unittest.mock.patch.multiple(walk_module, FEW=few, NEAR=near):
-                    self.assertEqual(list(found(history, Sought(number, [(low, high)]), 0, 130)), wanted, (number, low, few))
+                    self.assertEqual(list(found(history, Sought(number, [(low, high)]), 0, 40)), wanted, (number, low, few))
+        at = {1: 0o40, 2: 0o36}  # breaks of both
+        wanted = [slots for slots in range(1, 41) if any(seen[one][slots] == at[one] != seen[one][slots - 1] for one in at)]
+        both = [Sought(number, [(place, place)]) for number, place in at.items()]
+        for forwards, nearest in ((True, wanted[0]), (False, wanted[-1])):
+            moment = history.moment(0 if forwards else 40)
+            self.assertEqual(Search(history, moment, forwards).sought(*both), nearest)
 
     def pc(self, moment, number):
         process = moment.process(number)
@@ -105,7 +136,7 @@ class Searches(Case):
 
     def same(self, one, process, where):
         self.assertEqual((one.registers[:8], one.code()), (process.registers, process.u[16] & 15), where)
-        self.assertEqual(one.fill_again(process), [], where)
+        self.assertEqual(one.changes(process), {}, where)
 
     def test_a_difference(self):
         """Where a stepper does an instruction in another way than the program, that is said at the next call."""
@@ -121,10 +152,23 @@ class Searches(Case):
 class Rows(unittest.TestCase):
     """Instructions in a row do what each of them does alone."""
 
-    def stepper(self, text, codes=0):
+    def stepper(self, text, codes=0, ranges=()):
         process = unittest.mock.Mock(registers=[0, 1, 2, 3, 4, 5, 64, 0], u=bytes(16) + bytes([codes]), text=0, pending=0,
                                      data=words(text).ljust(128, b"\0"), parts=[(0, 128, 0)])
-        return Stepper(process)
+        return Stepper(process, ranges)
+
+    def test_bytes(self):
+        """From odd addresses too, up to where nothing is, and from the last address to the first."""
+        process = unittest.mock.Mock(registers=[0] * 8, u=bytes(17), text=0, pending=0, data=b"ab\0dwxyz", parts=[(0, 4, 0), (65532, 4, 4)])
+        one = Stepper(process)
+        found = [one.bytes(at, most) for at, most in ((0, 4), (1, 2), (3, 9), (4, 2), (65533, 5), (65535, 1), (65536, 2), (0, 0))]
+        self.assertEqual(found, [b"ab\0d", b"b\0", b"d", b"", b"xyzab", b"z", b"ab", b""])
+        self.assertEqual((one.string(65534), one.string(3)), (b"yzab", b"d"))
+
+    def test_many_ranges(self):
+        """Each of them is come to, of however many."""
+        one = self.stepper("005201 " * 12, ranges=[(at, at) for at in range(2, 24, 2)])
+        self.assertEqual([(one.run(100), one.hit, one.pc) for _ in range(11)], [(1, "pc", at) for at in range(2, 24, 2)])
 
     def test_rows(self):
         text = "005201 060102 010203 006303 005504 020304 100401 005205 077011 000240 000777"
@@ -133,7 +177,7 @@ class Rows(unittest.TestCase):
             other.make(0)
             one.registers[0] = other.registers[0] = 300
             done = other.run(2000)
-            with unittest.mock.patch.object(stepper, "HOT", -1):
+            with unittest.mock.patch.multiple(stepper, HOT=-1, ROWS={}):
                 self.assertEqual(one.run(2000), done)
             self.assertEqual((one.registers[:8], one.code()), (other.registers[:8], other.code()))
             self.assertIn(0, other.rows)

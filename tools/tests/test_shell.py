@@ -6,7 +6,7 @@ import unittest
 
 from common import DISK_BYTES, TOP, V6, Case, read, tool, v6
 
-as_main, disk_main = tool("as").main, tool("disk").main
+as_main, disk_main, try_main = tool("as").main, tool("disk").main, tool("try").main
 SHELL = os.path.join(TOP, "examples", "shell")
 # What is typed stands after the prompt, in small letters; the terminal shows capitals.
 MORE = """\
@@ -255,10 +255,9 @@ class Shell(Case):
         """What a command prints, run alone."""
         more = ("--with", os.path.join(SHELL, "src", "lib.s"), *words[:2], os.path.join(SHELL, "src", name + ".s"),
                 *words[2:])
-        done = subprocess.run([sys.executable, os.path.join(TOP, "tools", "try.py"), "--v6", V6, *more],
-                              capture_output=True, input=b"")
-        self.assertEqual((done.returncode, done.stderr), (0, b""))
-        return done.stdout.decode()
+        status, out, error = self.ran(try_main, "--v6", V6, *more, typed=b"")
+        self.assertEqual((status, error), (0, ""))
+        return out.decode()
 
     def test_ed(self):
         """Each command and each form of an address; what is typed stands before what ed must answer."""
@@ -266,10 +265,8 @@ class Shell(Case):
         for lines, answer in EDITED:
             typed += lines
             told += answer
-        command = [sys.executable, os.path.join(TOP, "tools", "try.py"), "--v6", V6, "--final", self.path("final"), "--with",
-                   os.path.join(SHELL, "src", "lib.s"), os.path.join(SHELL, "src", "ed.s")]
-        done = subprocess.run(command, input=typed.encode(), capture_output=True)
-        self.assertEqual((done.returncode, done.stdout.decode(), done.stderr), (0, told, b""))
+        words = ("--final", self.path("final"), "--with", os.path.join(SHELL, "src", "lib.s"), os.path.join(SHELL, "src", "ed.s"))
+        self.assertEqual(self.ran(try_main, "--v6", V6, *words, typed=typed.encode()), (0, told.encode(), ""))
         self.assertEqual(self.call(disk_main, "--v6", V6, "cat", self.path("final"), "/f"), (0, "zEro\nthrEe\nlast\n", ""))
 
     def test_ps(self):

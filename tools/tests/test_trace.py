@@ -51,6 +51,15 @@ open(final, "wb").write(bytes(u + data).ljust(64 * int(core) + 446464, b"\\0"))
 OLD = b"import subprocess, sys\nsys.exit(1 if sys.argv[2] == 'memory' else subprocess.run(sys.argv[1:]).returncode)\n"
 ICODE = words("104413 000014 000010 000777 000014 000000 062457 061564 064457 064556 000164")
 PROGRAM = words("104405 000022 000001 104404 000034 000003 012700 000000 104401") + b"/dev/tty8\0hi\n\0"
+WAITS = b"""
+	sys	open; tty; 2
+	sys	signal; 2; ROUTINE
+2:	sys	getpid
+	br	2b
+1:	sys	getuid
+	br	2b
+tty:	</dev/tty8\0>
+"""
 HAS_MEMORY = v6("memory", os.devnull, "63", os.devnull, os.devnull)[0] != 1
 
 
@@ -212,6 +221,39 @@ class Traces(Case):
         self.assertEqual([line.replace(" /etc/init]", "]").split(None, 2) for line in out.splitlines()[1:]], [
             ["2", "[1]", "signal(5, 016) = 0"], ["3", "[1]", "a fault, which is signal 5"], ["5", "[1]", "getpid() = 1"],
             ["6", "[1]", "ends by signal 10"]])
+
+    @unittest.skipUnless(HAS_MEMORY, "v6 has no command memory yet")
+    def test_a_bad_call(self):
+        """No call has the number 63, and the words of times stand at an even address: both are signal 12, which is caught once."""
+        source = self.put("bad.s", b"\tsys\tsignal; 14; 1f\n\t104477\n1:\tsys\tgetpid\n\tsys\ttimes; 1\n")
+        status, out, error = self.trace("--v6", V6, self.disk(source), "1200", self.put("script", b"run 20\n"))
+        self.assertEqual((status, error), (0, ""))
+        self.assertEqual([line.replace(" /etc/init]", "]").split(None, 2) for line in out.splitlines()[1:]], [
+            ["2", "[1]", "signal(12, 010) = 0"], ["3", "[1]", "call 63() = signal 12"], ["4", "[1]", "getpid() = 1"],
+            ["5", "[1]", "times(01), and ends by signal 12"]])
+
+    @unittest.skipUnless(HAS_MEMORY, "v6 has no command memory yet")
+    def test_an_answer_that_goes_round(self):
+        """The first two bytes of a program, 0407, go to the last address and to 0, where a call stands that is done already."""
+        source = self.put("round.s", b"\tsys\topen; 1f; 0\n\tsys\tread; 177777; 2\n\tsys\tgetpid\n\tbr\t.\n1:\t</etc/init\\0>\n")
+        status, out, error = self.trace("--v6", V6, self.disk(source), "1200", self.put("script", b"run 8\n"))
+        self.assertEqual((status, error), (0, ""))
+        self.assertEqual([line.replace(" /etc/init]", "]").split(None, 2) for line in out.splitlines()[1:]], [
+            ["2", "[1]", 'open("/etc/init", 0) = 0'], ["3", "[1]", 'read(0, 0177777, 2) = 2 "\\007\\001"'], ["4", "[1]", "getpid() = 1"]])
+
+    @unittest.skipUnless(HAS_MEMORY, "v6 has no command memory yet")
+    def test_a_signal_that_waits(self):
+        """One that is ignored goes on waiting: each call is asked for once, as before. A routine begins at the end of a call."""
+        script = self.put("script", b"run 8\nbyte 177\nrun 6\n")
+        for does, calls in ((b"1", {4: "getpid", 6: "getpid", 8: "getpid", 10: "getpid", 12: "getpid", 14: "getpid"}),
+                            (b"1f", {4: "getpid", 6: "getpid", 8: "getpid", 10: "getpid", 11: "getuid", 13: "getpid"})):
+            image, memory = self.disk(self.put("waits.s", WAITS.replace(b"ROUTINE", does))), Run.memory
+            with unittest.mock.patch.object(Run, "memory", autospec=True, side_effect=memory) as asked:
+                status, out, error = self.trace("--v6", V6, image, "1200", script)
+            self.assertEqual((status, error), (0, ""))
+            told = [line.split() for line in out.splitlines()]
+            self.assertEqual({int(slot): call.partition("(")[0] for slot, _, _, call, *_ in told[3:]}, calls)
+            self.assertLessEqual(asked.call_count, len(told) + 4)  # and the start, each end of a program, the key, and the routine
 
     @unittest.skipUnless(HAS_MEMORY, "v6 has no command memory yet")
     def test_a_shell(self):

@@ -1,13 +1,11 @@
 """try.py: one program as a command. What the programs must show is by hand."""
 import os
-import subprocess
-import sys
 import unittest
 
-from common import TOOLS, TOP, V6, Case, read, tool
+from common import TOP, V6, Case, read, tool
 from pages import Runs, broken_links
 
-as_main, disk_main = tool("as").main, tool("disk").main
+try_main, as_main, disk_main = tool("try").main, tool("as").main, tool("disk").main
 SHELL = os.path.join(TOP, "examples", "shell", "src")
 COPY = """
 loop:	clr	r0
@@ -29,9 +27,7 @@ buffer:	.=.+100.
 
 class Try(Case):
     def run_it(self, *words, typed=b""):
-        command = [sys.executable, os.path.join(TOOLS, "try.py"), "--v6", V6, *words]
-        done = subprocess.run(command, input=typed, capture_output=True)
-        return done.returncode, done.stdout, done.stderr.decode()
+        return self.ran(try_main, "--v6", V6, *words, typed=typed)
 
     def source(self, text):
         return self.put("it.s", text.encode())

@@ -1,0 +1,74 @@
+#!/usr/bin/env python3
+"""Goes through the runs of rows slot by slot, as tools/look.py does, and tells where that differs from what `v6 memory` tells.
+
+    bench/steps.py COMMAND [SLOTS [NAME..]]
+
+COMMAND is a built v6 with the command `memory`. The rows are those of crates/run_rows/data that run a disk, or those of these
+names or patterns, as tools/row.py takes them; of a longer run the first SLOTS slots are gone through (1,000,000). The instructions
+between two turns in the kernel are done by tools/stepper.py. Compared are the registers, the codes and all of the memory of each
+process where a call begins after which more has changed than its answer, and what another call leaves alone.
+"""
+import os
+import sys
+import tempfile
+from concurrent.futures import ProcessPoolExecutor
+
+TOP = os.path.dirname(os.path.dirname(os.path.abspath(__file__)))
+sys.path.insert(0, os.path.join(TOP, "tools"))
+from history import History
+from moments import MomentError, Run
+from row import Runner, chosen
+from rowfile import DATA, Row, RowError
+from scriptfile import ScriptError
+from walk import Walk
+
+SLOTS = 1_000_000
+
+
+def gone_through(command, name, most):
+    """What a row came to: how many slots and turns in the kernel were gone through, and what differs, or None."""
+    row = Row(name)
+    if row.lines["command"] is not None:
+        return None
+    with tempfile.TemporaryDirectory() as folder:
+        runner, image, turns = Runner(command, folder), os.path.join(folder, "disk"), 0
+        with open(image, "wb") as out:
+            out.write(row.image(runner.base(row.numbers["made"])))
+        try:
+            walk = Walk(History(Run(command, image, row.numbers["core"], row.script, folder)), 0)
+        except (MomentError, ScriptError):
+            return None  # a disk, a script or a core that is refused
+        last = min(walk.history.last, most)
+        try:
+            while walk.at < last:
+                walk.met = None
+                walk.go(last)
+                turns += walk.met is not None
+        except Exception as error:  # of the tool too
+            return walk.at, turns, f"{type(error).__name__}: {error}"
+    return last, turns, None
+
+
+def main(command, most, names):
+    rows = slots = turns = differ = 0
+    with ProcessPoolExecutor() as pool:
+        wanted = [(name, pool.submit(gone_through, command, name, most)) for name in names]
+        for name, future in wanted:
+            found = future.result()
+            if found is None:
+                continue
+            rows, slots, turns, differ = rows + 1, slots + found[0], turns + found[1], differ + bool(found[2])
+            if found[2]:
+                print(f"{name}: {found[2]}", flush=True)
+    print(f"{rows} rows, {slots} slots, {turns} turns in the kernel; {differ} rows differ")
+    return int(differ > 0)
+
+
+if __name__ == "__main__":
+    _, *words = sys.argv
+    if not words or not all(word.isdecimal() for word in words[1:2]):
+        sys.exit(__doc__)
+    try:
+        sys.exit(main(words[0], int((words[1:2] or [SLOTS])[0]), chosen(words[2:] or ["*/*"], DATA)))
+    except RowError as error:
+        sys.exit(f"steps.py: {error}")
