@@ -15,10 +15,10 @@ _v6() {
         case $word in -*) words='--clock --core --disk --help --replay --script --slots --v6 --version' ;; esac ;;
     v6-log | log.py)
         if [ "$COMP_CWORD" -eq 1 ]; then
-            words='show draw diff ask'
+            words='show draw diff ask audit'
             case $word in -*) words='--help --version' ;; esac
         else
-            case $word in -*) words='--book --count --disk --from --help --output --script --to -o' ;; esac
+            case $word in -*) words='--book --count --disk --from --help --output --script --to --v6 -o' ;; esac
         fi ;;
     v6-look | look.py) case $word in -*) words='--help --log --replay --symbols --v6 --version -c' ;; esac ;;
     v6-page | page.py)
