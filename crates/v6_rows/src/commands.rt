@@ -144,22 +144,36 @@ fn statuses_have_their_numbers(rt: HostRuntime) {
 }
 
 /// Whether a command whose report has room for five bytes ends with a fault of that port, which has these.
-fn report_is_cut(alloc: Global, words: &str, front: &[u8]) -> Result<bool, AllocError> {
+fn report_is_cut(
+    alloc: Global,
+    words: &str,
+    script: &[u8],
+    front: &[u8],
+) -> Result<bool, AllocError> {
     let image = hi_image(alloc, HI_BYTES, &[])?;
     let rooms = Rooms { report: 5, ..ROOMS };
-    let mut host = host_in(alloc, &image, b"", rooms)?;
+    let mut host = host_in(alloc, &image, script, rooms)?;
     let status = end_over(alloc, words, &mut host)?;
     Ok(host.bytes(OutPort::Report) == front && status == Status::WriteFault(OutPort::Report))
 }
 
 #[test]
 fn failed_report_of_check_is_a_write_fault(rt: HostRuntime) -> Result<(), Fail> {
-    assert!(rt; report_is_cut(rt.alloc(), "check image", b"ok 7 ")?);
+    assert!(rt; report_is_cut(rt.alloc(), "check image", b"", b"ok 7 ")?);
     Ok(())
 }
 
 #[test]
 fn failed_report_of_demo_is_a_write_fault(rt: HostRuntime) -> Result<(), Fail> {
-    assert!(rt; report_is_cut(rt.alloc(), "demo 12", b"demo ")?);
+    assert!(rt; report_is_cut(rt.alloc(), "demo 12", b"", b"demo ")?);
+    Ok(())
+}
+
+/// A lawful log: process 1 ends, and nobody can run.
+const LAWFUL: &[u8] = b"boot 64 0\nsleep 0 -100 runout\ngo 1\nexit 1 swap 4000\nidle\nend\n";
+
+#[test]
+fn failed_report_of_a_lawful_audit_is_a_write_fault(rt: HostRuntime) -> Result<(), Fail> {
+    assert!(rt; report_is_cut(rt.alloc(), "audit script", LAWFUL, b"lawfu")?);
     Ok(())
 }

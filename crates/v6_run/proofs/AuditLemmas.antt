@@ -2,13 +2,13 @@
 use Rattle.std.proofs.Common.{◌≡◌, ◌∙◌, ◌+◌, ◌<◌, ◌≤◌, ◌==◌, ℕ, Bool, true, false, Option, Some, None, List, [], ◌∷◌, ◌++◌, append_assoc, length, length-append, take, drop, get_or, Result, Ok, Err, MatchResult, IfOk, IsSomeAnd, is_err, refl, sym, ap, subst, lit<, arith}
 use Rattle.std.proofs.lemmas.Bool.{eq-eqb, false≢true}
 use Rattle.std.proofs.lemmas.Result.{MatchResult-weaker}
-use Rattle.std.proofs.lemmas.List.{append-nil, take-append-drop, length-take-le, take_more, take_all}
+use Rattle.std.proofs.lemmas.List.{append-nil, take-append-drop, length-take-le, take_more}
 use Rattle.v6_port.specs.declared.host.Failed.{Failed}
 use Rattle.v6_port.specs.declared.host.InPort.{InPort}
 use Rattle.v6_port.specs.declared.host.InPort.TheVariants as in_port
 use Rattle.v6_port.specs.declared.host.OutPort.{OutPort}
 use Rattle.v6_port.specs.declared.host.OutPort.TheVariants as out_port
-use Rattle.v6_port.specs.Outside.{In, Out, same, PortState, Environment, Outside, Tells, OnlyAt}
+use Rattle.v6_port.specs.Outside.{In, Out, same, PortState, Outside, Tells, OnlyAt}
 use Rattle.v6_port.specs.Calls.{is_given, Reads, OpensRead}
 use Rattle.v6_port.specs.Causes.{SameCounts, Calm, FaultAt}
 use Rattle.v6_port.proofs.CauseLemmas.{same_is, still_tells, only_then, calm_then, fault_then}
@@ -19,10 +19,10 @@ use Rattle.v6_run.specs.declared.audit.TheConstants.{LOG_LIMIT}
 use Rattle.v6_run.specs.declared.status.Status.{Status}
 use Rattle.v6_run.specs.declared.status.Status.TheVariants as status
 use Rattle.v6_run.specs.Words.{Audit}
-use Rattle.v6_run.specs.Status.{has_written, is_decided}
+use Rattle.v6_run.specs.Status.{has_written}
 use Rattle.v6_run.specs.Errors.{end_of, log_status}
 use Rattle.v6_run.specs.Report.{lawful_line}
-use Rattle.v6_run.specs.Logs.{lines_of, AuditEnds, most_bytes}
+use Rattle.v6_run.specs.Logs.{AuditEnds}
 use Rattle.v6_run.specs.Audit.{HasRead, IsAtFault, Closes, AuditsTo, StopsLog}
 use Rattle.v6_run.specs.Headline.{IsKnownAnd, log_completion, log_line, is_named, may_end, is_known, IsComplete}
 use Rattle.v6_run.specs.Opened.{command_ports, AreGood, ports_passed}

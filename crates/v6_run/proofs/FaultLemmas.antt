@@ -1,5 +1,5 @@
 -- What is at fault among the first bytes of a file is at fault in the file, whatever comes after them.
-use Rattle.std.proofs.Common.{◌≡◌, ◌≢◌, ◌⊎◌, ◌∙◌, ◌+◌, ◌-◌, ◌<◌, ◌≤◌, ◌^◌, ◌==◌, ℕ, zero, suc, Bool, true, false, cond, List, [], ◌∷◌, ◌++◌, append_assoc, length, length-append, map, take, Result, Ok, Err, refl, sym, ap, subst, arith, inl, inr}
+use Rattle.std.proofs.Common.{◌≡◌, ◌⊎◌, ◌∙◌, ◌+◌, ◌-◌, ◌<◌, ◌≤◌, ◌==◌, ℕ, zero, suc, Bool, true, false, cond, List, [], ◌∷◌, ◌++◌, append_assoc, length, length-append, map, take, Result, Ok, Err, refl, sym, ap, subst, arith, inl, inr}
 use Rattle.std.proofs.lemmas.Bool.{ne_eqb}
 use Rattle.std.proofs.lemmas.List.{append-nil}
 use Rattle.std.specs.List.{onto_first}
@@ -14,7 +14,7 @@ use Rattle.v6_run.specs.declared.audit.LogError.TheVariants.{Unread, Unlawful, B
 use Rattle.v6_run.specs.declared.audit.TheConstants.{LOG_LIMIT}
 use Rattle.v6_run.specs.Logs.{parts_of, all_but_last, last_of, ended_lines, rest_of, last_line, lines_of, AreLawful, IsUnfitAt, IsMissingAt, IsBadAt, IsTooLong, IsShort, most_bytes, longest_line}
 use Rattle.v6_run.specs.Audit.{HasRead, IsLongAt, IsAtFault, Sums, Closes, AuditsTo}
-use Rattle.v6_run.proofs.PartsOfLogs.{Lines, First, first, all_of, last_is, ended_feed, rest_feed, Begins, ended_stay, lines_stay}
+use Rattle.v6_run.proofs.PartsOfLogs.{Lines, First, first, all_of, last_is, rest_feed, Begins, ended_stay, lines_stay}
 use Rattle.v6_run.proofs.OneWay.{Ends, GoesOn, held, meet, no_line, unfit_stops, bad_stops}
 
 -- the parts of two pieces: the last of the first piece goes on with the first of the second

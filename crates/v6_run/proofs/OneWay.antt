@@ -1,5 +1,5 @@
 -- An audit of a file ends in one way.
-use Rattle.std.proofs.Common.{◌≡◌, ◌≢◌, ◌⊎◌, ◌∙◌, ◌+◌, ◌≤◌, ℕ, List, [], ◌∷◌, ◌++◌, length, map, fold, refl, sym, ap, subst, arith, inl, inr}
+use Rattle.std.proofs.Common.{◌≡◌, ◌⊎◌, ◌∙◌, ◌+◌, ◌≤◌, ℕ, List, [], ◌∷◌, ◌++◌, length, map, fold, refl, sym, ap, subst, arith, inl, inr}
 use Rattle.std.proofs.lemmas.List.{append-nil}
 use Rattle.v6_base.specs.declared.entry.Chan.{Chan}
 use Rattle.v6_base.specs.declared.entry.Chan.TheVariants.{RunIn, RunOut, Tout, Keys, Wait, Read, Write}
@@ -9,7 +9,7 @@ use Rattle.v6_base.specs.declared.entry.Entry.{Entry}
 use Rattle.v6_base.specs.declared.entry.Entry.TheVariants as kind
 use Rattle.v6_base.specs.LogLine.{entry_line}
 use Rattle.pick_rules.specs.Ranges.{IsChannel, IsPlace, IsInRange}
-use Rattle.pick_rules.specs.Lawful.{Seen, Over, Fits, FitAll, Lawful, nothing_seen, seen_of, seen_after}
+use Rattle.pick_rules.specs.Lawful.{Seen, Over, Fits, FitAll, nothing_seen, seen_of, seen_after}
 use Rattle.log_text.specs.Held.{HoldsChannel, HoldsPlace, IsHeld}
 use Rattle.log_text.proofs.EntryLemmas.{one_line_each}
 use Rattle.log_audit.specs.Judge.{IsLine}

@@ -1,13 +1,13 @@
 -- What each byte of a log makes of what was read of it, and what its end does.
-use Rattle.std.proofs.Common.{◌≡◌, ◌≢◌, ◌⊎◌, ◌∙◌, ◌+◌, ◌<◌, ◌≤◌, ◌^◌, ◌==◌, ℕ, zero, suc, Bool, true, false, cond, List, [], ◌∷◌, ◌++◌, append_assoc, length, length-append, map, take, fold, refl, sym, ap, subst, arith, inl, inr}
+use Rattle.std.proofs.Common.{◌≡◌, ◌≢◌, ◌∙◌, ◌+◌, ◌<◌, ℕ, cond, List, [], ◌∷◌, ◌++◌, length, map, fold, refl, sym, ap, subst, arith}
 use Rattle.std.proofs.lemmas.Bool.{ne_eqb}
 use Rattle.std.proofs.lemmas.List.{append-nil}
 use Rattle.v6_base.specs.LogLine.{entry_line}
 use Rattle.v6_base.specs.declared.entry.Entry.{Entry}
-use Rattle.pick_rules.specs.Lawful.{Seen, Over, Fits, FitAll, Lawful, nothing_seen, seen_of, seen_after}
+use Rattle.pick_rules.specs.Lawful.{Seen, Over, Fits, FitAll, nothing_seen, seen_of, seen_after}
 use Rattle.log_audit.specs.Judge.{IsLine}
 use Rattle.v6_run.specs.declared.audit.Reading.{Reading}
-use Rattle.v6_run.specs.Logs.{ended_lines, rest_of, last_line, lines_of, AreLawful, FitBefore, IsUnfitAt, IsMissingAt, IsBadAt, longest_line}
+use Rattle.v6_run.specs.Logs.{ended_lines, rest_of, last_line, lines_of, AreLawful, IsUnfitAt, IsMissingAt, IsBadAt}
 use Rattle.v6_run.specs.Audit.{HasRead, IsLongAt}
 use Rattle.v6_run.proofs.PartsOfLogs.{ended_feed, rest_feed, ended_other, rest_other}
 

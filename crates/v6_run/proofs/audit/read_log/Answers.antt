@@ -1,12 +1,11 @@
-use Rattle.std.proofs.Common.{rules, ◌≡◌, ◌∙◌, ◌+◌, ◌<◌, ◌≤◌, ◌++◌, List, ℕ, [], length, length-append, take, refl, sym, ap, arith}
+use Rattle.std.proofs.Common.{rules, ◌∙◌, [], refl, ap, arith}
 use Rattle.std.proofs.lemmas.List.{take-append-le}
 use Rattle.v6_port.specs.declared.host.InPort.TheVariants.{Log}
 use Rattle.v6_port.specs.Outside.{In, Environment}
 use Rattle.v6_port.proofs.CauseLemmas.{calm_then}
-use Rattle.v6_run.specs.declared.audit.TheConstants.{LOG_LIMIT}
 use Rattle.v6_run.specs.Audit.{AuditsTo}
 use Rattle.v6_run.proofs.ResultLemmas.{error_where_err, result_passed, match_passed}
-use Rattle.v6_run.proofs.AuditLemmas.{calm_read, read_within, read_piece, read_none, end_read, most_read, fault_read, fault_calm, close_calm, room_for, as_long, taken_more, piece_read, fault_taken, fault_stops}
+use Rattle.v6_run.proofs.AuditLemmas.{calm_read, read_within, read_none, end_read, most_read, close_calm, room_for, as_long, taken_more, piece_read, fault_taken, fault_stops}
 use Rattle.v6_run.proofs.audit.read_log.Goals as goal
 
 pub file-init : goal.file-init

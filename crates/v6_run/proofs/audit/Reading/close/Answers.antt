@@ -1,6 +1,6 @@
-use Rattle.std.proofs.Common.{◌≡◌, ◌∙◌, ◌++◌, ◌∷◌, [], List, ℕ, length, length-append, sym, arith}
+use Rattle.std.proofs.Common.{◌∙◌, ◌++◌, ◌∷◌, [], length-append, sym, arith}
 use Rattle.std.proofs.lemmas.Bool.{eqb-true}
-use Rattle.v6_run.specs.Audit.{HasRead, Closes}
+use Rattle.v6_run.specs.Audit.{Closes}
 use Rattle.v6_run.specs.Logs.{ended_lines}
 use Rattle.v6_run.proofs.ReadLines.{closed, unclosed, no_items}
 use Rattle.v6_run.proofs.FaultLemmas.{sums_close, fault_closes}

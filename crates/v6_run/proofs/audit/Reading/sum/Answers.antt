@@ -1,6 +1,5 @@
-use Rattle.std.proofs.Common.{◌∙◌, ◌+◌, length, map, refl, sym, ap, subst}
-use Rattle.v6_base.specs.LogLine.{entry_line}
-use Rattle.pick_rules.specs.Lawful.{Seen, Over}
+use Rattle.std.proofs.Common.{◌∙◌, ◌+◌, length, sym, ap}
+use Rattle.pick_rules.specs.Lawful.{Seen}
 use Rattle.v6_run.proofs.ReadLines.{over_log, open_log, length_lines}
 use Rattle.v6_run.proofs.AuditLemmas.{not_both}
 use Rattle.v6_run.specs.Logs.{ended_lines}

@@ -1,4 +1,4 @@
-use Rattle.std.proofs.Common.{◌≡◌, ◌∙◌, ◌+◌, ◌++◌, ◌≤◌, List, ℕ, length, take, get_or, sym, ap, subst, arith}
+use Rattle.std.proofs.Common.{◌+◌, ◌++◌, List, ℕ, take, sym, subst, arith}
 use Rattle.std.proofs.lemmas.List.{append-nil, take_all}
 use Rattle.v6_run.specs.Audit.{HasRead, IsAtFault}
 use Rattle.v6_run.proofs.ResultLemmas.{error_where_err, error_passed}
