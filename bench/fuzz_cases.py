@@ -169,7 +169,7 @@ def command(rng, seed):
              "1e3", "64\n")
     kind = rng.random()
     if kind < 0.3:
-        odd = ("", "run", "check", "image", "RUN", "run8", "--help", "x" * 5000, "\udcff", "audit")
+        odd = ("", "run", "check", "image", "RUN", "run8", "--help", "x" * 5000, "\udcff", "audits")
         chosen[rng.randrange(len(chosen))] = rng.choice(odd)
     elif kind < 0.5:
         del chosen[rng.randrange(len(chosen))]

@@ -14,7 +14,7 @@ import tempfile
 from file_calls import DISK_BYTES, SWAP_AT, first_difference, line_difference, node_differences
 from fuzz_hosts import FAULT, SENTINEL, Host, Stand, input_bytes, write_faults
 
-USAGE = (b"usage: v6 run IMAGE CORE SCRIPT TERM LOG FINAL, memory IMAGE CORE SCRIPT FINAL, check IMAGE, make N FINAL, demo N\n")
+USAGE = (b"usage: v6 run IMAGE CORE SCRIPT TERM LOG FINAL, memory IMAGE CORE SCRIPT FINAL, check IMAGE, make N FINAL, demo N, audit LOG\n")
 PANICS = {"swap": b"panic: out of swap space\n", "zombie": b"panic: out of swap\n", "text": b"panic: out of text\n"}
 OUTPUTS = ("term", "log", "final")
 DONE, USAGE_STATUS, READ_FAULT, WRITE_FAULT, CORE_SIZE, SCRIPT_FAULT, IMAGE_FAULT, PANIC = range(8)
