@@ -280,9 +280,9 @@ module _ {n k : ℕ} {old mid : Procs} {woken : Woken} {start a : Taken} (was : 
       own_due p is waits late = elim (cases_lt (disk_end_of p) NEVER) [
         | inl less ↦
             let meant : IsMeant (disk_end_of p) k (Some p) ≡ true =
-                ap (λ b. b && (disk_end_of p == disk_end_of p)) (eq-eqb p.u.pending DISK_WAIT waits) ∙ eq-eqb (disk_end_of p) (disk_end_of p) refl in
+            ap (λ b. b && (disk_end_of p == disk_end_of p)) (eq-eqb p.u.pending DISK_WAIT waits) ∙ eq-eqb (disk_end_of p) (disk_end_of p) refl in
             let e : end ≡ disk_end_of p = eqb-true end (disk_end_of p)
-                (sym (ends_here (disk_end_of p) less) ∙ ap (IsMeant (disk_end_of p) k) is ∙ meant) in
+            (sym (ends_here (disk_end_of p) less) ∙ ap (IsMeant (disk_end_of p) k) is ∙ meant) in
             let m = due (subst (λ x. n < x) (sym e) late) in omega (arith, m, e)
         | inr past ↦ let m = was.most in omega (arith, sooner, m, past)
       ]

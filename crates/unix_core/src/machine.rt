@@ -289,7 +289,9 @@ impl Machine {
         }
     }
 
-    /// Takes a slot of the swapper: its pass, and the kernel settles, unless it ends with a panic.
+    /// Takes a slot of the swapper: its pass, and the kernel settles, unless it ends with a panic. It stands out of line, as
+    /// `going_slot` does.
+    #[inline(never)]
     fn swap_slot<T: Trace>(&mut self, trace: &mut T) -> Turned
         requires good { IsGood self.old.world }
         requires counted { IsCounted self.old.world.slots (unix_of self.old.world) }
@@ -421,10 +423,9 @@ impl Machine {
         self.end(s, ending, trace)
     }
 
-    /// Takes a slot in which no process just executes an instruction. It stands out of line, so that every other slot asks for
-    /// the stage once.
-    #[cold]
-    #[inline(never)]
+    /// Takes a slot in which no process just executes an instruction. Where nobody runs it only counts; what else there is stands
+    /// out of line.
+    #[inline(always)]
     pub(crate) fn other_slot<T: Trace>(&mut self, trace: &mut T) -> Turned
         requires kernel { IsKernel self.old.stage self.old.world }
         requires resting { self.old.stage ≡ Stage.Resting }

@@ -104,16 +104,7 @@ fn waiting(u: UArea, end: u32) -> UArea
 {
     let mut u = u;
     u.pending = DISK_WAIT;
-    u.call = [
-        0,
-        0,
-        0,
-        0,
-        (end / 65536) as u16,
-        (end % 65536) as u16,
-        0,
-        0,
-    ];
+    u.call = [0, 0, 0, 0, (end / 65536) as u16, (end % 65536) as u16, 0, 0];
     u
 }
 
