@@ -65,7 +65,12 @@ wake run
 wake runinn
 wake runi
 wake key
-wake keys.1
+wake keys.
+wake keys.01
+wake keys.x
+wake shows
+wake show.
+wake show.-1
 wake tout.0
 wake wait
 wake wait.
@@ -87,6 +92,11 @@ wake write.-0
 wake .1
 wake 1
 wake wait.256
+wake disk
+wake disk.
+wake disk.01
+wake disk.256
+sleep 1 -50 disk.00
 sleep 1 40 wait.00
 sleep 1 1 reads.1
 ";
