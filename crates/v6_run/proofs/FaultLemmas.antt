@@ -103,9 +103,10 @@ lines_within : (front more : List ℕ) → length front ≤ most_bytes + 1 → (
     → (t : IsTooLong (front ++ more)) → (rest : Lines) × (map entry_line t.log ≡ map entry_line log ++ line ∷ rest)
 lines_within front more l log line after s t =
     let piece : List ℕ = take (most_bytes + 1 - length front) more in
-    let k : Begins (ended_lines front) (ended_lines (front ++ piece)) = ended_stay front piece in
-    (after ++ k.more,
-    sym t.spelt ∙ ap ended_lines (take_front front more (most_bytes + 1) l) ∙ k.is ∙ ap (λ ls. ls ++ k.more) s ∙ append_assoc (map entry_line log) (line ∷ after) k.more)
+    let k : Begins (ended_lines front) (ended_lines (front ++ piece)) = ended_stay front piece in (
+      after ++ k.more,
+      sym t.spelt ∙ ap ended_lines (take_front front more (most_bytes + 1) l) ∙ k.is ∙ ap (λ ls. ls ++ k.more) s ∙ append_assoc (map entry_line log) (line ∷ after) k.more,
+    )
 
 unfit_on : (front more : List ℕ) (n : ℕ) → IsUnfitAt (ended_lines front) n → IsUnfitAt (lines_of (front ++ more)) n
 unfit_on front more n h =

@@ -6,9 +6,10 @@ use Rattle.v6_run.specs.Logs.{ended_lines}
 use Rattle.v6_run.proofs.audit.Reading.sum.Goals as goal
 
 pub returns-then-ended : goal.returns-then-ended
-returns-then-ended c front h =
-    (over_log (ended_lines front) h.log h.spelt h.fit (sym (ap (λ (s : Seen). s.stage) h.seen) ∙ c.ended.ensures.0 c.if-ended.true),
-    h.count ∙ sym (length_lines h.log) ∙ ap length (sym h.spelt))
+returns-then-ended c front h = (
+  over_log (ended_lines front) h.log h.spelt h.fit (sym (ap (λ (s : Seen). s.stage) h.seen) ∙ c.ended.ensures.0 c.if-ended.true),
+  h.count ∙ sym (length_lines h.log) ∙ ap length (sym h.spelt),
+)
 
 pub returns-else-ended : goal.returns-else-ended
 returns-else-ended c front h =

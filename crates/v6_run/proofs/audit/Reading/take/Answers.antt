@@ -10,9 +10,11 @@ loop-byte-init c front h = subst (λ ls. HasRead ls c.args.self.now) (sym (appen
 
 pub take_byte-requires : goal.take_byte-requires
 take_byte-requires c =
-    let at = c.loop-byte-test.true in
-    (c.requires.0 ++ take c.loop-byte.byte-index c.args.bytes.now, c.loop-byte.invariant c.requires.0 c.requires.1,
-    room_more c.requires.0 c.args.bytes.now c.loop-byte.byte-index _ (omega (arith, at)) c.requires.2)
+    let at = c.loop-byte-test.true in (
+      c.requires.0 ++ take c.loop-byte.byte-index c.args.bytes.now,
+      c.loop-byte.invariant c.requires.0 c.requires.1,
+      room_more c.requires.0 c.args.bytes.now c.loop-byte.byte-index _ (omega (arith, at)) c.requires.2,
+    )
 
 pub returns-in_err-take_byte-clause-fault : goal.returns-in_err-take_byte-clause-fault
 returns-in_err-take_byte-clause-fault c =
@@ -22,7 +24,7 @@ returns-in_err-take_byte-clause-fault c =
       i + 1,
       omega (arith, at),
       subst (λ ls. IsAtFault ls c.in_err-take_byte.field-0.0) (one_more front c.args.bytes.now i at)
-      (error_where_err _ _ _ c.in_err-take_byte.was c.take_byte.ensures.fault (front ++ take i c.args.bytes.now) (c.loop-byte.invariant front h)),
+          (error_where_err _ _ _ c.in_err-take_byte.was c.take_byte.ensures.fault (front ++ take i c.args.bytes.now) (c.loop-byte.invariant front h)),
     ))
 
 pub loop-byte-preserved : goal.loop-byte-preserved
