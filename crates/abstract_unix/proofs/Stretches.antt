@@ -1,5 +1,5 @@
 -- Slots after which nothing follows: a process executes instructions, or nobody runs, and nobody's wait for the disk is over.
-use Rattle.std.proofs.Common.{◌≡◌, ◌≢◌, ◌∙◌, ◌<◌, ◌≤◌, ◌⊎◌, ◌+◌, ◌==◌, ◌&&◌, ℕ, suc, Bool, true, false, cond, List, [], ◌∷◌, ◌++◌, map, filter, get_or, Option, Some, None, refl, ap, inl, inr, arith}
+use Rattle.std.proofs.Common.{◌≡◌, ◌∙◌, ◌<◌, ◌+◌, ◌==◌, ◌&&◌, ℕ, suc, Bool, true, false, cond, List, [], ◌∷◌, map, filter, get_or, Option, Some, None, refl, ap, inl, inr, arith}
 use Rattle.std.proofs.lemmas.Bool.{eqb-true}
 use Rattle.v6_base.specs.Trace.{Log}
 use Rattle.v6_base.specs.declared.entry.Chan.TheVariants.{Disk}
@@ -24,10 +24,13 @@ use Rattle.abstract_unix.specs.Whole.{AreDue}
 use Rattle.abstract_unix.specs.Runs.{Slot, event_of}
 
 pub due_after : (due : ℕ) (u : Unix) → AreDue due u → u.timing.passed + 1 < due → AreDue due (with_slot u)
-due_after due u d more = record { next = more; each = λ s p is waits. elim (d.each s p is waits) [
-  | inl low ↦ inl (omega (arith, low))
-  | inr high ↦ inr high
-] }
+due_after due u d more = record {
+  next = more;
+  each = λ s p is waits. elim (d.each s p is waits) [
+    | inl low ↦ inl (omega (arith, low))
+    | inr high ↦ inr high
+  ];
+}
 
 filter_none : {A : Type 0} (f : A → Bool) (xs : List A) → ((x : A) → f x ≡ false) → filter f xs ≡ []
 filter_none f [] none = refl

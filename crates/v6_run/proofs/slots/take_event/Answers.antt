@@ -79,4 +79,3 @@ returns-in-Disk-clause-passed g c goes =
     let none = ap slots_of c.in-Disk.is in
     let same = ap (λ (m : System). m.unix.timing.passed) c.set_disk.ensures.next in
     omega (arith, none, same)
-
