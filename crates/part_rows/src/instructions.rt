@@ -27,7 +27,7 @@ fn numbers(row: &str) -> ([u16; 24], usize) {
 
 // In octal: the word at 0 and the one after it; R0, R1, R5, SP, the word at 40 and the codes before; R0, R1, R5, SP,
 // the word at 40, PC and the codes after.
-const ROWS: &str = "\
+static ROWS: &str = "\
 010001 0      | 100000 0      0      177600 0      3  | 100000 100000 0      177600 0      2      11 ; MOV negative, C stays
 010001 0      | 0      5      0      177600 0      12 | 0      0      0      177600 0      2      4  ; MOV zero
 110001 0      | 1377   123456 0      177600 0      0  | 1377   177777 0      177600 0      2      10 ; MOVB extends the sign
@@ -211,7 +211,7 @@ const ROWS: &str = "\
 // After the examples of the addressing modes (handbook, chapter 3) and of the instructions (chapter 4), written down
 // from memory, and two rows more in their form. In octal: the words at 1020; R0 to R5; two words of memory, each after
 // its address; the codes; then R0 to R5, the two words, PC and the codes after.
-const EXAMPLES: &str = "\
+static EXAMPLES: &str = "\
 060204 0    0  | 0     0     2      0     4     0     | 2000   0      2002  0      | 17 | 0      0     2      0     6     0     | 0      0      | 1022 0  ; ADD R2,R4
 105104 0    0  | 0     0     0      0     22222 0     | 2000   0      2002  0      | 0  | 0      0     0      0     22155 0     | 0      0      | 1022 1  ; COMB R4
 005025 0    0  | 0     0     0      0     0     30000 | 30000  111116 2002  0      | 13 | 0      0     0      0     0     30002 | 0      0      | 1022 4  ; CLR (R5)+

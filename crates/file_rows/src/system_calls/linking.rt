@@ -1,5 +1,6 @@
 //! Names that come and go: link(II) and unlink(II); Lions' Commentary, `link` in `sys2.c`, `unlink` in `sys4.c`, and `iput` in
 //! `iget.c`.
+use crate::judge;
 use crate::system_calls::calls::Call::{
     Chdir, Close, Creat, Dup, Fstat, Link, LinkAt, Open, Read, Seek, Unlink, Write,
 };
@@ -9,12 +10,11 @@ use crate::system_calls::looks::Look::{
 };
 use crate::system_calls::scenes::Step::{Does, Has, User};
 use crate::system_calls::scenes::{Scene, failure};
-use std::process::Abort;
 use v6_base::Errno::{EACCES, EEXIST, EFAULT, EMLINK, ENOENT, ENOTDIR, EPERM};
 
 const T: u32 = 0x0005_0006;
 
-const SCENES: [Scene; 12] = [
+static SCENES: [Scene; 12] = [
     Scene {
         name: "another name",
         disk: &[],
@@ -308,5 +308,5 @@ const SCENES: [Scene; 12] = [
 
 #[test]
 fn names_come_and_go(rt: HostRuntime) {
-    assert_eq!(rt; failure(rt.alloc(), &SCENES).expect(&rt, "memory"), None);
+    judge::scene(&rt, failure(rt.alloc(), &SCENES));
 }
