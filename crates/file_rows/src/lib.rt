@@ -5,6 +5,6 @@
 #[cfg(test)]
 mod file_system;
 #[cfg(test)]
-mod judge;
-#[cfg(test)]
 mod system_calls;
+#[cfg(test)]
+mod tell;

@@ -1,6 +1,7 @@
 //! Rows for each instruction and each addressing mode (PDP-11/40 Processor Handbook, chapters 3 and 4), and for faults.
 //! What a row must come to was worked by hand from its left side and the table of instructions, which
 //! docs/manual/instructions.md gives.
+use crate::tell;
 use pdp_step::Kind::{Bpt, Emt, Illegal, Iot, Odd, Segment};
 use pdp_step::Outcome::{Call, Fault};
 use pdp_step::{Outcome, Regs, step};
@@ -389,7 +390,7 @@ fn fault_holds(memory: &mut Whole, before: [u16; 4], outcome: Outcome, passed: u
 
 fn judge_faults(rt: &impl Abort, memory: &mut Whole, rows: &[([u16; 4], Outcome, u16)]) {
     for (k, (before, outcome, passed)) in rows.iter().enumerate() {
-        assert!(rt; fault_holds(memory, *before, *outcome, *passed), "row {k}");
+        tell::plain_row(rt, k, fault_holds(memory, *before, *outcome, *passed));
     }
 }
 
@@ -412,7 +413,7 @@ fn text_stays(memory: &mut Whole) -> bool {
 fn a_text_is_not_written(rt: HostRuntime) {
     let mut memory = Whole::new(rt.alloc()).expect(&rt, "memory");
     memory.set_sizes(1, 1, 20);
-    assert!(rt; text_stays(&mut memory));
+    tell::plain(&rt, text_stays(&mut memory));
 }
 
 // PC behind the data, and at an odd address.
@@ -426,5 +427,5 @@ fn leaves(memory: &mut Whole) -> bool {
 fn a_program_that_leaves_its_memory_stops(rt: HostRuntime) {
     let mut memory = Whole::new(rt.alloc()).expect(&rt, "memory");
     memory.set_sizes(0, 1, 0);
-    assert!(rt; leaves(&mut memory));
+    tell::plain(&rt, leaves(&mut memory));
 }

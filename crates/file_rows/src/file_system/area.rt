@@ -4,11 +4,11 @@ ghost use Rattle.std.specs.Prelude.{◌≡◌};
 ghost use Rattle.u_area.specs.Area.{area_bytes, IsSized};
 
 use crate::file_system::fixtures::{Piece, put};
-use crate::judge;
+use crate::tell;
 use u_area::{UArea, fetch};
 
 /// Each field has bytes of its own.
-static EACH: UArea = UArea {
+const EACH: UArea = UArea {
     r: [
         0x0102, 0x0304, 0x0506, 0x0708, 0x090a, 0x0b0c, 0x0d0e, 0x0f10,
     ],
@@ -58,7 +58,7 @@ static EACH_BYTES: [Piece<'static>; 10] = [
 ];
 
 /// All fields are 0.
-static ZERO: UArea = UArea {
+const ZERO: UArea = UArea {
     r: [0; 8],
     cc: 0,
     uid: 0,
@@ -81,7 +81,7 @@ static ZERO: UArea = UArea {
 };
 
 /// All fields are as great as they can be.
-static ONES: UArea = UArea {
+const ONES: UArea = UArea {
     r: [0xffff; 8],
     cc: 15,
     uid: 0xff,
@@ -130,8 +130,8 @@ fn stands(u: &UArea, pieces: &[Piece<'_>]) -> bool {
 
 #[test]
 fn fields_stand_at_their_places(rt: HostRuntime) {
-    judge::plain(&rt, stands(&EACH, &EACH_BYTES));
-    judge::plain(&rt, stands(&ZERO, &[(17, b"\xf0")]));
+    tell::plain(&rt, stands(&EACH, &EACH_BYTES));
+    tell::plain(&rt, stands(&ZERO, &[(17, b"\xf0")]));
 }
 
 /// The status word is then 0170017.
@@ -143,7 +143,7 @@ fn greatest_fields_leave_the_other_bytes(rt: HostRuntime) {
         (32, &[0xff; 30]),
         (64, &[0xff; 55]),
     ];
-    judge::plain(&rt, stands(&ONES, &row));
+    tell::plain(&rt, stands(&ONES, &row));
 }
 
 /// The status word is 0170000 plus N 8, Z 4, V 2 and C 1.
@@ -152,7 +152,7 @@ fn codes_stand_in_the_status_word(rt: HostRuntime) {
     for cc in 0..16 {
         let mut u = ZERO;
         u.cc = cc;
-        judge::plain(&rt, stands(&u, &[(16, &[cc, 0xf0])]));
+        tell::plain(&rt, stands(&u, &[(16, &[cc, 0xf0])]));
     }
 }
 
@@ -171,10 +171,10 @@ fn times_of_children_have_their_high_word_first(rt: HostRuntime) {
     for (time, bytes) in TIMES {
         let mut user = ZERO;
         user.child_user = time;
-        judge::plain(&rt, stands(&user, &[(17, b"\xf0"), (52, bytes)]));
+        tell::plain(&rt, stands(&user, &[(17, b"\xf0"), (52, bytes)]));
         let mut system = ZERO;
         system.child_system = time;
-        judge::plain(&rt, stands(&system, &[(17, b"\xf0"), (56, bytes)]));
+        tell::plain(&rt, stands(&system, &[(17, b"\xf0"), (56, bytes)]));
     }
 }
 
@@ -193,5 +193,5 @@ fn handlers_and_files_begin_and_end_at_their_places(rt: HostRuntime) {
         (118, b"\x06"),
         (119, b"\0"),
     ];
-    judge::plain(&rt, stands(&u, &row));
+    tell::plain(&rt, stands(&u, &row));
 }

@@ -1,7 +1,7 @@
 //! Blocks on the way to a block of a file, by hand from file system(V): a small file has eight addresses of its own; a
 //! large one has seven of indirect blocks of 256 addresses, and the eighth is that of a block of further indirect ones.
 //! A small file that needs a ninth block becomes large, and its eight addresses move into its first indirect block.
-use crate::judge;
+use crate::tell;
 use bmap_path::BlockName::{Data, Dbl, Ind};
 use bmap_path::{BlockName, path};
 
@@ -28,6 +28,6 @@ fn holds(large: bool, number: u16, names: &[BlockName]) -> bool {
 #[test]
 fn blocks_on_the_way_have_these_names(rt: HostRuntime) {
     for (k, (large, number, names)) in PATHS.iter().enumerate() {
-        judge::plain_row(&rt, k, holds(*large, *number, names));
+        tell::plain_row(&rt, k, holds(*large, *number, names));
     }
 }

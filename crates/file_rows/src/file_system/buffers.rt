@@ -1,5 +1,5 @@
 //! Fifteen buffers before the disk: docs/manual/blocks.md, "The buffers".
-use crate::judge;
+use crate::tell;
 use Step::{Change, Read, Sync};
 use buf_cache::{Cache, Disk};
 use std::alloc::{AllocError, Global};
@@ -169,7 +169,7 @@ fn are_read(cache: &mut Cache, bytes: &[u8]) -> bool {
 fn blocks_reach_the_disk_as_their_buffers_are_used_again(rt: HostRuntime) {
     for (k, (steps, disk, blocks)) in ROWS.iter().enumerate() {
         let mut cache = after(rt.alloc(), steps).expect(&rt, "memory");
-        judge::plain_row(&rt, k, are_on_disk(&cache, disk));
-        judge::plain_row(&rt, k, are_read(&mut cache, blocks));
+        tell::plain_row(&rt, k, are_on_disk(&cache, disk));
+        tell::plain_row(&rt, k, are_read(&mut cache, blocks));
     }
 }

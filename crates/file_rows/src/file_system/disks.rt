@@ -1,6 +1,6 @@
 //! Faults and counts of small disks: docs/manual/disk-image.md, which is file system(V), and the order of its faults.
 use crate::file_system::fixtures::{Word, put_words};
-use crate::judge;
+use crate::tell;
 use fs_check::{ImageFault, accept, tally};
 
 /// Eight blocks: inode 1 is a directory that holds block 6, and blocks 4 and 5 are free. `isize` is at 512, `fsize` at
@@ -175,6 +175,6 @@ fn gives(words: &[Word], found: Result<(u16, u16), ImageFault>) -> bool {
 #[test]
 fn small_disks_have_their_first_fault_or_their_counts(rt: HostRuntime) {
     for (k, (words, found)) in DISKS.iter().enumerate() {
-        judge::plain_row(&rt, k, gives(words, *found));
+        tell::plain_row(&rt, k, gives(words, *found));
     }
 }

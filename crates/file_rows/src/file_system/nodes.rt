@@ -4,7 +4,7 @@
 use crate::file_system::calls::{Call, answer};
 use crate::file_system::fixtures::{Piece, TWENTY_BLOCKS, put};
 use crate::file_system::opened::{open, stands, takes};
-use crate::judge;
+use crate::tell;
 use Call::{Device, Empty, Links, Mode, Owner, Put, Take, Truncate, Update};
 use fs_nodes::Nodes;
 use std::alloc::{AllocError, Global};
@@ -169,7 +169,7 @@ fn holds(alloc: Global, row: &Row) -> Result<bool, AllocError> {
 #[test]
 fn what_a_call_sets_stands_on_the_disk(rt: HostRuntime) {
     for (k, row) in CALLS.iter().enumerate() {
-        judge::row(&rt, k, holds(rt.alloc(), row));
+        tell::row(&rt, k, holds(rt.alloc(), row));
     }
 }
 
@@ -187,7 +187,7 @@ fn looks(alloc: Global, row: &(u16, u32, [u8; 16])) -> Result<bool, AllocError> 
 #[test]
 fn a_look_shows_sixteen_bytes(rt: HostRuntime) {
     for (k, row) in LOOKS.iter().enumerate() {
-        judge::row(&rt, k, looks(rt.alloc(), row));
+        tell::row(&rt, k, looks(rt.alloc(), row));
     }
 }
 
@@ -205,7 +205,7 @@ fn looks_at_block(alloc: Global, row: &(u16, u16, usize, u8)) -> Result<bool, Al
 #[test]
 fn a_look_shows_a_block(rt: HostRuntime) {
     for (k, row) in BLOCKS.iter().enumerate() {
-        judge::row(&rt, k, looks_at_block(rt.alloc(), row));
+        tell::row(&rt, k, looks_at_block(rt.alloc(), row));
     }
 }
 
@@ -231,7 +231,7 @@ fn peeks(alloc: Global, row: &(u16, bool)) -> Result<bool, AllocError> {
 #[test]
 fn used_numbers_can_be_peeked_at(rt: HostRuntime) {
     for (k, row) in USED.iter().enumerate() {
-        judge::row(&rt, k, peeks(rt.alloc(), row));
+        tell::row(&rt, k, peeks(rt.alloc(), row));
     }
 }
 
@@ -276,5 +276,5 @@ fn fills(alloc: Global) -> Result<bool, AllocError> {
 
 #[test]
 fn a_hundred_inodes_are_referred_to(rt: HostRuntime) {
-    judge::all(&rt, fills(rt.alloc()));
+    tell::all(&rt, fills(rt.alloc()));
 }

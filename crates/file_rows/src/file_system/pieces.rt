@@ -2,7 +2,7 @@
 //! piece ends with its block, its block is taken before its bytes are copied, and what was done stays done.
 use crate::file_system::fixtures::{Word, image_of};
 use crate::file_system::opened::{disk_has, open, takes};
-use crate::judge;
+use crate::tell;
 use fs_nodes::{Moved, Nodes};
 use std::alloc::{AllocError, Global};
 use v6_base::{Errno, Space, Whole};
@@ -372,6 +372,6 @@ fn holds(alloc: Global, row: &Row) -> Result<bool, AllocError> {
 #[test]
 fn files_are_read_and_written_piece_by_piece(rt: HostRuntime) {
     for (k, row) in ROWS.iter().enumerate() {
-        judge::row(&rt, k, holds(rt.alloc(), row));
+        tell::row(&rt, k, holds(rt.alloc(), row));
     }
 }

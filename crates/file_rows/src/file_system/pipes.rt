@@ -4,7 +4,7 @@ use self::Call::{Close, Read, Write};
 use self::Waits::{Nobody, Reader, Writer};
 use crate::file_system::fixtures::{Word, image_of};
 use crate::file_system::opened::{open, takes};
-use crate::judge;
+use crate::tell;
 use fs_nodes::Nodes;
 use pipe_ends::Piped::{Broken, Done, Error, Wait};
 use pipe_ends::{Pipe, Piped, read, write};
@@ -295,7 +295,7 @@ fn failure(alloc: Global, scene: &Scene) -> Result<Option<usize>, AllocError> {
 #[test]
 fn a_pipe_is_read_and_written(rt: HostRuntime) {
     for (k, scene) in SCENES.iter().enumerate() {
-        judge::numbered_scene(&rt, k, failure(rt.alloc(), scene));
+        tell::numbered_scene(&rt, k, failure(rt.alloc(), scene));
     }
 }
 
@@ -329,7 +329,7 @@ fn keeps_time(alloc: Global) -> Result<bool, AllocError> {
 
 #[test]
 fn each_read_and_each_append_sets_its_times(rt: HostRuntime) {
-    judge::all(&rt, keeps_time(rt.alloc()));
+    tell::all(&rt, keeps_time(rt.alloc()));
 }
 
 /// Reads 700 bytes at most to the end of the memory, and tells how many there were, where they are those that come after `done`.
@@ -385,5 +385,5 @@ fn arrive(alloc: Global) -> Result<bool, AllocError> {
 
 #[test]
 fn ten_thousand_bytes_arrive_whole_and_in_order(rt: HostRuntime) {
-    judge::all(&rt, arrive(rt.alloc()));
+    tell::all(&rt, arrive(rt.alloc()));
 }

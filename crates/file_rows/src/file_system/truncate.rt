@@ -10,7 +10,7 @@ ghost use Rattle.fs_blocks.specs.State.{disk};
 
 use crate::file_system::fixtures::{Word, image_of};
 use crate::file_system::opened::{are_free, open_file};
-use crate::judge;
+use crate::tell;
 use fs_blocks::Volume;
 use fs_codec::DiskNode;
 use std::alloc::{AllocError, Global};
@@ -155,6 +155,6 @@ fn holds(alloc: Global, row: &Row) -> Result<bool, AllocError> {
 #[test]
 fn files_give_their_blocks_back_in_order(rt: HostRuntime) {
     for (k, row) in FILES.iter().enumerate() {
-        judge::row(&rt, k, holds(rt.alloc(), row));
+        tell::row(&rt, k, holds(rt.alloc(), row));
     }
 }

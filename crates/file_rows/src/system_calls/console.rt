@@ -1,10 +1,10 @@
 //! The console: tty(IV), read(II), write(II); what it shows of the bytes that are written to it, and how a read waits.
-use crate::judge;
 use crate::system_calls::calls::Call::{Close, Dup, Open, Read, Write};
 use crate::system_calls::calls::Told::{Done, Fails, Gives, Waits};
 use crate::system_calls::looks::Look::{File, Memory, Pending, Shown, Times};
 use crate::system_calls::scenes::Step::{Does, GoesOn, Has, Now, Puts, Types};
 use crate::system_calls::scenes::{Scene, failure};
+use crate::tell;
 use v6_base::Errno::{EBADF, EFAULT};
 
 const T: u32 = 0x0005_0006;
@@ -120,5 +120,5 @@ static SCENES: [Scene; 5] = [
 
 #[test]
 fn the_console_shows_and_waits(rt: HostRuntime) {
-    judge::scene(&rt, failure(rt.alloc(), &SCENES));
+    tell::scene(&rt, failure(rt.alloc(), &SCENES));
 }

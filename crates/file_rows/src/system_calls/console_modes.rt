@@ -1,7 +1,6 @@
 //! The modes of the console: stty(II), gtty(II) and tty(IV); `sgtty` of Lions' Commentary, `tty.c`, and `klopen` and
 //! `klclose`, `kl.c`. Of the flags 02 makes spaces of a tab, 04 capitals of small letters, 010 shows what is typed, 020 is
 //! for carriage returns, and 040 is raw.
-use crate::judge;
 use crate::system_calls::calls::Call::{
     Close, CloseAll, Creat, Dup, Gtty, Open, Read, Stty, Write,
 };
@@ -9,6 +8,7 @@ use crate::system_calls::calls::Told::{Done, Fails, Gives, Waits};
 use crate::system_calls::looks::Look::{File, IsOpen, Memory, Modes, Shown, Terminal, Times};
 use crate::system_calls::scenes::Step::{Does, Fresh, Has, OnLine, Opens, Puts, Text, Types, User};
 use crate::system_calls::scenes::{Scene, failure};
+use crate::tell;
 use v6_base::Errno::{EACCES, EBADF, EFAULT, EMFILE, ENODEV, ENOTTY};
 
 /// Of a console that has been opened: no speeds, `#` and `@`, and the flags 036.
@@ -355,5 +355,5 @@ static SCENES: [Scene; 12] = [
 
 #[test]
 fn modes_are_set_and_told(rt: HostRuntime) {
-    judge::scene(&rt, failure(rt.alloc(), &SCENES));
+    tell::scene(&rt, failure(rt.alloc(), &SCENES));
 }

@@ -1,11 +1,11 @@
 //! Lines of the console are read: read(II) and tty(IV); `ttread` and `canon` of Lions' Commentary, `tty.c`. A read that
 //! finds no line waits, and is taken up again later.
-use crate::judge;
 use crate::system_calls::calls::Call::{Close, Creat, Dup, Open, Read, Stty};
 use crate::system_calls::calls::Told::{Done, Fails, Gives, Waits};
 use crate::system_calls::looks::Look::{File, IsOpen, Memory, Pending, Shown, Times};
 use crate::system_calls::scenes::Step::{Does, GoesOn, Has, Now, Puts, Text, Types};
 use crate::system_calls::scenes::{Scene, failure};
+use crate::tell;
 use v6_base::Errno::{EBADF, EFAULT};
 
 const T: u32 = 0x0005_0006;
@@ -340,5 +340,5 @@ static SCENES: [Scene; 13] = [
 
 #[test]
 fn lines_are_read(rt: HostRuntime) {
-    judge::scene(&rt, failure(rt.alloc(), &SCENES));
+    tell::scene(&rt, failure(rt.alloc(), &SCENES));
 }

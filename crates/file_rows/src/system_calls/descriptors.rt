@@ -1,5 +1,4 @@
 //! Numbers of open files: dup(II) and close(II); `getf`, `falloc` and `closef` of Lions' Commentary, `fio.c`.
-use crate::judge;
 use crate::system_calls::calls::Call::{
     Close, CloseAll, Creat, Dup, Fstat, Open, Read, Seek, Unlink, Write,
 };
@@ -9,6 +8,7 @@ use crate::system_calls::looks::Look::{
 };
 use crate::system_calls::scenes::Step::{Does, Fresh, Has, Opens, User};
 use crate::system_calls::scenes::{Scene, failure};
+use crate::tell;
 use v6_base::Errno::{EACCES, EBADF, EISDIR, EMFILE, ENFILE, ENOENT};
 
 static SCENES: [Scene; 10] = [
@@ -308,5 +308,5 @@ static SCENES: [Scene; 10] = [
 
 #[test]
 fn numbers_name_open_files(rt: HostRuntime) {
-    judge::scene(&rt, failure(rt.alloc(), &SCENES));
+    tell::scene(&rt, failure(rt.alloc(), &SCENES));
 }

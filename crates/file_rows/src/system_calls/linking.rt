@@ -1,6 +1,5 @@
 //! Names that come and go: link(II) and unlink(II); Lions' Commentary, `link` in `sys2.c`, `unlink` in `sys4.c`, and `iput` in
 //! `iget.c`.
-use crate::judge;
 use crate::system_calls::calls::Call::{
     Chdir, Close, Creat, Dup, Fstat, Link, LinkAt, Open, Read, Seek, Unlink, Write,
 };
@@ -10,6 +9,7 @@ use crate::system_calls::looks::Look::{
 };
 use crate::system_calls::scenes::Step::{Does, Has, User};
 use crate::system_calls::scenes::{Scene, failure};
+use crate::tell;
 use v6_base::Errno::{EACCES, EEXIST, EFAULT, EMLINK, ENOENT, ENOTDIR, EPERM};
 
 const T: u32 = 0x0005_0006;
@@ -308,5 +308,5 @@ static SCENES: [Scene; 12] = [
 
 #[test]
 fn names_come_and_go(rt: HostRuntime) {
-    judge::scene(&rt, failure(rt.alloc(), &SCENES));
+    tell::scene(&rt, failure(rt.alloc(), &SCENES));
 }

@@ -1,6 +1,5 @@
 //! Files that are made: creat(II) and mknod(II); `creat` and `maknode` of Lions' Commentary, `sys2.c` and `iget.c`, and `ialloc`,
 //! `alloc.c`.
-use crate::judge;
 use crate::system_calls::calls::Call::{Close, Creat, Link, Mknod, Open, Read};
 use crate::system_calls::calls::Told::{Done, Fails, Gives};
 use crate::system_calls::looks::Look::{
@@ -8,6 +7,7 @@ use crate::system_calls::looks::Look::{
 };
 use crate::system_calls::scenes::Step::{Does, Has, Now, User};
 use crate::system_calls::scenes::{Scene, failure};
+use crate::tell;
 use v6_base::Errno::{EACCES, EEXIST, EFAULT, EISDIR, ENOENT, ENOSPC, ENOTDIR, ENXIO, EPERM};
 
 const T: u32 = 0x0005_0006;
@@ -289,5 +289,5 @@ static SCENES: [Scene; 11] = [
 
 #[test]
 fn files_are_made(rt: HostRuntime) {
-    judge::scene(&rt, failure(rt.alloc(), &SCENES));
+    tell::scene(&rt, failure(rt.alloc(), &SCENES));
 }

@@ -1,11 +1,11 @@
 //! Bytes that are read and written: read(II), write(II), seek(II); `rdwr` and `seek` of Lions' Commentary, `sys2.c`, and `readi` and
 //! `writei`, `rdwri.c`.
-use crate::judge;
 use crate::system_calls::calls::Call::{Creat, Dup, Fstat, Open, Read, Seek, Stat, Write};
 use crate::system_calls::calls::Told::{Done, Fails, Gives};
 use crate::system_calls::looks::Look::{Address, Body, Counts, File, Inode, Memory, Shown, Times};
 use crate::system_calls::scenes::Step::{Does, Has, Now, Puts, Text};
 use crate::system_calls::scenes::{Scene, failure};
+use crate::tell;
 use v6_base::Errno::{EBADF, EFAULT, EFBIG, ENOSPC};
 
 const T: u32 = 0x0005_0006;
@@ -476,15 +476,15 @@ static SEEKS: [Scene; 1] = [Scene {
 
 #[test]
 fn bytes_are_read(rt: HostRuntime) {
-    judge::scene(&rt, failure(rt.alloc(), &READS));
+    tell::scene(&rt, failure(rt.alloc(), &READS));
 }
 
 #[test]
 fn bytes_are_written(rt: HostRuntime) {
-    judge::scene(&rt, failure(rt.alloc(), &WRITES));
+    tell::scene(&rt, failure(rt.alloc(), &WRITES));
 }
 
 #[test]
 fn places_are_sought(rt: HostRuntime) {
-    judge::scene(&rt, failure(rt.alloc(), &SEEKS));
+    tell::scene(&rt, failure(rt.alloc(), &SEEKS));
 }

@@ -1,11 +1,11 @@
 //! Directories of processes, permissions and owners: chdir(II), chmod(II), chown(II); Lions' Commentary, `sys4.c`, and `owner` and
 //! `access` in `fio.c`.
-use crate::judge;
 use crate::system_calls::calls::Call::{Chdir, Chmod, Chown, Mknod, Open};
 use crate::system_calls::calls::Told::{Done, Fails, Gives};
 use crate::system_calls::looks::Look::{Address, Body, Directory, File, Inode, Refs, Times};
 use crate::system_calls::scenes::Step::{Does, Has, User};
 use crate::system_calls::scenes::{Scene, failure};
+use crate::tell;
 use v6_base::Errno::{EACCES, EFAULT, ENOENT, ENOTDIR, EPERM};
 
 const T: u32 = 0x0005_0006;
@@ -176,5 +176,5 @@ static SCENES: [Scene; 7] = [
 
 #[test]
 fn directories_permissions_and_owners_change(rt: HostRuntime) {
-    judge::scene(&rt, failure(rt.alloc(), &SCENES));
+    tell::scene(&rt, failure(rt.alloc(), &SCENES));
 }

@@ -1,5 +1,4 @@
 //! Files that are opened: open(II); `open1` of Lions' Commentary, `sys2.c`, and `access`, `fio.c`.
-use crate::judge;
 use crate::system_calls::calls::Call::{
     Chdir, Chmod, Chown, Close, Creat, Link, Mknod, Open, Stat, Unlink,
 };
@@ -9,6 +8,7 @@ use crate::system_calls::looks::Look::{
 };
 use crate::system_calls::scenes::Step::{Does, Fresh, Has, OnLine, User};
 use crate::system_calls::scenes::{Scene, failure};
+use crate::tell;
 use v6_base::Errno::{EACCES, EEXIST, EFAULT, EISDIR, ENFILE, ENOENT, ENOTDIR, ENXIO};
 
 static SCENES: [Scene; 11] = [
@@ -263,5 +263,5 @@ static SCENES: [Scene; 11] = [
 
 #[test]
 fn files_are_opened(rt: HostRuntime) {
-    judge::scene(&rt, failure(rt.alloc(), &SCENES));
+    tell::scene(&rt, failure(rt.alloc(), &SCENES));
 }

@@ -1,5 +1,4 @@
 //! Pipes that a process makes, reads, writes and closes: pipe(II), read(II), write(II), close(II); Lions' Commentary, `pipe.c`.
-use crate::judge;
 use crate::system_calls::calls::Call::{
     Close, CloseAll, Creat, Dup, Fstat, Gtty, Open, Pipe, Read, Seek, Stty, Write,
 };
@@ -10,6 +9,7 @@ use crate::system_calls::looks::Look::{
 };
 use crate::system_calls::scenes::Step::{Does, Fresh, GoesOn, Has, Now, Opens, Posts, Puts, User};
 use crate::system_calls::scenes::{Scene, failure};
+use crate::tell;
 use v6_base::Errno::{EBADF, EFAULT, EINTR, EMFILE, ENFILE, ENOSPC, ENOTTY, EPIPE, ESPIPE};
 use v6_base::{Chan, Entry};
 
@@ -537,10 +537,10 @@ static USED: [Scene; 9] = [
 
 #[test]
 fn pipes_are_made(rt: HostRuntime) {
-    judge::scene(&rt, failure(rt.alloc(), &MADE));
+    tell::scene(&rt, failure(rt.alloc(), &MADE));
 }
 
 #[test]
 fn pipes_are_read_written_and_closed(rt: HostRuntime) {
-    judge::scene(&rt, failure(rt.alloc(), &USED));
+    tell::scene(&rt, failure(rt.alloc(), &USED));
 }

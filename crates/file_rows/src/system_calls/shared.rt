@@ -1,13 +1,13 @@
 //! Files whose text is shared: `access` of Lions' Commentary, `fio.c`, and open(II) and creat(II).
 ghost use Rattle.std.specs.Prelude.{◌≡◌, ◌+◌, ◌≤◌, ◌==◌, ℕ, true, if◌then◌else◌, slice_index};
 
-use crate::judge;
 use crate::system_calls::calls::Call::{Chmod, Close, Creat, Link, Mknod, Open, Read, Unlink};
 use crate::system_calls::calls::Told::{Done, Fails, Gives};
 use crate::system_calls::looks::Look::{File, Inode, Kind, Refs};
 use crate::system_calls::scenes::Step::{Does, Has, User};
 use crate::system_calls::scenes::{Step, first_of};
 use crate::system_calls::world::{World, begin};
+use crate::tell;
 use fs_nodes::Nodes;
 use fs_tree::Tree;
 use std::alloc::{AllocError, Global};
@@ -188,20 +188,20 @@ fn failure_after(alloc: Global, ino: u16, steps: &[Step]) -> Result<Option<usize
 
 #[test]
 fn a_text_that_is_shared_is_not_written(rt: HostRuntime) {
-    judge::step(&rt, failure_while(rt.alloc(), 3, &SHARED));
+    tell::step(&rt, failure_while(rt.alloc(), 3, &SHARED));
 }
 
 #[test]
 fn a_text_that_was_shared_is_written(rt: HostRuntime) {
-    judge::step(&rt, failure_after(rt.alloc(), 3, &UNSHARED));
+    tell::step(&rt, failure_after(rt.alloc(), 3, &UNSHARED));
 }
 
 #[test]
 fn a_directory_that_is_marked_gets_and_loses_no_entry(rt: HostRuntime) {
-    judge::step(&rt, failure_while(rt.alloc(), 2, &MARKED));
+    tell::step(&rt, failure_while(rt.alloc(), 2, &MARKED));
 }
 
 #[test]
 fn a_directory_that_was_marked_gets_and_loses_entries(rt: HostRuntime) {
-    judge::step(&rt, failure_after(rt.alloc(), 2, &UNMARKED));
+    tell::step(&rt, failure_after(rt.alloc(), 2, &UNMARKED));
 }

@@ -1,6 +1,5 @@
 //! What is told of files, and what goes to the disk: stat(II), fstat(II), sync(II); `stat1` of Lions' Commentary, `sys3.c`, and
 //! `update`, `alloc.c`.
-use crate::judge;
 use crate::system_calls::calls::Call::{
     Creat, Dup, Fstat, Link, Mknod, Open, Seek, Stat, Sync, Unlink, Write,
 };
@@ -8,6 +7,7 @@ use crate::system_calls::calls::Told::{Done, Fails, Gives};
 use crate::system_calls::looks::Look::{Disk, Gone, Memory, Refs, Times};
 use crate::system_calls::scenes::Step::{Does, Has, Now, Text, User};
 use crate::system_calls::scenes::{Scene, failure};
+use crate::tell;
 use v6_base::Errno::{EACCES, EBADF, EFAULT, ENOENT, ENOTDIR};
 
 /// The 36 bytes of `/f`: device 0, inode 3, mode 0100644, two links, user 1, group 2, size 600; no address; and its times.
@@ -176,5 +176,5 @@ static SCENES: [Scene; 7] = [
 
 #[test]
 fn files_are_told_of(rt: HostRuntime) {
-    judge::scene(&rt, failure(rt.alloc(), &SCENES));
+    tell::scene(&rt, failure(rt.alloc(), &SCENES));
 }

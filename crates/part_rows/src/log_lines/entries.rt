@@ -1,4 +1,5 @@
 //! Each line, and its entry.
+use crate::tell;
 use log_text::{line, parse};
 use v6_base::Chan::{Keys, Read, RunIn, RunOut, Tout, Wait, Write};
 use v6_base::Entry::{
@@ -350,6 +351,6 @@ fn holds(bytes: &[u8], entry: &Entry) -> bool {
 #[test]
 fn entries_are_written_and_read(rt: HostRuntime) {
     for (i, (bytes, entry)) in LINES.iter().enumerate() {
-        assert!(rt; holds(bytes, entry), "row {i}");
+        tell::plain_row(&rt, i, holds(bytes, entry));
     }
 }

@@ -1,4 +1,5 @@
 //! Numbers outside their ranges.
+use crate::tell;
 use log_text::{line, parse};
 use v6_base::Chan::{Keys, Read, Wait, Write};
 use v6_base::Entry::{
@@ -245,6 +246,6 @@ fn holds(bytes: &[u8], entry: &Entry) -> bool {
 #[test]
 fn numbers_have_their_ranges(rt: HostRuntime) {
     for (i, (bytes, entry)) in OUTSIDE.iter().enumerate() {
-        assert!(rt; holds(bytes, entry), "row {i}");
+        tell::plain_row(&rt, i, holds(bytes, entry));
     }
 }
