@@ -57,28 +57,30 @@ static EACH_BYTES: [Piece<'static>; 10] = [
     (104, b"ghijklmnopqrstu"),
 ];
 
-/// All fields are 0.
-const ZERO: UArea = UArea {
-    r: [0; 8],
-    cc: 0,
-    uid: 0,
-    gid: 0,
-    ruid: 0,
-    rgid: 0,
-    dir: 0,
-    text_size: 0,
-    data_size: 0,
-    stack_size: 0,
-    pending: 0,
-    call: [0; 8],
-    user_time: 0,
-    system_time: 0,
-    child_user: 0,
-    child_system: 0,
-    status: 0,
-    handlers: [0; 20],
-    files: [0; 15],
-};
+/// All fields are 0. It is no constant, which the proof of each test that begins with it would spell out.
+fn zero() -> UArea {
+    UArea {
+        r: [0; 8],
+        cc: 0,
+        uid: 0,
+        gid: 0,
+        ruid: 0,
+        rgid: 0,
+        dir: 0,
+        text_size: 0,
+        data_size: 0,
+        stack_size: 0,
+        pending: 0,
+        call: [0; 8],
+        user_time: 0,
+        system_time: 0,
+        child_user: 0,
+        child_system: 0,
+        status: 0,
+        handlers: [0; 20],
+        files: [0; 15],
+    }
+}
 
 /// All fields are as great as they can be.
 const ONES: UArea = UArea {
@@ -131,7 +133,7 @@ fn stands(u: &UArea, pieces: &[Piece<'_>]) -> bool {
 #[test]
 fn fields_stand_at_their_places(rt: HostRuntime) {
     tell::plain(&rt, stands(&EACH, &EACH_BYTES));
-    tell::plain(&rt, stands(&ZERO, &[(17, b"\xf0")]));
+    tell::plain(&rt, stands(&zero(), &[(17, b"\xf0")]));
 }
 
 /// The status word is then 0170017.
@@ -150,7 +152,7 @@ fn greatest_fields_leave_the_other_bytes(rt: HostRuntime) {
 #[test]
 fn codes_stand_in_the_status_word(rt: HostRuntime) {
     for cc in 0..16 {
-        let mut u = ZERO;
+        let mut u = zero();
         u.cc = cc;
         tell::plain(&rt, stands(&u, &[(16, &[cc, 0xf0])]));
     }
@@ -169,10 +171,10 @@ static TIMES: [(u32, &[u8; 4]); 6] = [
 #[test]
 fn times_of_children_have_their_high_word_first(rt: HostRuntime) {
     for (time, bytes) in TIMES {
-        let mut user = ZERO;
+        let mut user = zero();
         user.child_user = time;
         tell::plain(&rt, stands(&user, &[(17, b"\xf0"), (52, bytes)]));
-        let mut system = ZERO;
+        let mut system = zero();
         system.child_system = time;
         tell::plain(&rt, stands(&system, &[(17, b"\xf0"), (56, bytes)]));
     }
@@ -181,7 +183,7 @@ fn times_of_children_have_their_high_word_first(rt: HostRuntime) {
 /// The first and the last handler, and the first and the last file.
 #[test]
 fn handlers_and_files_begin_and_end_at_their_places(rt: HostRuntime) {
-    let mut u = ZERO;
+    let mut u = zero();
     u.handlers[0] = 0x0102;
     u.handlers[19] = 0x0304;
     u.files[0] = 5;
