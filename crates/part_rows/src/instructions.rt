@@ -389,8 +389,8 @@ fn fault_holds(memory: &mut Whole, before: [u16; 4], outcome: Outcome, passed: u
 }
 
 fn judge_faults(rt: &impl Abort, memory: &mut Whole, rows: &[([u16; 4], Outcome, u16)]) {
-    for (k, (before, outcome, passed)) in rows.iter().enumerate() {
-        tell::plain_row(rt, k, fault_holds(memory, *before, *outcome, *passed));
+    for (k, row) in rows.iter().enumerate() {
+        tell::plain_row(rt, k, fault_holds(memory, row.0, row.1, row.2));
     }
 }
 

@@ -198,8 +198,8 @@ fn has_fault(alloc: Global, script: &[u8], fault: ScriptFault) -> bool {
 
 #[test]
 fn scripts_have_their_events(rt: HostRuntime) {
-    for (i, (script, events)) in EVENTS.iter().enumerate() {
-        tell::plain_row(&rt, i, has_events(rt.alloc(), script, events));
+    for (i, row) in EVENTS.iter().enumerate() {
+        tell::plain_row(&rt, i, has_events(rt.alloc(), row.0, row.1));
     }
 }
 
@@ -228,8 +228,8 @@ fn other_first_lines_are_bad(rt: HostRuntime) {
 
 #[test]
 fn first_fault_counts(rt: HostRuntime) {
-    for (i, (script, fault)) in FAULTS.iter().enumerate() {
-        tell::plain_row(&rt, i, has_fault(rt.alloc(), script, *fault));
+    for (i, row) in FAULTS.iter().enumerate() {
+        tell::plain_row(&rt, i, has_fault(rt.alloc(), row.0, row.1));
     }
 }
 

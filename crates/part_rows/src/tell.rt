@@ -29,6 +29,13 @@ pub fn step(rt: &impl Abort, found: Option<usize>) {
     }
 }
 
+/// The first step that does not hold, of those of a row.
+pub fn step_in_row(rt: &impl Abort, k: usize, found: Option<usize>) {
+    if let Some(step) = found {
+        panic!(rt; "row {k}: step {step}");
+    }
+}
+
 /// The first step that does not hold, of the scene of this name.
 pub fn step_of(rt: &impl Abort, name: &str, found: Option<usize>) {
     if let Some(step) = found {

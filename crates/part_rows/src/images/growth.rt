@@ -275,9 +275,8 @@ fn has_limit(alloc: Global, core: u16, most: u16) -> Result<bool, AllocError> {
 
 #[test]
 fn images_have_a_limit(rt: HostRuntime) {
-    for (core, most) in &LIMITS {
-        let holds = has_limit(rt.alloc(), *core, *most).expect(&rt, "memory");
-        assert!(rt; holds, "core {core}");
+    for (n, row) in LIMITS.iter().enumerate() {
+        tell::row(&rt, n, has_limit(rt.alloc(), row.0, row.1));
     }
 }
 

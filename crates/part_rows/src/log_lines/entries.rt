@@ -350,7 +350,7 @@ fn holds(bytes: &[u8], entry: &Entry) -> bool {
 
 #[test]
 fn entries_are_written_and_read(rt: HostRuntime) {
-    for (i, (bytes, entry)) in LINES.iter().enumerate() {
-        tell::plain_row(&rt, i, holds(bytes, entry));
+    for (i, row) in LINES.iter().enumerate() {
+        tell::plain_row(&rt, i, holds(row.0, &row.1));
     }
 }
