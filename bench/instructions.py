@@ -20,7 +20,8 @@ TOP = os.path.dirname(os.path.dirname(os.path.abspath(__file__)))
 # /etc/init on that disk: where its inode and its one block stand
 INODE, BLOCK = 1216, 66 * 512
 ROOM = 100
-# sixty ticks under `clock 1000`, and so one second
+SLOTS = 20_000
+# sixty ticks, and so one second
 CLOCK, SECOND = "clock 1000\n", 60_000
 
 # MOV #144,R0; then over and over: MOV @#60,R1; ADD R1,@#62; CMP R1,R0; BNE
@@ -59,6 +60,18 @@ ONES = [
     ("DIV #3,R2", [0o071227, 3]),
     ("ASH #3,R1", [0o072127, 3]),
     ("ASHC #3,R0", [0o073027, 3]),
+    ("MOV (R3),(R4)", [0o011314]),
+    ("MOV @#700,@#702", [0o013737, 0o700, 0o702]),
+    ("MOV PC,R1", [0o010701]),
+    ("CMP PC,R1", [0o020701]),
+    ("BIT PC,R1", [0o030701]),
+    ("BIC PC,R1", [0o040701]),
+    ("BIS PC,R1", [0o050701]),
+    ("SUB PC,R1", [0o160701]),
+    ("ADD PC,R1", [0o060701]),
+    ("TST PC", [0o005707]),
+    ("XOR PC,R1", [0o074701]),
+    ("MOV -(SP),(SP)+", [0o014626]),
 ]
 
 CLOCKED = {name for name, _ in LOOPS} | {"MOV R1,R2", "ADD R1,R2", "MOV @#700,R1", "INC @#700", "DIV #3,R2"}
@@ -96,8 +109,8 @@ def cost(program, words, slots, before=""):
         return (count(program, 2 * slots, folder, before) - count(program, slots, folder, before)) / slots
 
 
-def show(program, name, words, slots, clocked):
-    plain = cost(program, words, slots)
+def show(program, name, words, clocked):
+    plain = cost(program, words, SLOTS)
     under = f"{cost(program, words, SECOND, CLOCK):6.1f}" if clocked else " " * 6
     print(f"{plain:6.1f} {under}  {name}", flush=True)
 
@@ -106,9 +119,9 @@ def main():
     if len(sys.argv) != 2 or not os.access(sys.argv[1], os.X_OK):
         sys.exit(__doc__)
     program = os.path.abspath(sys.argv[1])
-    show(program, "MOV @#60,R1; ADD R1,@#62; CMP R1,R0; BNE", MEMORY_LOOP, 1_000_000, True)
+    show(program, "MOV @#60,R1; ADD R1,@#62; CMP R1,R0; BNE", MEMORY_LOOP, True)
     for name, words in LOOPS + [(name, repeated(words)) for name, words in ONES]:
-        show(program, name, words, 100_000, name in CLOCKED)
+        show(program, name, words, name in CLOCKED)
 
 
 if __name__ == "__main__":
