@@ -260,8 +260,8 @@ class Log(Case):
         self.assertEqual(self.audited(bare + "image 1 037 at 1\n"), (1, [
             "log: line 5 is no log line", *before, ">        5  'image 1 037 at 1'", "no line of a log: 'image 1 037 at 1'."]))
         self.assertEqual(self.audited(bare + "trap 1\n")[1][4:], [
-            ">        5  trap 1", "slot 1 has given back its image. Nothing fits then but `text`, `share`, `image` of S and `panic`, until its",
-            "`image`."])
+            ">        5  trap 1", "slot 1 has given back its image. Nothing fits then but `text`, `share`, `image` of S and `panic`,",
+            "until its `image`."])
 
     def test_audit_tells_the_rule(self):
         begins = "boot 1200 0\nsleep 0 -100 runout\n"

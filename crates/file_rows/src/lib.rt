@@ -6,3 +6,5 @@
 mod file_system;
 #[cfg(test)]
 mod system_calls;
+#[cfg(test)]
+mod tell;

@@ -1,4 +1,5 @@
 //! The blocks of a disk through the cache: docs/manual/disk-image.md, "Blocks".
+use crate::tell;
 use buf_cache::{Cache, Disk};
 use std::alloc::{AllocError, Global};
 
@@ -49,5 +50,5 @@ fn all_stand(cache: &mut Cache, places: &[(u16, u16, u8)]) -> bool {
 #[test]
 fn blocks_hold_what_was_written(rt: HostRuntime) {
     let mut cache = changed(rt.alloc()).expect(&rt, "memory");
-    assert!(rt; all_stand(&mut cache, &PLACES));
+    tell::plain(&rt, all_stand(&mut cache, &PLACES));
 }

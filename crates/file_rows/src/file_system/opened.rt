@@ -93,8 +93,7 @@ pub fn takes(nodes: &mut Nodes, ino: u16) -> bool
     if nodes.peek(ino).is_none() || nodes.refs(ino) > 9 {
         return false;
     }
-    let _ = nodes.take(ino);
-    nodes.refs(ino) > 0
+    nodes.take(ino).is_ok()
 }
 
 /// Whether there is no free block.

@@ -1,5 +1,6 @@
 //! Who may do what, by hand from docs/manual/names.md, which is access of Lions' Commentary and chmod(II).
 use crate::file_system::names_disk::{GROUP, OTHER, OWNER, SUPER, inode_at, names_disk, open_tree};
+use crate::tell;
 use Want::{Execute, Read, Write};
 use fs_tree::{User, Want};
 use std::alloc::{AllocError, Global};
@@ -90,13 +91,13 @@ fn holds(alloc: Global, group: u16, row: &Row) -> Result<bool, AllocError> {
 #[test]
 fn the_first_class_that_fits_counts(rt: HostRuntime) {
     for (k, row) in ROWS.iter().enumerate() {
-        assert!(rt; holds(rt.alloc(), 2, row).expect(&rt, "memory"), "row {k}");
+        tell::row(&rt, k, holds(rt.alloc(), 2, row));
     }
 }
 
 #[test]
 fn group_0_is_a_group_like_others(rt: HostRuntime) {
     for (k, row) in OF_GROUP_0.iter().enumerate() {
-        assert!(rt; holds(rt.alloc(), 0, row).expect(&rt, "memory"), "row {k}");
+        tell::row(&rt, k, holds(rt.alloc(), 0, row));
     }
 }

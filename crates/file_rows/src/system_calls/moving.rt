@@ -5,12 +5,12 @@ use crate::system_calls::calls::Told::{Done, Fails, Gives};
 use crate::system_calls::looks::Look::{Address, Body, Counts, File, Inode, Memory, Shown, Times};
 use crate::system_calls::scenes::Step::{Does, Has, Now, Puts, Text};
 use crate::system_calls::scenes::{Scene, failure};
-use std::process::Abort;
+use crate::tell;
 use v6_base::Errno::{EBADF, EFAULT, EFBIG, ENOSPC};
 
 const T: u32 = 0x0005_0006;
 
-const READS: [Scene; 8] = [
+static READS: [Scene; 8] = [
     Scene {
         name: "bytes are read, up to the end of the file",
         disk: &[],
@@ -176,7 +176,7 @@ const READS: [Scene; 8] = [
     },
 ];
 
-const WRITES: [Scene; 9] = [
+static WRITES: [Scene; 9] = [
     Scene {
         // The memory holds `0` at address 48 and `A` at 65.
         name: "bytes are written, and the file grows",
@@ -405,7 +405,7 @@ const WRITES: [Scene; 9] = [
     },
 ];
 
-const SEEKS: [Scene; 1] = [Scene {
+static SEEKS: [Scene; 1] = [Scene {
     name: "places",
     disk: &[],
     crowd: 0,
@@ -476,15 +476,15 @@ const SEEKS: [Scene; 1] = [Scene {
 
 #[test]
 fn bytes_are_read(rt: HostRuntime) {
-    assert_eq!(rt; failure(rt.alloc(), &READS).expect(&rt, "memory"), None);
+    tell::scene(&rt, failure(rt.alloc(), &READS));
 }
 
 #[test]
 fn bytes_are_written(rt: HostRuntime) {
-    assert_eq!(rt; failure(rt.alloc(), &WRITES).expect(&rt, "memory"), None);
+    tell::scene(&rt, failure(rt.alloc(), &WRITES));
 }
 
 #[test]
 fn places_are_sought(rt: HostRuntime) {
-    assert_eq!(rt; failure(rt.alloc(), &SEEKS).expect(&rt, "memory"), None);
+    tell::scene(&rt, failure(rt.alloc(), &SEEKS));
 }

@@ -8,10 +8,10 @@ use crate::system_calls::looks::Look::{
 };
 use crate::system_calls::scenes::Step::{Does, Fresh, Has, OnLine, User};
 use crate::system_calls::scenes::{Scene, failure};
-use std::process::Abort;
+use crate::tell;
 use v6_base::Errno::{EACCES, EEXIST, EFAULT, EISDIR, ENFILE, ENOENT, ENOTDIR, ENXIO};
 
-const SCENES: [Scene; 11] = [
+static SCENES: [Scene; 11] = [
     Scene {
         name: "modes: the lowest two bits of one more than the mode",
         disk: &[],
@@ -263,5 +263,5 @@ const SCENES: [Scene; 11] = [
 
 #[test]
 fn files_are_opened(rt: HostRuntime) {
-    assert_eq!(rt; failure(rt.alloc(), &SCENES).expect(&rt, "memory"), None);
+    tell::scene(&rt, failure(rt.alloc(), &SCENES));
 }

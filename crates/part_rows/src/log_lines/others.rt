@@ -1,4 +1,5 @@
 //! Bytes that are no line.
+use crate::tell;
 use log_text::parse;
 use std::process::Abort;
 
@@ -305,7 +306,7 @@ static FEEDS: [&[u8]; 6] = [
 /// Tells the first row of a text that is a line. A row that begins with `#` says something of those below it.
 fn judge(rt: &impl Abort, rows: &[u8]) {
     for (k, row) in rows.split(|byte| *byte == b'\n').enumerate() {
-        assert!(rt; row.starts_with(b"#") || parse(row).is_none(), "row {k}");
+        tell::plain_row(rt, k, row.starts_with(b"#") || parse(row).is_none());
     }
 }
 
@@ -327,6 +328,6 @@ fn other_numbers_are_no_line(rt: HostRuntime) {
 #[test]
 fn line_feeds_are_in_no_line(rt: HostRuntime) {
     for (k, row) in FEEDS.iter().enumerate() {
-        assert!(rt; parse(row).is_none(), "row {k}");
+        tell::plain_row(&rt, k, parse(row).is_none());
     }
 }
