@@ -2,7 +2,7 @@
 use Rattle.std.proofs.Common.{◌≡◌, ◌⊎◌, ◌∙◌, ◌+◌, ◌≤◌, ℕ, List, [], ◌∷◌, ◌++◌, length, map, fold, refl, sym, ap, subst, arith, inl, inr}
 use Rattle.std.proofs.lemmas.List.{append-nil}
 use Rattle.v6_base.specs.declared.entry.Chan.{Chan}
-use Rattle.v6_base.specs.declared.entry.Chan.TheVariants.{RunIn, RunOut, Tout, Keys, Wait, Read, Write}
+use Rattle.v6_base.specs.declared.entry.Chan.TheVariants.{RunIn, RunOut, Tout, Keys, Show, Wait, Read, Write, Disk, KeysOf, ShowOf}
 use Rattle.v6_base.specs.declared.entry.Place.{Place}
 use Rattle.v6_base.specs.declared.entry.Place.TheVariants as place
 use Rattle.v6_base.specs.declared.entry.Entry.{Entry}
@@ -30,14 +30,21 @@ block n l = omega (arith, l)
 signal : (n : ℕ) → n ≤ 19 → n ≤ 255
 signal n l = omega (arith, l)
 
+terminal : (n : ℕ) → n ≤ 7 → n ≤ 255
+terminal n l = omega (arith, l)
+
 channel : (c : Chan) → IsChannel c → HoldsChannel c
 channel RunIn h = tt
 channel RunOut h = tt
 channel Tout h = tt
 channel Keys h = tt
+channel Show h = tt
 channel (Wait s) h = slot s h
 channel (Read i) h = h.1
 channel (Write i) h = h.1
+channel (Disk s) h = slot s h
+channel (KeysOf l) h = terminal l h.1
+channel (ShowOf l) h = terminal l h.1
 
 at_place : (p : Place) → IsPlace p → HoldsPlace p
 at_place (place.Core c) h = h
