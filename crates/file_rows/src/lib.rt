@@ -6,5 +6,3 @@
 mod file_system;
 #[cfg(test)]
 mod system_calls;
-#[cfg(test)]
-mod tell;

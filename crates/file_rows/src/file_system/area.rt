@@ -4,7 +4,7 @@ ghost use Rattle.std.specs.Prelude.{◌≡◌};
 ghost use Rattle.u_area.specs.Area.{area_bytes, IsSized};
 
 use crate::file_system::fixtures::{Piece, put};
-use crate::tell;
+use std::process::Abort;
 use u_area::{UArea, fetch};
 
 /// Each field has bytes of its own.
@@ -57,30 +57,28 @@ static EACH_BYTES: [Piece<'static>; 10] = [
     (104, b"ghijklmnopqrstu"),
 ];
 
-/// All fields are 0. It is no constant, which the proof of each test that begins with it would spell out.
-fn zero() -> UArea {
-    UArea {
-        r: [0; 8],
-        cc: 0,
-        uid: 0,
-        gid: 0,
-        ruid: 0,
-        rgid: 0,
-        dir: 0,
-        text_size: 0,
-        data_size: 0,
-        stack_size: 0,
-        pending: 0,
-        call: [0; 8],
-        user_time: 0,
-        system_time: 0,
-        child_user: 0,
-        child_system: 0,
-        status: 0,
-        handlers: [0; 20],
-        files: [0; 15],
-    }
-}
+/// All fields are 0.
+const ZERO: UArea = UArea {
+    r: [0; 8],
+    cc: 0,
+    uid: 0,
+    gid: 0,
+    ruid: 0,
+    rgid: 0,
+    dir: 0,
+    text_size: 0,
+    data_size: 0,
+    stack_size: 0,
+    pending: 0,
+    call: [0; 8],
+    user_time: 0,
+    system_time: 0,
+    child_user: 0,
+    child_system: 0,
+    status: 0,
+    handlers: [0; 20],
+    files: [0; 15],
+};
 
 /// All fields are as great as they can be.
 const ONES: UArea = UArea {
@@ -132,8 +130,8 @@ fn stands(u: &UArea, pieces: &[Piece<'_>]) -> bool {
 
 #[test]
 fn fields_stand_at_their_places(rt: HostRuntime) {
-    tell::plain(&rt, stands(&EACH, &EACH_BYTES));
-    tell::plain(&rt, stands(&zero(), &[(17, b"\xf0")]));
+    assert!(rt; stands(&EACH, &EACH_BYTES));
+    assert!(rt; stands(&ZERO, &[(17, b"\xf0")]));
 }
 
 /// The status word is then 0170017.
@@ -145,16 +143,16 @@ fn greatest_fields_leave_the_other_bytes(rt: HostRuntime) {
         (32, &[0xff; 30]),
         (64, &[0xff; 55]),
     ];
-    tell::plain(&rt, stands(&ONES, &row));
+    assert!(rt; stands(&ONES, &row));
 }
 
 /// The status word is 0170000 plus N 8, Z 4, V 2 and C 1.
 #[test]
 fn codes_stand_in_the_status_word(rt: HostRuntime) {
     for cc in 0..16 {
-        let mut u = zero();
+        let mut u = ZERO;
         u.cc = cc;
-        tell::plain(&rt, stands(&u, &[(16, &[cc, 0xf0])]));
+        assert!(rt; stands(&u, &[(16, &[cc, 0xf0])]));
     }
 }
 
@@ -171,19 +169,19 @@ static TIMES: [(u32, &[u8; 4]); 6] = [
 #[test]
 fn times_of_children_have_their_high_word_first(rt: HostRuntime) {
     for (time, bytes) in TIMES {
-        let mut user = zero();
+        let mut user = ZERO;
         user.child_user = time;
-        tell::plain(&rt, stands(&user, &[(17, b"\xf0"), (52, bytes)]));
-        let mut system = zero();
+        assert!(rt; stands(&user, &[(17, b"\xf0"), (52, bytes)]));
+        let mut system = ZERO;
         system.child_system = time;
-        tell::plain(&rt, stands(&system, &[(17, b"\xf0"), (56, bytes)]));
+        assert!(rt; stands(&system, &[(17, b"\xf0"), (56, bytes)]));
     }
 }
 
 /// The first and the last handler, and the first and the last file.
 #[test]
 fn handlers_and_files_begin_and_end_at_their_places(rt: HostRuntime) {
-    let mut u = zero();
+    let mut u = ZERO;
     u.handlers[0] = 0x0102;
     u.handlers[19] = 0x0304;
     u.files[0] = 5;
@@ -195,5 +193,5 @@ fn handlers_and_files_begin_and_end_at_their_places(rt: HostRuntime) {
         (118, b"\x06"),
         (119, b"\0"),
     ];
-    tell::plain(&rt, stands(&u, &row));
+    assert!(rt; stands(&u, &row));
 }

@@ -1,5 +1,4 @@
 //! The blocks of a disk through the cache: docs/manual/disk-image.md, "Blocks".
-use crate::tell;
 use buf_cache::{Cache, Disk};
 use std::alloc::{AllocError, Global};
 
@@ -50,5 +49,5 @@ fn all_stand(cache: &mut Cache, places: &[(u16, u16, u8)]) -> bool {
 #[test]
 fn blocks_hold_what_was_written(rt: HostRuntime) {
     let mut cache = changed(rt.alloc()).expect(&rt, "memory");
-    tell::plain(&rt, all_stand(&mut cache, &PLACES));
+    assert!(rt; all_stand(&mut cache, &PLACES));
 }

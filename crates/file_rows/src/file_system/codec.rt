@@ -1,7 +1,6 @@
 //! An inode, a super-block and an entry in their bytes: docs/manual/disk-image.md, which is file system(V) and
 //! directory(V).
 use crate::file_system::fixtures::have;
-use crate::tell;
 use fs_codec::{
     DirEntry, DiskNode, SuperBlock, read_entry, read_node, read_super, write_entry, write_node,
     write_super,
@@ -101,8 +100,8 @@ fn entry_stands_in_its_bytes() -> bool {
 
 #[test]
 fn fields_stand_in_their_bytes(rt: HostRuntime) {
-    tell::plain(&rt, inode_stands_in_its_bytes());
-    tell::plain(&rt, super_block_stands_in_its_bytes());
-    tell::plain(&rt, super_block_is_written_over_other_bytes());
-    tell::plain(&rt, entry_stands_in_its_bytes());
+    assert!(rt; inode_stands_in_its_bytes());
+    assert!(rt; super_block_stands_in_its_bytes());
+    assert!(rt; super_block_is_written_over_other_bytes());
+    assert!(rt; entry_stands_in_its_bytes());
 }

@@ -1,6 +1,5 @@
 //! Faults and counts of small disks: docs/manual/disk-image.md, which is file system(V), and the order of its faults.
 use crate::file_system::fixtures::{Word, put_words};
-use crate::tell;
 use fs_check::{ImageFault, accept, tally};
 
 /// Eight blocks: inode 1 is a directory that holds block 6, and blocks 4 and 5 are free. `isize` is at 512, `fsize` at
@@ -17,9 +16,7 @@ static SMALL_DISK: [Word; 7] = [
 ];
 
 /// Words that are put at places of the small disk, and its used inodes and free blocks then, or its first fault.
-type Row = (&'static [Word], Result<(u16, u16), ImageFault>);
-
-static DISKS: [Row; 63] = [
+static DISKS: [(&[Word], Result<(u16, u16), ImageFault>); 63] = [
     // As it is.
     (&[], Ok((1, 2))),
     // The super-block: one that is just good, then one that isn't.
@@ -163,8 +160,7 @@ static DISKS: [Row; 63] = [
     ),
 ];
 
-fn gives(row: &Row) -> bool {
-    let (words, found) = *row;
+fn gives(words: &[Word], found: Result<(u16, u16), ImageFault>) -> bool {
     let mut disk = [0; 4096];
     put_words(&mut disk, &SMALL_DISK);
     put_words(&mut disk, words);
@@ -177,7 +173,7 @@ fn gives(row: &Row) -> bool {
 
 #[test]
 fn small_disks_have_their_first_fault_or_their_counts(rt: HostRuntime) {
-    for (k, row) in DISKS.iter().enumerate() {
-        tell::plain_row(&rt, k, gives(row));
+    for (k, (words, found)) in DISKS.iter().enumerate() {
+        assert!(rt; gives(words, *found), "row {k}");
     }
 }

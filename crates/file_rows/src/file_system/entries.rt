@@ -3,7 +3,6 @@
 use crate::file_system::fixtures::Word;
 use crate::file_system::names_disk::{names_disk, open_tree};
 use crate::file_system::opened::disk_has;
-use crate::tell;
 use fs_codec::is_directory;
 use fs_tree::Tree;
 use std::alloc::{AllocError, Global};
@@ -333,6 +332,6 @@ fn holds(alloc: Global, row: &Row) -> Result<bool, AllocError> {
 #[test]
 fn entries_are_written_and_removed(rt: HostRuntime) {
     for (k, row) in ROWS.iter().enumerate() {
-        tell::row(&rt, k, holds(rt.alloc(), row));
+        assert!(rt; holds(rt.alloc(), row).expect(&rt, "memory"), "row {k}");
     }
 }

@@ -3,7 +3,6 @@
 ghost use Rattle.std.specs.Prelude.{◌≡◌, true, length};
 ghost use Rattle.open_files.specs.Files.{AreOpen, HaveRoom};
 
-use crate::tell;
 use open_files::{Closed, FileKind, OpenTable};
 use v6_base::Errno;
 
@@ -259,7 +258,7 @@ fn row_holds(row: Row) -> bool {
 #[test]
 fn files_are_opened_and_closed(rt: HostRuntime) {
     for (k, row) in ROWS.iter().enumerate() {
-        tell::plain_row(&rt, k, row_holds(*row));
+        assert!(rt; row_holds(*row), "row {k}");
     }
 }
 
@@ -291,5 +290,5 @@ fn offsets_are_kept(rt: HostRuntime) {
     let put = put_offset(&mut table, 1, 4_294_967_295) && put_offset(&mut table, 0, 65536);
     let stands = file_is(&table, 0, 0, 65536, 1) && file_is(&table, 1, 65535, 4_294_967_295, 1);
     let past = table.in_use(2) || table.in_use(99) || table.in_use(100) || table.in_use(255);
-    tell::plain(&rt, opened && begins && put && stands && !past);
+    assert!(rt; opened && begins && put && stands && !past);
 }

@@ -3,7 +3,6 @@
 use crate::file_system::calls::{Call, answer};
 use crate::file_system::fixtures::{Piece, TWENTY_BLOCKS, put};
 use crate::file_system::opened::{open, stands};
-use crate::tell;
 use Call::{Links, Mode, New, Owner, Put, Read, Take, Truncate, Update, Write};
 use Step::{Does, Has};
 use fs_nodes::Nodes;
@@ -182,6 +181,6 @@ fn row_holds(alloc: Global, row: &[Step]) -> Result<bool, AllocError> {
 #[test]
 fn inodes_of_memory_come_late_to_the_disk(rt: HostRuntime) {
     for (k, row) in ROWS.iter().enumerate() {
-        tell::row(&rt, k, row_holds(rt.alloc(), row));
+        assert!(rt; row_holds(rt.alloc(), row).expect(&rt, "memory"), "row {k}");
     }
 }

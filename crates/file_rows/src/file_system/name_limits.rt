@@ -5,7 +5,6 @@ use crate::file_system::fixtures::{TWENTY_BLOCKS, put_words};
 use crate::file_system::names::Ask::{Find, Make, Remove};
 use crate::file_system::names::{Ask, Row, answers, holds, memory_with, refers};
 use crate::file_system::names_disk::{OTHER, OWNER, SUPER, inode_at, names_disk, open_tree};
-use crate::tell;
 use fs_tree::{Made, NameBytes};
 use std::alloc::{AllocError, Global};
 use v6_base::{Errno, Space, Whole};
@@ -70,7 +69,10 @@ static FULL: [(u16, Row); 20] = [
 fn a_hundred_inodes_are_referred_to(rt: HostRuntime) {
     let image = names_disk(&[]);
     for (k, (others, row)) in FULL.iter().enumerate() {
-        tell::row(&rt, k, holds(rt.alloc(), &image, *others, row));
+        assert!(rt;
+            holds(rt.alloc(), &image, *others, row).expect(&rt, "memory"),
+            "row {k}"
+        );
     }
 }
 
@@ -96,7 +98,10 @@ fn loose_holds(alloc: Global, image: &[u8], row: &(u16, Ask, bool)) -> Result<bo
 fn a_directory_without_a_link_goes(rt: HostRuntime) {
     let image = names_disk(&[]);
     for (k, row) in LOOSE.iter().enumerate() {
-        tell::row(&rt, k, loose_holds(rt.alloc(), &image, row));
+        assert!(rt;
+            loose_holds(rt.alloc(), &image, row).expect(&rt, "memory"),
+            "row {k}"
+        );
     }
 }
 
@@ -164,7 +169,10 @@ fn size_holds(alloc: Global, row: &Size) -> Result<bool, AllocError> {
 #[test]
 fn a_search_looks_at_whole_entries_of_the_size(rt: HostRuntime) {
     for (k, row) in SIZES.iter().enumerate() {
-        tell::row(&rt, k, size_holds(rt.alloc(), row));
+        assert!(rt;
+            size_holds(rt.alloc(), row).expect(&rt, "memory"),
+            "row {k}"
+        );
     }
 }
 
@@ -223,7 +231,10 @@ fn full_root_holds(alloc: Global, row: &FullRoot) -> Result<bool, AllocError> {
 #[test]
 fn a_directory_has_4095_entries_at_most(rt: HostRuntime) {
     for (k, row) in FULL_ROOTS.iter().enumerate() {
-        tell::row(&rt, k, full_root_holds(rt.alloc(), row));
+        assert!(rt;
+            full_root_holds(rt.alloc(), row).expect(&rt, "memory"),
+            "row {k}"
+        );
     }
 }
 
@@ -287,6 +298,9 @@ fn long_holds(alloc: Global, image: &[u8], row: &Long) -> Result<bool, AllocErro
 fn a_name_has_65536_bytes_at_most(rt: HostRuntime) {
     let image = names_disk(&[]);
     for (k, row) in LONG.iter().enumerate() {
-        tell::row(&rt, k, long_holds(rt.alloc(), &image, row));
+        assert!(rt;
+            long_holds(rt.alloc(), &image, row).expect(&rt, "memory"),
+            "row {k}"
+        );
     }
 }

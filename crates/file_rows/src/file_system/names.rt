@@ -4,7 +4,6 @@ ghost use Rattle.std.specs.Prelude.{◌≤◌, ℕ, slice_index};
 
 use crate::file_system::fixtures::put;
 use crate::file_system::names_disk::{GROUP, OTHER, OWNER, SUPER, names_disk, open_tree};
-use crate::tell;
 use fs_nodes::Nodes;
 use fs_tree::{Made, NameBytes, Tree, User};
 use std::alloc::{AllocError, Global};
@@ -265,7 +264,10 @@ pub fn holds(alloc: Global, image: &[u8], others: u16, row: &Row) -> Result<bool
 fn names_lead_to_inodes(rt: HostRuntime) {
     let image = names_disk(&[]);
     for (k, row) in NAMES.iter().enumerate() {
-        tell::row(&rt, k, holds(rt.alloc(), &image, 0, row));
+        assert!(rt;
+            holds(rt.alloc(), &image, 0, row).expect(&rt, "memory"),
+            "row {k}"
+        );
     }
 }
 
@@ -290,6 +292,9 @@ static NAMES_BESIDE_A_NUL: [Row; 3] = [
 fn all_bytes_of_an_entry_count(rt: HostRuntime) {
     let image = names_disk(&[(5168, 3), (5170, 0x66), (5172, 0x78)]);
     for (k, row) in NAMES_BESIDE_A_NUL.iter().enumerate() {
-        tell::row(&rt, k, holds(rt.alloc(), &image, 0, row));
+        assert!(rt;
+            holds(rt.alloc(), &image, 0, row).expect(&rt, "memory"),
+            "row {k}"
+        );
     }
 }

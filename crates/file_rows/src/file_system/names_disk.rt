@@ -179,18 +179,6 @@ fn starts(nodes: &mut Nodes, dir: u16, others: u16) -> bool
     takes_others(nodes, others)
 }
 
-/// The tree, where its directory and so many others can be referred to.
-fn tree_of(nodes: Nodes, dir: u16, others: u16) -> Option<Tree>
-    requires quiet { (i : ℕ) → slice_index nodes.references i ≡ 0 }
-    ensures few { IfSome result (λ tree. (i : ℕ) → slice_index tree.nodes.references i ≤ 65530) }
-{
-    let mut referred = nodes;
-    if !starts(&mut referred, dir, others) {
-        return None;
-    }
-    Some(Tree::new(referred))
-}
-
 /// The tree on an image, where its directory and so many others are referred to.
 pub fn open_tree(
     alloc: Global,
@@ -200,8 +188,11 @@ pub fn open_tree(
 ) -> Result<Option<Tree>, AllocError>
     ensures few { IfOk result (λ opened. IfSome opened (λ tree. (i : ℕ) → slice_index tree.nodes.references i ≤ 65530)) }
 {
-    match open(alloc, image)? {
-        Some(nodes) => Ok(tree_of(nodes, dir, others)),
-        None => Ok(None),
+    let Some(mut nodes) = open(alloc, image)? else {
+        return Ok(None);
+    };
+    if !starts(&mut nodes, dir, others) {
+        return Ok(None);
     }
+    Ok(Some(Tree::new(nodes)))
 }

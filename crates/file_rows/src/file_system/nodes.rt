@@ -4,10 +4,10 @@
 use crate::file_system::calls::{Call, answer};
 use crate::file_system::fixtures::{Piece, TWENTY_BLOCKS, put};
 use crate::file_system::opened::{open, stands, takes};
-use crate::tell;
 use Call::{Device, Empty, Links, Mode, Owner, Put, Take, Truncate, Update};
 use fs_nodes::Nodes;
 use std::alloc::{AllocError, Global};
+use std::process::Abort;
 use v6_base::Errno;
 
 /// A disk of twenty blocks with 16 inodes. Inode 1 is a directory without blocks. Inode 2 is a plain file of 1500
@@ -169,7 +169,7 @@ fn holds(alloc: Global, row: &Row) -> Result<bool, AllocError> {
 #[test]
 fn what_a_call_sets_stands_on_the_disk(rt: HostRuntime) {
     for (k, row) in CALLS.iter().enumerate() {
-        tell::row(&rt, k, holds(rt.alloc(), row));
+        assert!(rt; holds(rt.alloc(), row).expect(&rt, "memory"), "row {k}");
     }
 }
 
@@ -187,7 +187,7 @@ fn looks(alloc: Global, row: &(u16, u32, [u8; 16])) -> Result<bool, AllocError> 
 #[test]
 fn a_look_shows_sixteen_bytes(rt: HostRuntime) {
     for (k, row) in LOOKS.iter().enumerate() {
-        tell::row(&rt, k, looks(rt.alloc(), row));
+        assert!(rt; looks(rt.alloc(), row).expect(&rt, "memory"), "row {k}");
     }
 }
 
@@ -205,7 +205,10 @@ fn looks_at_block(alloc: Global, row: &(u16, u16, usize, u8)) -> Result<bool, Al
 #[test]
 fn a_look_shows_a_block(rt: HostRuntime) {
     for (k, row) in BLOCKS.iter().enumerate() {
-        tell::row(&rt, k, looks_at_block(rt.alloc(), row));
+        assert!(rt;
+            looks_at_block(rt.alloc(), row).expect(&rt, "memory"),
+            "row {k}"
+        );
     }
 }
 
@@ -231,7 +234,7 @@ fn peeks(alloc: Global, row: &(u16, bool)) -> Result<bool, AllocError> {
 #[test]
 fn used_numbers_can_be_peeked_at(rt: HostRuntime) {
     for (k, row) in USED.iter().enumerate() {
-        tell::row(&rt, k, peeks(rt.alloc(), row));
+        assert!(rt; peeks(rt.alloc(), row).expect(&rt, "memory"), "row {k}");
     }
 }
 
@@ -276,5 +279,5 @@ fn fills(alloc: Global) -> Result<bool, AllocError> {
 
 #[test]
 fn a_hundred_inodes_are_referred_to(rt: HostRuntime) {
-    tell::all(&rt, fills(rt.alloc()));
+    assert!(rt; fills(rt.alloc()).expect(&rt, "memory"));
 }

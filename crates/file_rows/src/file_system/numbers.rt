@@ -5,9 +5,9 @@
 use crate::file_system::calls::{Call, answer};
 use crate::file_system::fixtures::{TWENTY_BLOCKS, image_of, put_words};
 use crate::file_system::opened::{open, stands, takes};
-use crate::tell;
 use fs_nodes::Nodes;
 use std::alloc::{AllocError, Global};
+use std::process::Abort;
 use v6_base::Errno;
 
 /// What is asked of a file system, and what must come of it.
@@ -276,7 +276,7 @@ fn row_holds(alloc: Global, row: &Row) -> Result<bool, AllocError> {
 #[test]
 fn inodes_are_made_and_freed(rt: HostRuntime) {
     for (k, row) in ROWS.iter().enumerate() {
-        tell::row(&rt, k, row_holds(rt.alloc(), row));
+        assert!(rt; row_holds(rt.alloc(), row).expect(&rt, "memory"), "row {k}");
     }
 }
 
@@ -297,7 +297,10 @@ fn long_holds(alloc: Global, row: &(u16, &[Step])) -> Result<bool, AllocError> {
 #[test]
 fn a_list_of_a_hundred_takes_no_more(rt: HostRuntime) {
     for (k, row) in LONG.iter().enumerate() {
-        tell::row(&rt, k, long_holds(rt.alloc(), row));
+        assert!(rt;
+            long_holds(rt.alloc(), row).expect(&rt, "memory"),
+            "row {k}"
+        );
     }
 }
 
@@ -314,5 +317,5 @@ fn is_filled_whole(alloc: Global) -> Result<bool, AllocError> {
 
 #[test]
 fn a_list_is_filled_before_numbers_are_drawn(rt: HostRuntime) {
-    tell::all(&rt, is_filled_whole(rt.alloc()));
+    assert!(rt; is_filled_whole(rt.alloc()).expect(&rt, "memory"));
 }

@@ -93,7 +93,8 @@ pub fn takes(nodes: &mut Nodes, ino: u16) -> bool
     if nodes.peek(ino).is_none() || nodes.refs(ino) > 9 {
         return false;
     }
-    nodes.take(ino).is_ok()
+    let _ = nodes.take(ino);
+    nodes.refs(ino) > 0
 }
 
 /// Whether there is no free block.

@@ -2,9 +2,9 @@
 //! piece ends with its block, its block is taken before its bytes are copied, and what was done stays done.
 use crate::file_system::fixtures::{Word, image_of};
 use crate::file_system::opened::{disk_has, open, takes};
-use crate::tell;
 use fs_nodes::{Moved, Nodes};
 use std::alloc::{AllocError, Global};
+use std::process::Abort;
 use v6_base::{Errno, Space, Whole};
 
 /// Twenty blocks: inode 1 is a directory that holds block 3, and inode 2 a plain file without a block. `nfree` is at
@@ -372,6 +372,6 @@ fn holds(alloc: Global, row: &Row) -> Result<bool, AllocError> {
 #[test]
 fn files_are_read_and_written_piece_by_piece(rt: HostRuntime) {
     for (k, row) in ROWS.iter().enumerate() {
-        tell::row(&rt, k, holds(rt.alloc(), row));
+        assert!(rt; holds(rt.alloc(), row).expect(&rt, "memory"), "row {k}");
     }
 }

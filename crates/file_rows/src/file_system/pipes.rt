@@ -4,11 +4,11 @@ use self::Call::{Close, Read, Write};
 use self::Waits::{Nobody, Reader, Writer};
 use crate::file_system::fixtures::{Word, image_of};
 use crate::file_system::opened::{open, takes};
-use crate::tell;
 use fs_nodes::Nodes;
 use pipe_ends::Piped::{Broken, Done, Error, Wait};
 use pipe_ends::{Pipe, Piped, read, write};
 use std::alloc::{AllocError, Global};
+use std::process::Abort;
 use v6_base::{Errno, Space, Whole};
 
 /// Twenty blocks: inode 1 is a directory that holds block 3, and inode 2 a plain file without a block and without a name.
@@ -295,7 +295,8 @@ fn failure(alloc: Global, scene: &Scene) -> Result<Option<usize>, AllocError> {
 #[test]
 fn a_pipe_is_read_and_written(rt: HostRuntime) {
     for (k, scene) in SCENES.iter().enumerate() {
-        tell::numbered_scene(&rt, k, failure(rt.alloc(), scene));
+        let step = failure(rt.alloc(), scene).expect(&rt, "memory");
+        assert!(rt; step.is_none(), "scene {k}, step {step:?}");
     }
 }
 
@@ -329,7 +330,7 @@ fn keeps_time(alloc: Global) -> Result<bool, AllocError> {
 
 #[test]
 fn each_read_and_each_append_sets_its_times(rt: HostRuntime) {
-    tell::all(&rt, keeps_time(rt.alloc()));
+    assert!(rt; keeps_time(rt.alloc()).expect(&rt, "memory"));
 }
 
 /// Reads 700 bytes at most to the end of the memory, and tells how many there were, where they are those that come after `done`.
@@ -385,5 +386,5 @@ fn arrive(alloc: Global) -> Result<bool, AllocError> {
 
 #[test]
 fn ten_thousand_bytes_arrive_whole_and_in_order(rt: HostRuntime) {
-    tell::all(&rt, arrive(rt.alloc()));
+    assert!(rt; arrive(rt.alloc()).expect(&rt, "memory"));
 }

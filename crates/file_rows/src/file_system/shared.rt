@@ -5,7 +5,6 @@ ghost use Rattle.std.specs.Prelude.{◌≤◌, ℕ, slice_index};
 use crate::file_system::names::{Ask, Row as Search, answers as is_answered, memory_with, refers};
 use crate::file_system::names_disk::{GROUP, OTHER, OWNER, SUPER, inode_at, names_disk, open_tree};
 use crate::file_system::opened::takes;
-use crate::tell;
 use Ask::{Find, Make, Remove};
 use Want::{Execute, Read, Write};
 use fs_nodes::Nodes;
@@ -278,29 +277,32 @@ fn more_than_a_hundred(alloc: Global) -> Result<bool, AllocError> {
 #[test]
 fn a_text_that_is_shared_is_written_by_nobody(rt: HostRuntime) {
     for (k, row) in ROWS.iter().enumerate() {
-        tell::row(&rt, k, holds(rt.alloc(), row));
+        assert!(rt; holds(rt.alloc(), row).expect(&rt, "memory"), "row {k}");
     }
 }
 
 #[test]
 fn a_text_that_is_shared_keeps_its_file(rt: HostRuntime) {
-    tell::all(&rt, stays(rt.alloc()));
+    assert!(rt; stays(rt.alloc()).expect(&rt, "memory"));
 }
 
 #[test]
 fn a_directory_that_is_marked_is_not_written(rt: HostRuntime) {
     let image = names_disk(&[]);
     for (k, row) in SEARCHES.iter().enumerate() {
-        tell::row(&rt, k, search_holds(rt.alloc(), &image, row));
+        assert!(rt;
+            search_holds(rt.alloc(), &image, row).expect(&rt, "memory"),
+            "row {k}"
+        );
     }
 }
 
 #[test]
 fn marks_come_and_go(rt: HostRuntime) {
-    tell::step(&rt, first_change(rt.alloc()));
+    assert_eq!(rt; first_change(rt.alloc()).expect(&rt, "memory"), None);
 }
 
 #[test]
 fn more_than_a_hundred_inodes_are_marked(rt: HostRuntime) {
-    tell::all(&rt, more_than_a_hundred(rt.alloc()));
+    assert!(rt; more_than_a_hundred(rt.alloc()).expect(&rt, "memory"));
 }

@@ -7,7 +7,6 @@ ghost use Rattle.fs_blocks.specs.State.{disk};
 
 use crate::file_system::fixtures::{Word, image_of};
 use crate::file_system::opened::{are_free, open_file};
-use crate::tell;
 use fs_blocks::Volume;
 use fs_codec::{DiskNode, is_device, word_at};
 use std::alloc::{AllocError, Global};
@@ -413,6 +412,6 @@ fn holds(alloc: Global, row: &Row) -> Result<bool, AllocError> {
 #[test]
 fn files_take_what_they_lack(rt: HostRuntime) {
     for (k, row) in FILES.iter().enumerate() {
-        tell::row(&rt, k, holds(rt.alloc(), row));
+        assert!(rt; holds(rt.alloc(), row).expect(&rt, "memory"), "row {k}");
     }
 }

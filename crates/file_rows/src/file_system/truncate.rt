@@ -10,10 +10,10 @@ ghost use Rattle.fs_blocks.specs.State.{disk};
 
 use crate::file_system::fixtures::{Word, image_of};
 use crate::file_system::opened::{are_free, open_file};
-use crate::tell;
 use fs_blocks::Volume;
 use fs_codec::DiskNode;
 use std::alloc::{AllocError, Global};
+use std::process::Abort;
 
 /// Twenty blocks: inode 1 is a directory that holds block 3, and block 4 is free. `nfree` is at 516 and its numbers
 /// from 518 on. Inode 2 is at 1056: its mode comes first, then links and owner, owner's group and the high byte of its
@@ -155,6 +155,6 @@ fn holds(alloc: Global, row: &Row) -> Result<bool, AllocError> {
 #[test]
 fn files_give_their_blocks_back_in_order(rt: HostRuntime) {
     for (k, row) in FILES.iter().enumerate() {
-        tell::row(&rt, k, holds(rt.alloc(), row));
+        assert!(rt; holds(rt.alloc(), row).expect(&rt, "memory"), "row {k}");
     }
 }

@@ -6,10 +6,10 @@ ghost use Rattle.fs_blocks.specs.State.{disk};
 
 use crate::file_system::fixtures::{Piece, have, put, put_words};
 use crate::file_system::opened::{is_spent, open_volume};
-use crate::tell;
 use fs_blocks::Volume;
 use fs_check::{accept, tally};
 use std::alloc::{AllocError, Global};
+use std::process::Abort;
 
 /// A group of the free list: where its count stands on the disk, its first number, and so many more, which count up
 /// from one.
@@ -158,7 +158,10 @@ fn list_holds(alloc: Global, row: &List) -> Result<bool, AllocError> {
 #[test]
 fn blocks_are_taken_in_order_and_cleared(rt: HostRuntime) {
     for (k, row) in LISTS.iter().enumerate() {
-        tell::row(&rt, k, list_holds(rt.alloc(), row));
+        assert!(rt;
+            list_holds(rt.alloc(), row).expect(&rt, "memory"),
+            "row {k}"
+        );
     }
 }
 
@@ -204,7 +207,7 @@ fn blocks_come_back(alloc: Global) -> Result<bool, AllocError> {
 
 #[test]
 fn blocks_are_given_back_and_taken_again(rt: HostRuntime) {
-    tell::all(&rt, blocks_come_back(rt.alloc()));
+    assert!(rt; blocks_come_back(rt.alloc()).expect(&rt, "memory"));
 }
 
 /// Lists of free inodes in the place of 9, 8, 6, and what then stands from byte 206 of the super-block on.
@@ -247,7 +250,10 @@ fn spare_holds(alloc: Global, row: &(&[u16], Piece<'_>)) -> Result<bool, AllocEr
 #[test]
 fn list_of_free_inodes_is_written_by_a_sync(rt: HostRuntime) {
     for (k, row) in SPARES.iter().enumerate() {
-        tell::row(&rt, k, spare_holds(rt.alloc(), row));
+        assert!(rt;
+            spare_holds(rt.alloc(), row).expect(&rt, "memory"),
+            "row {k}"
+        );
     }
 }
 
@@ -279,7 +285,7 @@ fn sync_writes_nothing(alloc: Global) -> Result<bool, AllocError> {
 
 #[test]
 fn sync_without_a_change_leaves_the_super_block(rt: HostRuntime) {
-    tell::all(&rt, sync_writes_nothing(rt.alloc()));
+    assert!(rt; sync_writes_nothing(rt.alloc()).expect(&rt, "memory"));
 }
 
 /// Whether no block can be taken, once and twice, and the list has no number then.
@@ -297,5 +303,5 @@ fn zero_ends_the_list(alloc: Global) -> Result<bool, AllocError> {
 
 #[test]
 fn a_list_ends_for_good_with_a_0(rt: HostRuntime) {
-    tell::all(&rt, zero_ends_the_list(rt.alloc()));
+    assert!(rt; zero_ends_the_list(rt.alloc()).expect(&rt, "memory"));
 }

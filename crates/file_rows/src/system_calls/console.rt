@@ -4,12 +4,12 @@ use crate::system_calls::calls::Told::{Done, Fails, Gives, Waits};
 use crate::system_calls::looks::Look::{File, Memory, Pending, Shown, Times};
 use crate::system_calls::scenes::Step::{Does, GoesOn, Has, Now, Puts, Types};
 use crate::system_calls::scenes::{Scene, failure};
-use crate::tell;
+use std::process::Abort;
 use v6_base::Errno::{EBADF, EFAULT};
 
 const T: u32 = 0x0005_0006;
 
-static SCENES: [Scene; 5] = [
+const SCENES: [Scene; 5] = [
     Scene {
         name: "what is shown",
         disk: &[],
@@ -120,5 +120,5 @@ static SCENES: [Scene; 5] = [
 
 #[test]
 fn the_console_shows_and_waits(rt: HostRuntime) {
-    tell::scene(&rt, failure(rt.alloc(), &SCENES));
+    assert_eq!(rt; failure(rt.alloc(), &SCENES).expect(&rt, "memory"), None);
 }

@@ -8,13 +8,13 @@ use crate::system_calls::calls::Told::{Done, Fails, Gives, Waits};
 use crate::system_calls::looks::Look::{File, IsOpen, Memory, Modes, Shown, Terminal, Times};
 use crate::system_calls::scenes::Step::{Does, Fresh, Has, OnLine, Opens, Puts, Text, Types, User};
 use crate::system_calls::scenes::{Scene, failure};
-use crate::tell;
+use std::process::Abort;
 use v6_base::Errno::{EACCES, EBADF, EFAULT, EMFILE, ENODEV, ENOTTY};
 
 /// Of a console that has been opened: no speeds, `#` and `@`, and the flags 036.
 const FIRST: [u16; 3] = [0, 0x4023, 0o36];
 
-static SCENES: [Scene; 12] = [
+const SCENES: [Scene; 12] = [
     Scene {
         name: "the modes of a console that is opened",
         disk: &[],
@@ -355,5 +355,5 @@ static SCENES: [Scene; 12] = [
 
 #[test]
 fn modes_are_set_and_told(rt: HostRuntime) {
-    tell::scene(&rt, failure(rt.alloc(), &SCENES));
+    assert_eq!(rt; failure(rt.alloc(), &SCENES).expect(&rt, "memory"), None);
 }

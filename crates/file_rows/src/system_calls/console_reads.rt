@@ -5,7 +5,7 @@ use crate::system_calls::calls::Told::{Done, Fails, Gives, Waits};
 use crate::system_calls::looks::Look::{File, IsOpen, Memory, Pending, Shown, Times};
 use crate::system_calls::scenes::Step::{Does, GoesOn, Has, Now, Puts, Text, Types};
 use crate::system_calls::scenes::{Scene, failure};
-use crate::tell;
+use std::process::Abort;
 use v6_base::Errno::{EBADF, EFAULT};
 
 const T: u32 = 0x0005_0006;
@@ -13,7 +13,7 @@ const T: u32 = 0x0005_0006;
 /// Nothing waits.
 const NOTHING: [u16; 8] = [0; 8];
 
-static SCENES: [Scene; 13] = [
+const SCENES: [Scene; 13] = [
     Scene {
         name: "a line that was typed",
         disk: &[],
@@ -340,5 +340,5 @@ static SCENES: [Scene; 13] = [
 
 #[test]
 fn lines_are_read(rt: HostRuntime) {
-    tell::scene(&rt, failure(rt.alloc(), &SCENES));
+    assert_eq!(rt; failure(rt.alloc(), &SCENES).expect(&rt, "memory"), None);
 }

@@ -8,10 +8,10 @@ use crate::system_calls::looks::Look::{
 };
 use crate::system_calls::scenes::Step::{Does, Fresh, Has, Opens, User};
 use crate::system_calls::scenes::{Scene, failure};
-use crate::tell;
+use std::process::Abort;
 use v6_base::Errno::{EACCES, EBADF, EISDIR, EMFILE, ENFILE, ENOENT};
 
-static SCENES: [Scene; 10] = [
+const SCENES: [Scene; 10] = [
     Scene {
         name: "a number that is given once more names the same file",
         disk: &[],
@@ -308,5 +308,5 @@ static SCENES: [Scene; 10] = [
 
 #[test]
 fn numbers_name_open_files(rt: HostRuntime) {
-    tell::scene(&rt, failure(rt.alloc(), &SCENES));
+    assert_eq!(rt; failure(rt.alloc(), &SCENES).expect(&rt, "memory"), None);
 }

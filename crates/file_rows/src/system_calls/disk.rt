@@ -1,5 +1,5 @@
 //! The small disk on which every scene begins: file system(V).
-use crate::file_system::fixtures::{Piece, put, put_words};
+use crate::file_system::fixtures::{put, put_words};
 
 /// How many blocks the disk has, and how many bytes.
 pub const BLOCKS: u16 = 40;
@@ -9,7 +9,7 @@ pub const BYTES: usize = 20480;
 /// The super-block. Blocks 2 to 10 hold 144 inodes, and the file system ends before block 40. `nfree` is at 516 and its list from
 /// 518 on: first 0, then the ten free blocks 25 to 34, of which 34 is taken first. `ninode` is at 718 and its list from 720 on: 16 is
 /// drawn first, then 21. The time, high word first, is at 924.
-static SUPER: [(usize, u16); 17] = [
+const SUPER: [(usize, u16); 17] = [
     (512, 9),
     (514, 40),
     (516, 11),
@@ -34,7 +34,7 @@ type Inode = (u16, u16, [u8; 3], u16, &'static [u16]);
 
 /// Inodes 22 to 144 are plain files of user 0 with one link, and 15, 16, 20 and 21 are free: 140 are used. Inode i begins at
 /// 992 + 32 * i.
-static INODES: [Inode; 18] = [
+const INODES: [Inode; 18] = [
     (1, 0o140755, [5, 0, 0], 336, &[11]),
     // User 1's directory, which the others may read and search.
     (2, 0o140755, [2, 1, 2], 64, &[12]),
@@ -72,7 +72,7 @@ type Entry = (usize, u16, &'static [u8]);
 
 /// The root is block 11, from byte 5632 on; inode 2 is block 12, inode 4 block 15, inode 13 block 16. Inode 20 is free, and there
 /// is no inode 200.
-static ENTRIES: [Entry; 29] = [
+const ENTRIES: [Entry; 29] = [
     (5632, 1, b"."),
     (5648, 1, b".."),
     (5664, 2, b"d"),
@@ -107,7 +107,7 @@ static ENTRIES: [Entry; 29] = [
 /// Bytes of inode 3, whose blocks begin at 6656 and 7168, and which was read last at the time 0x10002 and written at 0x30004. Its
 /// first block begins with `abcdefgh` and ends with `klmn`; its second begins with `opqr`, and the file ends with its bytes 84
 /// to 87, `wxyz`, behind which stand bytes that are none of the file's. Each block of inode 14 begins with a letter of its own.
-static TEXTS: [Piece<'static>; 14] = [
+const TEXTS: [(usize, &[u8]); 14] = [
     (1112, b"\x01\0\x02\0\x03\0\x04\0"),
     (6656, b"abcdefgh"),
     (7164, b"klmn"),
@@ -149,11 +149,13 @@ pub fn image(changes: &[(usize, u16)]) -> [u8; BYTES] {
     for inode in &INODES {
         put_inode(&mut bytes, inode);
     }
-    for (at, ino, name) in &ENTRIES {
-        put_words(&mut bytes, &[(*at, *ino)]);
-        put(&mut bytes, &[(at.wrapping_add(2), *name)]);
+    for (at, ino, name) in ENTRIES {
+        put_words(&mut bytes, &[(at, ino)]);
+        put(&mut bytes, &[(at.wrapping_add(2), name)]);
     }
-    put(&mut bytes, &TEXTS);
+    for (at, text) in TEXTS {
+        put(&mut bytes, &[(at, text)]);
+    }
     put_words(&mut bytes, changes);
     bytes
 }

@@ -9,12 +9,12 @@ use crate::system_calls::looks::Look::{
 };
 use crate::system_calls::scenes::Step::{Does, Has, User};
 use crate::system_calls::scenes::{Scene, failure};
-use crate::tell;
+use std::process::Abort;
 use v6_base::Errno::{EACCES, EEXIST, EFAULT, EMLINK, ENOENT, ENOTDIR, EPERM};
 
 const T: u32 = 0x0005_0006;
 
-static SCENES: [Scene; 12] = [
+const SCENES: [Scene; 12] = [
     Scene {
         name: "another name",
         disk: &[],
@@ -308,5 +308,5 @@ static SCENES: [Scene; 12] = [
 
 #[test]
 fn names_come_and_go(rt: HostRuntime) {
-    tell::scene(&rt, failure(rt.alloc(), &SCENES));
+    assert_eq!(rt; failure(rt.alloc(), &SCENES).expect(&rt, "memory"), None);
 }

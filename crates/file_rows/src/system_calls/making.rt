@@ -7,12 +7,12 @@ use crate::system_calls::looks::Look::{
 };
 use crate::system_calls::scenes::Step::{Does, Has, Now, User};
 use crate::system_calls::scenes::{Scene, failure};
-use crate::tell;
+use std::process::Abort;
 use v6_base::Errno::{EACCES, EEXIST, EFAULT, EISDIR, ENOENT, ENOSPC, ENOTDIR, ENXIO, EPERM};
 
 const T: u32 = 0x0005_0006;
 
-static SCENES: [Scene; 11] = [
+const SCENES: [Scene; 11] = [
     Scene {
         // The file keeps its mode and its owner, and gives its two blocks back.
         name: "a file that is there",
@@ -289,5 +289,5 @@ static SCENES: [Scene; 11] = [
 
 #[test]
 fn files_are_made(rt: HostRuntime) {
-    tell::scene(&rt, failure(rt.alloc(), &SCENES));
+    assert_eq!(rt; failure(rt.alloc(), &SCENES).expect(&rt, "memory"), None);
 }

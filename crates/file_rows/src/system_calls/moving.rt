@@ -5,12 +5,12 @@ use crate::system_calls::calls::Told::{Done, Fails, Gives};
 use crate::system_calls::looks::Look::{Address, Body, Counts, File, Inode, Memory, Shown, Times};
 use crate::system_calls::scenes::Step::{Does, Has, Now, Puts, Text};
 use crate::system_calls::scenes::{Scene, failure};
-use crate::tell;
+use std::process::Abort;
 use v6_base::Errno::{EBADF, EFAULT, EFBIG, ENOSPC};
 
 const T: u32 = 0x0005_0006;
 
-static READS: [Scene; 8] = [
+const READS: [Scene; 8] = [
     Scene {
         name: "bytes are read, up to the end of the file",
         disk: &[],
@@ -176,7 +176,7 @@ static READS: [Scene; 8] = [
     },
 ];
 
-static WRITES: [Scene; 9] = [
+const WRITES: [Scene; 9] = [
     Scene {
         // The memory holds `0` at address 48 and `A` at 65.
         name: "bytes are written, and the file grows",
@@ -405,7 +405,7 @@ static WRITES: [Scene; 9] = [
     },
 ];
 
-static SEEKS: [Scene; 1] = [Scene {
+const SEEKS: [Scene; 1] = [Scene {
     name: "places",
     disk: &[],
     crowd: 0,
@@ -476,15 +476,15 @@ static SEEKS: [Scene; 1] = [Scene {
 
 #[test]
 fn bytes_are_read(rt: HostRuntime) {
-    tell::scene(&rt, failure(rt.alloc(), &READS));
+    assert_eq!(rt; failure(rt.alloc(), &READS).expect(&rt, "memory"), None);
 }
 
 #[test]
 fn bytes_are_written(rt: HostRuntime) {
-    tell::scene(&rt, failure(rt.alloc(), &WRITES));
+    assert_eq!(rt; failure(rt.alloc(), &WRITES).expect(&rt, "memory"), None);
 }
 
 #[test]
 fn places_are_sought(rt: HostRuntime) {
-    tell::scene(&rt, failure(rt.alloc(), &SEEKS));
+    assert_eq!(rt; failure(rt.alloc(), &SEEKS).expect(&rt, "memory"), None);
 }

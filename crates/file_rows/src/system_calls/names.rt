@@ -5,12 +5,12 @@ use crate::system_calls::calls::Told::{Done, Fails, Gives};
 use crate::system_calls::looks::Look::{Address, Body, Directory, File, Inode, Refs, Times};
 use crate::system_calls::scenes::Step::{Does, Has, User};
 use crate::system_calls::scenes::{Scene, failure};
-use crate::tell;
+use std::process::Abort;
 use v6_base::Errno::{EACCES, EFAULT, ENOENT, ENOTDIR, EPERM};
 
 const T: u32 = 0x0005_0006;
 
-static SCENES: [Scene; 7] = [
+const SCENES: [Scene; 7] = [
     Scene {
         name: "a directory is entered",
         disk: &[],
@@ -176,5 +176,5 @@ static SCENES: [Scene; 7] = [
 
 #[test]
 fn directories_permissions_and_owners_change(rt: HostRuntime) {
-    tell::scene(&rt, failure(rt.alloc(), &SCENES));
+    assert_eq!(rt; failure(rt.alloc(), &SCENES).expect(&rt, "memory"), None);
 }

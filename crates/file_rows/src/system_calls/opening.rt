@@ -8,10 +8,10 @@ use crate::system_calls::looks::Look::{
 };
 use crate::system_calls::scenes::Step::{Does, Fresh, Has, OnLine, User};
 use crate::system_calls::scenes::{Scene, failure};
-use crate::tell;
+use std::process::Abort;
 use v6_base::Errno::{EACCES, EEXIST, EFAULT, EISDIR, ENFILE, ENOENT, ENOTDIR, ENXIO};
 
-static SCENES: [Scene; 11] = [
+const SCENES: [Scene; 11] = [
     Scene {
         name: "modes: the lowest two bits of one more than the mode",
         disk: &[],
@@ -263,5 +263,5 @@ static SCENES: [Scene; 11] = [
 
 #[test]
 fn files_are_opened(rt: HostRuntime) {
-    tell::scene(&rt, failure(rt.alloc(), &SCENES));
+    assert_eq!(rt; failure(rt.alloc(), &SCENES).expect(&rt, "memory"), None);
 }

@@ -9,7 +9,7 @@ use crate::system_calls::looks::Look::{
 };
 use crate::system_calls::scenes::Step::{Does, Fresh, GoesOn, Has, Now, Opens, Posts, Puts, User};
 use crate::system_calls::scenes::{Scene, failure};
-use crate::tell;
+use std::process::Abort;
 use v6_base::Errno::{EBADF, EFAULT, EINTR, EMFILE, ENFILE, ENOSPC, ENOTTY, EPIPE, ESPIPE};
 use v6_base::{Chan, Entry};
 
@@ -26,7 +26,7 @@ const READERS: Entry = Entry::Wake(Chan::Read(16));
 
 const WRITERS: Entry = Entry::Wake(Chan::Write(16));
 
-static MADE: [Scene; 9] = [
+const MADE: [Scene; 9] = [
     Scene {
         name: "two ends of a plain file without a name",
         disk: &[],
@@ -274,7 +274,7 @@ static MADE: [Scene; 9] = [
     },
 ];
 
-static USED: [Scene; 9] = [
+const USED: [Scene; 9] = [
     Scene {
         name: "bytes go through a pipe",
         disk: &[],
@@ -537,10 +537,10 @@ static USED: [Scene; 9] = [
 
 #[test]
 fn pipes_are_made(rt: HostRuntime) {
-    tell::scene(&rt, failure(rt.alloc(), &MADE));
+    assert_eq!(rt; failure(rt.alloc(), &MADE).expect(&rt, "memory"), None);
 }
 
 #[test]
 fn pipes_are_read_written_and_closed(rt: HostRuntime) {
-    tell::scene(&rt, failure(rt.alloc(), &USED));
+    assert_eq!(rt; failure(rt.alloc(), &USED).expect(&rt, "memory"), None);
 }

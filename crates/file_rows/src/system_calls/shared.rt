@@ -7,15 +7,15 @@ use crate::system_calls::looks::Look::{File, Inode, Kind, Refs};
 use crate::system_calls::scenes::Step::{Does, Has, User};
 use crate::system_calls::scenes::{Step, first_of};
 use crate::system_calls::world::{World, begin};
-use crate::tell;
 use fs_nodes::Nodes;
 use fs_tree::Tree;
 use std::alloc::{AllocError, Global};
+use std::process::Abort;
 use v6_base::Errno::{EACCES, EISDIR, ENOENT, ETXTBSY};
 
 /// What happens while the text of `/f`, which is inode 3 of user 1, is shared. Two refer to it: the text, and the call that
 /// has found it.
-static SHARED: [Step; 28] = [
+const SHARED: [Step; 28] = [
     Has(Refs(3, 2)),
     // User 0 may not write it either.
     Does(Open(b"/f\0", 1), Fails(ETXTBSY)),
@@ -52,7 +52,7 @@ static SHARED: [Step; 28] = [
 ];
 
 /// And what happens when it is shared no longer, and one refers to it.
-static UNSHARED: [Step; 8] = [
+const UNSHARED: [Step; 8] = [
     Has(Refs(3, 1)),
     Does(Open(b"/f\0", 1), Gives(0)),
     User(9, 9),
@@ -65,7 +65,7 @@ static UNSHARED: [Step; 8] = [
 
 /// What happens while `/d` is marked, which is inode 2 of user 1: a directory with the entry of `/f` at byte 48, and an empty one
 /// before it.
-static MARKED: [Step; 28] = [
+const MARKED: [Step; 28] = [
     Has(Refs(2, 2)),
     // User 0 enters nothing in it, and removes nothing.
     Does(Creat(b"/d/new\0", 0o777), Fails(ETXTBSY)),
@@ -102,7 +102,7 @@ static MARKED: [Step; 28] = [
 ];
 
 /// And what happens when it is no longer, and one refers to it.
-static UNMARKED: [Step; 7] = [
+const UNMARKED: [Step; 7] = [
     Has(Refs(2, 1)),
     User(9, 9),
     Does(Creat(b"/d/new\0", 0o777), Fails(EACCES)),
@@ -188,20 +188,32 @@ fn failure_after(alloc: Global, ino: u16, steps: &[Step]) -> Result<Option<usize
 
 #[test]
 fn a_text_that_is_shared_is_not_written(rt: HostRuntime) {
-    tell::step(&rt, failure_while(rt.alloc(), 3, &SHARED));
+    assert_eq!(rt;
+        failure_while(rt.alloc(), 3, &SHARED).expect(&rt, "memory"),
+        None
+    );
 }
 
 #[test]
 fn a_text_that_was_shared_is_written(rt: HostRuntime) {
-    tell::step(&rt, failure_after(rt.alloc(), 3, &UNSHARED));
+    assert_eq!(rt;
+        failure_after(rt.alloc(), 3, &UNSHARED).expect(&rt, "memory"),
+        None
+    );
 }
 
 #[test]
 fn a_directory_that_is_marked_gets_and_loses_no_entry(rt: HostRuntime) {
-    tell::step(&rt, failure_while(rt.alloc(), 2, &MARKED));
+    assert_eq!(rt;
+        failure_while(rt.alloc(), 2, &MARKED).expect(&rt, "memory"),
+        None
+    );
 }
 
 #[test]
 fn a_directory_that_was_marked_gets_and_loses_entries(rt: HostRuntime) {
-    tell::step(&rt, failure_after(rt.alloc(), 2, &UNMARKED));
+    assert_eq!(rt;
+        failure_after(rt.alloc(), 2, &UNMARKED).expect(&rt, "memory"),
+        None
+    );
 }

@@ -7,14 +7,14 @@ use crate::system_calls::calls::Told::{Done, Fails, Gives};
 use crate::system_calls::looks::Look::{Disk, Gone, Memory, Refs, Times};
 use crate::system_calls::scenes::Step::{Does, Has, Now, Text, User};
 use crate::system_calls::scenes::{Scene, failure};
-use crate::tell;
+use std::process::Abort;
 use v6_base::Errno::{EACCES, EBADF, EFAULT, ENOENT, ENOTDIR};
 
 /// The 36 bytes of `/f`: device 0, inode 3, mode 0100644, two links, user 1, group 2, size 600; no address; and its times.
 const F: &[u8; 36] =
     b"\0\0\x03\0\xa4\x81\x02\x01\x02\0\x58\x02\0\0\0\0\0\0\0\0\0\0\0\0\0\0\0\0\x01\0\x02\0\x03\0\x04\0";
 
-static SCENES: [Scene; 7] = [
+const SCENES: [Scene; 7] = [
     Scene {
         name: "36 bytes",
         disk: &[],
@@ -176,5 +176,5 @@ static SCENES: [Scene; 7] = [
 
 #[test]
 fn files_are_told_of(rt: HostRuntime) {
-    tell::scene(&rt, failure(rt.alloc(), &SCENES));
+    assert_eq!(rt; failure(rt.alloc(), &SCENES).expect(&rt, "memory"), None);
 }
