@@ -15,8 +15,9 @@ RULES = {  # by the first word: the forms of the lines, and where they fit
     "go": ("`go S`, `idle`", CHOICE), "idle": ("`go S`, `idle`", CHOICE),
     "trap": ("`trap S`, `nice S P`", "S runs"), "nice": ("`trap S`, `nice S P`", "S runs"),
     "tick": ("`tick u`, `tick k`, `tick i`", TICKS),
-    "sleep": ("`sleep S P W`", "S runs, and P is the priority of W: 1 of a pipe, 10 of `keys`, 40 of `wait.S` with S itself, 90 of "
-              "`tout`. For slot 0: the rules of the swapper let it wait for W, at -100"),
+    "sleep": ("`sleep S P W`", "S runs, and P is the priority of W: 1 of a pipe, 10 of `keys` and `keys.L`, 20 of `show` and "
+              "`show.L`, 40 of `wait.S` with S itself, 90 of `tout`, -50 of `disk.S` with S itself. For slot 0: the rules of the "
+              "swapper let it wait for W, at -100"),
     "wake": ("`wake W`", "always"), "signal": ("`signal S X`", "slot S isn't 0 and in use"),
     "time": ("`time TIME`", "somebody other than slot 0 runs"),
     "size": ("`size S N ..`", "S runs; `keep` exactly where N is no more than the size before; else the place is that of first fit, "
