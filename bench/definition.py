@@ -2,9 +2,9 @@
 
 The definitions are read, and each becomes a function of Python: equations with patterns, records, lists, options, numbers. A
 proposition becomes a truth value: an equality is whether two values are equal, a product is `and`, a sum is `or`, and a number
-that is said to be there is looked for among the fifty slots. What the definitions use of std is written here. A definition that
-this can't read, as one with an implication, may not be asked for. `first_fault` gives the number of the first line of a log
-that the definition `Fits` refuses.
+that is said to be there is looked for among the fifty slots. What the definitions use of std is written here, and `same_chan`,
+which is a derive's. A definition that this can't read, as one with an implication, may not be asked for. `first_fault` gives the
+number of the first line of a log that the definition `Fits` refuses.
 """
 import functools
 import os
@@ -43,6 +43,7 @@ STD = {
     "slice_index_or": lambda xs, i, x: xs[i] if i < len(xs) else x, "slice_set": slice_set,
     "option_map": lambda f, o: some(f(o[1])) if o != NONE else NONE, "option_or": lambda o, p: o if o != NONE else p,
     "unwrap_or": lambda o, x: o[1] if o != NONE else x, "is_none": lambda o: o == NONE, "is_some": lambda o: o != NONE,
+    "same_chan": lambda a, b: a == b,
 }
 ARITIES = {name: f.__code__.co_argcount if hasattr(f, "__code__") else 2 for name, f in STD.items()}
 ARITIES.update(length=1, Core=1, Swap=1, Some=1)
@@ -245,7 +246,7 @@ class Definitions:
             self.arities[found[1]] = len(args)
             return
         found = re.match(r"([^\W\d]\w*)((?: [^=]*?)?) =\s(.*)", item, re.S)
-        if found and not re.match(r"(abbrev|unfoldable|pub|data|use) ", item):
+        if found and found[1] not in STD and not re.match(r"(abbrev|unfoldable|pub|data|use) ", item):
             self.equations.setdefault(found[1], []).append((found[2], found[3]))
             self.arities[found[1]] = None
 
@@ -283,7 +284,8 @@ class Definitions:
 # the lines of a log
 
 NUMBER, NATURAL = re.compile(r"0|-?[1-9][0-9]*"), re.compile(r"0|[1-9][0-9]*")
-CHANNELS = {"runin": "RunIn", "runout": "RunOut", "tout": "Tout", "keys": "Keys", "wait": "Wait", "read": "Read", "write": "Write"}
+CHANNELS = {"runin": "RunIn", "runout": "RunOut", "tout": "Tout", "keys": "Keys", "show": "Show"}
+NUMBERED = {"wait": "Wait", "read": "Read", "write": "Write", "disk": "Disk", "keys": "KeysOf", "show": "ShowOf"}
 FORMS = {
     "boot N N": "Boot", "go N": "Go", "idle": "Idle", "trap N": "Trap", "tick u": "TickUser", "tick k": "TickKernel",
     "tick i": "TickIdle", "sleep N N W": "Sleep", "sleep N -N W": "Sleep", "wake W": "Wake", "signal N N": "Signal",
@@ -300,8 +302,10 @@ def word_of(word):
     head, dot, number = word.partition(".")
     if NUMBER.fullmatch(word):
         return "-N" if word.startswith("-") else "N", int(word)
-    if head in CHANNELS and (head in ("wait", "read", "write")) == bool(dot) and (not dot or NATURAL.fullmatch(number)):
-        return "W", (CHANNELS[head], *([int(number)] if dot else []))
+    if dot and head in NUMBERED and NATURAL.fullmatch(number):
+        return "W", (NUMBERED[head], int(number))
+    if not dot and head in CHANNELS:
+        return "W", (CHANNELS[head],)
     return word, None
 
 

@@ -64,4 +64,5 @@ def main():
         print(f"{cost(program, words, before, events, number):8.1f}  {name}", flush=True)
 
 
-main()
+if __name__ == "__main__":
+    main()

@@ -101,10 +101,12 @@ def disk_with(program, room=30):
 def some_lines(rng):
     """A script for a program that does something at once: slots and ticks, and some keys."""
     lines = [b"clock %d" % rng.choice((0, 1, 5, 20, 100))] if rng.random() < 0.6 else []
+    lines += [b"disk %d" % rng.choice((1, 2, 5, 30))] if rng.random() < 0.3 else []
     for _ in range(rng.choice((1, 1, 3, 8))):
         lines.append(b"run %d" % rng.choice((10, 50, 100, 300, 600, 1000)))
         if rng.random() < 0.5:
-            keys = (b"type abc", b"byte 177", b"byte 034", b"byte 004", b"tick", b"type", b"switch 123456", b"type a\\#b@c")
+            keys = (b"type abc", b"byte 177", b"byte 034", b"byte 004", b"tick", b"type", b"switch 123456", b"disk 0",
+                    b"type a\\#b@c")
             lines.append(rng.choice(keys))
     return lines
 
@@ -169,7 +171,7 @@ def command(rng, seed):
              "1e3", "64\n")
     kind = rng.random()
     if kind < 0.3:
-        odd = ("", "run", "check", "image", "RUN", "run8", "--help", "x" * 5000, "\udcff", "audit")
+        odd = ("", "run", "check", "image", "RUN", "run8", "--help", "x" * 5000, "\udcff", "audits")
         chosen[rng.randrange(len(chosen))] = rng.choice(odd)
     elif kind < 0.5:
         del chosen[rng.randrange(len(chosen))]

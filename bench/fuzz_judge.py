@@ -14,7 +14,7 @@ import tempfile
 from file_calls import DISK_BYTES, SWAP_AT, first_difference, line_difference, node_differences
 from fuzz_hosts import FAULT, SENTINEL, Host, Stand, input_bytes, write_faults
 
-USAGE = (b"usage: v6 run IMAGE CORE SCRIPT TERM LOG FINAL, memory IMAGE CORE SCRIPT FINAL, check IMAGE, make N FINAL, demo N\n")
+USAGE = (b"usage: v6 run IMAGE CORE SCRIPT TERM LOG FINAL, memory IMAGE CORE SCRIPT FINAL, check IMAGE, make N FINAL, demo N, audit LOG\n")
 PANICS = {"swap": b"panic: out of swap space\n", "zombie": b"panic: out of swap\n", "text": b"panic: out of text\n"}
 OUTPUTS = ("term", "log", "final")
 DONE, USAGE_STATUS, READ_FAULT, WRITE_FAULT, CORE_SIZE, SCRIPT_FAULT, IMAGE_FAULT, PANIC = range(8)
@@ -25,7 +25,7 @@ REFERENCE_SECONDS = 60  # of processor time
 NOBODY = 65534
 VALGRIND = ("valgrind", "-q", "--error-exitcode=99")
 LATER_CALLS = (21, 22)  # mount and umount
-LATER_LINES = re.compile(rb"(?m)^(disk|pace|line|hangup)(?= )")  # of scripts, which the reference has and v6 hasn't
+LATER_LINES = re.compile(rb"(?m)^(pace|line|hangup)(?= )")  # of scripts, which the reference has and v6 hasn't
 
 ALL_BITS = bytes([0, 255] + [0] * 254)
 
@@ -47,7 +47,6 @@ def modules():
     from abstract_unix import disk, generate, runs, script, unix
     for number in LATER_CALLS:
         unix.CALLS.pop(number, None)
-    runs.Run.disk_sleepers = lambda run: False  # that takes a line of scripts which is left out; to ask costs time in each slot
     return disk, generate, runs, script
 
 

@@ -6,7 +6,8 @@
 It needs valgrind. For each loop below a disk is made from examples/hi/image, whose /etc/init becomes the loop. The program
 runs it for a number of slots and for twice that number under callgrind, whose counts are the same at each run; printed is
 the difference of the two counts, divided by the number. In a line of the second kind the instruction stands as often as
-fits before a branch back, so that the branch hardly counts.
+fits before a branch back, so that the branch hardly counts. The second number of a line is the cost under `clock 1000`,
+ticks and a second among it; it is counted for the loops and for the few instructions in CLOCKED.
 """
 import os
 import re
@@ -19,6 +20,9 @@ TOP = os.path.dirname(os.path.dirname(os.path.abspath(__file__)))
 # /etc/init on that disk: where its inode and its one block stand
 INODE, BLOCK = 1216, 66 * 512
 ROOM = 100
+SLOTS = 20_000
+# sixty ticks, and so one second
+CLOCK, SECOND = "clock 1000\n", 60_000
 
 # MOV #144,R0; then over and over: MOV @#60,R1; ADD R1,@#62; CMP R1,R0; BNE
 MEMORY_LOOP = [0o012700, 0o144, 0o013701, 0o60, 0o060137, 0o62, 0o020100, 0o001372]
@@ -56,7 +60,21 @@ ONES = [
     ("DIV #3,R2", [0o071227, 3]),
     ("ASH #3,R1", [0o072127, 3]),
     ("ASHC #3,R0", [0o073027, 3]),
+    ("MOV (R3),(R4)", [0o011314]),
+    ("MOV @#700,@#702", [0o013737, 0o700, 0o702]),
+    ("MOV PC,R1", [0o010701]),
+    ("CMP PC,R1", [0o020701]),
+    ("BIT PC,R1", [0o030701]),
+    ("BIC PC,R1", [0o040701]),
+    ("BIS PC,R1", [0o050701]),
+    ("SUB PC,R1", [0o160701]),
+    ("ADD PC,R1", [0o060701]),
+    ("TST PC", [0o005707]),
+    ("XOR PC,R1", [0o074701]),
+    ("MOV -(SP),(SP)+", [0o014626]),
 ]
+
+CLOCKED = {name for name, _ in LOOPS} | {"MOV R1,R2", "ADD R1,R2", "MOV @#700,R1", "INC @#700", "DIV #3,R2"}
 
 
 def repeated(words):
@@ -75,29 +93,35 @@ def disk_of(words, least=0o710):
     return image
 
 
-def count(program, slots, folder):
+def count(program, slots, folder, before=""):
     with open(f"{folder}/script", "w") as file:
-        file.write(f"run {slots}\n")
+        file.write(f"{before}run {slots}\n")
     words = ["valgrind", "--tool=callgrind", "--callgrind-out-file=/dev/null", program]
     words += ["run", "image", "100", "script", "term", "log", "final"]
     ran = subprocess.run(words, cwd=folder, stderr=subprocess.PIPE, text=True, check=True)
     return int(re.search(r"Collected : (\d+)", ran.stderr)[1])
 
 
-def cost(program, words, slots):
+def cost(program, words, slots, before=""):
     with tempfile.TemporaryDirectory() as folder:
         with open(f"{folder}/image", "wb") as file:
             file.write(disk_of(words))
-        return (count(program, 2 * slots, folder) - count(program, slots, folder)) / slots
+        return (count(program, 2 * slots, folder, before) - count(program, slots, folder, before)) / slots
+
+
+def show(program, name, words, clocked):
+    plain = cost(program, words, SLOTS)
+    under = f"{cost(program, words, SECOND, CLOCK):6.1f}" if clocked else " " * 6
+    print(f"{plain:6.1f} {under}  {name}", flush=True)
 
 
 def main():
     if len(sys.argv) != 2 or not os.access(sys.argv[1], os.X_OK):
         sys.exit(__doc__)
     program = os.path.abspath(sys.argv[1])
-    print(f"{cost(program, MEMORY_LOOP, 1_000_000):6.1f}  MOV @#60,R1; ADD R1,@#62; CMP R1,R0; BNE", flush=True)
+    show(program, "MOV @#60,R1; ADD R1,@#62; CMP R1,R0; BNE", MEMORY_LOOP, True)
     for name, words in LOOPS + [(name, repeated(words)) for name, words in ONES]:
-        print(f"{cost(program, words, 100_000):6.1f}  {name}", flush=True)
+        show(program, name, words, name in CLOCKED)
 
 
 if __name__ == "__main__":

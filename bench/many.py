@@ -43,11 +43,11 @@ LAST = [0o012700, 20, NICE]
 FORKS = [FORK, 0o000402, WAIT, 0o000774, EXIT]
 
 
-def count(program, words, slots, folder):
+def count(program, words, slots, folder, before=""):
     with open(f"{folder}/image", "wb") as file:
         file.write(disk_of(words, 2 * len(words)))
     with open(f"{folder}/script", "w", encoding="ascii") as file:
-        file.write(f"run {slots}\n")
+        file.write(f"{before}run {slots}\n")
     run = ["valgrind", "--tool=callgrind", "--callgrind-out-file=/dev/null", program, "run", f"{folder}/image", "3968",
            f"{folder}/script", f"{folder}/term", f"{folder}/log", f"{folder}/final"]
     done = subprocess.run(run, capture_output=True, text=True, check=False)
@@ -56,9 +56,10 @@ def count(program, words, slots, folder):
     return int(re.search(r"Collected : (\d+)", done.stderr)[1])
 
 
-def cost(program, words, slots, rounds):
+def cost(program, words, slots, rounds, before=""):
     with tempfile.TemporaryDirectory() as folder:
-        return (count(program, words, 2 * slots, folder) - count(program, words, slots, folder)) / rounds
+        once, twice = (count(program, words, n * slots, folder, before) for n in (1, 2))
+        return (twice - once) / rounds
 
 
 def memory_loop(before):

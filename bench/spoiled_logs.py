@@ -2,14 +2,15 @@
 """Judges which logs are lawful: those of random runs, and the same when they are spoiled.
 
     bench/spoiled_logs.py COMMAND COUNT [FIRST]
+    bench/spoiled_logs.py quick COMMAND COUNT [FIRST]
     bench/spoiled_logs.py write COMMAND COUNT [FIRST] FOLDER
 
 COMMAND is a built v6. It runs COUNT random programs of bench/processes.py, by turns those of the words `small execs`,
 `full`, `small`, `signals` and `pipes`, seeds from FIRST on (0 where it isn't given). Each log must be lawful. Then it is spoiled in six ways,
 always the same for a seed: a line is left out, comes twice or changes places with the next; a number is one more or less; a
-slot is another; a word is another line's. Two judges name the first line that is at fault: the auditor of the reference,
-and the definition in crates/pick_rules/specs as it stands, which bench/definition.py evaluates. It can't come before the
-line that was spoiled. A spoiled log may be lawful still, as where a `wake` comes twice. Of a log of more than 1,500 lines
+slot is another; a word is another line's. Three judges name the first line that is at fault: `COMMAND audit`, the auditor of the
+reference, and the definition in crates/pick_rules/specs as it stands, which bench/definition.py evaluates. It can't come before
+the line that was spoiled. `quick` leaves the definition out, which takes most of the time. A spoiled log may be lawful still, as where a `wake` comes twice. Of a log of more than 1,500 lines
 these count alone. `write` also leaves each spoiled log in a folder as N.log, and in `verdicts` a line for each: N, the way,
 the spoiled line, and the first line at fault or `lawful`.
 
@@ -20,6 +21,7 @@ import os
 import random
 import re
 import shlex
+import subprocess
 import sys
 import tempfile
 
@@ -29,15 +31,18 @@ from processes import Case, ExecCase, FullCase, PipeCase, SignalCase, in_small_c
 
 KINDS = (in_small_core(ExecCase), FullCase, in_small_core(Case), SignalCase, PipeCase)
 MOST_LINES = 1500  # of a log, of which the rest is left out
+STATUS = {"unlawful": 9, "bad": 10}
 WORDS = {
     "go": ("trap", "bare", "reap"), "trap": ("go", "bare"), "bare": ("trap", "reap"), "reap": ("trap",), "u": ("k", "i"),
     "k": ("u", "i"), "i": ("u", "k"), "at": ("swap", "keep"), "swap": ("at", "zombie", "text"), "keep": ("at 1",),
     "in": ("out",), "out": ("in",), "fork": ("size", "image"), "size": ("fork", "image"), "image": ("size", "fork"),
     "plain": ("sticky",), "sticky": ("plain",), "idle": ("end", "go 1", "tick i"), "end": ("idle", "panic swap"),
     "text": ("zombie", "swap"), "runin": ("runout", "tout"), "runout": ("runin",), "tout": ("keys", "runin"),
-    "keys": ("tout",), "share": ("in", "trap"), "zombie": ("swap",), "tick": ("wake",), "wake": ("go",), "exit": ("image",),
+    "keys": ("tout", "show"), "share": ("in", "trap"), "zombie": ("swap",), "tick": ("wake",), "wake": ("go",), "exit": ("image",),
     "drop": ("share",), "sleep": ("wake", "trap"),
 }
+# what may stand before the dot of a channel in the place of another word
+NUMBERED = {"wait": ("disk", "read"), "read": ("write", "show"), "write": ("read",), "disk": ("wait", "keys")}
 
 
 def one_of_the_lines(rng, lines, test=lambda line: True):
@@ -89,30 +94,53 @@ def other_slot(rng, lines):
     return at, lines[:at] + [changed(lines[at], 1, word)] + lines[at + 1 :]
 
 
+def others(word):
+    """The words that may stand in the place of a word."""
+    head, dot, number = word.partition(".")
+    return tuple(other + dot + number for other in NUMBERED.get(head, ())) if dot else WORDS.get(word, ())
+
+
 def other_word(rng, lines):
-    at = one_of_the_lines(rng, lines, lambda line: places(line, WORDS.__contains__))
-    place = rng.choice(places(lines[at], WORDS.__contains__))
-    word = rng.choice(WORDS[lines[at].split(" ")[place]])
+    at = one_of_the_lines(rng, lines, lambda line: places(line, others))
+    place = rng.choice(places(lines[at], others))
+    word = rng.choice(others(lines[at].split(" ")[place]))
     return at, lines[:at] + [changed(lines[at], place, word)] + lines[at + 1 :]
 
 
 WAYS = (left_out, twice, swapped, other_number, other_slot, other_word)
 
 
-class Judges:
-    """The auditor of the reference, and the definition."""
+ANSWER = re.compile(r"lawful: (\d+) lines\n|log: line (\d+) is (?:not lawful|no log line)\n")
 
-    def __init__(self):
+
+class Judges:
+    """The command's auditor, that of the reference, and, where it isn't left out, the definition."""
+
+    def __init__(self, command, quick=False):
         sys.path.insert(0, os.environ["ABSTRACT_UNIX"])
         from abstract_unix import audit
-        self.audit, self.definition = audit, Auditor()
+        self.command, self.audit, self.definition = command, audit, None if quick else Auditor()
 
     def reference(self, lines):
+        """The status of an audit, and the line at fault, where one is."""
         verdict, number = self.audit.judge("".join(line + "\n" for line in lines).encode())
-        return None if verdict == "lawful" else number
+        return (0, None) if verdict == "lawful" else (STATUS[verdict], number)
+
+    def built(self, lines):
+        """The same by the command. A lawful log must have so many lines as it tells."""
+        with tempfile.NamedTemporaryFile("w", encoding="ascii") as file:
+            file.write("".join(line + "\n" for line in lines))
+            file.flush()
+            said = subprocess.run([*self.command, "audit", file.name], capture_output=True, text=True, check=False)
+        found = ANSWER.fullmatch(said.stdout)
+        if found is None or found[1] and (said.returncode != 0 or int(found[1]) != len(lines)):
+            return said.returncode, said.stdout
+        return said.returncode, int(found[2]) if found[2] else None
 
     def boards(self, lines):
         """What the definition has seen before each line of a log, up to the one that doesn't fit."""
+        if self.definition is None:
+            return [None] * (len(lines) + 1)
         seen = [self.definition.begin()]
         for line in lines:
             after = self.definition.after(seen[-1], line)
@@ -120,6 +148,10 @@ class Judges:
                 break
             seen.append(after)
         return seen
+
+    def defined(self, lines, boards, at):
+        """The line at fault by the definition, of a log that is as it was up to a line."""
+        return self.definition.first_fault(lines[at:], boards[at], at + 1)
 
 
 def log_of(command, seed):
@@ -132,11 +164,12 @@ def log_of(command, seed):
 
 
 def spoiled(seed, lines, judges, boards):
-    """Each way in which a log is spoiled, the spoiled line, the log, and what both judges name."""
+    """Each way in which a log is spoiled, the spoiled line, the log, and what each judge says."""
     for way in WAYS:
         at, other = way(random.Random(f"spoiled {way.__name__} {seed}"), lines)
-        named = judges.definition.first_fault(other[at:], boards[at], at + 1)
-        yield way.__name__, at + 1, other, named, judges.reference(other)
+        by_reference, built = judges.reference(other), judges.built(other)
+        named = judges.defined(other, boards, at) if judges.definition else by_reference[1]
+        yield way.__name__, at + 1, other, named, by_reference, built
 
 
 class Tally:
@@ -151,16 +184,17 @@ class Tally:
 
     def log(self, seed, lines, judges):
         """A log of v6, and the same spoiled."""
-        boards, by_reference = judges.boards(lines), judges.reference(lines)
+        boards, by_reference, built = judges.boards(lines), judges.reference(lines), judges.built(lines)
         ends = lines[-1] == "end" or lines[-1].startswith("panic")
-        if len(boards) <= len(lines) or by_reference != (None if ends else len(lines) + 1):
-            self.differ(f"seed {seed}: the log isn't lawful: {by_reference}, and by the definition {len(boards)}")
+        if len(boards) <= len(lines) or not by_reference == built == ((0, None) if ends else (9, len(lines) + 1)):
+            self.differ(f"seed {seed}: the log isn't lawful: {built}, by the reference {by_reference}, by the definition {len(boards)}")
             return
         self.counts["logs, each lawful as far as it goes"] += 1
         self.counts["lines of these"] += len(lines)
-        for way, at, other, named, by_reference in spoiled(seed, lines, judges, boards):
-            if named != by_reference or named is not None and named < at:
-                self.differ(f"seed {seed}, {way} at {at}: {other[at - 1]!r}: {named}, and by the reference {by_reference}")
+        for way, at, other, named, by_reference, built in spoiled(seed, lines, judges, boards):
+            if built != by_reference or named != by_reference[1] or named is not None and named < at:
+                self.differ(f"seed {seed}, {way} at {at}: {other[at - 1]!r}: {built}, by the reference {by_reference}, "
+                            f"by the definition {named}")
             self.spoiled(way, at, other, named, ends)
 
     def spoiled(self, way, at, other, named, ends):
@@ -177,8 +211,8 @@ class Tally:
             file.write("".join(line + "\n" for line in lines))
 
 
-def judge(command, count, first, folder=None):
-    judges, tally = Judges(), Tally(folder)
+def judge(command, count, first, folder=None, quick=False):
+    judges, tally = Judges(command, quick), Tally(folder)
     for seed in range(first, first + count):
         tally.log(seed, log_of(command, seed)[:MOST_LINES], judges)
     if folder:
@@ -196,6 +230,8 @@ def main(words):
         case ["write", command, count, *first, folder] if len(first) < 2:
             os.makedirs(folder, exist_ok=True)
             return judge(shlex.split(command), int(count), int(first[0]) if first else 0, folder)
+        case ["quick", command, count, *first] if len(first) < 2:
+            return judge(shlex.split(command), int(count), int(first[0]) if first else 0, quick=True)
         case [command, count, *first] if len(first) < 2:
             return judge(shlex.split(command), int(count), int(first[0]) if first else 0)
         case _:

@@ -3,7 +3,7 @@
 _v6() {
     local word=${COMP_WORDS[COMP_CWORD]} words= rows
     case ${COMP_WORDS[0]##*/} in
-    v6) [ "$COMP_CWORD" -eq 1 ] && words='run memory check make demo' ;;
+    v6) [ "$COMP_CWORD" -eq 1 ] && words='run memory check make demo audit' ;;
     v6-disk | disk.py)
         if [ "$COMP_CWORD" -eq 1 ]; then
             words='list cat get put new grow mkdir rm mv ln chmod chown check repair'
@@ -15,10 +15,10 @@ _v6() {
         case $word in -*) words='--clock --core --disk --help --replay --script --slots --v6 --version' ;; esac ;;
     v6-log | log.py)
         if [ "$COMP_CWORD" -eq 1 ]; then
-            words='show draw diff ask'
+            words='show draw diff ask audit'
             case $word in -*) words='--help --version' ;; esac
         else
-            case $word in -*) words='--book --count --disk --from --help --output --script --to -o' ;; esac
+            case $word in -*) words='--book --count --disk --from --help --output --script --to --v6 -o' ;; esac
         fi ;;
     v6-look | look.py) case $word in -*) words='--help --log --replay --symbols --v6 --version -c' ;; esac ;;
     v6-page | page.py)

@@ -1,5 +1,5 @@
 #!/usr/bin/env python3
-"""Tells, draws and compares the logs of runs, and asks about them: see docs/tools/log.md."""
+"""Tells, draws, compares and audits the logs of runs, and asks about them: see docs/tools/log.md."""
 import signal
 
 if __name__ == "__main__":
@@ -8,7 +8,9 @@ if __name__ == "__main__":
 import argparse
 import collections
 import os
+import re
 import sys
+import textwrap
 
 sys.path.insert(0, os.path.dirname(os.path.abspath(__file__)))
 from files import guarded, put_out, read_bytes
@@ -17,15 +19,18 @@ from logpicture import Picture
 from logwords import Teller
 from processes import programs_of
 from proctable import SLOTS, LogFault, Table
-from program import add_version
+from program import V6, ProgramError, add_version, call
 from scriptfile import ScriptError, read_script, slots_of, ticks_of
 from volume import DiskError
 
 WIDEST = len("newproc (1826)")  # of the procedures that `show --book` names
-COMMON, MORE = 3, 5  # lines that are shown before the place where two logs part, and behind it
+COMMON, MORE = 3, 5  # lines that are shown before the place where two logs part, or a line at fault, and behind it
+FAULT = re.compile("log: line ([0-9]+) is (not lawful|no log line)")
+WIDTH = 100
 OTHER = "the script isn't that of this run: it has {} ticks, and the log {}"
 HELP = {"show": "tells a log in words", "draw": "makes a picture of it", "diff": "tells where two logs part",
-        "ask": "hides each choice, and tells by the rules who was right"}
+        "ask": "hides each choice, and tells by the rules who was right",
+        "audit": "asks the program whether it is lawful, and shows the first line that isn't"}
 CUT = "the log ends within a run: its last line is neither `end` nor `panic`"
 
 
@@ -190,20 +195,54 @@ def ask(options):
     return ended(story, options) if Quiz(story, sys.stdin).play(options.first, options.count) else 0
 
 
+# audit
+
+
+def audit(options):
+    data = read_bytes(options.log)
+    status, said = call(options.v6, "audit", "/dev/stdin", data=data)
+    print(said)
+    found = FAULT.fullmatch(said)
+    if found:
+        fault_told(options, data, int(found[1]), found[2] != "not lawful")
+    return int(status != 0)
+
+
+def fault_told(options, data, number, is_bad):
+    """The lines before the one at fault, that line, and the rule."""
+    from choices import Ruled
+    from logrules import bad, unlawful
+
+    programs = programs_of(read_bytes(options.disk)) if options.disk else None
+    story = Story(data, programs, (), Ruled())
+    first = max(number - COMMON, 1)
+    for line in story.lines[: first - 1]:
+        story.take(line)
+    tell(story, story.lines[first - 1 : number - 1], " ")
+    line = story.lines[number - 1] if number <= len(story.lines) else None
+    shown = "the log ends here" if line is None else repr(line[:60]) if is_bad else line
+    print(f"> {number:>8}  {shown}")
+    for rule in bad(line, number) if is_bad else unlawful(story.table, line):
+        print(textwrap.fill(rule + ".", WIDTH))
+
+
 # the command
 
 
 def options_of(words):
-    parser = argparse.ArgumentParser(prog="log.py", description="Tells, draws and compares logs: docs/tools/log.md")
+    parser = argparse.ArgumentParser(prog="log.py", description="Tells, draws, compares and audits logs: docs/tools/log.md")
     add_version(parser)
-    commands = parser.add_subparsers(dest="command", required=True, metavar="show, draw, diff, ask")
+    commands = parser.add_subparsers(dest="command", required=True, metavar="show, draw, diff, ask, audit")
     for name, help_of in HELP.items():
         command = commands.add_parser(name, help=help_of, description=f"log.py {name}: docs/tools/log.md")
         command.add_argument("log", help="the log of a run: docs/manual/log.md")
         if name == "diff":
             command.add_argument("other", help="the log of another run")
         command.add_argument("--disk", metavar="IMAGE", help="names programs by the size of their images on this disk")
-        command.add_argument("--script", metavar="FILE", help="tells by the script of the run how many slots have passed")
+        if name == "audit":
+            command.add_argument("--v6", metavar="COMMAND", default=V6, help="the program (bin/v6)")
+        else:
+            command.add_argument("--script", metavar="FILE", help="tells by the script of the run how many slots have passed")
         if name == "ask":
             command.add_argument("--from", dest="first", type=int, default=1, metavar="LINE", help="the first that is asked for")
             command.add_argument("--count", type=int, default=sys.maxsize, metavar="N", help="how many choices are asked for")
@@ -221,8 +260,8 @@ def options_of(words):
 
 def main(words):
     options = options_of(words)
-    does = {"show": show, "draw": draw, "diff": diff, "ask": ask}[options.command]
-    return guarded("log.py", lambda: does(options), LogFault, ScriptError, DiskError)
+    does = {"show": show, "draw": draw, "diff": diff, "ask": ask, "audit": audit}[options.command]
+    return guarded("log.py", lambda: does(options), LogFault, ScriptError, DiskError, ProgramError)
 
 
 if __name__ == "__main__":

@@ -21,6 +21,7 @@ from program import V6, ProgramError, add_version
 from rowfile import DATA, DISK_BYTES, HI, SWAP_AT, TEXT, Row, RowError, names
 
 FILES = ("term", "log", "final")
+ENDED = 0, 7  # of runs whose log comes to its end: done, and a panic
 
 
 # running
@@ -84,6 +85,8 @@ class Runner:
         if row.lines["check"] is not None:
             self.put("left", came["final"])
             came["check"] = self.call(["check", "left"])[1]
+        if came["log"] and came["status"] in ENDED:
+            came["audit"] = self.call(["audit", "log"])[1]
         return image, came
 
 
@@ -93,6 +96,8 @@ def differences(row, image, came):
     came = {**came, "shown": len(came["term"])}
     wanted.update({"term": row.term} if row.numbers["shown"] is None else {"shown": row.numbers["shown"]})
     log, disk = row.wanted_log(image), row.wanted_disk(image)
+    if "audit" in came:
+        wanted["audit"] = b"lawful: %d lines\n" % came["log"].count(b"\n")
     if log is not None:
         wanted["log"] = log
         came["log"] = came["log"][-len(log):] if row.is_end else came["log"]

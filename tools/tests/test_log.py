@@ -1,4 +1,4 @@
-"""log.py: what it tells of a log line by line, the picture, and where two logs part."""
+"""log.py: what it tells of a log line by line, the picture, where two logs part, and why one isn't lawful."""
 import os
 import struct
 import unittest
@@ -7,6 +7,8 @@ import xml.etree.ElementTree as tree
 from common import TOP, V6, Case, read, tool, v6
 
 import logpicture
+from logrules import BEGINS, ENDS, RULES
+from proctable import FORMS
 
 log_main, disk_main = tool("log").main, tool("disk").main
 SVG = "{http://www.w3.org/2000/svg}"
@@ -19,6 +21,7 @@ sleep 1 40 wait.1
 go 2
 drop 2 3 plain
 """
+LAWFUL = "boot 64 0\nsleep 0 -100 runout\ngo 1\nexit 1 swap 4000\nidle\n"
 TEXTS = """boot 64 0
 sleep 0 -100 runout
 go 1
@@ -235,6 +238,69 @@ class Log(Case):
                 status, _, error = self.log(command, "--script", of, name)
                 self.assertEqual((status, error), (int(wanted is not None), said))
         self.assertEqual(self.log("show", self.text("log", ticks + "end\n"))[0], 0)
+
+    def audited(self, text, *words):
+        """What `audit` says of a log, in lines, and its status."""
+        status, out, error = self.log("audit", "--v6", V6, *words, self.text("log", text))
+        self.assertEqual(error, "")
+        return status, out.splitlines()
+
+    def test_audit_of_a_lawful_log(self):
+        for end in ("end\n", "end"):
+            self.assertEqual(self.audited(LAWFUL + end), (0, ["lawful: 6 lines"]))
+
+    def test_audit_shows_the_first_line_at_fault(self):
+        bare = "boot 1200 0\nsleep 0 -100 runout\ngo 1\nbare 1\n"
+        before = ["         2  sleep 0 -100 runout       the swapper waits until somebody out of core can run, at priority -100",
+                  "         3  go 1                      process 1 runs",
+                  "         4  bare 1                    process 1 gives back its image for a new program"]
+        self.assertEqual(self.audited(bare + "image 1 37 at 2\ntrap 1\n"), (1, [
+            "log: line 5 is not lawful", *before, ">        5  image 1 37 at 2",
+            "`image S N ..`: S runs and has no place; the place is that of first fit, for N clicks.", "First fit for 37 clicks is `at 1`."]))
+        self.assertEqual(self.audited(bare + "image 1 037 at 1\n"), (1, [
+            "log: line 5 is no log line", *before, ">        5  'image 1 037 at 1'", "no line of a log: 'image 1 037 at 1'."]))
+        self.assertEqual(self.audited(bare + "trap 1\n")[1][4:], [
+            ">        5  trap 1", "slot 1 has given back its image. Nothing fits then but `text`, `share`, `image` of S and `panic`,",
+            "until its `image`."])
+
+    def test_audit_tells_the_rule(self):
+        begins = "boot 1200 0\nsleep 0 -100 runout\n"
+        choice = ["the least priority of those that can run is 0, that of slot 1."]
+        for text, wanted in (("go 1\n", ["the first line is `boot`, with 64 to 3968 clicks."]),
+                             ("boot 63 0\n", ["the first line is `boot`, with 64 to 3968 clicks."]),
+                             ("boot 64 0\ngo 1\n", ["the second is `sleep 0 -100 runout`."]),
+                             (begins + "boot 1200 0\n", ["the first line is `boot`, with 64 to 3968 clicks."]),
+                             (begins + "go 1\n", ["the last is `end` or a `panic`, and none before it is."]),
+                             ("", ["the last is `end` or a `panic`, and none before it is."]),
+                             (LAWFUL + "end\nend\n", ["the last is `end` or a `panic`, and none before it is."]),
+                             (begins + "go 1\nfork 1 2 at 1\n", ["First fit for 17 clicks is `at 18`."]),
+                             (begins + "go 1\nsize 1 80 at 2\n", ["First fit for 80 clicks is `at 18`."]),
+                             (begins + "go 1\nbare 1\ntext 1 0 9 swap 4001\n", ["First fit for 2 blocks is `swap 4000`."]),
+                             (begins + "go 1\nexit 1 swap 4001\n", ["First fit for 1 block is `swap 4000`."]),
+                             (begins + "go 0\n", ["The rules would make it `go 1`: " + choice[0]])):
+            status, said = self.audited(text)
+            self.assertEqual((status, said[-len(wanted):]), (1, wanted), text)
+
+    def test_audit_of_numbers_that_no_line_has(self):
+        self.assertEqual(self.audited("boot 64 0\nsleep 0 -100 runout\nwake read.0\n")[1][-1], "a number is out of its range.")
+        self.assertEqual(self.audited("boot 64 0\nsleep 0 -100 runout\ngo 50\n")[1][-1], "S is out of its range: go 50.")
+
+    def test_audit_without_the_program(self):
+        name = self.text("log", LAWFUL + "end\n")
+        status, out, error = self.log("audit", "--v6", self.path("none"), name)
+        self.assertEqual((status, out), (1, ""))
+        self.assertIn("the program v6 is wanted", error)
+        self.assertEqual(self.log("audit", "--v6", V6, self.path("none"))[0], 1)
+
+    def test_rules_are_those_of_the_page(self):
+        """Each rule stands in the page's table, with the same forms, and no row of that is left out."""
+        text = read(os.path.join(TOP, "docs", "manual", "log.md")).decode()
+        part = text.split("## Which logs are lawful")[1].split("\n## ")[0]
+        rows = [tuple(cell.strip() for cell in line.split("|")[1:3]) for line in part.splitlines() if line.startswith("| `")]
+        self.assertEqual(sorted(rows), sorted(set(RULES.values())))
+        self.assertEqual(sorted(RULES), sorted(FORMS.keys() - {"boot"}))
+        for rule in (*BEGINS, ENDS):
+            self.assertIn(rule, " ".join(part.split()).replace("The first line", "the first line"))
 
     def test_draw(self):
         name, out = self.text("log", TEXTS), self.path("out.svg")

@@ -1,5 +1,5 @@
 -- Who waits for the disk after a turn waited for it before, or the turn's own call has read the disk.
-use Rattle.std.proofs.Common.{◌≡◌, ◌≢◌, ◌∙◌, ◌⊎◌, ◌<◌, ◌+◌, ◌*◌, ◌/◌, ◌%◌, ◌==◌, ◌&&◌, not, ℕ, Bool, true, false, cond, nat_lt, List, length, get_or, set, Option, Some, None, option_map, unwrap_or, slice_index, refl, sym, ap, subst, inl, inr, arith}
+use Rattle.std.proofs.Common.{◌≡◌, ◌∙◌, ◌⊎◌, ◌<◌, ◌+◌, ◌*◌, ◌/◌, ◌%◌, ◌==◌, ◌&&◌, not, ℕ, Bool, true, false, cond, nat_lt, List, length, get_or, set, Option, Some, None, option_map, unwrap_or, slice_index, refl, sym, ap, subst, inl, inr, arith}
 use Rattle.std.proofs.lemmas.Bool.{cases_eq}
 use Rattle.std.proofs.lemmas.List.{get_or-set_same, get_or-set_other, length-set}
 use Rattle.v6_base.specs.declared.answer.Answer.{Answer}

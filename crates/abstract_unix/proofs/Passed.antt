@@ -1,5 +1,5 @@
 -- How many slots have been taken: each slot counts once, and nothing else does.
-use Rattle.std.proofs.Common.{◌≡◌, ◌∙◌, ◌+◌, ◌<◌, ℕ, zero, suc, Bool, true, false, cond, List, [], ◌∷◌, ◌++◌, map, Option, Some, None, refl, sym, ap}
+use Rattle.std.proofs.Common.{◌≡◌, ◌∙◌, ◌+◌, ℕ, zero, suc, Bool, true, false, cond, List, [], ◌∷◌, ◌++◌, map, Option, Some, None, refl, sym, ap}
 use Rattle.pick_rules.specs.Effects.{Effect, Show}
 use Rattle.pick_rules.specs.Logged.{Stop, logged, left_by}
 use Rattle.swap_sched.specs.Pass.{pass, over}

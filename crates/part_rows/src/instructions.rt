@@ -1,6 +1,7 @@
 //! Rows for each instruction and each addressing mode (PDP-11/40 Processor Handbook, chapters 3 and 4), and for faults.
 //! What a row must come to was worked by hand from its left side and the table of instructions, which
 //! docs/manual/instructions.md gives.
+use crate::tell;
 use pdp_step::Kind::{Bpt, Emt, Illegal, Iot, Odd, Segment};
 use pdp_step::Outcome::{Call, Fault};
 use pdp_step::{Outcome, Regs, step};
@@ -27,7 +28,7 @@ fn numbers(row: &str) -> ([u16; 24], usize) {
 
 // In octal: the word at 0 and the one after it; R0, R1, R5, SP, the word at 40 and the codes before; R0, R1, R5, SP,
 // the word at 40, PC and the codes after.
-const ROWS: &str = "\
+static ROWS: &str = "\
 010001 0      | 100000 0      0      177600 0      3  | 100000 100000 0      177600 0      2      11 ; MOV negative, C stays
 010001 0      | 0      5      0      177600 0      12 | 0      0      0      177600 0      2      4  ; MOV zero
 110001 0      | 1377   123456 0      177600 0      0  | 1377   177777 0      177600 0      2      10 ; MOVB extends the sign
@@ -211,7 +212,7 @@ const ROWS: &str = "\
 // After the examples of the addressing modes (handbook, chapter 3) and of the instructions (chapter 4), written down
 // from memory, and two rows more in their form. In octal: the words at 1020; R0 to R5; two words of memory, each after
 // its address; the codes; then R0 to R5, the two words, PC and the codes after.
-const EXAMPLES: &str = "\
+static EXAMPLES: &str = "\
 060204 0    0  | 0     0     2      0     4     0     | 2000   0      2002  0      | 17 | 0      0     2      0     6     0     | 0      0      | 1022 0  ; ADD R2,R4
 105104 0    0  | 0     0     0      0     22222 0     | 2000   0      2002  0      | 0  | 0      0     0      0     22155 0     | 0      0      | 1022 1  ; COMB R4
 005025 0    0  | 0     0     0      0     0     30000 | 30000  111116 2002  0      | 13 | 0      0     0      0     0     30002 | 0      0      | 1022 4  ; CLR (R5)+
@@ -388,8 +389,8 @@ fn fault_holds(memory: &mut Whole, before: [u16; 4], outcome: Outcome, passed: u
 }
 
 fn judge_faults(rt: &impl Abort, memory: &mut Whole, rows: &[([u16; 4], Outcome, u16)]) {
-    for (k, (before, outcome, passed)) in rows.iter().enumerate() {
-        assert!(rt; fault_holds(memory, *before, *outcome, *passed), "row {k}");
+    for (k, row) in rows.iter().enumerate() {
+        tell::plain_row(rt, k, fault_holds(memory, row.0, row.1, row.2));
     }
 }
 
@@ -412,7 +413,7 @@ fn text_stays(memory: &mut Whole) -> bool {
 fn a_text_is_not_written(rt: HostRuntime) {
     let mut memory = Whole::new(rt.alloc()).expect(&rt, "memory");
     memory.set_sizes(1, 1, 20);
-    assert!(rt; text_stays(&mut memory));
+    tell::plain(&rt, text_stays(&mut memory));
 }
 
 // PC behind the data, and at an odd address.
@@ -426,5 +427,5 @@ fn leaves(memory: &mut Whole) -> bool {
 fn a_program_that_leaves_its_memory_stops(rt: HostRuntime) {
     let mut memory = Whole::new(rt.alloc()).expect(&rt, "memory");
     memory.set_sizes(0, 1, 0);
-    assert!(rt; leaves(&mut memory));
+    tell::plain(&rt, leaves(&mut memory));
 }

@@ -30,6 +30,8 @@ mod signals;
 #[cfg(test)]
 mod tables;
 #[cfg(test)]
+mod tell;
+#[cfg(test)]
 mod words;
 
 pub use kind::Kind;

@@ -1,5 +1,6 @@
 //! Addresses by hand, from segments of 8,192 bytes and clicks of 64 (PDP-11/40 Processor Handbook, chapter 6; Lions'
 //! Commentary, `estabur`); the errors of calls by INTRO(II).
+use crate::tell;
 use std::process::Abort;
 use v6_base::{Errno, Fixed, Space, Trap, Whole};
 
@@ -39,7 +40,7 @@ fn holds<S: Space>(memory: &mut S, access: Access) -> bool {
 // The accesses come one after the other, so a load tells of the stores before it.
 fn judge<S: Space>(rt: &impl Abort, memory: &mut S, accesses: &[Access]) {
     for (k, access) in accesses.iter().enumerate() {
-        assert!(rt; holds(memory, *access), "access {k}");
+        tell::plain_row(rt, k, holds(memory, *access));
     }
 }
 
@@ -218,8 +219,8 @@ static ERRORS: [(Errno, u16); 32] = [
 ];
 
 fn judge_errors(rt: &impl Abort, rows: &[(Errno, u16)]) {
-    for (error, number) in rows {
-        assert!(rt; *error as u16 == *number, "{number}");
+    for (k, row) in rows.iter().enumerate() {
+        tell::plain_row(rt, k, row.0 as u16 == row.1);
     }
 }
 

@@ -5,6 +5,7 @@ use self::Step::{Adopts, At, Clears, ClearsAll, Ends, Fills, Forks, Has, Is, Pas
 mod scenes;
 
 use self::scenes::{ADOPTIONS, CHILDREN, PIDS, SLOTS};
+use crate::tell;
 use proc_tab::{Child, Row, Rows};
 use std::process::Abort;
 use v6_base::{Pid, Slot};
@@ -159,17 +160,13 @@ fn first_step(steps: &[Step]) -> Option<usize> {
 
 /// Tells the first step that fails.
 fn judge_steps(rt: &impl Abort, steps: &[Step]) {
-    if let Some(step) = first_step(steps) {
-        panic!(rt; "step {step}");
-    }
+    tell::step(rt, first_step(steps));
 }
 
 /// Tells the first scene that fails: its name and its step.
 fn judge(rt: &impl Abort, scenes: &[Scene]) {
     for scene in scenes {
-        if let Some(step) = first_step(scene.steps) {
-            panic!(rt; "{}: step {step}", scene.name);
-        }
+        tell::step_of(rt, scene.name, first_step(scene.steps));
     }
 }
 
@@ -257,5 +254,5 @@ fn child_has_it(rows: &mut Rows) -> bool {
 
 #[test]
 fn a_child_has_what_its_parent_has(rt: HostRuntime) {
-    assert!(rt; child_has_it(&mut Rows::new()));
+    tell::plain(&rt, child_has_it(&mut Rows::new()));
 }

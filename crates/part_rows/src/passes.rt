@@ -7,12 +7,12 @@ ghost use Rattle.pick_rules.specs.Table.{is_empty};
 ghost use Rattle.swap_sched.specs.Match.{Matches};
 ghost use Rattle.part_rows.specs.Alive.{lives};
 
+use crate::tell;
 use image_keep::Images;
 use pick_rules::Stat::{Ready, Sleeping, Waiting};
 use pick_rules::{Stat, Table, TableRow};
 use seg_regs::Proto;
 use std::alloc::{AllocError, Global};
-use std::process::Abort;
 use swap_sched::pass;
 use v6_base::{Chan, Entry, PanicKind, Slot, Tape};
 
@@ -268,6 +268,7 @@ fn holds(alloc: Global, row: (u16, Slots, &[Line])) -> Option<bool> {
 #[test]
 fn passes_are_by_time(rt: HostRuntime) {
     for (n, row) in PASSES.iter().enumerate() {
-        assert!(rt; holds(rt.alloc(), *row) == Some(true), "row {n}");
+        let found = holds(rt.alloc(), *row);
+        tell::plain_row(&rt, n, found == Some(true));
     }
 }

@@ -1,10 +1,10 @@
 //! What scripts ask for, and which lines are none: docs/manual/scripts.md, line by line.
+use crate::tell;
 use script_text::Event::{Byte, Clock, Disk, Run, Switch, Tick};
 use script_text::ScriptFault::{BadLine, TooLong, TooManySlots};
 use script_text::{Event, ScriptFault, read};
 use std::alloc::{AllocError, Global};
 use std::process::Abort;
-use std::test::Fail;
 
 /// A script and its events.
 static EVENTS: [(&[u8], &[Event]); 41] = [
@@ -210,8 +210,8 @@ fn has_fault(alloc: Global, script: &[u8], fault: ScriptFault) -> bool {
 
 #[test]
 fn scripts_have_their_events(rt: HostRuntime) {
-    for (i, (script, events)) in EVENTS.iter().enumerate() {
-        assert!(rt; has_events(rt.alloc(), script, events), "row {i}");
+    for (i, row) in EVENTS.iter().enumerate() {
+        tell::plain_row(&rt, i, has_events(rt.alloc(), row.0, row.1));
     }
 }
 
@@ -222,7 +222,7 @@ fn is_bad(alloc: Global, row: &[u8]) -> bool {
 /// Tells the first row of a text that is a good script. A row that begins with `#` says something of those below it.
 fn judge_lines(rt: &impl Abort, alloc: Global, rows: &[u8]) {
     for (k, row) in rows.split(|byte| *byte == b'\n').enumerate() {
-        assert!(rt; is_bad(alloc, row), "row {k}");
+        tell::plain_row(rt, k, is_bad(alloc, row));
     }
 }
 
@@ -234,14 +234,14 @@ fn other_lines_are_bad(rt: HostRuntime) {
 #[test]
 fn other_first_lines_are_bad(rt: HostRuntime) {
     for (i, script) in BAD_FIRST_LINES.iter().enumerate() {
-        assert!(rt; has_fault(rt.alloc(), script, BadLine(1)), "row {i}");
+        tell::plain_row(&rt, i, has_fault(rt.alloc(), script, BadLine(1)));
     }
 }
 
 #[test]
 fn first_fault_counts(rt: HostRuntime) {
-    for (i, (script, fault)) in FAULTS.iter().enumerate() {
-        assert!(rt; has_fault(rt.alloc(), script, *fault), "row {i}");
+    for (i, row) in FAULTS.iter().enumerate() {
+        tell::plain_row(&rt, i, has_fault(rt.alloc(), row.0, row.1));
     }
 }
 
@@ -314,9 +314,8 @@ fn ends(alloc: Global, row: &Long) -> Result<bool, AllocError> {
 }
 
 #[test]
-fn lines_and_scripts_have_their_limits(rt: HostRuntime) -> Result<(), Fail> {
+fn lines_and_scripts_have_their_limits(rt: HostRuntime) {
     for (i, row) in LONG.iter().enumerate() {
-        assert!(rt; ends(rt.alloc(), row)?, "row {i}");
+        tell::row(&rt, i, ends(rt.alloc(), row));
     }
-    Ok(())
 }

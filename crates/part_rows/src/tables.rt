@@ -7,6 +7,7 @@ mod choice;
 mod clock;
 mod sleepers;
 
+use crate::tell;
 use pick_rules::{Mode, Second, Stat, Table, TableRow};
 use std::process::Abort;
 use v6_base::{Chan, Place, Slot};
@@ -202,7 +203,7 @@ fn leaves(
 fn judge(rt: &impl Abort, rows: &[Row]) {
     for (n, row) in rows.iter().enumerate() {
         let holds = leaves(row.numbers, row.slots, row.step, row.then, row.becomes);
-        assert!(rt; holds, "row {n}");
+        tell::plain_row(rt, n, holds);
     }
 }
 
@@ -222,5 +223,5 @@ fn a_table_begins_with_two_processes(rt: HostRuntime) {
         ..EMPTY
     };
     rows[1] = TableRow { pri: 0, ..READY };
-    assert!(rt; has(table, begun) && are_same(&table.rows, &rows));
+    tell::plain(&rt, has(table, begun) && are_same(&table.rows, &rows));
 }

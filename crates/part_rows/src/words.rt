@@ -1,6 +1,7 @@
 //! All 65,536 words against the octal ranges of the table of instructions, some words with all that is read from them, and
 //! which handler some have (PDP-11/40 Processor Handbook, chapters 3 and 4 and appendix B; the ranges stand in
 //! docs/manual/instructions.md).
+use crate::tell;
 use pdp_decode::{Dispatch, Handler, decode};
 use std::alloc::Global;
 use std::process::Abort;
@@ -116,14 +117,11 @@ fn holds(alloc: Global, word: u16, text: &str) -> bool {
 // Each range holds a word at least, and the last ends with the last word.
 fn judge(rt: &impl Abort, alloc: Global, ranges: &[(u16, &str)]) {
     let mut first: u16 = 0;
-    for (last, name) in ranges {
-        assert!(rt;
-            range_holds(alloc, first, *last, name),
-            "a word up to {last} is no {name}"
-        );
-        first = last.wrapping_add(1);
+    for (k, row) in ranges.iter().enumerate() {
+        tell::plain_row(rt, k, range_holds(alloc, first, row.0, row.1));
+        first = row.0.wrapping_add(1);
     }
-    assert!(rt; first == 0);
+    tell::plain(rt, first == 0);
 }
 
 fn range_holds(alloc: Global, first: u16, last: u16, text: &str) -> bool {
@@ -161,8 +159,8 @@ static WORDS: [(u16, &str); 7] = [
 ];
 
 fn judge_words(rt: &impl Abort, alloc: Global, rows: &[(u16, &str)]) {
-    for (word, text) in rows {
-        assert!(rt; holds(alloc, *word, text), "{word} is no {text}");
+    for (k, row) in rows.iter().enumerate() {
+        tell::plain_row(rt, k, holds(alloc, row.0, row.1));
     }
 }
 
@@ -212,11 +210,8 @@ fn handler_holds(dispatch: &Dispatch, word: u16, handler: Handler) -> bool {
 }
 
 fn judge_handlers(rt: &impl Abort, dispatch: &Dispatch, rows: &[(u16, Handler)]) {
-    for (word, handler) in rows {
-        assert!(rt;
-            handler_holds(dispatch, *word, *handler),
-            "{word} has no {handler:?}"
-        );
+    for (k, row) in rows.iter().enumerate() {
+        tell::plain_row(rt, k, handler_holds(dispatch, row.0, row.1));
     }
 }
 

@@ -1,5 +1,5 @@
 -- Whether a read is one of the disk, by what the kernel keeps of the process that runs.
-use Rattle.std.proofs.Common.{◌≡◌, ◌∙◌, ◌<◌, ◌+◌, ◌==◌, ◌&&◌, not, cond, ℕ, Bool, false, length, Some, Ok, Err, IsSome, slice_index, refl, sym, ap, subst, arith}
+use Rattle.std.proofs.Common.{◌≡◌, ◌∙◌, ◌<◌, ◌+◌, ◌&&◌, not, cond, ℕ, Bool, false, length, Some, Ok, Err, IsSome, slice_index, refl, sym, ap, subst, arith}
 use Rattle.std.specs.Option.{unwrap_or}
 use Rattle.std.proofs.lemmas.Bool.{eq-eqb, ne_eqb}
 use Rattle.u_area.specs.declared.area.UArea.{UArea}

@@ -1,5 +1,5 @@
 -- A turn ends: what belongs together still does, whether the process goes on, sleeps or has exited.
-use Rattle.std.proofs.Common.{◌≡◌, ◌≢◌, ◌<◌, ◌==◌, ◌++◌, cond, ℕ, Bool, true, false, ℤ, int_lt, pos, [], map, Some, refl, sym, ap, ◌∙◌, subst, arith}
+use Rattle.std.proofs.Common.{◌≡◌, ◌≢◌, ◌<◌, ◌==◌, cond, ℕ, Bool, true, false, ℤ, int_lt, pos, [], map, Some, refl, sym, ap, ◌∙◌, subst, arith}
 use Rattle.std.proofs.lemmas.List.{get_or-set_same, get_or-set_other, length-set}
 use Rattle.v6_base.specs.Trace.{Took, Taken}
 use Rattle.v6_base.specs.declared.entry.Chan.{Chan}
@@ -23,7 +23,6 @@ use Rattle.unix_core.specs.declared.machine.Stage.{Stage}
 use Rattle.unix_core.specs.declared.machine.Stage.TheVariants as stage
 use Rattle.abstract_unix.specs.declared.ending.Ending.{Ending}
 use Rattle.abstract_unix.specs.declared.ending.Ending.TheVariants as ending
-use Rattle.abstract_unix.specs.declared.ends.Ends.TheVariants as ends
 use Rattle.abstract_unix.specs.declared.ends.Ends.TheVariants.{AtEnd}
 use Rattle.abstract_unix.specs.Unix.{Unix, Started}
 use Rattle.unix_core.specs.Passing.{trapped, ended_table}

@@ -10,7 +10,7 @@ use Rattle.v6_base.specs.declared.entry.Entry.TheVariants as line
 use Rattle.pick_rules.specs.Table.{row_at}
 use Rattle.pick_rules.specs.Board.{Board, blocks, placed, swap_fit, free_text}
 use Rattle.pick_rules.specs.Effects.{Effect, Show, Size, Fork, Text, Image, Exit, Came, Lets, Stops, at_fit, image_at, new_text_at, came, lifted}
-use Rattle.pick_rules.specs.Logged.{Logged, Stop, logged, log_one, left_by, board_after, with_what_came, unless_stopped}
+use Rattle.pick_rules.specs.Logged.{Logged, Stop, logged, log_one, board_after, with_what_came, unless_stopped}
 use Rattle.pick_rules.proofs.Stopping.{halted, stays_stopped}
 
 -- What effects over another state leave is the same, over that state.

@@ -15,7 +15,6 @@ use Rattle.abstract_unix.specs.declared.ending.Ending.{Ending}
 use Rattle.abstract_unix.specs.declared.ending.Ending.TheVariants as ending
 use Rattle.unix_core.specs.declared.machine.Stage.{Stage}
 use Rattle.abstract_unix.specs.declared.ends.Ends.{Ends}
-use Rattle.abstract_unix.specs.declared.ends.Ends.TheVariants as ends
 use Rattle.unix_core.specs.declared.world.World.{World}
 use Rattle.abstract_unix.specs.Unix.{Unix, System}
 use Rattle.abstract_unix.specs.Endings.{phase_after}

@@ -44,8 +44,22 @@ const RUNS: [Ended<'static>; 3] = [
     ),
 ];
 
-/// Where `check` is done, its fourth call is the report; of `demo` it is the first.
-const OTHERS: [Ended<'static>; 4] = [
+/// Where `check` is done, its fourth call is the report; of `demo` it is the first. The first two calls of `audit` open and read its
+/// log, and the third says what that is not; a report that fails leaves that.
+const OTHERS: [Ended<'static>; 7] = [
+    (
+        "audit script",
+        1,
+        Status::ReadFault(InPort::Log),
+        b"read fault: log\n",
+    ),
+    (
+        "audit script",
+        2,
+        Status::ReadFault(InPort::Log),
+        b"read fault: log\n",
+    ),
+    ("audit script", 3, Status::BadLog(1), b""),
     ("check image", 4, Status::WriteFault(OutPort::Report), b""),
     ("demo 12", 1, Status::WriteFault(OutPort::Report), b""),
     (
@@ -107,7 +121,7 @@ fn other_commands_whose_files_fail_end_as_the_manual_says(rt: HostRuntime) -> Re
 }
 
 /// The numbers that a program exits with.
-const NUMBERS: [(Status, u8); 9] = [
+const NUMBERS: [(Status, u8); 12] = [
     (Status::Done, 0),
     (Status::Usage, 1),
     (Status::ReadFault(InPort::Script), 2),
@@ -117,6 +131,9 @@ const NUMBERS: [(Status, u8); 9] = [
     (Status::ImageFault(ImageFault::TooLong), 6),
     (Status::Panic(PanicKind::Swap), 7),
     (Status::NoMemory, 8),
+    (Status::Unlawful(1), 9),
+    (Status::BadLog(1), 10),
+    (Status::LogTooLong, 13),
 ];
 
 #[test]
@@ -127,22 +144,36 @@ fn statuses_have_their_numbers(rt: HostRuntime) {
 }
 
 /// Whether a command whose report has room for five bytes ends with a fault of that port, which has these.
-fn report_is_cut(alloc: Global, words: &str, front: &[u8]) -> Result<bool, AllocError> {
+fn report_is_cut(
+    alloc: Global,
+    words: &str,
+    script: &[u8],
+    front: &[u8],
+) -> Result<bool, AllocError> {
     let image = hi_image(alloc, HI_BYTES, &[])?;
     let rooms = Rooms { report: 5, ..ROOMS };
-    let mut host = host_in(alloc, &image, b"", rooms)?;
+    let mut host = host_in(alloc, &image, script, rooms)?;
     let status = end_over(alloc, words, &mut host)?;
     Ok(host.bytes(OutPort::Report) == front && status == Status::WriteFault(OutPort::Report))
 }
 
 #[test]
 fn failed_report_of_check_is_a_write_fault(rt: HostRuntime) -> Result<(), Fail> {
-    assert!(rt; report_is_cut(rt.alloc(), "check image", b"ok 7 ")?);
+    assert!(rt; report_is_cut(rt.alloc(), "check image", b"", b"ok 7 ")?);
     Ok(())
 }
 
 #[test]
 fn failed_report_of_demo_is_a_write_fault(rt: HostRuntime) -> Result<(), Fail> {
-    assert!(rt; report_is_cut(rt.alloc(), "demo 12", b"demo ")?);
+    assert!(rt; report_is_cut(rt.alloc(), "demo 12", b"", b"demo ")?);
+    Ok(())
+}
+
+/// A lawful log: process 1 ends, and nobody can run.
+const LAWFUL: &[u8] = b"boot 64 0\nsleep 0 -100 runout\ngo 1\nexit 1 swap 4000\nidle\nend\n";
+
+#[test]
+fn failed_report_of_a_lawful_audit_is_a_write_fault(rt: HostRuntime) -> Result<(), Fail> {
+    assert!(rt; report_is_cut(rt.alloc(), "audit script", LAWFUL, b"lawfu")?);
     Ok(())
 }

@@ -75,7 +75,7 @@ no_output old new only p = only.others (Out p) (not_input 0 p (lit< tt))
 
 -- the image of a command could not be read, or has a fault
 module _ (command : Command) (name : List ℕ) (rest : List ℕ → MaybeCompletion) (old new : Outside)
-    (named : (q : Port) → is_named command q ≡ false → same (In in_port.Image) q ≡ false) (reads : is_named command (In in_port.Image) ≡ true)
+    (named : (q : Port) → is_named command q ≡ false → same (In in_port.Image) q ≡ false) (reads : is_named command (In in_port.Image) ≡ true) (takes : may_end command NoMemory ≡ true)
     (first : ports_before (command_ports command) (In in_port.Image) ≡ []) (inputs : has_input (command_ports command) ≡ true)
     (completion : command_completion command old.fixed ≡ image_completion (old.fixed.given name) rest)
     (known : is_known (Some command) old.fixed (In in_port.Image) ≡ is_given (old.fixed.given name)) (only : OnlyAt (same (In in_port.Image)) old new) where
@@ -88,7 +88,7 @@ module _ (command : Command) (name : List ℕ) (rest : List ℕ → MaybeComplet
   pub image_stops : (error : ImageError) → StopsImage name error old new → Answers command (image_status error) old new
   image_stops (image.Unread reading.Fault) stops =
       stops_with (ReadFault in_port.Image) reads refl (λ told. subst (AreGood old.fixed) (sym first) tt) (λ decided. not_so _ decided) (fault_known _ _ _ old new known stops)
-  image_stops (image.Unread reading.NoMemory) stops = stops_with NoMemory refl refl (λ told. tt) (λ decided. not_so _ decided) stops
+  image_stops (image.Unread reading.NoMemory) stops = stops_with NoMemory takes refl (λ told. tt) (λ decided. not_so _ decided) stops
   image_stops (image.Faulty f) stops =
       stops_with (ImageFault f) (ap (λ b. b || is_demo command) reads) refl (λ told. tt)
       (λ _ told. subst (λ m. IsKnownAnd m (IsComplete (ImageFault f) old new)) (sym (completion ∙ completion_at_fault _ rest f (stops.1 (told inputs))))

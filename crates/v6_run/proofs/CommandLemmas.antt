@@ -9,6 +9,7 @@ use Rattle.v6_port.specs.Outside.{Port, Out, same, is_report, IsIdle, PortState,
 use Rattle.v6_port.specs.Causes.{Calm, FaultAt}
 use Rattle.v6_run.specs.declared.status.Status.{Status}
 use Rattle.v6_run.specs.declared.status.Status.TheVariants.{Done, Usage, ReadFault, WriteFault, CoreSize}
+use Rattle.v6_run.specs.declared.audit.LogError.TheVariants as log_error
 use Rattle.v6_run.specs.declared.files.ReadError.{ReadError}
 use Rattle.v6_run.specs.declared.files.ReadError.TheVariants as reading
 use Rattle.v6_run.specs.declared.image.ImageError.{ImageError}
@@ -19,7 +20,7 @@ use Rattle.v6_run.specs.declared.make.MakeError.TheVariants as make_error
 use Rattle.v6_run.specs.declared.error.CommandError.{CommandError}
 use Rattle.v6_run.specs.declared.error.CommandError.TheVariants as error
 use Rattle.v6_run.specs.declared.report.Found.{Found}
-use Rattle.v6_run.specs.Words.{Outputs, Command, Run, Check, Make, Demo}
+use Rattle.v6_run.specs.Words.{Outputs, Command, Run, Check, Make, Demo, Audit}
 use Rattle.v6_run.specs.Outputs.{is_output}
 use Rattle.v6_run.specs.Status.{fault_port, is_decided, has_written, is_closed}
 use Rattle.v6_run.specs.Errors.{read_status, image_status, command_status, end_of}
@@ -53,6 +54,7 @@ unnamed (Run words) = named_outputs words out_port.Report ∙ unwritten_report w
 unnamed (Check image) = refl
 unnamed (Make number final) = refl
 unnamed (Demo number) = refl
+unnamed (Audit log) = refl
 
 at_fault : (p : Port) (known : Port → Bool) (a b : Outside) → FaultAt p (known p) a b → Tells a → (q : Port) → known q ≡ true → (b.port q).missing ≡ (a.port q).missing
 at_fault p known a b fault told q is = by_test (same p q) _
@@ -131,6 +133,10 @@ module _ (done : List ℕ) where
   error_line (error.Check e) unreported = image_line e
   error_line (error.Make make_error.NoMemory) unreported = refl
   error_line (error.Make make_error.Fault) unreported = refl
+  error_line (error.Audit log_error.Unread) unreported = refl
+  error_line (error.Audit (log_error.Unlawful n)) unreported = refl
+  error_line (error.Audit (log_error.Bad n)) unreported = refl
+  error_line (error.Audit log_error.TooLong) unreported = refl
 
   line_is : (answer : Result (Option Found) CommandError) (status : Status) → IfOk answer (λ found. done ≡ told_line found)
       → (end_of command_status answer ≡ WriteFault out_port.Report → ⊥)
@@ -160,8 +166,8 @@ module _ (a b new : Outside) (only : OnlyAt (same (Out out_port.Report)) b new) 
 partial_of_done : (fault : OutPort) (a b : Outside) (m : MaybeCompletion) → IsKnownAnd m (IsComplete Done a b) → IsKnownAnd m (IsPartial fault a b)
 partial_of_done fault a b Unknown complete = complete
 partial_of_done fault a b (Known c) complete = record {
-  begun = sym (ap has_written complete.answered);
-  told = λ is. sym complete.answered;
+  begun = (Done, complete.answered, refl);
+  told = λ is. complete.answered;
   written = λ told p other. let all = complete.written told p other in
       record { text = all.text; fits = λ _. all.fits; front = front_of_all (a.port (Out p)).bytes all.text (b.port (Out p)).bytes all.holds };
 }
@@ -247,6 +253,7 @@ module _ (command : Option Command) (answer : Result (Option Found) CommandError
   may_lose (Check image) tells = refl
   may_lose (Make number final) tells = not_so _ tells
   may_lose (Demo number) tells = refl
+  may_lose (Audit log) tells = refl
 
   pub of_words : MatchOption (refused_by command) (words_may_end command status ≡ true) (λ s. status ≡ s)
   of_words = go came

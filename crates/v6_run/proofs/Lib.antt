@@ -15,7 +15,12 @@ pub mod AnswerLemmas
 pub mod RunLemmas
 pub mod CheckLemmas
 pub mod CommandLemmas
+pub mod OneWay
 pub mod MemoryLemmas
 pub mod DemoLemmas
 pub mod TickLemmas
 pub mod CanLemmas
+pub mod PartsOfLogs
+pub mod ReadLines
+pub mod FaultLemmas
+pub mod AuditLemmas

@@ -32,3 +32,8 @@ match_passed (Err f) e P Q is holds = subst Q (sym is) holds
 pub end_passed : {T E : Type 0} (status : E → Status) (r : Result T E) (e : E) (P : Status → Type 0) → IsErrAnd r (λ f. f ≡ e) → P (status e) → P (end_of status r)
 end_passed status (Ok x) e P is holds = absurd is
 end_passed status (Err f) e P is holds = subst (λ g. P (status g)) (sym is) holds
+
+-- whatever is said of the whole result
+pub result_passed : {T E : Type 0} (P : Result T E → Type 0) (r : Result T E) (e : E) → IsErrAnd r (λ f. f ≡ e) → P (Err e) → P r
+result_passed P (Ok x) e is holds = absurd is
+result_passed P (Err f) e is holds = subst (λ g. P (Err g)) (sym is) holds

@@ -46,7 +46,7 @@ use Rattle.v6_run.proofs.AnswerLemmas.{not_so, unwritten, complete_unwritten, im
 pub image_refused : (words : RunWords) (error : ImageError) (old new : Outside) → OnlyAt (same (In in_port.Image)) old new → StopsImage words.image error old new
     → Answers (Run words) (image_status error) old new
 image_refused words error old new only =
-    image_stops (Run words) words.image (script_completion words (old.fixed.given words.script)) old new (names_image words) refl refl refl refl refl only error
+    image_stops (Run words) words.image (script_completion words (old.fixed.given words.script)) old new (names_image words) refl refl refl refl refl refl only error
 
 -- both are read from ports that are no outputs
 both_read : (old middle new : Outside) → OnlyAt (same (In in_port.Image)) old middle → OnlyAt (same (In in_port.Script)) middle new → (p : OutPort) → new.port (Out p) ≡ old.port (Out p)
@@ -203,7 +203,7 @@ module _ (words : RunWords) (image bytes : List ℕ) (old middle : Outside) (fil
       module _ (port : OutPort) (stops : StopsRun words.outputs (run_writes words.outputs (disk_of image) run) port middle new) where
         run_partial : Tells old → IsKnownAnd (command_completion (Run words) old.fixed) (IsPartial port old new)
         run_partial told = subst (λ m. IsKnownAnd m (IsPartial port old new)) (sym (run_completion told)) (record {
-          begun = has_begun run.ending;
+          begun = (status_at run.ending, refl, has_begun run.ending);
           told = λ is. not_so _ (sym (named_report words.outputs port stops.named) ∙ is);
           written = λ _ p _. subst (λ (state : PortState). HoldsFrontOfSome (run_writes words.outputs (disk_of image) run p) state.bytes (new.port (Out p)).bytes) (files.none p)
               (stops.written (still_tells _ _ _ files.only told) p);

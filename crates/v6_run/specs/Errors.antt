@@ -15,6 +15,8 @@ use Rattle.v6_run.specs.declared.run.RunError.{RunError}
 use Rattle.v6_run.specs.declared.run.RunError.TheVariants as run
 use Rattle.v6_run.specs.declared.make.MakeError.{MakeError}
 use Rattle.v6_run.specs.declared.make.MakeError.TheVariants as make
+use Rattle.v6_run.specs.declared.audit.LogError.{LogError}
+use Rattle.v6_run.specs.declared.audit.LogError.TheVariants as log
 use Rattle.v6_run.specs.declared.error.CommandError.{CommandError}
 use Rattle.v6_run.specs.declared.error.CommandError.TheVariants as command
 
@@ -43,12 +45,19 @@ abbrev pub make_status : MakeError → Status
 make_status make.NoMemory = status.NoMemory
 make_status make.Fault = status.WriteFault out_port.Final
 
+abbrev pub log_status : LogError → Status
+log_status log.Unread = status.ReadFault in_port.Log
+log_status (log.Unlawful line) = status.Unlawful line
+log_status (log.Bad line) = status.BadLog line
+log_status log.TooLong = status.LogTooLong
+
 abbrev pub command_status : CommandError → Status
 command_status command.Usage = status.Usage
 command_status command.CoreSize = status.CoreSize
 command_status (command.Run error) = run_status error
 command_status (command.Check error) = image_status error
 command_status (command.Make error) = make_status error
+command_status (command.Audit error) = log_status error
 
 -- the status of a step's result, which is Done where the step was done
 abbrev pub end_of : {T E : Type 0} → (E → Status) → Result T E → Status

@@ -1,6 +1,6 @@
 -- What a command answers and writes, from its words and the bytes of its files, in the order of docs/manual/commands.md: the
--- words, the size of core, the image's first fault, the script's first fault, and the run.
-use Rattle.std.specs.Prelude.{◌≡◌, ℕ, Bool, true, false, Option, Some, None, List, [], take, nat_le, ◌&&◌, ◌||◌, if◌then◌else◌, Result, Ok, Err}
+-- words, the size of core, the image's first fault, the script's first fault, and the run; or the log's first line at fault.
+use Rattle.std.specs.Prelude.{◌≡◌, ℕ, Bool, true, false, Option, Some, None, List, [], length, take, nat_le, not, ◌&&◌, ◌||◌, if◌then◌else◌, Result, Ok, Err}
 use Rattle.v6_port.specs.declared.host.InPort.TheVariants as in_port
 use Rattle.v6_port.specs.declared.host.OutPort.{OutPort}
 use Rattle.v6_port.specs.declared.host.OutPort.TheVariants as out_port
@@ -23,13 +23,14 @@ use Rattle.v6_run.specs.declared.status.Status.{Status}
 use Rattle.v6_run.specs.declared.status.Status.TheVariants as status
 use Rattle.abstract_unix.specs.declared.ends.Ends.{Ends}
 use Rattle.abstract_unix.specs.declared.ends.Ends.TheVariants.{AtEnd, Panic}
-use Rattle.v6_run.specs.Words.{RunWords, Command, Run, Check, Make, Demo}
+use Rattle.v6_run.specs.Words.{RunWords, Command, Run, Check, Make, Demo, Audit}
+use Rattle.v6_run.specs.Logs.{lines_of, AuditEnds}
 use Rattle.v6_run.specs.Events.{events_of}
 use Rattle.v6_run.specs.Status.{has_written}
 use Rattle.v6_run.specs.Fronts.{HoldsSome, HoldsFrontOfSome, exactly}
 use Rattle.v6_run.specs.Outputs.{run_writes}
 use Rattle.v6_run.specs.Opened.{command_ports, words_ports, has_port, knows_port}
-use Rattle.v6_run.specs.Report.{store_line, course_line}
+use Rattle.v6_run.specs.Report.{store_line, course_line, lawful_line}
 
 abbrev pub is_core_size : ℕ → Bool
 is_core_size core = nat_le 64 core && nat_le core 3968
@@ -46,7 +47,7 @@ refused_by (Some command) = if has_core_size command then None else Some status.
 
 -- how a command ends, and which texts it may write to each file that it opens
 pub record Completion : Type 1 where
-  pub status : Status
+  pub ends : Status → Type 0
   pub writes : OutPort → List ℕ → Type 0
 
 -- a completion, where each file that the command reads is given
@@ -60,7 +61,7 @@ IsKnownAnd (Known completion) holds = holds completion
 
 -- a command that ends so and writes no file
 abbrev pub ends_with : Status → Completion
-ends_with s = record { status = s; writes = λ port. exactly [] }
+ends_with s = record { ends = λ t. t ≡ s; writes = λ port. exactly [] }
 
 -- one file gets this text, and the others nothing
 abbrev pub only_to : OutPort → List ℕ → OutPort → List ℕ → Type 0
@@ -75,7 +76,7 @@ abbrev pub Writing : Type 1
 Writing = Course → OutPort → List ℕ → Type 0
 
 abbrev pub course_completion : Writing → Course → Completion
-course_completion writes c = record { status = status_at c.ending; writes = writes c }
+course_completion writes c = record { ends = λ t. t ≡ status_at c.ending; writes = writes c }
 
 -- in so much core, from an image without a fault, and a script or its first fault
 abbrev pub lines_completion : ℕ → Writing → List ℕ → Result (List Event) ScriptFault → Completion
@@ -112,19 +113,25 @@ abbrev pub demo_completion : ℕ → MaybeCompletion
 demo_completion number =
     fault_completion (image_fault (build_of number)) (Known (run_completion DEMO_CORE no_writing (build_of number) demo_text))
 
+-- `audit` ends as the lines of its file say, and writes no file
+abbrev pub log_completion : Option (List ℕ) → MaybeCompletion
+log_completion None = Unknown
+log_completion (Some bytes) = Known (record { ends = AuditEnds bytes; writes = λ port. exactly [] })
+
 -- what a command comes to
 abbrev pub command_completion : Command → Environment → MaybeCompletion
 command_completion (Run words) fixed = image_completion (fixed.given words.image) (script_completion words (fixed.given words.script))
 command_completion (Check image) fixed = image_completion (fixed.given image) (λ bytes. Known (ends_with status.Done))
-command_completion (Make number final) fixed = Known (record { status = status.Done; writes = only_to out_port.Final (build_of number) })
+command_completion (Make number final) fixed = Known (record { ends = λ t. t ≡ status.Done; writes = only_to out_port.Final (build_of number) })
 command_completion (Demo number) fixed = demo_completion number
+command_completion (Audit log) fixed = log_completion (fixed.given log)
 
 abbrev pub words_completion : Option Command → Environment → MaybeCompletion
 words_completion None fixed = Unknown
 words_completion (Some command) fixed = command_completion command fixed
 
 -- The line that a command reports when it was done: that of `check` tells what the disk holds, that of `demo` what its run has
--- come to, and the others have none.
+-- come to, that of `audit` how many lines the log has, and the others have none.
 abbrev pub image_line : Option (List ℕ) → List ℕ
 image_line None = []
 image_line (Some bytes) = store_line (store_of (disk_of (take IMAGE_LIMIT bytes)))
@@ -133,23 +140,28 @@ abbrev pub run_line : ℕ → Result (List Event) ScriptFault → List ℕ
 run_line number (Err fault) = []
 run_line number (Ok events) = course_line number (run_of (build_of number) DEMO_CORE 1 (events_of events))
 
+abbrev pub log_line : Option (List ℕ) → List ℕ
+log_line None = []
+log_line (Some bytes) = lawful_line (length (lines_of bytes))
+
 abbrev pub done_line : Option Command → Environment → List ℕ
 done_line None fixed = []
 done_line (Some (Run words)) fixed = []
 done_line (Some (Check image)) fixed = image_line (fixed.given image)
 done_line (Some (Make number final)) fixed = []
 done_line (Some (Demo number)) fixed = run_line number (script_of demo_text)
+done_line (Some (Audit log)) fixed = log_line (fixed.given log)
 
 -- The command is complete: the status is its, and each file has got all of a text that may be written to it.
 pub record IsComplete (s : Status) (old new : Outside) (completion : Completion) : Type 0 where
-  pub answered : s ≡ completion.status
+  pub answered : completion.ends s
   pub written : Tells old → (p : OutPort) → is_report (Out p) ≡ false → HoldsSome (completion.writes p) (old.port (Out p)).bytes (new.port (Out p)).bytes
 
 -- This port is at fault. The command has come to write, or, where that is Report, would be done; and each file has got a front of a
 -- text that may be written to it.
 pub record IsPartial (fault : OutPort) (old new : Outside) (completion : Completion) : Type 0 where
-  pub begun : has_written completion.status ≡ true
-  pub told : is_report (Out fault) ≡ true → completion.status ≡ status.Done
+  pub begun : (s : Status) × completion.ends s × (has_written s ≡ true)
+  pub told : is_report (Out fault) ≡ true → completion.ends status.Done
   pub written : Tells old → (p : OutPort) → is_report (Out p) ≡ false → HoldsFrontOfSome (completion.writes p) (old.port (Out p)).bytes (new.port (Out p)).bytes
 
 -- the ports for which a command's words have a name
@@ -161,10 +173,11 @@ abbrev pub is_touched : Option Command → Port → Bool
 is_touched None q = is_report q
 is_touched (Some command) q = is_named command q || is_report q
 
--- only `check` and `demo` report that they were done
+-- only `check`, `demo` and `audit` report that they were done
 abbrev pub reports_done : Command → Bool
 reports_done (Check image) = true
 reports_done (Demo number) = true
+reports_done (Audit log) = true
 reports_done _ = false
 
 abbrev pub is_run : Command → Bool
@@ -175,21 +188,28 @@ abbrev pub is_demo : Command → Bool
 is_demo (Demo number) = true
 is_demo _ = false
 
+abbrev pub is_audit : Command → Bool
+is_audit (Audit log) = true
+is_audit _ = false
+
 -- want of memory is a status of its own
 abbrev pub is_script_fault : ScriptFault → Bool
 is_script_fault NoMemory = false
 is_script_fault _ = true
 
 -- The statuses that a good command may end with. A fault is one of a port for which its words have a name, or of a report that
--- is all that the command has to say. The script of `demo` has no fault.
+-- is all that the command has to say. The script of `demo` has no fault, and `audit` takes no memory.
 abbrev pub may_end : Command → Status → Bool
 may_end command status.Done = true
 may_end command (status.ReadFault port) = is_named command (In port)
 may_end command (status.WriteFault port) = is_named command (Out port) || (is_report (Out port) && reports_done command)
 may_end command (status.ScriptFault fault) = is_run command && is_script_fault fault
 may_end command (status.ImageFault fault) = is_named command (In in_port.Image) || is_demo command
-may_end command status.NoMemory = true
+may_end command status.NoMemory = not (is_audit command)
 may_end command (status.Panic kind) = is_run command || is_demo command
+may_end command (status.Unlawful line) = is_audit command
+may_end command (status.BadLog line) = is_audit command
+may_end command status.LogTooLong = is_audit command
 may_end command _ = false
 
 abbrev pub words_may_end : Option Command → Status → Bool

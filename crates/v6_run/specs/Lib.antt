@@ -12,6 +12,8 @@ pub mod Clocks
 pub mod Courses
 pub mod Final
 pub mod Opened
+pub mod Logs
+pub mod Audit
 pub mod Outputs
 pub mod Headline
 pub mod Demo

@@ -12,7 +12,7 @@ use Rattle.v6_run.specs.declared.image.TheConstants.{IMAGE_LIMIT}
 use Rattle.v6_run.specs.declared.run.TheConstants.{SCRIPT_LIMIT}
 use Rattle.v6_run.specs.declared.status.Status.{Status}
 use Rattle.v6_run.specs.declared.status.Status.TheVariants as status
-use Rattle.v6_run.specs.Words.{Outputs, ToDisk, ToMemory, Command, Run, Check, Make, Demo}
+use Rattle.v6_run.specs.Words.{Outputs, ToDisk, ToMemory, Command, Run, Check, Make, Demo, Audit}
 
 -- a port, and the name that a command's words give for it
 pub record NamedPort : Type 0 where
@@ -35,6 +35,7 @@ command_ports (Run words) = input in_port.Image words.image ∷ input in_port.Sc
 command_ports (Check image) = input in_port.Image image ∷ []
 command_ports (Make number final) = output out_port.Final final ∷ []
 command_ports (Demo number) = []
+command_ports (Audit log) = input in_port.Log log ∷ []
 
 abbrev pub words_ports : Option Command → List NamedPort
 words_ports None = []

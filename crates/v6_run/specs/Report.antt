@@ -1,4 +1,5 @@
--- The lines that commands write to Report, by docs/manual/commands.md: how a command ended, and what `check` or `demo` has found.
+-- The lines that commands write to Report, by docs/manual/commands.md: how a command ended, and what `check`, `demo` or `audit` has
+-- found.
 use Rattle.std.specs.Prelude.{ℕ, is_some, count_by, Option, Some, None, List, [], ◌∷◌, ◌++◌, length, codes, decimal, Result, Ok, Err}
 use Rattle.v6_port.specs.declared.host.InPort.{InPort}
 use Rattle.v6_port.specs.declared.host.InPort.TheVariants as in_port
@@ -63,7 +64,8 @@ panic_line panic.Zombie = line_of (codes "panic: out of swap")
 panic_line panic.Text = line_of (codes "panic: out of text")
 
 abbrev pub usage : List ℕ
-usage = codes "usage: v6 run IMAGE CORE SCRIPT TERM LOG FINAL, memory IMAGE CORE SCRIPT FINAL, check IMAGE, make N FINAL, demo N"
+usage =
+    codes "usage: v6 run IMAGE CORE SCRIPT TERM LOG FINAL, memory IMAGE CORE SCRIPT FINAL, check IMAGE, make N FINAL, demo N, audit LOG"
 
 -- the line of a status; a command that was done has none
 abbrev pub status_line : Status → List ℕ
@@ -76,6 +78,9 @@ status_line (status.ScriptFault fault) = script_line fault
 status_line (status.ImageFault fault) = fault_line fault
 status_line (status.Panic kind) = panic_line kind
 status_line status.NoMemory = line_of (codes "no memory")
+status_line (status.Unlawful line) = line_of (codes "log: line " ++ decimal line ++ codes " is not lawful")
+status_line (status.BadLog line) = line_of (codes "log: line " ++ decimal line ++ codes " is no log line")
+status_line status.LogTooLong = line_of (codes "log: too long")
 
 -- what `check` tells of a disk without a fault: how many nodes and how many free blocks it has
 abbrev pub ok_line : ℕ → ℕ → List ℕ
@@ -99,10 +104,15 @@ course_line number c = shown_line number (length (line_bytes 0 (shown_by c))) (f
 abbrev pub summary_line : Summary → List ℕ
 summary_line summary = demo_line summary.number summary.shown summary.tally.nodes summary.tally.free
 
+-- what `audit` tells of a lawful log: how many lines it has
+abbrev pub lawful_line : ℕ → List ℕ
+lawful_line lines = line_of (codes "lawful: " ++ decimal lines ++ codes " lines")
+
 -- the line of a command that has found this, and of one that was done
 abbrev pub found_line : Found → List ℕ
 found_line (found.Disk tally) = ok_line tally.nodes tally.free
 found_line (found.Run summary) = summary_line summary
+found_line (found.Log lines) = lawful_line lines
 
 abbrev pub told_line : Option Found → List ℕ
 told_line None = []

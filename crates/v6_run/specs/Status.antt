@@ -2,7 +2,7 @@
 use Rattle.std.specs.Prelude.{ℕ, Bool, true, false, Option, Some, None}
 use Rattle.v6_port.specs.Outside.{Port, In, Out}
 use Rattle.v6_run.specs.declared.status.Status.{Status}
-use Rattle.v6_run.specs.declared.status.Status.TheVariants.{Done, Usage, ReadFault, WriteFault, CoreSize, ScriptFault, ImageFault, Panic, NoMemory}
+use Rattle.v6_run.specs.declared.status.Status.TheVariants.{Done, Usage, ReadFault, WriteFault, CoreSize, ScriptFault, ImageFault, Panic, NoMemory, Unlawful, BadLog, LogTooLong}
 
 abbrev pub status_number : Status → ℕ
 status_number Done = 0
@@ -14,6 +14,9 @@ status_number (ScriptFault fault) = 5
 status_number (ImageFault fault) = 6
 status_number (Panic kind) = 7
 status_number NoMemory = 8
+status_number (Unlawful line) = 9
+status_number (BadLog line) = 10
+status_number LogTooLong = 13
 
 -- the port that is at fault
 abbrev pub fault_port : Status → Option Port
@@ -27,6 +30,9 @@ is_decided Done = true
 is_decided (ScriptFault fault) = true
 is_decided (ImageFault fault) = true
 is_decided (Panic kind) = true
+is_decided (Unlawful line) = true
+is_decided (BadLog line) = true
+is_decided LogTooLong = true
 is_decided _ = false
 
 -- whether the files that the command writes are finished then

@@ -28,13 +28,14 @@ pub record RunWords : Type 0 where
   pub script : List ℕ
   pub outputs : Outputs
 
--- a command: what `run` or `memory` is told, the image that `check` reads, the number and the file of `make`, or the number
--- of `demo`
+-- a command: what `run` or `memory` is told, the image that `check` reads, the number and the file of `make`, the number of
+-- `demo`, or the log that `audit` reads
 pub data Command : Type 0 where
   Run : RunWords → Command
   Check : List ℕ → Command
   Make : ℕ → List ℕ → Command
   Demo : ℕ → Command
+  Audit : List ℕ → Command
 
 -- the words of `run` and of `memory` are good where CORE is a number
 abbrev pub run_words : Bool → Option ℕ → List ℕ → List ℕ → Outputs → Option Command
@@ -60,12 +61,14 @@ demo_words None = None
 abbrev pub is_word : List ℕ → List ℕ → Bool
 is_word word name = pointwise nat_eq word name
 
--- check IMAGE, demo N
+-- demo N, audit LOG, check IMAGE
 abbrev pub short_words : List ℕ → List ℕ → Option Command
 short_words verb word =
-    if is_word verb (codes "demo") then demo_words (number_of word) else check_words (is_word verb (codes "check")) word
+    if is_word verb (codes "demo") then demo_words (number_of word) else (
+    if is_word verb (codes "audit") then Some (Audit word)
+    else check_words (is_word verb (codes "check")) word)
 
--- run IMAGE CORE SCRIPT TERM LOG FINAL, memory IMAGE CORE SCRIPT FINAL, check IMAGE, make N FINAL, demo N
+-- run IMAGE CORE SCRIPT TERM LOG FINAL, memory IMAGE CORE SCRIPT FINAL, check IMAGE, make N FINAL, demo N, audit LOG
 abbrev pub command_of : List (List ℕ) → Option Command
 command_of (verb ∷ image ∷ core ∷ script ∷ term ∷ log ∷ final ∷ []) =
     run_words (is_word verb (codes "run")) (number_of core) image script (ToDisk (record { term = term; log = log; final_disk = final }))
@@ -94,3 +97,4 @@ command_value (variant.Run words) = Run (run_words_value words)
 command_value (variant.Check image) = Check image.now
 command_value (variant.Make number final) = Make number final.now
 command_value (variant.Demo number) = Demo number
+command_value (variant.Audit log) = Audit log.now

@@ -11,9 +11,11 @@ ghost use Rattle.v6_run.specs.Status.{is_decided, has_written, is_closed};
 ghost use Rattle.v6_run.specs.Errors.{command_status, end_of};
 ghost use Rattle.v6_run.specs.Causes.{HasCause, MissesUnknown};
 ghost use Rattle.v6_run.specs.Headline.{is_core_size, has_core_size, refused_by, reports_done, words_completion, done_line, IsKnownAnd, IsComplete, IsPartial, words_may_end, is_touched, is_known};
+ghost use Rattle.v6_run.specs.Logs.{AuditsEndInOneWay};
 ghost use Rattle.v6_run.specs.Opened.{words_ports, TellsInputs, AreGood, ports_passed};
 ghost use Rattle.v6_run.specs.Answers.{Answers, AnswersWords};
 
+use crate::audit::audit;
 use crate::check::check;
 use crate::demo::demo;
 use crate::error::CommandError;
@@ -73,6 +75,10 @@ fn done<H: Host>(
             Ok(summary) => Ok(Some(Found::Run(summary))),
             Err(error) => Err(CommandError::Run(error)),
         },
+        Command::Audit(log) => match audit(log, host) {
+            Ok(lines) => Ok(Some(Found::Log(lines))),
+            Err(error) => Err(CommandError::Audit(error)),
+        },
     }
 }
 
@@ -110,6 +116,7 @@ fn answer<H: Host>(
 /// - `make N FINAL` writes the disk image of the number N to FINAL.
 /// - `demo N` takes this disk, with 100 clicks of core, through a script that shows the most of the kernel, and tells what that
 ///   came to. It reads and writes no file.
+/// - `audit LOG` tells whether the lines of LOG are a lawful log, or the first line that is at fault. It goes by the lines alone.
 ///
 /// Any other words are [`Status::Usage`]. `run`, `memory` and `make` report nothing where they were done; any other status is reported in
 /// one line.
@@ -126,9 +133,9 @@ pub fn v6<H: Host>(alloc: Global, words: &Vec<String>, host: &mut H) -> Status
     ensures unopened { IsSome (refused_by (command_in words.now.items))
         → OnlyAt is_report (H.outside host.old) (H.outside host.new) }
 
-    // Done, ScriptFault, ImageFault and Panic are exactly what the command's files come to, and each file has got all of a text that may
-    // be written to it. At a write fault each has got a front of one, or nothing; and one of Report is answered only where the command
-    // would else be done.
+    // Done, ScriptFault, ImageFault, Panic, Unlawful, BadLog and LogTooLong are exactly what the command's files come to, and each
+    // file has got all of a text that may be written to it. At a write fault each has got a front of one, or nothing; and one of
+    // Report is answered only where the command would else be done.
     ensures complete { is_decided result ≡ true → TellsInputs (words_ports (command_in words.now.items)) (H.outside host.old)
         → IsKnownAnd (words_completion (command_in words.now.items) (H.outside host.old).fixed)
         (IsComplete result (H.outside host.old) (H.outside host.new)) }
@@ -154,6 +161,9 @@ pub fn v6<H: Host>(alloc: Global, words: &Vec<String>, host: &mut H) -> Status
     // Each line of the log of a run has its numbers in their ranges and fits what the lines before it give, so that each choice
     // is the one that the rules give; and the log of a run that comes to the end of its script is lawful.
     ensures lawful { LogsAreLawful }
+
+    // The bytes of a log fix what an audit of it answers.
+    ensures audited { AuditsEndInOneWay }
 
     // A fault is answered only where its port's faults rose, and a name is missing only where it isn't known.
     ensures cause { HasCause result (H.outside host.old) (H.outside host.new) }

@@ -1,7 +1,8 @@
 //! Why a command was not done, and the status that says so.
 ghost use Rattle.std.specs.Prelude.{◌≡◌};
-ghost use Rattle.v6_run.specs.Errors.{read_status, image_status, script_status, run_status, make_status};
+ghost use Rattle.v6_run.specs.Errors.{read_status, image_status, script_status, run_status, make_status, log_status};
 
+use crate::audit::LogError;
 use crate::files::ReadError;
 use crate::image::ImageError;
 use crate::make::MakeError;
@@ -23,6 +24,8 @@ pub(crate) enum CommandError {
     Check(ImageError),
     /// `make` has failed.
     Make(MakeError),
+    /// `audit` has no lawful log.
+    Audit(LogError),
 }
 
 fn read_status(port: InPort, error: ReadError) -> Status
@@ -74,6 +77,17 @@ fn make_status(error: MakeError) -> Status
     }
 }
 
+fn log_status(error: LogError) -> Status
+    ensures { result ≡ log_status error }
+{
+    match error {
+        LogError::Unread => Status::ReadFault(InPort::Log),
+        LogError::Unlawful(line) => Status::Unlawful(line),
+        LogError::Bad(line) => Status::BadLog(line),
+        LogError::TooLong => Status::LogTooLong,
+    }
+}
+
 impl From<CommandError> for Status {
     ghost use Rattle.std.specs.Prelude.{◌≡◌};
     ghost use Rattle.v6_run.specs.Errors.{command_status};
@@ -87,6 +101,7 @@ impl From<CommandError> for Status {
             CommandError::Run(error) => run_status(error),
             CommandError::Check(error) => image_status(error),
             CommandError::Make(error) => make_status(error),
+            CommandError::Audit(error) => log_status(error),
         }
     }
 }

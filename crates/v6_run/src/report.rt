@@ -4,13 +4,13 @@ ghost use Rattle.v6_port.specs.Outside.{Out, OnlyAt, Tells, same};
 ghost use Rattle.v6_port.specs.declared.host.OutPort.TheVariants.{Report};
 ghost use Rattle.v6_port.specs.Causes.{Calm, FaultAt};
 ghost use Rattle.v6_run.specs.Fronts.{HoldsFront};
-ghost use Rattle.v6_run.specs.Report.{report, status_line, panic_line, script_line, fault_line, ok_line, demo_line, found_line};
+ghost use Rattle.v6_run.specs.Report.{report, status_line, panic_line, script_line, fault_line, ok_line, demo_line, lawful_line, found_line};
 ghost use Rattle.v6_run.specs.Answers.{Reports};
 
 use crate::demo::Summary;
 use crate::error::CommandError;
 use crate::files::write_all;
-use crate::line::{Line, numbered, plain, push_number, twice_numbered};
+use crate::line::{Line, long_numbered, numbered, plain, push_number, twice_numbered};
 use crate::status::Status;
 use fs_check::{ImageFault, Tally};
 use script_text::ScriptFault;
@@ -24,10 +24,12 @@ pub(crate) enum Found {
     Disk(Tally),
     /// What `demo` has come to.
     Run(Summary),
+    /// How many lines the lawful log has that `audit` has read.
+    Log(u64),
 }
 
 const USAGE: &str =
-    "usage: v6 run IMAGE CORE SCRIPT TERM LOG FINAL, memory IMAGE CORE SCRIPT FINAL, check IMAGE, make N FINAL, demo N";
+    "usage: v6 run IMAGE CORE SCRIPT TERM LOG FINAL, memory IMAGE CORE SCRIPT FINAL, check IMAGE, make N FINAL, demo N, audit LOG";
 
 fn script_line(fault: ScriptFault) -> Line
     ensures { result.bytes ≡ script_line fault }
@@ -96,6 +98,9 @@ fn status_line(status: Status) -> Line
         Status::ImageFault(fault) => fault_line(fault),
         Status::Panic(kind) => panic_line(kind),
         Status::NoMemory => plain("no memory"),
+        Status::Unlawful(line) => long_numbered("log: line ", line, " is not lawful"),
+        Status::BadLog(line) => long_numbered("log: line ", line, " is no log line"),
+        Status::LogTooLong => plain("log: too long"),
     }
 }
 
@@ -129,6 +134,13 @@ fn demo_line(summary: Summary) -> Line
     line
 }
 
+/// What `audit` tells of a lawful log.
+fn lawful_line(lines: u64) -> Line
+    ensures { result.bytes ≡ lawful_line lines }
+{
+    long_numbered("lawful: ", lines, " lines")
+}
+
 /// What a command tells that has found this.
 fn found_line(found: Found) -> Line
     ensures { result.bytes ≡ found_line found }
@@ -136,6 +148,7 @@ fn found_line(found: Found) -> Line
     match found {
         Found::Disk(tally) => ok_line(tally),
         Found::Run(summary) => demo_line(summary),
+        Found::Log(lines) => lawful_line(lines),
     }
 }
 

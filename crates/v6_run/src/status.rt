@@ -28,6 +28,12 @@ pub enum Status {
     Panic(PanicKind),
     /// There was no memory, before the first slot of a run, or before a demo reports, and before anything else is written.
     NoMemory,
+    /// This line of the log, counted from 1, is the first at fault, and is a line of a log; or the log ends before it.
+    Unlawful(u64),
+    /// This line of the log, counted from 1, is the first at fault, and is no line of a log.
+    BadLog(u64),
+    /// The log has more than 2^40 bytes, of which the first 2^40 + 1 have no fault.
+    LogTooLong,
 }
 
 impl Status {
@@ -45,6 +51,9 @@ impl Status {
             Status::ImageFault(_) => 6,
             Status::Panic(_) => 7,
             Status::NoMemory => 8,
+            Status::Unlawful(_) => 9,
+            Status::BadLog(_) => 10,
+            Status::LogTooLong => 13,
         }
     }
 }

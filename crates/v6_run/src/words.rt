@@ -42,6 +42,8 @@ pub(crate) enum Command<'a> {
     Make(u32, &'a str),
     /// `demo N`
     Demo(u32),
+    /// `audit LOG`
+    Audit(&'a str),
 }
 
 /// The words of a run, where its verb is the one that is wanted.
@@ -89,6 +91,9 @@ fn short_words<'a>(verb: &str, word: &'a str) -> Option<Command<'a>>
 {
     if verb == "demo" {
         return demo_words(word);
+    }
+    if verb == "audit" {
+        return Some(Command::Audit(word));
     }
     check_words(verb, word)
 }

@@ -1,6 +1,7 @@
 //! Where the bytes of a program lie: `estabur` and `sureg` in Lions' Commentary, and chapter 6 of the PDP-11/40 Processor
 //! Handbook. A segment has 8,192 bytes, a click 64.
 use crate::images::addresses::Use::{Read, Write};
+use crate::tell;
 use seg_regs::{Proto, Spot};
 use v6_base::Trap::{self, Segment};
 
@@ -132,8 +133,6 @@ fn first_failure(program: &Program) -> Option<usize> {
 #[test]
 fn bytes_lie_where_they_must(rt: HostRuntime) {
     for (n, program) in PROGRAMS.iter().enumerate() {
-        if let Some(k) = first_failure(program) {
-            panic!(rt; "program {n}: byte {k}");
-        }
+        tell::step_in_row(&rt, n, first_failure(program));
     }
 }

@@ -2,6 +2,7 @@
 use crate::images::scenes::Step::{Bares, Ends, Forks, Loads, Makes, Resizes, Stores};
 use crate::images::scenes::{Scene, Step, first_of, judge};
 use crate::images::table::{End, Table};
+use crate::tell;
 use std::alloc::{AllocError, Global};
 use v6_base::Place::{Core, Swap};
 use v6_base::Trap::Segment;
@@ -183,8 +184,7 @@ fn half_is(alloc: Global, steps: &[Step], pieces: &[(usize, &[u8])]) -> Result<b
 
 #[test]
 fn half_of_a_u_area_is_kept(rt: HostRuntime) {
-    let holds = half_is(rt.alloc(), &[Ends(1, Some(4000))], &ENDED);
-    assert!(rt; holds.expect(&rt, "memory"));
+    tell::all(&rt, half_is(rt.alloc(), &[Ends(1, Some(4000))], &ENDED));
 }
 
 /// Three clicks of data and a stack of twenty-one, and else the same.
@@ -200,6 +200,5 @@ static ENDED_AFTER_GROWTH: [(usize, &'static [u8]); 3] = [
 #[test]
 fn growth_leaves_all_else_of_a_u_area(rt: HostRuntime) {
     let steps = [Resizes(1, 3, 21, Some(Swap(4000))), Ends(1, Some(4005))];
-    let holds = half_is(rt.alloc(), &steps, &ENDED_AFTER_GROWTH);
-    assert!(rt; holds.expect(&rt, "memory"));
+    tell::all(&rt, half_is(rt.alloc(), &steps, &ENDED_AFTER_GROWTH));
 }

@@ -4,6 +4,7 @@ ghost use Rattle.std.specs.Prelude.{◌≡◌, ◌+◌, ◌*◌, ◌&&◌, nat_l
 ghost use Rattle.core_mem.specs.Bytes.{click_start};
 
 use crate::images::clicks::Step::{Byte, Clears, Click, Copies, Goes, Puts};
+use crate::tell;
 use core_mem::Core;
 use std::alloc::{AllocError, Global};
 use std::process::Abort;
@@ -188,9 +189,7 @@ fn first_failure(
 
 /// Tells the first step that does not hold.
 fn judge(rt: &impl Abort, alloc: Global, before: &[Step], steps: &[Step]) {
-    if let Some(k) = first_failure(alloc, before, steps).expect(rt, "memory") {
-        panic!(rt; "step {k}");
-    }
+    tell::step(rt, first_failure(alloc, before, steps).expect(rt, "memory"));
 }
 
 #[test]

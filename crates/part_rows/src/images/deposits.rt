@@ -4,6 +4,7 @@ ghost use Rattle.std.specs.Prelude.{◌≤◌};
 use crate::images::scenes::Step::{Bares, Deposits, Ends, Forks, Has, Loads, Makes};
 use crate::images::scenes::{Scene, Step, first_of, judge};
 use crate::images::table::Table;
+use crate::tell;
 use std::alloc::{AllocError, Global};
 use v6_base::Place::{Core, Swap};
 use v6_base::Trap::Segment;
@@ -175,7 +176,7 @@ fn first_other(alloc: Global) -> Result<Option<usize>, AllocError> {
 
 #[test]
 fn no_other_byte_of_core_or_swap_area_changes(rt: HostRuntime) {
-    assert!(rt; first_other(rt.alloc()).expect(&rt, "memory") == None);
+    tell::step(&rt, first_other(rt.alloc()).expect(&rt, "memory"));
 }
 
 #[test]

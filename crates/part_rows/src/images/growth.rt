@@ -4,6 +4,7 @@
 use crate::images::scenes::Step::{Ends, Forks, HasRoom, Loads, Makes, Resizes, Stands, Stores};
 use crate::images::scenes::{Scene, first_of, judge};
 use crate::images::table::Table;
+use crate::tell;
 use std::alloc::{AllocError, Global};
 use v6_base::Place::{Core, Swap};
 use v6_base::Trap::Segment;
@@ -274,9 +275,8 @@ fn has_limit(alloc: Global, core: u16, most: u16) -> Result<bool, AllocError> {
 
 #[test]
 fn images_have_a_limit(rt: HostRuntime) {
-    for (core, most) in &LIMITS {
-        let holds = has_limit(rt.alloc(), *core, *most).expect(&rt, "memory");
-        assert!(rt; holds, "core {core}");
+    for (n, row) in LIMITS.iter().enumerate() {
+        tell::row(&rt, n, has_limit(rt.alloc(), row.0, row.1));
     }
 }
 
@@ -291,5 +291,5 @@ fn is_allowed_to_the_limit(table: &mut Table) -> bool {
 #[test]
 fn sizes_up_to_the_limit_are_allowed(rt: HostRuntime) {
     let mut table = Table::new(rt.alloc(), 64).expect(&rt, "memory");
-    assert!(rt; is_allowed_to_the_limit(&mut table));
+    tell::plain(&rt, is_allowed_to_the_limit(&mut table));
 }

@@ -1,6 +1,7 @@
 //! The headers of programs: a.out(V) of the manual. A header is eight words, the low byte of each first: the magic
 //! number, the sizes of the text, of the data and of the bss, the size of the symbol table, the entry, a word without
 //! use, a flag.
+use crate::tell;
 use aout_head::ExecFault::{NotExecutable, Separate};
 use aout_head::{ExecFault, Plan, plan};
 
@@ -172,13 +173,13 @@ fn header_holds(row: Row) -> bool {
 #[test]
 fn headers_are_programs(rt: HostRuntime) {
     for (n, row) in PROGRAMS.iter().enumerate() {
-        assert!(rt; header_holds(*row), "row {n}");
+        tell::plain_row(&rt, n, header_holds(*row));
     }
 }
 
 #[test]
 fn headers_are_refused(rt: HostRuntime) {
     for (n, row) in REFUSED.iter().enumerate() {
-        assert!(rt; header_holds(*row), "row {n}");
+        tell::plain_row(&rt, n, header_holds(*row));
     }
 }

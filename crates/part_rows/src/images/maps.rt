@@ -1,6 +1,7 @@
 //! First fit over a map of what is free: `malloc` and `mfree` in Lions' Commentary, `malloc.c`. Units are clicks of core or
 //! blocks of the swap area.
 use crate::images::maps::Step::{Gives, Has, Scatters, Takes};
+use crate::tell;
 use map_fit::Holes;
 use std::process::Abort;
 
@@ -285,9 +286,7 @@ fn first_failure(map: &Map) -> Option<usize> {
 /// Tells the first step that does not hold.
 fn judge(rt: &impl Abort, maps: &[Map]) {
     for map in maps {
-        if let Some(k) = first_failure(map) {
-            panic!(rt; "{}: step {k}", map.name);
-        }
+        tell::step_of(rt, map.name, first_failure(map));
     }
 }
 

@@ -2,6 +2,7 @@
 ghost use Rattle.std.specs.Prelude.{◌≤◌};
 
 use crate::images::table::Table;
+use crate::tell;
 use pdp_step::Outcome;
 use std::alloc::{AllocError, Global};
 use std::process::Abort;
@@ -107,8 +108,7 @@ fn first_failure(alloc: Global, scene: &Scene) -> Result<Option<usize>, AllocErr
 /// Tells the first step of these scenes that does not hold.
 pub fn judge(rt: &impl Abort, alloc: Global, scenes: &[Scene]) {
     for scene in scenes {
-        if let Some(k) = first_failure(alloc, scene).expect(rt, "memory") {
-            panic!(rt; "{}: step {k}", scene.name);
-        }
+        let found = first_failure(alloc, scene).expect(rt, "memory");
+        tell::step_of(rt, scene.name, found);
     }
 }

@@ -1,4 +1,5 @@
 //! Which sizes memory management allows: `estabur` in Lions' Commentary.
+use crate::tell;
 use seg_regs::{Proto, TooBig};
 
 /// Clicks of text, of data and of stack, and the most that an image may have; and whether they are allowed. A segment is
@@ -39,6 +40,6 @@ fn size_holds(row: (u16, u16, u16, u16, bool)) -> bool {
 #[test]
 fn sizes_are_allowed_or_not(rt: HostRuntime) {
     for (n, row) in SIZES.iter().enumerate() {
-        assert!(rt; size_holds(*row), "row {n}");
+        tell::plain_row(&rt, n, size_holds(*row));
     }
 }

@@ -3,6 +3,7 @@ ghost use Rattle.text_tab.specs.Table.{IsUsed};
 
 use crate::images::texts::Ask::{Has, Is, Joins, Leaves, Loads, Stands, Unloads};
 use crate::images::texts::Step::{Attaches, Fills, HasNone, Of};
+use crate::tell;
 use std::process::Abort;
 use text_tab::Left::{Gone, Kept, Used};
 use text_tab::{Full, Left, TextId, TextRow, Texts};
@@ -246,9 +247,7 @@ fn first_failure(steps: &[Step]) -> Option<usize> {
 
 /// Tells the first step that does not hold.
 fn judge(rt: &impl Abort, steps: &[Step]) {
-    if let Some(k) = first_failure(steps) {
-        panic!(rt; "step {k}");
-    }
+    tell::step(rt, first_failure(steps));
 }
 
 #[test]

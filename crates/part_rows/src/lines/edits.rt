@@ -1,7 +1,7 @@
 //! Keys that are typed, and the line that they make.
 use super::Edit::{self, Keys, With};
 
-pub const EDITS: [Edit; 98] = [
+pub static EDITS: [Edit; 98] = [
     // What is typed is what is read, up to a new line or an end of transmission, which is no byte of the line.
     Keys(0o36, b"ab\n", b"ab\n"),
     Keys(0o36, b"ab\x04", b"ab"),

@@ -1,7 +1,7 @@
 //! Bytes that are written, and what a terminal shows.
 use super::Output::{self, After, First};
 
-pub const OUTPUTS: [Output; 75] = [
+pub static OUTPUTS: [Output; 75] = [
     First(0o36, b"", b""),
     First(0o36, b"hello, World\n", b"HELLO, WORLD\r\n"),
     First(0, b"hello, World\n", b"hello, World\n"),

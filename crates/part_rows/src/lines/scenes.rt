@@ -6,7 +6,7 @@ use super::Step::{
 };
 use tty_line::Keyed::{Flushed, Nothing, Ready, Signal};
 
-pub const KEYS: [Row; 4] = [
+pub static KEYS: [Row; 4] = [
     Row {
         name: "keys that edit a line",
         steps: &[
@@ -63,7 +63,7 @@ pub const KEYS: [Row; 4] = [
     },
 ];
 
-pub const ROOM: [Row; 7] = [
+pub static ROOM: [Row; 7] = [
     Row {
         name: "after 257 entries a key is lost, with them",
         steps: &[
@@ -142,7 +142,7 @@ pub const ROOM: [Row; 7] = [
     },
 ];
 
-pub const LINES: [Row; 5] = [
+pub static LINES: [Row; 5] = [
     Row {
         name: "253 keys and an end of transmission",
         steps: &[
@@ -207,7 +207,7 @@ pub const LINES: [Row; 5] = [
     },
 ];
 
-pub const PIECES: [Row; 5] = [
+pub static PIECES: [Row; 5] = [
     Row {
         name: "a backslash at the end of a line escapes nothing of the next",
         steps: &[
@@ -289,7 +289,7 @@ pub const PIECES: [Row; 5] = [
     },
 ];
 
-pub const FAULTS: [Row; 5] = [
+pub static FAULTS: [Row; 5] = [
     Row {
         name: "a read of no byte takes an empty line",
         steps: &[
@@ -364,7 +364,7 @@ pub const FAULTS: [Row; 5] = [
     },
 ];
 
-pub const MODES: [Row; 5] = [
+pub static MODES: [Row; 5] = [
     Row {
         name: "a raw terminal",
         steps: &[
@@ -456,7 +456,7 @@ pub const MODES: [Row; 5] = [
     },
 ];
 
-pub const SHOWN: [Row; 5] = [
+pub static SHOWN: [Row; 5] = [
     Row {
         name: "a second open keeps what was typed",
         steps: &[
@@ -545,7 +545,7 @@ pub const SHOWN: [Row; 5] = [
     },
 ];
 
-pub const COLUMNS: [Row; 4] = [
+pub static COLUMNS: [Row; 4] = [
     Row {
         name: "a tab that goes out as one",
         steps: &[

@@ -1,4 +1,5 @@
 //! Bytes that are no line.
+use crate::tell;
 use log_text::parse;
 use std::process::Abort;
 
@@ -65,7 +66,12 @@ wake run
 wake runinn
 wake runi
 wake key
-wake keys.1
+wake keys.
+wake keys.01
+wake keys.x
+wake shows
+wake show.
+wake show.-1
 wake tout.0
 wake wait
 wake wait.
@@ -87,6 +93,11 @@ wake write.-0
 wake .1
 wake 1
 wake wait.256
+wake disk
+wake disk.
+wake disk.01
+wake disk.256
+sleep 1 -50 disk.00
 sleep 1 40 wait.00
 sleep 1 1 reads.1
 ";
@@ -295,7 +306,7 @@ static FEEDS: [&[u8]; 6] = [
 /// Tells the first row of a text that is a line. A row that begins with `#` says something of those below it.
 fn judge(rt: &impl Abort, rows: &[u8]) {
     for (k, row) in rows.split(|byte| *byte == b'\n').enumerate() {
-        assert!(rt; row.starts_with(b"#") || parse(row).is_none(), "row {k}");
+        tell::plain_row(rt, k, row.starts_with(b"#") || parse(row).is_none());
     }
 }
 
@@ -317,6 +328,6 @@ fn other_numbers_are_no_line(rt: HostRuntime) {
 #[test]
 fn line_feeds_are_in_no_line(rt: HostRuntime) {
     for (k, row) in FEEDS.iter().enumerate() {
-        assert!(rt; parse(row).is_none(), "row {k}");
+        tell::plain_row(&rt, k, parse(row).is_none());
     }
 }

@@ -1,4 +1,5 @@
 //! Numbers outside their ranges.
+use crate::tell;
 use log_text::{line, parse};
 use v6_base::Chan::{Disk, Keys, KeysOf, Read, ShowOf, Wait, Write};
 use v6_base::Entry::{
@@ -250,7 +251,7 @@ fn holds(bytes: &[u8], entry: &Entry) -> bool {
 
 #[test]
 fn numbers_have_their_ranges(rt: HostRuntime) {
-    for (i, (bytes, entry)) in OUTSIDE.iter().enumerate() {
-        assert!(rt; holds(bytes, entry), "row {i}");
+    for (i, row) in OUTSIDE.iter().enumerate() {
+        tell::plain_row(&rt, i, holds(row.0, &row.1));
     }
 }

@@ -3,7 +3,7 @@ use super::Scene;
 use super::Step::{Adopts, At, Clears, ClearsAll, Ends, Fills, Forks, Has, Is, Passes, Used};
 use proc_tab::Child::{Dead, Living, NoChild};
 
-pub const SLOTS: [Scene; 3] = [
+pub static SLOTS: [Scene; 3] = [
     Scene {
         name: "process 1 is alone",
         steps: &[
@@ -55,7 +55,7 @@ pub const SLOTS: [Scene; 3] = [
     },
 ];
 
-pub const PIDS: [Scene; 4] = [
+pub static PIDS: [Scene; 4] = [
     Scene {
         name: "a pid that was given back is not given at once",
         steps: &[
@@ -109,7 +109,7 @@ pub const PIDS: [Scene; 4] = [
     },
 ];
 
-pub const CHILDREN: [Scene; 6] = [
+pub static CHILDREN: [Scene; 6] = [
     Scene {
         name: "the lowest that has ended is told",
         steps: &[
@@ -183,7 +183,7 @@ pub const CHILDREN: [Scene; 6] = [
     },
 ];
 
-pub const ADOPTIONS: [Scene; 2] = [
+pub static ADOPTIONS: [Scene; 2] = [
     Scene {
         name: "children of one who ends are process 1's, dead ones too",
         steps: &[

@@ -1,8 +1,8 @@
 //! Signals that come to their process, whose stack has grown already, where it could.
 use crate::signals::AREA;
+use crate::tell;
 use sig_core::{Delivered, deliver};
 use std::alloc::{AllocError, Global};
-use std::process::Abort;
 use v6_base::{Space, Whole};
 
 /// Two clicks of data, each byte 0125: the addresses 0 to 0177.
@@ -99,10 +99,7 @@ fn is_caught(alloc: Global, caught: &Caught) -> Result<bool, AllocError> {
 #[test]
 fn a_routine_goes_on_below_what_was_pushed(rt: HostRuntime) {
     for (k, caught) in CAUGHT.iter().enumerate() {
-        assert!(rt;
-            is_caught(rt.alloc(), caught).expect(&rt, "memory"),
-            "row {k}"
-        );
+        tell::row(&rt, k, is_caught(rt.alloc(), caught));
     }
 }
 
@@ -122,7 +119,7 @@ fn leaves_text(alloc: Global) -> Result<bool, AllocError> {
 
 #[test]
 fn nothing_is_pushed_into_a_text(rt: HostRuntime) {
-    assert!(rt; leaves_text(rt.alloc()).expect(&rt, "memory"));
+    tell::all(&rt, leaves_text(rt.alloc()));
 }
 
 /// Whether each signal from 1 to 19 leaves the file `core` where it ends its process.
@@ -167,6 +164,6 @@ fn is_ended(alloc: Global, ends: &(u8, bool)) -> Result<bool, AllocError> {
 #[test]
 fn by_default_a_process_ends(rt: HostRuntime) {
     for (k, ends) in ENDS.iter().enumerate() {
-        assert!(rt; is_ended(rt.alloc(), ends).expect(&rt, "memory"), "row {k}");
+        tell::row(&rt, k, is_ended(rt.alloc(), ends));
     }
 }

@@ -1,8 +1,8 @@
 //! Signals that are sent to a process, and wait for it.
 use crate::signals::AREA;
+use crate::tell;
 use proc_tab::Row;
 use sig_core::{due, post};
-use std::process::Abort;
 
 const PROCESS: Row = Row {
     pid: 7,
@@ -51,7 +51,7 @@ fn is_sent(sent: &Sent) -> bool {
 #[test]
 fn a_signal_takes_the_place_of_the_one_that_waits(rt: HostRuntime) {
     for (k, sent) in SENT.iter().enumerate() {
-        assert!(rt; is_sent(sent), "row {k}");
+        tell::plain_row(&rt, k, is_sent(sent));
     }
 }
 
@@ -98,6 +98,6 @@ fn is_due(waits: &Due) -> bool {
 #[test]
 fn a_signal_is_due_unless_it_is_ignored(rt: HostRuntime) {
     for (k, waits) in DUE.iter().enumerate() {
-        assert!(rt; is_due(waits), "row {k}");
+        tell::plain_row(&rt, k, is_due(waits));
     }
 }

@@ -1,6 +1,7 @@
 //! Priorities, and who runs next: `setpri` and `swtch` of Lions' Commentary.
 use super::Step::{Pick, Setpri};
 use super::{FOR_WORK, Numbers, OUT, READY, START, Slots, WOKEN, leaves};
+use crate::tell;
 use pick_rules::Stat::{Sleeping, Waiting, Zombie};
 use pick_rules::TableRow;
 use v6_base::Slot;
@@ -45,7 +46,7 @@ fn priority_holds(row: (i8, u8, i8, i8, bool)) -> bool {
 #[test]
 fn priorities_are_by_nice_and_cpu(rt: HostRuntime) {
     for (n, row) in PRIORITIES.iter().enumerate() {
-        assert!(rt; priority_holds(*row), "row {n}");
+        tell::plain_row(&rt, n, priority_holds(*row));
     }
 }
 
@@ -174,6 +175,6 @@ fn choice_holds(row: (Slot, Slots, Option<(Slot, i8)>)) -> bool {
 #[test]
 fn the_first_of_the_least_is_chosen(rt: HostRuntime) {
     for (n, row) in CHOICES.iter().enumerate() {
-        assert!(rt; choice_holds(*row), "row {n}");
+        tell::plain_row(&rt, n, choice_holds(*row));
     }
 }

@@ -1,6 +1,7 @@
 //! Ticks and seconds: `clock` of Lions' Commentary.
 use super::Step::Tick;
 use super::{EMPTY, FOR_CORE, FOR_WORK, Numbers, READY, Row, START, WOKEN, judge, leaves};
+use crate::tell;
 use pick_rules::Stat::{Ready, Sleeping, Waiting, Zombie};
 use pick_rules::{Mode, Second, TableRow};
 use v6_base::Slot;
@@ -110,7 +111,7 @@ fn charge_holds(row: Charged) -> bool {
 #[test]
 fn ticks_are_charged(rt: HostRuntime) {
     for (n, row) in CHARGES.iter().enumerate() {
-        assert!(rt; charge_holds(*row), "row {n}");
+        tell::plain_row(&rt, n, charge_holds(*row));
     }
 }
 
@@ -177,7 +178,7 @@ fn age_holds(row: Aged) -> bool {
 #[test]
 fn slots_age(rt: HostRuntime) {
     for (n, row) in AGES.iter().enumerate() {
-        assert!(rt; age_holds(*row), "row {n}");
+        tell::plain_row(&rt, n, age_holds(*row));
     }
 }
 
@@ -319,6 +320,6 @@ fn second_holds(row: (u32, u32, bool, u32, Second, bool)) -> bool {
 #[test]
 fn seconds_count_and_tell_of_sleepers(rt: HostRuntime) {
     for (n, row) in SECONDS.iter().enumerate() {
-        assert!(rt; second_holds(*row), "row {n}");
+        tell::plain_row(&rt, n, second_holds(*row));
     }
 }

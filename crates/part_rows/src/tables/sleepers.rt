@@ -1,6 +1,7 @@
 //! Sleeping and waking: `sleep`, `wakeup` and `setrun` of Lions' Commentary.
 use super::Step::{Setrun, Sleep, Wakeup};
 use super::{FOR_CORE, FOR_WORK, IN, Numbers, OUT, READY, Row, START, WOKEN, judge, leaves};
+use crate::tell;
 use pick_rules::Stat::{Ready, Sleeping, Waiting};
 use pick_rules::{Stat, TableRow};
 use v6_base::{Chan, Place};
@@ -62,7 +63,7 @@ fn readied_holds(row: Readied) -> bool {
 #[test]
 fn slots_become_ready(rt: HostRuntime) {
     for (n, row) in READIED.iter().enumerate() {
-        assert!(rt; readied_holds(*row), "row {n}");
+        tell::plain_row(&rt, n, readied_holds(*row));
     }
 }
 
@@ -108,7 +109,7 @@ fn slept_holds(row: Slept) -> bool {
 #[test]
 fn slots_fall_asleep(rt: HostRuntime) {
     for (n, row) in SLEPT.iter().enumerate() {
-        assert!(rt; slept_holds(*row), "row {n}");
+        tell::plain_row(&rt, n, slept_holds(*row));
     }
 }
 
@@ -154,7 +155,7 @@ fn channel_holds(row: (Chan, Chan, bool)) -> bool {
 #[test]
 fn channels_are_told_apart(rt: HostRuntime) {
     for (n, row) in CHANNELS.iter().enumerate() {
-        assert!(rt; channel_holds(*row), "row {n}");
+        tell::plain_row(&rt, n, channel_holds(*row));
     }
 }
 

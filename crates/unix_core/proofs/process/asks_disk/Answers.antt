@@ -1,4 +1,4 @@
-use Rattle.std.proofs.Common.{◌≡◌, ◌∙◌, ◌&&◌, sym, ap}
+use Rattle.std.proofs.Common.{◌∙◌, ◌&&◌, sym, ap}
 use Rattle.sys_files.specs.Handed.{r0}
 use Rattle.sys_files.specs.Descriptors.{open_entry}
 use Rattle.abstract_unix.specs.declared.calls.FileCall.{FileCall}

@@ -1,4 +1,4 @@
-use Rattle.std.proofs.Common.{◌≡◌, ◌∙◌, ◌&&◌, not, sym, ap}
+use Rattle.std.proofs.Common.{◌∙◌, ◌&&◌, not, sym, ap}
 use Rattle.sys_files.specs.Handed.{Handed, r0}
 use Rattle.sys_files.specs.Descriptors.{open_entry}
 use Rattle.abstract_unix.specs.Calls.{is_of_disk}

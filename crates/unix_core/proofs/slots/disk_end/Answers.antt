@@ -1,4 +1,4 @@
-use Rattle.std.proofs.Common.{◌≡◌, ◌∙◌, sym, ap}
+use Rattle.std.proofs.Common.{◌∙◌, sym, ap}
 use Rattle.sys_procs.specs.Agree.{kind_of_stat}
 use Rattle.unix_core.proofs.DiskWakes.{living_image, other_waits, no_wait, some_wait}
 use Rattle.unix_core.proofs.slots.disk_end.Goals as goal

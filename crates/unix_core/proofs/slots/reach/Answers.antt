@@ -1,4 +1,4 @@
-use Rattle.std.proofs.Common.{◌≡◌, ◌∙◌, ◌==◌, map, not, length, ap, subst, arith}
+use Rattle.std.proofs.Common.{◌∙◌, ◌==◌, map, not, length, ap, subst}
 use Rattle.v6_base.specs.Trace.{Took}
 use Rattle.pick_rules.specs.Effects.{Show}
 use Rattle.pick_rules.specs.Logged.{logged}

@@ -1,4 +1,4 @@
-use Rattle.std.proofs.Common.{◌≡◌, ◌∙◌, ◌==◌, sym, ap, subst, arith}
+use Rattle.std.proofs.Common.{◌≡◌, sym, ap, subst, arith}
 use Rattle.sys_procs.specs.declared.procs.Procs.{Procs}
 use Rattle.unix_core.specs.Slots.{processes_of, NoneInGraves}
 use Rattle.unix_core.proofs.DiskWakes.{IsWoken, kernel_none, woken_first, woken_next, all_due}

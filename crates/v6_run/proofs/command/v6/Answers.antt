@@ -9,6 +9,7 @@ use Rattle.v6_run.specs.Headline.{reports_done, done_line}
 use Rattle.v6_run.specs.Answers.{AnswersWords}
 use Rattle.v6_run.proofs.CommandLemmas as command
 use Rattle.abstract_unix.proofs.Lawfully.{logs_are_lawful}
+use Rattle.v6_run.proofs.OneWay.{audits_end_in_one_way}
 use Rattle.v6_run.proofs.command.v6.Goals as goal
 
 pub report-requires : goal.report-requires
@@ -164,6 +165,9 @@ returns-clause-report_front g c =
     let line = subst (λ l. IfOk answer (λ t. Tells old → done_line (command_in l) old.fixed ≡ told_line t)) c.as_slice.ensures.value c.answer-answer.ensures.line in
     λ told. command.report_front (command_in items) answer c.report.result old middle new answers c.report.ensures found
     (done_line (command_in items) old.fixed) told (command.line_where_told (Tells old) answer (done_line (command_in items) old.fixed) told line)
+
+pub returns-clause-audited : goal.returns-clause-audited
+returns-clause-audited g c = audits_end_in_one_way
 
 pub returns-clause-lawful : goal.returns-clause-lawful
 returns-clause-lawful g c = logs_are_lawful

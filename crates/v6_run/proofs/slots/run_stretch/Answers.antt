@@ -1,4 +1,4 @@
-use Rattle.std.proofs.Common.{◌≡◌, ◌∙◌, [], ◌∷◌, if◌then◌else◌, replicate, refl, sym, ap}
+use Rattle.std.proofs.Common.{◌∙◌, [], ◌∷◌, if◌then◌else◌, replicate, refl, sym, ap}
 use Rattle.std.proofs.lemmas.List.{append-nil}
 use Rattle.fs_laws.proofs.RestLemmas.{rest_then}
 use Rattle.abstract_unix.specs.declared.ends.Ends.TheVariants.{AtEnd}

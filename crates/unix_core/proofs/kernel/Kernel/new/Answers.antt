@@ -24,7 +24,6 @@ returns-clause-system c =
     (subst (λ (p : Procs). IsTable p.table) (sym made.others) c.new-5.ensures.good)
     (made.kept ∙ ap (λ (k : Kept). with_keeping k 1 (Alive first_held)) c.requires.images) (ap (λ (p : Procs). p.switches) made.others)
     (ap (λ t. t.entry_room) c.requires.tape) (ap (λ t. t.byte_room) c.requires.tape) refl
-    (λ i. record { passed = c.new-6.ensures.passed i; disk = c.new-6.ensures.disk i }) c.new-6.ensures.within c.new-6.ensures.due
     (λ i. record { passed = c.new-6.ensures.passed i; disk = c.new-6.ensures.disk i })
 
 pub returns-clause-blocks : goal.returns-clause-blocks
@@ -49,3 +48,4 @@ invariant_of-result c =
     (subst (λ (p : Procs). IsTable p.table) (sym made.others) c.new-5.ensures.good)
     (made.kept ∙ ap (λ (k : Kept). with_keeping k 1 (Alive first_held)) c.requires.images) (ap (λ (p : Procs). p.switches) made.others)
     (ap (λ t. t.entry_room) c.requires.tape) (ap (λ t. t.byte_room) c.requires.tape) refl
+    (λ i. record { passed = c.new-6.ensures.passed i; disk = c.new-6.ensures.disk i }) c.new-6.ensures.within c.new-6.ensures.due

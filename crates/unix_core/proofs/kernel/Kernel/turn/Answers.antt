@@ -1,4 +1,6 @@
 use Rattle.std.proofs.Common.{◌≡◌, ◌∙◌, sym, ap, subst}
+use Rattle.v6_base.specs.Trace.{Took}
+use Rattle.abstract_unix.specs.Runs.{Slot, event_of}
 use Rattle.fs_laws.specs.Rest.{SameAround}
 use Rattle.fs_laws.proofs.RestLemmas.{rest_stays}
 use Rattle.unix_core.specs.State.{KernelState}
@@ -186,3 +188,25 @@ returns-in_default-clause-texts g c =
     let m = c.self.inside.machine in
     taken_texts m.stage m.world c.self.invariant c.see_kept.ensures c.args.self.now c.self.view_is c.requires.started
     c.other_slot.new.self.stage c.other_slot.new.self.world c.other_slot.ensures.takes
+
+pub returns-in_default-clause-answer : goal.returns-in_default-clause-answer
+returns-in_default-clause-answer g c =
+    let m = c.self.inside.machine in
+    taken_answer m.stage m.world c.self.invariant c.see_kept.ensures c.args.self.now c.self.view_is c.requires.started c.other_slot.result c.other_slot.ensures.answer
+
+pub returns-in_default-clause-phase : goal.returns-in_default-clause-phase
+returns-in_default-clause-phase g c =
+    let m = c.self.inside.machine in
+    taken_phase m.stage m.world c.self.invariant c.see_kept.ensures c.args.self.now c.self.view_is c.requires.started
+    c.other_slot.new.self.stage c.other_slot.new.self.world c.other_slot.ensures.takes
+
+pub returns-in_default-clause-next : goal.returns-in_default-clause-next
+returns-in_default-clause-next g c =
+    let m = c.self.inside.machine in
+    taken_next m.stage m.world c.self.invariant c.see_kept.ensures c.args.self.now c.self.view_is c.requires.started
+    c.other_slot.new.self.stage c.other_slot.new.self.world c.other_slot.ensures.takes
+
+pub returns-in_default-clause-items : goal.returns-in_default-clause-items
+returns-in_default-clause-items g c =
+    subst (λ (v : KernelState). Took (g.T.Trace.taken c.args.trace.now) (event_of Slot v.system).items (g.T.Trace.taken c.other_slot.new.trace))
+    c.self.view_is c.other_slot.ensures.items

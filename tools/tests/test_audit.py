@@ -1,0 +1,170 @@
+"""v6 audit over what no row can hold: every line at the edges of its numbers, odd bytes, and files that are none. The answers are
+those of docs/manual/log.md and docs/manual/audit.md, worked by hand."""
+import os
+import shlex
+import subprocess
+import threading
+import time
+import unittest
+
+from common import V6, Case
+
+LAWFUL, READ_FAULT, WRITE_FAULT, UNLAWFUL, BAD = 0, 2, 3, 9, 10
+BEGINS = b"boot 1200 0\nsleep 0 -100 runout\ngo 1\n"  # slot 1 can run, so that `idle` doesn't fit
+ENDED = b"boot 64 0\nsleep 0 -100 runout\ngo 1\nexit 1 swap 4000\nidle\nend"
+# of each number of a line: a value in its range, the least and the most
+NUMBERS = {"S": (1, 0, 49), "K": (3, 0, 39), "C": (1, 0, 65535), "N": (37, 0, 65535), "B": (4000, 4000, 4871), "I": (9, 1, 65535),
+           "P": (40, -128, 127), "X": (2, 1, 19), "TIME": (7, 0, 4294967295)}
+LINES = """boot {C} {TIME}
+go {S}
+trap {S}
+sleep {S} {P} tout
+sleep {S} {P} wait.{S}
+sleep {S} {P} read.{I}
+wake wait.{S}
+wake write.{I}
+signal {S} {X}
+nice {S} {P}
+time {TIME}
+size {S} {N} at {C}
+size {S} {N} swap {B}
+size {S} {N} keep
+fork {S} {S} at {C}
+fork {S} {S} swap {B}
+drop {S} {K} plain
+drop {S} {K} sticky
+bare {S}
+text {S} {K} {N} swap {B}
+share {S} {K}
+image {S} {N} at {C}
+image {S} {N} swap {B}
+in {S} {C}
+out {S} {B}
+exit {S} swap {B}
+reap {S}"""
+
+
+def spelt(form, at, text):
+    """A line with this text for its number at a place, and numbers in their ranges elsewhere."""
+    parts = form.split("{")
+    return parts[0] + "".join((text if place == at else str(NUMBERS[name][0])) + rest
+                              for place, (name, rest) in enumerate(part.split("}") for part in parts[1:]))
+
+
+def numbers_of(form):
+    return [part.split("}")[0] for part in form.split("{")[1:]]
+
+
+class Audit(Case):
+    def audited(self, name, **more):
+        done = subprocess.run([*shlex.split(V6), "audit", name], stdout=subprocess.PIPE, **more)
+        return done.returncode, done.stdout.decode()
+
+    def told(self, data):
+        return self.audited(self.put("log", data))
+
+    def is_line(self, line):
+        """Whether the auditor says of a third line that it is one of a log; that it fits is no matter."""
+        status, said = self.told(b"boot 1200 0\nsleep 0 -100 runout\n" + line + b"\ngo 1\nend\n")
+        self.assertIn(status, (LAWFUL, UNLAWFUL, BAD))
+        if status == BAD:
+            self.assertEqual(said, "log: line 3 is no log line\n")
+        else:
+            self.assertNotIn("no log line", said)
+        return status != BAD
+
+    def test_numbers_at_their_edges(self):
+        for form in LINES.split("\n"):
+            for at, name in enumerate(numbers_of(form)):
+                _, least, most = NUMBERS[name]
+                for number in (least, most):
+                    self.assertTrue(self.is_line(spelt(form, at, str(number)).encode()), (form, at, number))
+                for number in (least - 1, most + 1, most + 2**16, most + 2**32, most + 2**64):
+                    self.assertFalse(self.is_line(spelt(form, at, str(number)).encode()), (form, at, number))
+
+    def test_numbers_as_none_are_written(self):
+        for form in LINES.split("\n"):
+            for at, name in enumerate(numbers_of(form)):
+                good = str(NUMBERS[name][0])
+                for text in ("0" + good, "+" + good, "-0", "", "0x1", good + "a", " " + good, good + " ", "1.", "--1"):
+                    self.assertFalse(self.is_line(spelt(form, at, text).encode()), (form, at, text))
+
+    def test_words(self):
+        for line in (b"idle", b"tick u", b"tick k", b"tick i", b"wake keys", b"wake tout", b"wake runin", b"panic swap",
+                     b"panic zombie", b"panic text", b"end"):
+            self.assertTrue(self.is_line(line), line)
+            for spoiled in (line + b"\r", line + b" ", b" " + line, line + b"\t", line.upper(), line + b"\0", line[:-1], line + b"x",
+                            line.replace(b" ", b"  ") if b" " in line else line + line, line.replace(b"i", b"\xed", 1) + b"\x80"):
+                self.assertFalse(self.is_line(spoiled), spoiled)
+        for line in (b"", b"\0", b"\t", b"\r", b"\xff", b"walk 1", b"wake wait", b"wake wait.", b"tick x", b"panic core", b"go", b"end 1"):
+            self.assertFalse(self.is_line(line), line)
+
+    def test_how_long_a_line_may_be(self):
+        for count in (79, 80, 81, 82, 4095, 4096, 4097, 100_000):
+            self.assertEqual(self.told(BEGINS + b"x" * count + b"\nend\n"), (BAD, "log: line 4 is no log line\n"))
+            self.assertEqual(self.told(BEGINS + b"x" * count), (BAD, "log: line 4 is no log line\n"))
+        # a line of 81 bytes without an end is seen before the file's end is: who wrote it need not close it
+        read, write = os.pipe()
+        os.write(write, BEGINS + b"x" * 81)
+        self.assertEqual(self.audited("/dev/stdin", stdin=read, timeout=60)[0], BAD)
+        os.close(read)
+        os.close(write)
+
+    def test_the_last_line(self):
+        lawful = ENDED
+        for end in (b"", b"\n"):
+            self.assertEqual(self.told(lawful + end), (LAWFUL, "lawful: 6 lines\n"))
+        for end in (b"\n\n", b"\r\n", b"\n\0", b"\n\n\n"):
+            line = 6 if end.startswith(b"\r") else 7
+            self.assertEqual(self.told(lawful + end), (BAD, f"log: line {line} is no log line\n"))
+        for end in (b"\nend", b"\nidle\n", b"\nboot 64 0\n", b"\n" + lawful):
+            self.assertEqual(self.told(lawful + end), (UNLAWFUL, "log: line 7 is not lawful\n"))
+        # in the middle of a line, and of a number
+        self.assertEqual(self.told(lawful[:-1]), (BAD, "log: line 6 is no log line\n"))
+        self.assertEqual(self.told(lawful[: lawful.index(b"00\nidle")]), (BAD, "log: line 4 is no log line\n"))
+        self.assertEqual(self.told(lawful[: lawful.index(b"\nidle")]), (UNLAWFUL, "log: line 5 is not lawful\n"))
+        self.assertEqual(self.told(b""), (UNLAWFUL, "log: line 1 is not lawful\n"))
+        self.assertEqual(self.told(b"\n"), (BAD, "log: line 1 is no log line\n"))
+
+    def test_a_byte_a_call(self):
+        """The answer isn't another where a pipe gives one byte at a time."""
+        for data, answer in ((ENDED + b"\n", (LAWFUL, "lawful: 6 lines\n")),
+                             (BEGINS + b"idle\n", (UNLAWFUL, "log: line 4 is not lawful\n"))):
+            read, write = os.pipe()
+
+            def give():
+                for byte in data:
+                    os.write(write, bytes([byte]))
+                    time.sleep(0.001)
+                os.close(write)
+
+            giver = threading.Thread(target=give)
+            giver.start()
+            self.assertEqual(self.audited("/dev/stdin", stdin=read), answer)
+            giver.join()
+            os.close(read)
+
+    def test_where_lines_cross_the_pieces_that_are_read(self):
+        """Of a long log each line is judged whole, wherever 4,096 bytes end."""
+        for more in range(12):
+            lines = [b"wake keys"] * 900 + [b"wake wait.%d" % (slot % 10 if slot < more else 10 + slot % 40) for slot in range(200)]
+            data = BEGINS + b"".join(line + b"\n" for line in lines)
+            self.assertGreater(len(data), 2 * 4096)
+            self.assertEqual(self.told(data + b"idle\n"), (UNLAWFUL, f"log: line {4 + len(lines)} is not lawful\n"))
+
+    def test_files_that_are_none(self):
+        self.assertEqual(self.audited(self.folder), (READ_FAULT, "read fault: log\n"))
+        self.assertEqual(self.audited(self.path("none")), (READ_FAULT, "read fault: log\n"))
+        self.assertEqual(self.audited("/dev/zero"), (BAD, "log: line 1 is no log line\n"))
+        self.assertEqual(self.audited("/dev/null"), (UNLAWFUL, "log: line 1 is not lawful\n"))
+
+    def test_a_report_that_fails(self):
+        """It is a write fault where the audit was done, and else the status stays."""
+        lawful = self.put("lawful", ENDED)
+        for name, wanted in ((lawful, WRITE_FAULT), (self.put("cut", BEGINS), UNLAWFUL), ("/dev/zero", BAD)):
+            with open("/dev/full", "wb") as full:
+                self.assertEqual(subprocess.run([*shlex.split(V6), "audit", name], stdout=full).returncode, wanted)
+
+
+if __name__ == "__main__":
+    unittest.main()
