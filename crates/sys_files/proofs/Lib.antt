@@ -37,6 +37,7 @@ pub mod Lengths
 pub mod PipedLemmas
 pub mod PipeKeptLemmas
 pub mod NodeCounts
+pub mod WalkSteps
 pub mod Walks
 pub mod Counting
 pub mod Steady

@@ -1,5 +1,5 @@
 -- The terminal lines that there are.
-use Rattle.std.proofs.Common.{◌≡◌, ◌≢◌, ◌<◌, ◌+◌, ◌&&◌, ◌||◌, ◌∙◌, ℕ, Bool, true, false, not, cond, Option, Some, None, Result, Ok, Err, is_some, unwrap_or, length, nat_lt, refl, sym, ap, subst}
+use Rattle.std.proofs.Common.{◌≡◌, ◌≢◌, ◌<◌, ◌+◌, ◌&&◌, ◌||◌, ◌∙◌, ℕ, Bool, true, false, not, cond, Option, Some, None, Ok, Err, is_some, unwrap_or, length, nat_lt, refl, sym, ap, subst}
 use Rattle.std.proofs.lemmas.Bool.{ltb-true, eq-eqb, ne_eqb}
 use Rattle.v6_base.specs.declared.errno.Errno.TheVariants.{ENOTTY, ENODEV}
 use Rattle.fs_codec.specs.Modes.{is_device, is_character_device}

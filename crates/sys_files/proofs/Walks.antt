@@ -1,11 +1,11 @@
 -- One walk over the rows of calls on files, for each fact that says what stays, what is shown, and which numbers, entries and
 -- pipes a step changes.
-use Rattle.std.proofs.Common.{◌≡◌, ◌≢◌, ◌<◌, ◌≤◌, ◌∙◌, ◌+◌, ◌-◌, ◌/◌, ◌%◌, ◌^◌, ◌==◌, ◌&&◌, ◌||◌, ℕ, Bool, true, false, not, nat_lt, cond, List, [], ◌∷◌, append-nil, length, take, slice_index, slice_set, pos, is_some, unwrap_or, IfSome, Option, Some, None, Result, Ok, Err, if◌then◌else◌, refl, sym, ap, subst, inl, inr, arith, ◌++◌, map, length-append, fold}
-use Rattle.std.proofs.lemmas.Bool.{eqb-false, eq-eqb}
+use Rattle.std.proofs.Common.{◌≡◌, ◌≢◌, ◌<◌, ◌≤◌, ◌∙◌, ◌+◌, ◌-◌, ◌/◌, ◌%◌, ◌^◌, ◌==◌, ◌&&◌, ◌||◌, ℕ, Bool, true, false, not, nat_lt, cond, List, [], ◌∷◌, append-nil, length, take, slice_index, slice_set, is_some, IfSome, Option, Some, None, Result, Ok, Err, refl, sym, ap, subst, inl, inr, arith, ◌++◌, map, length-append, fold}
+use Rattle.std.proofs.lemmas.Bool.{eqb-false}
 use Rattle.v6_base.specs.Image.{Image}
 use Rattle.v6_base.specs.Trace.{Log, sent, Item}
 use Rattle.v6_base.specs.Copy.{store_bytes}
-use Rattle.v6_base.specs.declared.answer.Answer.TheVariants.{Ret, Sleep}
+use Rattle.v6_base.specs.declared.answer.Answer.TheVariants.{Ret}
 use Rattle.v6_base.specs.declared.entry.Chan.{Chan}
 use Rattle.v6_base.specs.declared.entry.Chan.TheVariants as chan
 use Rattle.v6_base.specs.declared.entry.Entry.TheVariants.{Wake, Signal}
@@ -24,23 +24,22 @@ use Rattle.fs_tree.specs.declared.made.Made.{Made}
 use Rattle.fs_tree.specs.declared.made.Made.TheVariants as made
 use Rattle.fs_tree.specs.declared.user.Want.TheVariants.{Write, Execute}
 use Rattle.fs_tree.specs.Name.{name_at, readable}
-use Rattle.fs_tree.specs.Finding.{Inodes, Finding, with_reference, remove_in}
+use Rattle.fs_tree.specs.Finding.{Finding, with_reference, remove_in}
 use Rattle.fs_tree.specs.Permission.{permission, access}
 use Rattle.open_files.specs.declared.file.OpenFile.{OpenFile}
 use Rattle.open_files.specs.declared.file.FileKind.{FileKind}
 use Rattle.open_files.specs.declared.file.Closed.{Closed}
 use Rattle.open_files.specs.declared.file.Closed.TheVariants.{Still, Last}
 use Rattle.open_files.specs.Files as files
-use Rattle.open_files.specs.Files.{entry_of, free_number, free_entry, with_change, with_more, with_fewer, with_offset, times}
+use Rattle.open_files.specs.Files.{entry_of, free_number, free_entry, with_change, with_more, with_offset, times}
 use Rattle.tty_line.specs.Terminal as terminal
 use Rattle.tty_line.specs.Terminal.{Terminal}
 use Rattle.tty_line.specs.declared.line.Took.{Took}
 use Rattle.tty_line.specs.declared.line.Took.TheVariants.{Done, Wait, Fault}
 use Rattle.tty_line.specs.Said as said
 use Rattle.tty_line.specs.Said.{holds, with_modes}
-use Rattle.tty_line.specs.Output.{shows, after_shown, written}
+use Rattle.tty_line.specs.Output.{after_shown, written}
 use Rattle.tty_line.proofs.OutputLemmas.{written_few, room_written}
-use Rattle.lines_eight.specs.Lines.{HasRoom}
 use Rattle.lines_eight.specs.Told.{keys_of, show_of, wakes_if}
 use Rattle.lines_eight.proofs.LinesLemmas.{room_opened, room_read}
 use Rattle.tty_line.specs.Reading.{Reading}
@@ -50,14 +49,14 @@ use Rattle.pipe_ends.specs.declared.ends.Piped.{Piped}
 use Rattle.pipe_ends.specs.declared.ends.Piped.TheVariants as piped
 use Rattle.pipe_ends.specs.Reads.{PipeRead}
 use Rattle.pipe_ends.specs.Writes.{PipeWrite}
-use Rattle.sys_files.specs.Handed.{Handed, no_file, r0, r1, node_at, file_of, user_of, line_of, line_at, with_line, with_inodes, with_store, with_changed, with_number, let_go}
+use Rattle.sys_files.specs.Handed.{Handed, r0, r1, node_at, file_of, user_of, line_of, line_at, with_line, with_inodes, with_store, with_changed, with_number, let_go}
 use Rattle.sys_files.specs.Did.{Did, fails, returns, is_done, check, must, need, unless_due, until_end, then_named, finds, by_made, makes}
 use Rattle.sys_files.specs.Descriptors.{open_entry, dup_file, is_line_open, closes_line, without_marks, with_roused, pipe_roused, with_gone, released, told_by, dropped, closes, close_file, Closing, then_closes, close_all}
 use Rattle.sys_files.specs.Opening.{last_failure, open_tests, can_open, with_tty, lines_opened, with_opened, opens, opens_named, open_file}
 use Rattle.sys_files.specs.Making.{new_in, entry_written, writes_entry, with_links, enters_new, makes_node, opens_for_writing, with_no_blocks, opens_again, makes_file, creat_file, with_device, is_super_user, makes_any, mknod_at, may_link, enters_again, links_to, link_file, empties, removes, unlink_file}
 use Rattle.sys_files.specs.Moving.{with_moved, gives_count, read_of, with_read, line_read, with_line_read, takes_line, reads_line, reads_by, reads_from, read_file_of, without_pending, line_kept, resumes, writes_line, writes_by, write_of, writes_to, write_file_of, seek_to}
 use Rattle.sys_files.specs.Pipes.{pipe_of, with_pipe, without_pipe, has_end}
-use Rattle.sys_files.specs.Piping.{reading_end, with_end, with_ends, opens_ends, pipe_new, after, words_of, pipe_at, ends_at, pipe_read, with_pipe_read, ends_read, reads_pipe, pipe_write, with_pipe_write, ends_write, writes_pipe, waits_in_pipe, breaks}
+use Rattle.sys_files.specs.Piping.{reading_end, with_end, opens_ends, pipe_new, after, words_of, pipe_at, ends_at, pipe_read, with_pipe_read, ends_read, reads_pipe, pipe_write, with_pipe_write, ends_write, writes_pipe, waits_in_pipe, breaks}
 use Rattle.sys_files.specs.Modes.{terminal_line, of_terminal, words_at, sets_modes, stty_set, tells_modes, gtty_get}
 use Rattle.sys_files.specs.Names.{with_directory, enters_directory, chdir_to, is_owner, changes_mode, chmod_to, chown_to, sync_all}
 use Rattle.sys_files.specs.Status.{status_bytes, with_stored, tells_status, stat_file, stat_open}
@@ -72,155 +71,10 @@ use Rattle.std.proofs.lemmas.List.Elements.{All-nil, All-cons, All-append}
 use Rattle.v6_base.specs.declared.entry.Entry.{Entry}
 use Rattle.sig_core.specs.declared.numbers.TheConstants.{SIGPIPE}
 use Rattle.sys_files.proofs.Bounds.{IsOfFiles, IsLineOf, keys_of_files, show_of_files, few_readable}
-use Rattle.sys_files.proofs.NumberLemmas.{number_low}
-use Rattle.sys_files.proofs.OwedLemmas.{counted}
 use Rattle.sys_files.proofs.OffsetLemmas.{entry_same}
 use Rattle.sys_files.proofs.NodeCounts.{put_back_count, finding_count, making_count, removing_count, numbered_count, truncated_count, device_count, synced_when, new_within}
-
--- A read sleeps until keys come: its entry, address and count are kept.
-abbrev pub asleep_for_keys : Handed → ℕ → ℕ → ℕ → ℕ → Did
-asleep_for_keys h l entry at count = record {
-  answer = Sleep (pos 10) (keys_of l);
-  state = record h { u = record h.u { pending = LINE_READ; call = entry ∷ at ∷ count ∷ 0 ∷ 0 ∷ 0 ∷ 0 ∷ 0 ∷ [] } };
-  items = [];
-}
-
--- A write sleeps until there is room: how many bytes are done is kept too.
-abbrev pub asleep_for_room : Handed → ℕ → ℕ → ℕ → ℕ → ℕ → Did
-asleep_for_room h l entry at count done = record {
-  answer = Sleep (pos 20) (show_of l);
-  state = record h { u = record h.u { pending = LINE_WRITE; call = entry ∷ at ∷ count ∷ done ∷ 0 ∷ 0 ∷ 0 ∷ 0 ∷ [] } };
-  items = [];
-}
-
--- It sleeps in a pipe: what it needs to go on is kept.
-abbrev pub asleep_in_pipe : Handed → Chan → ℕ → List ℕ → Did
-asleep_in_pipe h chan pending words = record {
-  answer = Sleep (pos 1) chan;
-  state = record h { u = record h.u { pending = pending; call = words } };
-  items = [];
-}
-
--- a channel of a pipe whose inode is known
-abbrev pub IsOfPipe : (ℕ → Type 0) → Chan → Type 0
-IsOfPipe Known (chan.Read ino) = Known ino
-IsOfPipe Known (chan.Write ino) = Known ino
-IsOfPipe Known other = ⊥
-
--- A call waits: its entry is in use, the process has a number for it, and no more bytes are done, or left in a write of a pipe, than there were.
-pub record IsCalling (h : Handed) (entry count left : ℕ) : Type 0 where
-  pub there : is_some (files.file_at h.files entry) ≡ true
-  pub named : 1 ≤ times h.u.files entry
-  pub few : left ≤ count
-
--- It waits in a pipe: its entry is an end.
-pub record IsAwaiting (h : Handed) (entry count left : ℕ) : Type 0 where
-  pub pipe : (file_of h entry).kind.pipe ≡ true
-  pub named : 1 ≤ times h.u.files entry
-  pub few : left ≤ count
-
--- A call in which a process slept can go on.
-pub record CanResume (Few : ℕ → Type 0) (h : Handed) : Type 0 where
-  pub calling : IsCalling h (slice_index h.u.call 0) (slice_index h.u.call 2) (slice_index h.u.call 3)
-  pub pipe : ((h.u.pending == LINE_READ) || (h.u.pending == LINE_WRITE)) ≡ false → (file_of h (slice_index h.u.call 0)).kind.pipe ≡ true
-  pub few : Few (slice_index h.u.call 2 - slice_index h.u.call 3)
-
--- What has to be shown of the words of which the rows are made, of a fact of the parts and of a fact of what a row of the process
--- of a slot does. A write shows so many bytes at most as it has to write; the inodes of pipes that are open are known,
--- and so are the numbers of the lines that there are; the
--- numbers and the directory of the process change in calls that may move them.
-pub record Walks (P : Handed → Type 0) (Q : Did → Type 0) (Few Known Line : ℕ → Type 0) (Moves : Type 0) (slot : ℕ) : Type 0 where
-  pub refused : (h : Handed) (e : Errno) → P h → Q (fails h e)
-  pub done : (h : Handed) (a b : ℕ) → P h → Q (record { answer = Ret a b; state = h; items = [] })
-  pub lets_go : (ino : ℕ) (d : Did) → Q d → Q (until_end ino d)
-  pub waits : (h : Handed) (l entry at count : ℕ) → IsCalling h entry count 0 → (l ≢ 0 → Line l) → P h → Q (asleep_for_keys h l entry at count)
-  pub waits_for_room : (h : Handed) (l entry at count done : ℕ) → IsCalling h entry count done → (l ≢ 0 → Line l) → P h
-      → Q (asleep_for_room h l entry at count done)
-  pub waits_in_pipe : (h : Handed) (chan : Chan) (pending entry at count left : ℕ) → IsPipeCall pending
-      → IsOfPipe Known chan
-      → IsAwaiting h entry count left → P h → Q (asleep_in_pipe h chan pending (words_of entry at count left))
-  pub tells : (entries : List Entry) (d : Did) → length entries ≤ 3 → All (IsLineOf Known Line slot) entries → d.items ≡ [] → Q d
-      → Q (record d { items = map Log entries })
-  pub lets_out : (h : Handed) (l : ℕ) (front back : List Entry) (d : Did) → length front + length back ≤ 4 → All (IsLineOf Known Line slot) front
-      → All (IsLineOf Known Line slot) back → P h → d.items ≡ [] → Q d
-      → Q (record d { items = map Log front ++ sent l (line_at h l).output ++ map Log back })
-  pub showing : (l : ℕ) (line : Terminal) (bytes : List ℕ) (count : ℕ) (d : Did) → length bytes ≤ count → Few count → Q d
-      → Q (record d { items = sent l (shows line bytes) })
-  pub inodes : (h : Handed) (inodes : Inodes) → inodes.store.count ≡ h.inodes.store.count → P h → P (with_inodes h inodes)
-  pub opened : (h : Handed) (ino : ℕ) (kind : FileKind) (fd entry : ℕ) → kind.pipe ≡ false → free_number h.u.files ≡ Some fd
-      → free_entry h.files ≡ Some entry
-      → Moves → P h → P (record h { files = slice_set h.files entry (Some (files.opened ino kind)); u = with_number h.u fd (entry + 1) })
-  pub ends : (h : Handed) (ino fd entry next_fd next_entry : ℕ) → 1 ≤ ino → ino ≤ h.inodes.store.count
-      → free_number h.u.files ≡ Some fd → free_entry h.files ≡ Some entry
-      → free_number (with_end h ino reading_end fd entry).u.files ≡ Some next_fd
-      → free_entry (with_end h ino reading_end fd entry).files ≡ Some next_entry
-      → Moves → P h → P (with_ends h ino fd entry next_fd next_entry)
-  pub given : (h : Handed) (fd free : ℕ) → 0 < slice_index h.u.files fd → free_number h.u.files ≡ Some free → Moves → P h
-      → P (record h {
-        files = with_change h.files (entry_of h.u.files fd) (with_more 1);
-        u = with_number h.u free (entry_of h.u.files fd + 1);
-      })
-  pub offset : (h : Handed) (entry offset : ℕ) → P h → P (record h { files = with_change h.files entry (with_offset offset) })
-  pub dropped : (h : Handed) (fd : ℕ) → 0 < slice_index h.u.files fd → Moves → P h → P (dropped h fd)
-  pub marked : (h : Handed) (p : Pipe) → P h → P (record h { pipes = with_pipe h.pipes p })
-  pub gone : (h : Handed) (ino : ℕ) → has_end h.files ino ≡ false → P h → P (record h { pipes = without_pipe h.pipes ino })
-  pub known : (h : Handed) (entry : ℕ) → (file_of h entry).kind.pipe ≡ true → P h
-      → Known (file_of h entry).ino × Known (pipe_at h entry).ino
-  pub numbered : (h : Handed) (l : ℕ) → l ≢ 0 → l < length h.lines → P h → Line l
-  pub typewriter : (h : Handed) (l : ℕ) (t : Terminal) → (HasRoom (line_at h l) → HasRoom t) → P h → P (with_line h l t)
-  pub enters : (h : Handed) (dir : ℕ) → Moves → P h → P (record h { u = record h.u { dir = dir } })
-  pub terminal : (h : Handed) (tty : ℕ) → P h → P (record h { row = record h.row { tty = tty } })
-  pub signalled : (h : Handed) → P h → P (record h { row = posted h.row SIGPIPE })
-  pub stored : (h : Handed) (m : Image) → SameLengths h.image m → P h → P (record h { image = m })
-
--- What a test gives, where it is passed.
-need_some : {A : Type 0} (e : Errno) (o : Option A) (a : A) → need e o ≡ Ok a → o ≡ Some a
-need_some e (Some x) a is = ap Some (cc is)
-need_some e None a is = absurd (cc is)
-
-entry_named : (h : Handed) (fd entry : ℕ) → open_entry h fd ≡ Ok entry
-    → (0 < slice_index h.u.files fd) × (entry ≡ entry_of h.u.files fd)
-entry_named h fd entry is = by (slice_index h.u.files fd == 0) refl is
-  where
-    by : (b : Bool) → (slice_index h.u.files fd == 0) ≡ b → cond b (Err EBADF) (Ok (entry_of h.u.files fd)) ≡ Ok entry
-        → (0 < slice_index h.u.files fd) × (entry ≡ entry_of h.u.files fd)
-    by true e f = absurd (cc f)
-    by false e f = let some = eqb-false (slice_index h.u.files fd) 0 e in let same : entry_of h.u.files fd ≡ entry =
-        cc f in (omega (arith, some), sym same)
-
--- and it names that entry
-is_named : (h : Handed) (fd entry : ℕ) → open_entry h fd ≡ Ok entry → 1 ≤ times h.u.files entry
-is_named h fd entry is =
-    let here = entry_named h fd entry is in
-    let some = here.0 in
-    subst (λ e. 1 ≤ times h.u.files e) (sym here.1)
-    (counted (λ number. number == entry_of h.u.files fd + 1) h.u.files fd 0 (number_low h.u.files fd some)
-    (eq-eqb (slice_index h.u.files fd) (entry_of h.u.files fd + 1) (omega (arith, some))))
-
--- A test that was passed, and what is so of a file that is in use alone.
-must_true : (e : Errno) (b : Bool) {u : Unit {0}} → must e b ≡ Ok u → b ≡ true
-must_true e true is = refl
-must_true e false is = absurd (cc is)
-
-file_there : (h : Handed) (entry : ℕ) (so : OpenFile → Bool) → so (file_of h entry) ≡ true → so no_file ≡ false
-    → is_some (files.file_at h.files entry) ≡ true
-file_there h entry so is never = by (files.file_at h.files entry) is
-  where
-    by : (o : Option OpenFile) → so (unwrap_or o no_file) ≡ true → is_some o ≡ true
-    by (Some file) e = refl
-    by None e = let never_so : true ≡ false = sym e ∙ never in absurd (cc never_so)
-
--- The inode of a pipe that is told of is known.
-abbrev IsNamedBy : (ℕ → Type 0) → Closed → Type 0
-IsNamedBy Known (Still file) = file.kind.pipe ≡ true → Known file.ino
-IsNamedBy Known (Last file) = file.kind.pipe ≡ true → Known file.ino
-
-named_told : (Known : ℕ → Type 0) (file : OpenFile) → (file.kind.pipe ≡ true → Known file.ino) → IsNamedBy Known (files.closed file)
-named_told Known file named = by (file.count == 1)
-  where
-    by : (last : Bool) → IsNamedBy Known (cond last (Last (with_fewer file)) (Still (with_fewer file)))
-    by true = named
-    by false = named
+pub use Rattle.sys_files.proofs.WalkSteps.{asleep_for_keys, asleep_for_room, asleep_in_pipe, IsOfPipe, IsCalling, IsAwaiting, CanResume, Walks}
+use Rattle.sys_files.proofs.WalkSteps.{need_some, entry_named, is_named, must_true, file_there, IsNamedBy, named_told}
 
 module _ {P : Handed → Type 0} {Q : Did → Type 0} {Few Known Line : ℕ → Type 0} {Moves : Type 0} {slot : ℕ}
     (k : Walks P Q Few Known Line Moves slot)

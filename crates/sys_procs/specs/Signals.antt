@@ -37,11 +37,7 @@ signalled_if who n s (Some p) = Some (if who s p then signalled n p else p)
 abbrev pub all_signalled : (ℕ → Process → Bool) → ℕ → List (Option Process) → List (Option Process)
 all_signalled who n processes = map (λ s. signalled_if who n s (slice_index_or processes s None)) (range_with_len 0 50)
 
-<<<<<<< today
 -- those whose terminal is this line: their row has one more than its number
-=======
--- those whose terminal is this line
->>>>>>> proto
 abbrev pub has_line : ℕ → ℕ → Process → Bool
 has_line l s p = p.row.tty == l + 1
 
