@@ -8,7 +8,7 @@ use Rattle.v6_base.specs.declared.answer.Answer.TheVariants.{Ret, Fail, Sleep}
 use Rattle.open_files.specs.declared.file.OpenFile.{OpenFile}
 use Rattle.open_files.specs.declared.file.FileKind.{FileKind}
 use Rattle.open_files.specs.Files.{file_at, times, changed, with_more, shared}
-use Rattle.u_area.specs.declared.layout.TheConstants.{NOTHING_PENDING, LINE_READ, DISK_WAIT}
+use Rattle.u_area.specs.declared.layout.TheConstants.{NOTHING_PENDING, DISK_WAIT}
 use Rattle.u_area.specs.Pending.{is_on_files, IsPipeCall, IsFileCall}
 use Rattle.u_area.proofs.PendingLemmas.{on_files_cases}
 use Rattle.sys_files.specs.Handed.{Handed}

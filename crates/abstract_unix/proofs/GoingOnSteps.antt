@@ -5,8 +5,6 @@ use Rattle.std.proofs.lemmas.List.{get_or-set_same, length-set}
 use Rattle.v6_base.specs.declared.answer.Answer.{Answer}
 use Rattle.v6_base.specs.declared.answer.Answer.TheVariants.{Ret, Fail, Sleep}
 use Rattle.v6_base.specs.declared.errno.Errno.TheVariants.{ENOSYS}
-use Rattle.tty_line.specs.declared.line.Keyed.{Keyed}
-use Rattle.tty_line.specs.declared.line.Keyed.TheVariants as key
 use Rattle.pdp_step.specs.declared.outcome.Kind.{Kind}
 use Rattle.pdp_step.specs.declared.outcome.Kind.TheVariants as kind
 use Rattle.pdp_step.specs.declared.outcome.Outcome.{Outcome}
@@ -23,7 +21,7 @@ use Rattle.sys_procs.specs.Comes.{Comes}
 use Rattle.sys_procs.specs.Break.{sized, expands, grown_stack, grow}
 use Rattle.sys_procs.specs.Fork.{fork_one}
 use Rattle.sys_procs.specs.Resume.{awake, resume_proc}
-use Rattle.sys_procs.specs.Signals.{signalled, has_line}
+use Rattle.sys_procs.specs.Signals.{signalled, all_signalled, has_line}
 use Rattle.abstract_unix.specs.declared.asked.Asked.{Asked}
 use Rattle.abstract_unix.specs.declared.calls.SystemCall.{SystemCall}
 use Rattle.abstract_unix.specs.declared.calls.SystemCall.TheVariants.{Indirect, Exit, Fork, Unknown, OnFiles, OnProcesses}
@@ -36,7 +34,6 @@ use Rattle.abstract_unix.specs.Errors.{error_number}
 use Rattle.abstract_unix.specs.Steps.{Steps, returns, signals}
 use Rattle.abstract_unix.specs.Calls.{handed_of, with_handed, world_of, with_world, with_area, entered_area, given_area, refused_area, words_passed, asked, refuses, answers, did_by, came_by, grown_by, grows_to, file_row, process_row, reads_disk, loads_program, waits_for_disk, takes_time, does_call, does_asked, sysent_of, resumed}
 use Rattle.abstract_unix.specs.Turn.{machine_of, with_machine, passes_setd, faults, comes_to, instruction, is_user, begins_turn}
-use Rattle.abstract_unix.specs.Outside.{with_key}
 use Rattle.abstract_unix.specs.Whole.{CanGoOn}
 use Rattle.abstract_unix.proofs.Owing.{some_within}
 use Rattle.abstract_unix.proofs.PendingRows.{is_sleep, row_user, resume_user}

@@ -1,7 +1,9 @@
 -- What a call on files leaves of a turn: it shows bytes, wakes, and a signal of its own process alone; the image keeps its
--- size; the
--- process waits in a call exactly where the answer is to sleep; and the pipes that are open have numbers that a channel may have.
-use Rattle.std.proofs.Common.{◌≡◌, ◌⊎◌, ◌≤◌, ◌<◌, ◌==◌, ◌∙◌, ◌++◌, ℕ, zero, suc, false, List, [], ◌∷◌, ℤ, pos, slice_index, refl, sym, ap, subst, inl, inr, arith, map}
+-- size; the process waits in a call exactly where the answer is to sleep; and the pipes that are open have numbers that a channel may
+-- have.
+use Rattle.std.proofs.Common.{◌≡◌, ◌≢◌, ◌⊎◌, ◌≤◌, ◌<◌, ◌==◌, ◌∙◌, ◌++◌, ℕ, zero, suc, Bool, true, false, cond, List, [], ◌∷◌, length, ℤ, pos, slice_index, refl, sym, ap, subst, inl, inr, arith, map}
+use Rattle.std.proofs.lemmas.Bool.{eqb-false}
+use Rattle.std.proofs.lemmas.List.{length-set}
 use Rattle.std.specs.List.{All}
 use Rattle.v6_base.specs.Trace.{Item, Byte, Log, sent, line_bytes, entries_of}
 use Rattle.v6_base.specs.declared.answer.Answer.{Answer}
@@ -10,23 +12,23 @@ use Rattle.v6_base.specs.declared.entry.Chan.{Chan}
 use Rattle.v6_base.specs.declared.entry.Chan.TheVariants.{RunIn, RunOut, Tout, Keys, Show, Wait, Read, Write, Disk, KeysOf, ShowOf}
 use Rattle.v6_base.specs.declared.entry.Entry.{Entry}
 use Rattle.v6_base.specs.declared.entry.Entry.TheVariants.{Wake, Signal}
-use Rattle.u_area.specs.declared.layout.TheConstants.{NOTHING_PENDING, LINE_READ}
+use Rattle.u_area.specs.declared.layout.TheConstants.{NOTHING_PENDING, LINE_READ, LINE_WRITE}
 use Rattle.u_area.specs.declared.area.UArea.{UArea}
 use Rattle.u_area.specs.Pending.{IsPipeCall}
-use Rattle.fs_tree.specs.Name.{readable}
 use Rattle.fs_tree.specs.Finding.{Inodes}
 use Rattle.open_files.specs.Files.{entry_of, with_more, with_offset}
 use Rattle.tty_line.specs.Output.{shows}
+use Rattle.lines_eight.specs.Told.{keys_of, show_of}
 use Rattle.pick_rules.specs.Fits.{IsSleep}
-use Rattle.pick_rules.specs.Ranges.{IsInode, IsChannel}
+use Rattle.pick_rules.specs.Ranges.{IsInode, IsLine, IsChannel}
 use Rattle.sig_core.specs.declared.numbers.TheConstants.{SIGPIPE}
-use Rattle.sys_files.specs.Handed.{Handed, with_inodes, let_go}
+use Rattle.sys_files.specs.Handed.{Handed, line_at, with_inodes, let_go}
 use Rattle.sys_files.specs.Did.{Did}
 use Rattle.sys_files.specs.Descriptors.{Closing, dropped, closes, close_all}
 use Rattle.sys_files.specs.Moving.{without_pending, resumes}
 use Rattle.sys_files.proofs.Bounds.{IsOfFiles, IsLineOf}
 use Rattle.sys_files.proofs.NodeCounts.{put_back_count}
-use Rattle.sys_files.proofs.Walks.{IsOfPipe, IsAwaiting, Walks, walk_closes, walk_resume, closes_all}
+use Rattle.sys_files.proofs.Walks.{IsOfPipe, CanResume, Walks, walk_closes, walk_resume, closes_all}
 use Rattle.std.proofs.lemmas.List.Elements.{All-head, All-tail}
 use Rattle.sys_files.specs.Piping.{words_of}
 use Rattle.abstract_unix.specs.Calls.{bytes_from, in_order}

@@ -1,5 +1,5 @@
 -- Each event by which a run goes on leaves a tidy Unix, and a run begins with one.
-use Rattle.std.proofs.Common.{◌≡◌, ◌∙◌, ◌≤◌, ◌==◌, ℕ, zero, suc, Bool, true, false, not, cond, ◌++◌, ◌&&◌, List, [], ◌∷◌, length, map, set, get_or, get_or-set_same, unwrap_or, Option, Some, None, refl, sym, ap, subst, inl, inr}
+use Rattle.std.proofs.Common.{◌≡◌, ◌∙◌, ◌≤◌, ◌==◌, ℕ, zero, suc, Bool, true, false, not, cond, ◌++◌, ◌&&◌, List, length, map, set, get_or, get_or-set_same, unwrap_or, Option, Some, None, refl, sym, ap, subst, inl, inr}
 use Rattle.std.proofs.lemmas.Bool.{eqb-true, eqb-false}
 use Rattle.std.proofs.lemmas.List.FromFn.{length-map-range_with_len}
 use Rattle.fs_codec.specs.Store.{Store}
@@ -31,14 +31,14 @@ use Rattle.pick_rules.specs.Effects.{Effect, Show}
 use Rattle.sys_procs.specs.World.{Clock}
 use Rattle.abstract_unix.specs.Delivery.{delivers_due}
 use Rattle.abstract_unix.specs.Steps.{Steps, returns}
-use Rattle.abstract_unix.specs.Turn.{is_user, Happened, happens, with_slot, counted, followed, disk_lines, wakes_disks, is_sending, sends_lines, sends_after, after_slot, whole_slot, stays, settling, calls_for_settling, settled_after, ending_by, ending_of_pass, turn_of, pass_of, slot_of, turn}
+use Rattle.abstract_unix.specs.Turn.{is_user, Happened, happens, with_slot, counted, disk_lines, wakes_disks, is_sending, sends_lines, sends_after, after_slot, whole_slot, stays, settling, calls_for_settling, settled_after, ending_by, ending_of_pass, turn_of, pass_of, slot_of, turn}
 use Rattle.abstract_unix.specs.Outside.{is_user_mode, is_second, delivers_to, tick_delivery, tick_of, mode_by, timed, charged, clock_after, with_key, typed_of, key_lines, wakes, calls, calls_show, hangup_of, hangs_up, turned_to, paced_of}
 use Rattle.abstract_unix.specs.Runs.{Event, Slot, Tick, Byte, Switch, Disk, Pace, Hangup, event_of}
 use Rattle.abstract_unix.specs.Whole.{told_by, told_in, all_names, CanGoOn}
 use Rattle.abstract_unix.proofs.RunsLemmas.{settled_ending}
 use Rattle.abstract_unix.proofs.Posting.{all_alike}
 use Rattle.abstract_unix.proofs.Sitting.{seats_of}
-use Rattle.abstract_unix.proofs.Events.{system_at, runs_at, shown_stop, all_shown, followed_unix, followed_ending}
+use Rattle.abstract_unix.proofs.Events.{system_at, runs_at, shown_stop, all_shown, followed_unix}
 use Rattle.abstract_unix.proofs.Telling.{lines_length}
 use Rattle.abstract_unix.proofs.GoingOnLemmas.{AllWaited, all_waited_same, waited_goes_on}
 use Rattle.abstract_unix.proofs.GoingOnSteps.{line_goes_on}

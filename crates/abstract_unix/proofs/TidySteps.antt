@@ -20,9 +20,9 @@ use Rattle.sig_core.specs.declared.numbers.TheConstants.{SIGSEG, SIGSYS, SIGINS,
 use Rattle.sig_core.specs.Signals.{handler_of, due}
 use Rattle.sig_core.specs.declared.psig.Delivered.TheVariants.{Ends, Caught}
 use Rattle.sig_core.specs.Delivery.{Delivery, makes_core, signal_stack, delivery, caught, pushed}
-use Rattle.u_area.specs.declared.layout.TheConstants.{NOTHING_PENDING, LINE_READ, DISK_WAIT}
+use Rattle.u_area.specs.declared.layout.TheConstants.{NOTHING_PENDING, DISK_WAIT}
 use Rattle.u_area.specs.declared.area.UArea.{UArea}
-use Rattle.u_area.specs.Pending.{is_on_files, IsLineCall, IsPipeCall, IsFileCall}
+use Rattle.u_area.specs.Pending.{is_on_files, IsFileCall}
 use Rattle.open_files.specs.Files.{file_at, times, shared}
 use Rattle.sys_files.specs.Handed.{Handed}
 use Rattle.sys_files.specs.Did.{Did}
@@ -63,7 +63,7 @@ use Rattle.abstract_unix.proofs.Quiet.{HasNumbers, InCalm, same_call, other_inod
 use Rattle.abstract_unix.proofs.FileRows.{walk_row}
 use Rattle.abstract_unix.proofs.Tidy.{IsTidy, tidy_numbers, tidy_can}
 use Rattle.abstract_unix.proofs.StillWorlds.{IsStill, still_row, still_resume, IsGone, gone_ended}
-use Rattle.abstract_unix.proofs.PendingRows.{never_in_pipe, Pends, row_pends, resume_pends, close_user, core_user, close_pends, core_pends}
+use Rattle.abstract_unix.proofs.PendingRows.{never_in_call, Pends, row_pends, resume_pends, close_user, core_user, close_pends, core_pends}
 use Rattle.abstract_unix.proofs.GoingOnLemmas.{AllWaited, moved_goes_on, user_waited, all_waited_put, world_goes_on, handed_pends, shared_goes_on}
 use Rattle.abstract_unix.proofs.WaitingRows.{row_waited, end_waited, resume_waited}
 use Rattle.abstract_unix.proofs.GoingOnSteps.{trapped_user}
@@ -419,7 +419,7 @@ module _ (s : ℕ) where
       first : (b : Bool) → Leaves s (cond b (returns (with_process u s (awake (process_of u s)))) others)
       first true =
           leaves_runs (returns (with_process u s (awake (process_of u s))))
-          (runs_moved u (awake (process_of u s)) refl refl refl (never_in_pipe NOTHING_PENDING refl) r)
+          (runs_moved u (awake (process_of u s)) refl refl refl (never_in_call NOTHING_PENDING refl) r)
       first false = by (is_on_files (process_of u s).u.pending) refl
 
   pub leaves_begun : (m : System) → Runs s m.unix → Leaves s (begins_turn m s)
