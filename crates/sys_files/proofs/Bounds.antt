@@ -1,10 +1,10 @@
 -- What a call on files shows is little: lines of the log that wake somebody or send a signal, and bytes of terminal lines. `wakeup`,
 -- `psignal` and `ttyoutput` in Lions' Commentary, `slp.c`, `sig.c` and `tty.c`.
-use Rattle.std.proofs.Common.{◌≡◌, ◌≢◌, ◌⊎◌, inl, ◌+◌, ◌*◌, ◌%◌, ◌≤◌, ◌<◌, ◌==◌, ◌||◌, ℕ, zero, suc, Bool, true, false, cond, List, [], ◌∷◌, ◌++◌, length, map, get_or, sum_by, Option, Some, None, Result, Ok, Err, nat_le, refl, sym, ap, ◌∙◌, subst, arith, length-append}
+use Rattle.std.proofs.Common.{◌≡◌, ◌≢◌, ◌⊎◌, ◌+◌, ◌*◌, ◌%◌, ◌≤◌, ◌<◌, ◌==◌, ◌||◌, ℕ, zero, suc, Bool, true, false, cond, List, [], ◌∷◌, ◌++◌, length, map, get_or, sum_by, Result, Ok, Err, nat_le, refl, sym, ap, ◌∙◌, subst, arith, length-append}
 use Rattle.std.specs.List.{All}
 use Rattle.std.proofs.lemmas.Bool.{lt-leb, eqb-true, eqb-false, ne_eqb}
 use Rattle.std.proofs.lemmas.List.{append-nil}
-use Rattle.std.proofs.lemmas.List.Elements.{All-nil, All-cons, All-append}
+use Rattle.std.proofs.lemmas.List.Elements.{All-nil, All-append}
 use Rattle.v6_base.specs.Image.{Image}
 use Rattle.v6_base.specs.Access.{load_byte}
 use Rattle.v6_base.specs.declared.space.Trap.{Trap}
@@ -16,7 +16,7 @@ use Rattle.v6_base.specs.declared.entry.Entry.TheVariants.{Wake, Signal}
 use Rattle.sig_core.specs.declared.numbers.TheConstants.{SIGPIPE}
 use Rattle.v6_base.specs.Tape.{Recording, is_full, taken_on, bytes_of}
 use Rattle.v6_base.specs.Trace.{Item, Byte, Log, Took, sent, line_bytes, entries_of}
-use Rattle.v6_base.proofs.Took.{line_bytes-append, entries_of-sent, entries_of-append}
+use Rattle.v6_base.proofs.Took.{entries_of-sent, entries_of-append}
 use Rattle.fs_tree.specs.Name.{read_then, readable}
 use Rattle.tty_line.specs.Terminal.{Terminal, flags}
 use Rattle.tty_line.specs.Output.{shown_byte, shown_bytes, column_after_all, shows}

@@ -15,7 +15,6 @@ use Rattle.v6_base.proofs.Copies.{SameLengths, then_lengths, same_lengths}
 use Rattle.proc_tab.specs.declared.row.Row.{Row}
 use Rattle.u_area.specs.declared.layout.TheConstants.{LINE_READ, LINE_WRITE, NOTHING_PENDING}
 use Rattle.u_area.specs.declared.area.UArea.{UArea}
-use Rattle.u_area.proofs.AreaLemmas.{one_area}
 use Rattle.open_files.specs.declared.file.Closed.{Closed}
 use Rattle.open_files.specs.declared.file.Closed.TheVariants.{Still, Last}
 use Rattle.sys_files.specs.Handed.{Handed, line_of, line_at, node_at}

@@ -1,8 +1,8 @@
-use Rattle.std.proofs.Common.{◌≡◌, ◌==◌, ℕ, Bool, true, false, List, if◌then◌else◌, slice_index, sym, ap, ◌∙◌, subst}
+use Rattle.std.proofs.Common.{◌≡◌, ◌==◌, ℕ, false, List, if◌then◌else◌, slice_index, sym, ap, ◌∙◌, subst}
 use Rattle.std.proofs.lemmas.Bool.{eq-eqb, ne_eqb}
 use Rattle.v6_base.specs.Trace.{Took}
 use Rattle.v6_base.proofs.Took.{took_none}
-use Rattle.u_area.specs.declared.layout.TheConstants.{LINE_READ, LINE_WRITE}
+use Rattle.u_area.specs.declared.layout.TheConstants.{LINE_READ}
 use Rattle.sys_files.specs.Handed.{Handed}
 use Rattle.sys_files.specs.Did.{Did}
 use Rattle.sys_files.specs.Moving.{reads_line, writes_line, line_kept, goes_on_line}

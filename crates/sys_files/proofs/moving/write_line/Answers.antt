@@ -1,4 +1,4 @@
-use Rattle.std.proofs.Common.{◌≡◌, ◌≤◌, ◌+◌, ◌-◌, ◌%◌, ◌==◌, ℕ, Bool, true, false, List, length, take, nat_lt, slice_index, refl, sym, ◌∙◌, ap, subst, arith}
+use Rattle.std.proofs.Common.{◌<◌, ◌≡◌, ◌≤◌, ◌+◌, ◌-◌, ◌%◌, ◌==◌, ℕ, Bool, true, false, List, length, take, nat_lt, slice_index, refl, sym, ◌∙◌, ap, subst, arith}
 use Rattle.std.specs.Result.{is_ok}
 use Rattle.std.proofs.lemmas.Bool.{eq-eqb, ne_eqb, le-ltb}
 use Rattle.v6_base.specs.Image.{Image}
@@ -14,7 +14,7 @@ use Rattle.sys_files.specs.Handed.{Handed, line_at}
 use Rattle.sys_files.specs.Did.{Did}
 use Rattle.sys_files.specs.Moving.{writes_line}
 use Rattle.sys_files.proofs.ShowingLemmas.{readable_few, readable_whole, readable_next}
-use Rattle.sys_files.proofs.WriteLemmas.{with_shown, ends_shown, shows_case}
+use Rattle.sys_files.proofs.WriteLemmas.{with_shown, shows_case}
 use Rattle.sys_files.proofs.moving.write_line.Goals as goal
 
 -- how many bytes are taken, as one who is handed the lines and the memory says it
