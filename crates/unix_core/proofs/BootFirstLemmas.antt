@@ -8,7 +8,7 @@ use Rattle.std.proofs.lemmas.List.Folds.{sum_by-replicate}
 use Rattle.std.proofs.lemmas.List.Sums.{sum_by-cons}
 use Rattle.open_files.specs.declared.file.OpenFile.{OpenFile}
 use Rattle.open_files.specs.Files.{file_at}
-use Rattle.tty_line.specs.Terminal.{first_terminal}
+use Rattle.lines_eight.specs.Lines.{first_lines}
 use Rattle.pick_rules.specs.declared.table.Table.{Table}
 use Rattle.pick_rules.specs.Table.{empty_row, row_at, first_table, IsTable}
 use Rattle.pick_rules.specs.Search.{least}
@@ -238,26 +238,26 @@ unfolding least
 nobody_out time = refl
 
 -- The world that a kernel begins with.
-module _ (fs : FileSystem) (core : ℕ) (referred : (ino : ℕ) → slice_index fs.references ino ≡ (if ino == 1 then 2 else 0))
-    (w : World) (nodes : w.files.tree.nodes ≡ fs) (marks : w.files.tree.marks ≡ no_marks) (table : w.files.table ≡ no_files) (pipes : w.files.pipes ≡ []) (line : w.files.line ≡ first_terminal)
+module _ (fs : FileSystem) (core count : ℕ) (referred : (ino : ℕ) → slice_index fs.references ino ≡ (if ino == 1 then 2 else 0))
+    (w : World) (nodes : w.files.tree.nodes ≡ fs) (marks : w.files.tree.marks ≡ no_marks) (table : w.files.table ≡ no_files) (pipes : w.files.pipes ≡ []) (lines : w.files.lines ≡ first_lines count)
     (rows : w.procs.rows ≡ first_processes) (slots : w.procs.table ≡ first_table fs.store.stamp) (good : IsTable w.procs.table)
     (images : w.procs.images.kept ≡ first_images core) (switches : w.procs.switches ≡ 0)
     (entries : w.tape.entry_room ≡ 64) (bytes : w.tape.byte_room ≡ 524288) (clicks : w.core ≡ core)
-    (timing : timing_in w.slots ≡ record { passed = 0; disk = 0 }) where
+    (timing : timing_in w.slots ≡ record { passed = 0; disk = 0; pace = 0; since = 0 }) where
   processes_are : (unix_of w).processes ≡ first_slots
   processes_are = (λ i. processes_in (rows i).slots (images i)) ∙ first_processes_are core
 
   texts_are : (unix_of w).texts ≡ no_texts
   texts_are = ap texts_in images ∙ texts_none (first_images core) (record { texts = refl; users = refl })
 
-  unix_is : unix_of w ≡ first_unix fs.store core
+  unix_is : unix_of w ≡ first_unix fs.store core count
   unix_is = λ i. record {
     store = (nodes i).store;
     processes = processes_are i;
     files = table i;
     pipes = pipes i;
     texts = texts_are i;
-    line = line i;
+    lines = lines i;
     clock = clock_of (slots i);
     switches = switches i;
     last_pid = (rows i).last_pid;
@@ -298,19 +298,19 @@ module _ (fs : FileSystem) (core : ℕ) (referred : (ino : ℕ) → slice_index 
     nobody_out = ap (λ t. candidate t) slots ∙ nobody_out fs.store.stamp;
   }
 
-  pub first_kernel : w.slots.left ≤ w.slots.due → 3000000001 < w.slots.due → IsKernel stage.New w
-  first_kernel within far = record {
+  pub first_kernel : w.slots.left ≤ w.slots.due → w.slots.set_at ≡ 0 → 3000000001 < w.slots.due → IsKernel stage.New w
+  first_kernel within unset far = record {
     new = λ e. first_new;
     stopped = λ e. absurd (cc e);
     finished = λ e. absurd (cc e);
     running = λ s e. absurd (cc e);
     resting = λ e. absurd (cc e);
-    counted = λ goes. counted_first w.slots (unix_of w) within (ap (λ (t : Timing). t.disk) timing)
+    counted = λ goes. counted_first w.slots (unix_of w) within (ap (λ (t : Timing). t.disk) timing) (ap (λ (t : Timing). t.pace) timing) unset
         (let none : passed_in w.slots ≡ 0 = ap (λ (t : Timing). t.passed) timing in omega (arith, none, far))
         (λ s p is. nobody_waits s p (ap (λ (l : List (Option Process)). get_or l s None) (sym processes_are) ∙ is));
   }
 
-  pub first_system : system_at w ≡ system_with fs.store core
+  pub first_system : system_at w ≡ system_with fs.store core count
   first_system =
       (λ i. record { unix = unix_is i; board = board_of (slots i) (images i) })
-      ∙ ap (λ texts. record { unix = first_unix fs.store core; board = record (first_board core fs.store.stamp) { texts = texts } }) no_places
+      ∙ ap (λ texts. record { unix = first_unix fs.store core count; board = record (first_board core fs.store.stamp) { texts = texts } }) no_places

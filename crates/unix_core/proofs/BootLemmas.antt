@@ -45,11 +45,11 @@ module _ (bytes : List ℕ) (good : image_fault bytes ≡ None) where
     volume_stamp is = volume_time is
 
 -- An image without a fault is booted.
-pub boots_as : (image : List ℕ) (core : ℕ) (store : Store) (m : System) → image_fault image ≡ None → store ≡ store_of (disk_of image)
-    → m ≡ system_with store core → boots image core ≡ Some m
-boots_as image core store m none is system =
-    ap (λ f. if is_some f then None else Some (system_of image core)) none
-    ∙ ap (λ (s : Store). Some (system_with s core)) (sym is) ∙ ap (λ (n : System). Some n) (sym system)
+pub boots_as : (image : List ℕ) (core lines : ℕ) (store : Store) (m : System) → image_fault image ≡ None → store ≡ store_of (disk_of image)
+    → m ≡ system_with store core lines → boots image core lines ≡ Some m
+boots_as image core lines store m none is system =
+    ap (λ f. if is_some f then None else Some (system_of image core lines)) none
+    ∙ ap (λ (s : Store). Some (system_with s core lines)) (sym is) ∙ ap (λ (n : System). Some n) (sym system)
 
 -- A file system that keeps clear of the swap area has no fault there either.
 pub stands_below : (d : Disk) (store : Store) → (head d).f_size ≤ SWAP_START → StandsFor DISK_BLOCKS d store → StandsFor SWAP_START d store

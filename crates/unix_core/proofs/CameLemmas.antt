@@ -90,7 +90,7 @@ abbrev pub after : World → Tree → Procs → World
 after w tree procs = record w { files = record w.files { tree = tree }; procs = procs }
 
 pub beside : (w : World) (tree : Tree) (procs : Procs) → StaysBeside w (after w tree procs)
-beside w tree procs = record { table = refl; rests = record { pipes = refl; line = refl; tape = refl; core = refl; slots = refl } }
+beside w tree procs = record { table = refl; rests = record { pipes = refl; lines = refl; tape = refl; core = refl; slots = refl } }
 
 -- how often the texts refer to an inode
 abbrev pub shared : List (Option Text) → ℕ → ℕ

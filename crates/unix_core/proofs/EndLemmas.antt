@@ -28,7 +28,8 @@ use Rattle.abstract_unix.specs.Unix.{Unix, Started}
 use Rattle.unix_core.specs.Passing.{trapped, ended_table}
 use Rattle.abstract_unix.specs.Endings.{is_early}
 use Rattle.abstract_unix.proofs.RunsLemmas.{whole_answer}
-use Rattle.abstract_unix.specs.Turn.{Happened, with_slot, disk_lines, end_effects, ending_of, settled, turned_by, turned}
+use Rattle.abstract_unix.specs.Turn.{Happened, with_slot, end_effects, ending_of, settled, turned_by, turned}
+use Rattle.unix_core.specs.Slots.{with_sent, slot_items}
 use Rattle.unix_core.specs.Parts.{unix_of, board_in, system_at, turn_end, phase_of, is_over, IsGood, IsCovered, IsKernel, Takes}
 use Rattle.unix_core.proofs.BootKernelLemmas.{stopped_kernel}
 use Rattle.unix_core.proofs.SlotEnds.{woken_log, settled_takes, settled_items}
@@ -145,14 +146,14 @@ module _ (w : World) (good : IsGood w) (s : ℕ) (above : 0 < s) (low : s < 50) 
       λ i. record (unix_of w) { clock = clock i }
 
   -- The run goes on: the slot has been counted in this world.
-  module _ (goes : ending_of e ≡ AtEnd) (v : World) (unix : unix_of v ≡ with_slot (unix_of (with_table w t)))
-      (woken : board_in v ≡ (logged {W = Unix} (board_in (with_table w t)) (map Show (disk_lines (with_slot (unix_of (with_table w t)))))).board)
+  module _ (goes : ending_of e ≡ AtEnd) (v : World) (unix : unix_of v ≡ with_sent (with_slot (unix_of (with_table w t))))
+      (woken : board_in v ≡ (logged {W = Unix} (board_in (with_table w t)) (map Show (slot_items (with_slot (unix_of (with_table w t)))))).board)
       (board : board_in (with_table w t) ≡ (logged {W = Unix} (board_in w) (end_effects s e)).board) where
     abbrev done : Happened
     done = record { unix = unix_of w; log = logged (board_in w) (end_effects s e); is_idle = false; settles = true; ending = ending_of e }
 
-    unix_then : unix_of v ≡ with_slot (unix_of w)
-    unix_then = unix ∙ ap with_slot ended_unix
+    unix_then : unix_of v ≡ with_sent (with_slot (unix_of w))
+    unix_then = unix ∙ ap (λ (u : Unix). with_sent (with_slot u)) ended_unix
 
     board_then : board_in v ≡ (woken_log (unix_of w) (logged {W = Unix} (board_in w) (end_effects s e)).board).board
     board_then = woken ∙ (λ i. (woken_log (ended_unix i) (board i)).board)
@@ -162,10 +163,10 @@ module _ (w : World) (good : IsGood w) (s : ℕ) (above : 0 < s) (low : s < 50) 
     ended_takes = settled_takes done goes (λ none. refl) v unix_then board_then
 
     pub ended_items : (a b c d : Taken) → Took a (logged {W = Unix} (board_in w) (end_effects s e)).items b
-        → Took b (disk_lines (with_slot (unix_of (with_table w t)))) c → Took c (settled (board_in v)).items d → Took a (turn_end w s e).items d
+        → Took b (slot_items (with_slot (unix_of (with_table w t)))) c → Took c (settled (board_in v)).items d → Took a (turn_end w s e).items d
     ended_items a b c d first second third =
         settled_items done goes (λ none. refl) v unix_then board_then a b c d first
-        (subst (λ (u : Unix). Took b (disk_lines (with_slot u)) c) ended_unix second) third
+        (subst (λ (u : Unix). Took b (slot_items (with_slot u)) c) ended_unix second) third
 
 -- The run ends.
 module _ (w : World) (s : ℕ) where

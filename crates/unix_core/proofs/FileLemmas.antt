@@ -1,8 +1,10 @@
 -- What a call on files shows, and what the board of the log comes to by it.
-use Rattle.std.proofs.Common.{◌≡◌, ◌<◌, ℕ, suc, List, [], ◌∷◌, ◌++◌, length, map, fold, All, None, refl, sym, ap, ◌∙◌, subst, inl, inr, arith}
+use Rattle.std.proofs.Common.{◌≡◌, ◌<◌, ℕ, zero, suc, List, [], ◌∷◌, ◌++◌, length, map, fold, All, None, refl, sym, ap, ◌∙◌, subst, inl, inr, append_assoc, arith}
 use Rattle.std.proofs.lemmas.Bool.{cases_lt}
-use Rattle.std.proofs.lemmas.List.{append-nil, get_or_past}
+use Rattle.std.proofs.lemmas.List.{get_or_past}
 use Rattle.v6_base.specs.Trace.{Item, Log, sent, line_bytes, entries_of}
+use Rattle.v6_base.specs.Tape.{Recording, bytes_of}
+use Rattle.v6_base.specs.declared.trace.TheConstants.{LINES}
 use Rattle.v6_base.specs.declared.entry.Entry.{Entry}
 use Rattle.v6_base.specs.declared.entry.Entry.TheVariants.{Idle}
 use Rattle.pick_rules.specs.declared.table.Table.{Table}
@@ -17,8 +19,8 @@ use Rattle.sys_procs.specs.Agree.{board_of}
 use Rattle.sys_procs.proofs.Signalled.{board_signalled}
 use Rattle.sys_procs.proofs.Tables.{board_woken}
 use Rattle.abstract_unix.specs.Unix.{Unix}
-use Rattle.abstract_unix.specs.Calls.{in_order}
-use Rattle.unix_core.specs.Passing.{HaveSlots, woken_by, all_woken}
+use Rattle.abstract_unix.specs.Calls.{bytes_from, in_order}
+use Rattle.unix_core.specs.Passing.{HaveSlots, woken_by, all_woken, bytes_shown, shown_by}
 
 -- Items that are shown in order: the board takes them one after another.
 abbrev so_far : List Item → Board → Logged Unix
@@ -30,9 +32,17 @@ shown_after [] before b = refl
 shown_after (item ∷ items) before b = shown_after items (before ++ item ∷ []) (board_after b item)
 
 -- bytes are no lines of the log
-bytes_after : (bytes : List ℕ) (b : Board) (items : List Item) → fold board_after b (sent 0 bytes ++ items) ≡ fold board_after b items
-bytes_after [] b items = refl
-bytes_after (byte ∷ bytes) b items = bytes_after bytes b items
+sent_after : (l : ℕ) (bytes : List ℕ) (b : Board) (rest : List Item) → fold board_after b (sent l bytes ++ rest) ≡ fold board_after b rest
+sent_after l [] b rest = refl
+sent_after l (byte ∷ bytes) b rest = sent_after l bytes b rest
+
+bytes_after : (l count : ℕ) (items : List Item) (b : Board) (rest : List Item)
+    → fold board_after b (bytes_from l count items ++ rest) ≡ fold board_after b rest
+bytes_after l zero items b rest = refl
+bytes_after l (suc count) items b rest =
+    ap (fold board_after b) (append_assoc (sent l (line_bytes l items)) (bytes_from (suc l) count items) rest)
+    ∙ sent_after l (line_bytes l items) b (bytes_from (suc l) count items ++ rest)
+    ∙ bytes_after (suc l) count items b rest
 
 -- lines that wake sleepers, or that send the process of a slot a signal
 woken_one : (t : Table) (k : Kept) (slot : ℕ) (e : Entry) → IsOfCall slot e → applied (board_of t k) e ≡ board_of (woken_by t e) k
@@ -50,17 +60,21 @@ woken_all (e ∷ entries) t k slot shown =
     ap (λ b. fold board_after b (map Log entries)) (woken_one t k slot e (shown 0 e (omega arith)))
     ∙ woken_all entries (woken_by t e) k slot (λ i d low. shown (suc i) d (omega (arith, low)))
 
--- what a call on files shows, in order: the bytes of the line that there is, and then the lines of the log
-pub ordered_items : (items : List Item) → in_order items ≡ sent 0 (line_bytes 0 items) ++ map Log (entries_of items)
-ordered_items items = ap (λ l. l ++ map Log (entries_of items)) (append-nil (sent 0 (line_bytes 0 items)))
+-- A tape that has all that a call on files shows, tells it in order.
+module _ (tape : Recording) (items : List Item) (lines : (l : ℕ) → bytes_of tape l ≡ line_bytes l items) where
+  bytes_told : (l count : ℕ) → bytes_shown l count tape ≡ bytes_from l count items
+  bytes_told l zero = refl
+  bytes_told l (suc count) = λ i. sent l (lines l i) ++ bytes_told (suc l) count i
+
+  pub told_in_order : tape.entries ≡ entries_of items → shown_by tape ≡ in_order items
+  told_in_order entries = λ i. bytes_told 0 LINES i ++ map Log (entries i)
 
 -- The board after what a call on files shows is the one after the lines of its tape.
 pub shown_woken : (slot : ℕ) (items : List Item) → Fits slot items → (t : Table) (k : Kept)
     → (logged {W = Unix} (board_of t k) (map Show (in_order items))).board ≡ board_of (all_woken t (entries_of items)) k
 shown_woken slot items fits t k =
     shown_after (in_order items) [] (board_of t k)
-    ∙ ap (fold board_after (board_of t k)) (ordered_items items)
-    ∙ bytes_after (line_bytes 0 items) (board_of t k) (map Log (entries_of items))
+    ∙ bytes_after 0 LINES items (board_of t k) (map Log (entries_of items))
     ∙ woken_all (entries_of items) t k slot fits.only_lines
 
 -- Such lines name a slot of a process.

@@ -215,7 +215,7 @@ module _ (w done : World) (s : ℕ) (ready : IsReady w s) (form : IsFileSystem w
   -- It has answered, and the files are shared.
   module _ (answer : Answer) (ok : r ≡ Ok answer) (now : World) (procs : now.procs ≡ done.procs) (tree : now.files.tree ≡ done.files.tree)
       (table : now.files.table ≡ shares w.files.table (process_of (unix_of w) s).u.files answer)
-      (pipes : now.files.pipes ≡ w.files.pipes) (line : now.files.line ≡ w.files.line) (tape : now.tape ≡ w.tape) (core : now.core ≡ w.core)
+      (pipes : now.files.pipes ≡ w.files.pipes) (lines : now.files.lines ≡ w.files.lines) (tape : now.tape ≡ w.tape) (core : now.core ≡ w.core)
       (slots : now.slots ≡ w.slots) (agree : AreProcs now.procs) where
     went : ((came w.procs (call w s)).stop ≡ None) × (answer ≡ (call w s).answer)
     went = goes_on (came w.procs (call w s)).stop (call w s).answer answer r does.answer ok
@@ -233,7 +233,7 @@ module _ (w done : World) (s : ℕ) (ready : IsReady w s) (form : IsFileSystem w
     switches = (fork_still w s).switches went.0
 
     rests : Rests w now
-    rests = record { pipes = pipes; line = line; tape = tape; core = core; slots = slots }
+    rests = record { pipes = pipes; lines = lines; tape = tape; core = core; slots = slots }
 
     pub fork_ready : is_user (process_of (unix_of w) s) ≡ true → done.files.tree.marks ≡ w.files.tree.marks → IsReady now s
     fork_ready user marks = forked_ready w now s ready agree state switches moved its_table rests user (ap (λ t. t.marks) tree ∙ marks)

@@ -96,7 +96,7 @@ module _ (w now : World) (good : IsGood w) (agree : AreProcs now.procs) (table :
 -- Beside processes, inodes, their marks and the table of open files a world is as it was.
 pub record Rests (w now : World) : Type 0 where
   pub pipes : now.files.pipes ≡ w.files.pipes
-  pub line : now.files.line ≡ w.files.line
+  pub lines : now.files.lines ≡ w.files.lines
   pub tape : now.tape ≡ w.tape
   pub core : now.core ≡ w.core
   pub slots : now.slots ≡ w.slots
@@ -112,7 +112,7 @@ module _ (w now : World) (rests : Rests w now) (clicks : (board now.procs).core 
         files = table i;
         pipes = rests.pipes i;
         texts = (state i).texts;
-        line = rests.line i;
+        lines = rests.lines i;
         clock = (state i).clock;
         switches = switches i;
         last_pid = (state i).last_pid;

@@ -1,5 +1,5 @@
 -- Where a slot finds nobody to run, no slot is loaded and ready.
-use Rattle.std.proofs.Common.{◌≡◌, ◌∙◌, ◌<◌, ◌≤◌, ◌&&◌, cond, ℕ, zero, suc, nat_lt, length, Bool, true, false, Option, Some, None, refl, sym, ap, subst, arith, List, [], ◌∷◌, map}
+use Rattle.std.proofs.Common.{◌≡◌, ◌∙◌, ◌<◌, ◌≤◌, ◌&&◌, ℕ, zero, suc, nat_lt, length, Bool, true, false, Option, Some, None, refl, sym, ap, subst, arith}
 use Rattle.std.proofs.lemmas.Bool.{ltb-true, ltb-false}
 use Rattle.std.proofs.lemmas.List.{get_or_past}
 use Rattle.pick_rules.specs.declared.row.TableRow.{TableRow}
@@ -15,11 +15,10 @@ use Rattle.abstract_unix.specs.declared.ends.Ends.TheVariants.{AtEnd}
 use Rattle.abstract_unix.specs.declared.turned.Turned.{Turned}
 use Rattle.abstract_unix.specs.declared.turned.Turned.TheVariants.{Idle}
 use Rattle.unix_core.specs.declared.machine.Stage.TheVariants as stage
-use Rattle.abstract_unix.specs.Unix.{Unix, System, Started}
-use Rattle.pick_rules.specs.Effects.{Effect, Show}
-use Rattle.abstract_unix.specs.Endings.{is_early}
-use Rattle.abstract_unix.specs.Turn.{Happened, turned_by, turned, stays, settling, calls_for_settling, settled_after, pass_of, slot_of, NobodyCanRun, with_slot, counted, followed, disk_lines, wakes_disks, after_slot}
+use Rattle.abstract_unix.specs.Unix.{System, Started}
+use Rattle.abstract_unix.specs.Turn.{Happened, turned_by, turned, settled_after, pass_of, slot_of, NobodyCanRun, after_slot}
 use Rattle.abstract_unix.specs.Runs.{Slot, event_of}
+use Rattle.abstract_unix.proofs.RunsLemmas.{whole_answer}
 use Rattle.unix_core.specs.Parts.{system_at, turn_at, phase_of, IsGood, IsStill, IsKernel}
 use Rattle.unix_core.proofs.BootKernelLemmas.{kernel_good}
 
@@ -42,31 +41,10 @@ never_idle : (o : Ends) → turned_by o false ≡ Idle → ⊥
 never_idle AtEnd idle = cc idle
 never_idle (ends.Panic kind) idle = cc idle
 
-settled_answer : (h : Happened) → turned (settled_after h) ≡ turned_by h.ending h.is_idle
-settled_answer h = by (calls_for_settling h)
-  where
-    by : (b : Bool) → turned (cond b (settling h) (stays h)) ≡ turned_by h.ending h.is_idle
-    by true = refl
-    by false = refl
-
--- what follows a slot changes no answer
-after_answer : (h : Happened) → turned_by (after_slot h).ending (after_slot h).is_idle ≡ turned_by h.ending h.is_idle
-after_answer h = by (is_early h.ending)
-  where
-    followed_answer : (g : Happened) (es : List (Effect Unix)) → turned_by (followed g es).ending (followed g es).is_idle ≡ turned_by g.ending g.is_idle
-    followed_answer g [] = refl
-    followed_answer g (e ∷ es) = refl
-
-    by : (b : Bool) → turned_by (cond b h (wakes_disks (counted h))).ending (cond b h (wakes_disks (counted h))).is_idle ≡ turned_by h.ending h.is_idle
-    by true = refl
-    by false = followed_answer (counted h) (map Show (disk_lines (with_slot h.unix)))
-
 nobody_by : (m : System) (runs : Option ℕ) → turned (settled_after (after_slot (slot_of m runs))) ≡ Idle → runs ≡ None
 nobody_by m None idle = refl
-nobody_by m (Some zero) idle = absurd (never_idle (slot_of m (Some zero)).ending
-    (sym (settled_answer (after_slot (slot_of m (Some zero))) ∙ after_answer (slot_of m (Some zero))) ∙ idle))
-nobody_by m (Some (suc s)) idle = absurd (never_idle (slot_of m (Some (suc s))).ending
-    (sym (settled_answer (after_slot (slot_of m (Some (suc s)))) ∙ after_answer (slot_of m (Some (suc s)))) ∙ idle))
+nobody_by m (Some zero) idle = absurd (never_idle (slot_of m (Some zero)).ending (sym (whole_answer (slot_of m (Some zero))) ∙ idle))
+nobody_by m (Some (suc s)) idle = absurd (never_idle (slot_of m (Some (suc s))).ending (sym (whole_answer (slot_of m (Some (suc s)))) ∙ idle))
 
 pub nobody_runs : (m : System) → turned (event_of Slot m) ≡ Idle → m.board.table.running ≡ None
 nobody_runs m idle = nobody_by m m.board.table.running idle
@@ -102,7 +80,7 @@ module _ (w : World) (none : w.procs.table.running ≡ None) where
   idle_turn = ap (λ o. settled_after (after_slot (slot_of (system_at w) o))) (sym none)
 
   pub idle_told : Idle ≡ turned (turn_at w)
-  idle_told = sym (settled_answer (after_slot idle_so) ∙ after_answer idle_so) ∙ ap turned idle_turn
+  idle_told = sym (whole_answer idle_so) ∙ ap turned idle_turn
 
 -- A slot of the swapper is its pass.
 pub swap_turn : (w : World) → w.procs.table.running ≡ Some 0 → settled_after (after_slot (pass_of (system_at w))) ≡ turn_at w

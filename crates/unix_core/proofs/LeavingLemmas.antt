@@ -1,10 +1,12 @@
 -- What a call on files leaves, by what it has done to the parts that were lent to it.
-use Rattle.std.proofs.Common.{◌≡◌, ◌∙◌, ◌+◌, ℕ, true, List, [], length, Some, None, refl, ap, subst, arith, sym}
+use Rattle.std.proofs.Common.{◌≡◌, ◌∙◌, ◌+◌, ℕ, true, List, [], length, get_or, replicate, Some, None, refl, ap, subst, inl, inr, arith, sym}
+use Rattle.std.specs.List.{All}
 use Rattle.std.specs.Prelude.{unwrap_or}
-use Rattle.std.proofs.lemmas.Bool.{eq-eqb}
-use Rattle.std.proofs.lemmas.List.{get_or-set_same}
+use Rattle.std.proofs.lemmas.Bool.{eq-eqb, cases_lt}
+use Rattle.std.proofs.lemmas.List.{get_or-set_same, get_or-replicate, get_or_past, length-replicate}
 use Rattle.v6_base.specs.Image.{Image}
-use Rattle.v6_base.specs.Tape.{Recording, taken_on}
+use Rattle.v6_base.specs.Tape.{Recording, blank, taken_on}
+use Rattle.v6_base.specs.declared.trace.TheConstants.{LINES}
 use Rattle.v6_base.specs.declared.answer.Answer.{Answer}
 use Rattle.v6_base.specs.declared.answer.Answer.TheVariants.{Ret}
 use Rattle.v6_base.specs.Trace.{Item, Took}
@@ -14,6 +16,7 @@ use Rattle.proc_tab.specs.declared.row.Row.{Row}
 use Rattle.proc_tab.specs.Processes.{Processes, member_at, row_at, with_change, with_row}
 use Rattle.image_keep.specs.Kept.{Kept, HasSizes, keeping, with_image, with_area, area_of, image_of, clicks_of}
 use Rattle.fs_nodes.specs.FileSystem.{IsFileSystem}
+use Rattle.lines_eight.specs.Lines.{HasRoom}
 use Rattle.sys_files.specs.Handed.{Handed, handed}
 use Rattle.sys_files.specs.Sound.{IsKept}
 use Rattle.sys_files.specs.Does.{Does}
@@ -53,6 +56,13 @@ pub lent_is : (w : World) (s : ℕ) (u : UArea) → IsReady w s → IsFileSystem
     → handed w.files u (row_at w.procs.rows s) (image_of w.procs.images.kept s) ≡ given w s
 lent_is w s u ready form holds is =
     ap (λ (v : UArea). handed w.files v (row_at w.procs.rows s) (image_of w.procs.images.kept s)) is ∙ handed_is w s ready form holds
+
+-- of no line is there a byte on a blank tape
+no_bytes : (n l : ℕ) → get_or (replicate {A = List ℕ} n []) l [] ≡ []
+no_bytes n l = elim (cases_lt l n) [
+  | inl low ↦ get_or-replicate n l [] [] low
+  | inr past ↦ get_or_past (replicate n []) l [] (let long = length-replicate {A = List ℕ} n [] in omega (arith, long, past))
+]
 
 -- A call on files has left the parts in this state.
 pub record Leaves (w w' : World) (s : ℕ) (u : UArea) (row : Row) (image : Image) (state : Handed) : Type 0 where
@@ -111,13 +121,13 @@ module _ (w w' : World) (s : ℕ) (u : UArea) (row : Row) (image : Image) (state
   leaves_ready form = ready_after w w' s ready u row image is_after form
 
   -- What it has shown stands on the tape.
-  module _ (items : List Item) (fits : Fits s items) (took : Took (taken_on (record w.tape { entries = []; bytes = [] })) items (taken_on w'.tape)) where
+  module _ (items : List Item) (fits : Fits s items) (took : Took (taken_on (blank w.tape.entry_room w.tape.byte_room)) items (taken_on w'.tape)) where
     has_all : HasAll w'.tape items
     has_all =
         let entries = ready.good.rooms.0 in
         let bytes = ready.good.rooms.1 in
-        never_filled s (record w.tape { entries = []; bytes = [] }) w'.tape items fits
-        (record { entries = refl; bytes = refl; entry_room = omega (arith, entries); byte_room = omega (arith, bytes) })
+        never_filled s (blank w.tape.entry_room w.tape.byte_room) w'.tape items fits
+        (record { entries = refl; lines = λ l. no_bytes LINES l; entry_room = omega (arith, entries); byte_room = omega (arith, bytes) })
         leaves.rooms.0 leaves.rooms.1 took
 
     pub leaves_shown : IsFileSystem w.files.tree.nodes → IsReadyToShow w w' s items
@@ -166,7 +176,7 @@ module _ (w : World) (s : ℕ) {u : UArea} {r : Row} {m : Image} (lent : IsLent 
       let P : Handed → Type 0 = λ h. Does h (handed f v row image) a (taken_on cleared) (taken_on tape) (does h) in
       subst P (lent_parts w s lent) done
 
-  module _ (rows : Processes) (x : ImagesState) (clear : cleared ≡ record w.tape { entries = []; bytes = [] })
+  module _ (rows : Processes) (x : ImagesState) (clear : cleared ≡ blank w.tape.entry_room w.tape.byte_room)
       (rooms : (tape.entry_room ≡ cleared.entry_room) × (tape.byte_room ≡ cleared.byte_room)) (fifteen : length v.files ≡ 15)
       (rows_are : rows ≡ with_change w.procs.rows s (with_row row)) (images : x.kept ≡ with_area (with_image w.procs.images.kept s image) s v) where
     abbrev after : World
@@ -201,11 +211,12 @@ module _ (w : World) (s : ℕ) {u : UArea} {r : Row} {m : Image} (lent : IsLent 
 abbrev pub closing : Handed → Did
 closing h = record { answer = Ret 0 0; state = (close_all h).state; items = (close_all h).items }
 
-pub closing_confined : (slot : ℕ) (h : Handed) → Confined slot h (closing h)
-closing_confined slot h = record { fits = close_all_fits slot h; steady = close_all_steady h }
+pub closing_confined : (slot : ℕ) (h : Handed) → All HasRoom h.lines → Confined slot h (closing h)
+closing_confined slot h room = record { fits = close_all_fits slot h room; steady = close_all_steady h room }
 
 -- The file `core` of the process has been written, by which nothing of the process has changed.
-module _ (w : World) (s : ℕ) {u : UArea} {m : Image} (lent : IsLent w s u (row_at w.procs.rows s) m) (none : (given w s).u.pending ≡ NOTHING_PENDING) (now : ℕ)
+module _ (w : World) (s : ℕ) {u : UArea} {m : Image} (lent : IsLent w s u (row_at w.procs.rows s) m) (none : (given w s).u.pending ≡ NOTHING_PENDING)
+    (room : All HasRoom w.files.lines) (now : ℕ)
     (f : Files) (x : ImagesState) (same : x.kept ≡ w.procs.images.kept)
     (state : handed f u (row_at w.procs.rows s) m ≡ (core_file (handed w.files u (row_at w.procs.rows s) m) now).state)
     (keeps : IsKept (handed w.files u (row_at w.procs.rows s) m) (handed f u (row_at w.procs.rows s) m)) where
@@ -229,7 +240,7 @@ module _ (w : World) (s : ℕ) {u : UArea} {m : Image} (lent : IsLent w s u (row
       record {
         kept = subst (λ h. IsKept h (handed f u (row_at w.procs.rows s) m)) parts keeps;
         is = state ∙ ap (λ h. (core_file h now).state) parts;
-        steady = core_steady (given w s) now;
+        steady = core_steady (given w s) now room;
         pends = core_pends (given w s) now none;
         rooms = (refl, refl);
         fifteen = its_numbers;

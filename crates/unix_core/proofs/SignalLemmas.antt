@@ -41,7 +41,7 @@ module _ (w : World) (s n : ℕ) (ready : IsReady w s) (p : Procs) (agree : AreP
   x = change (given w) s (signalled n)
 
   stays : StaysBeside w sent
-  stays = record { table = refl; rests = record { pipes = refl; line = refl; tape = refl; core = refl; slots = refl } }
+  stays = record { table = refl; rests = record { pipes = refl; lines = refl; tape = refl; core = refl; slots = refl } }
 
   moved : MovedBoard (board w.procs) (board p)
   moved =

@@ -27,15 +27,17 @@ abbrev Still : UArea → Did → Type 0
 Still u did = Same u did.state.u did.answer
 
 -- Each row of a call that moves no numbers and no directory leaves it so.
-still_walks : (u : UArea) (slot : ℕ) → Walks (λ h. h.u ≡ u) (Still u) (λ count. Unit {0}) (λ ino. Unit {0}) ⊥ slot
+still_walks : (u : UArea) (slot : ℕ) → Walks (λ h. h.u ≡ u) (Still u) (λ count. Unit {0}) (λ ino. Unit {0}) (λ line. Unit {0}) ⊥ slot
 still_walks u slot = record {
   refused = λ h e same. same;
   done = λ h a b same. same;
   lets_go = λ ino d still. still;
-  waits = λ h entry at count same. tt;
+  waits = λ h l entry at count calling line same. tt;
+  waits_for_room = λ h l entry at count done calling line same. tt;
   waits_in_pipe = λ h chan pending entry at count left which of awaits same. tt;
   tells = λ entries d few all none still. still;
-  showing = λ line image at count d few still. still;
+  lets_out = λ h l front back d few first second same none still. still;
+  showing = λ l line bytes count d long few still. still;
   inodes = λ h inodes count same. same;
   opened = λ h ino kind fd entry plain number free moves same. absurd moves;
   ends = λ h ino fd entry next_fd next_entry above within number free next_number next_free moves same. absurd moves;
@@ -45,7 +47,8 @@ still_walks u slot = record {
   marked = λ h pipe same. same;
   gone = λ h ino none same. same;
   known = λ h entry is same. (tt, tt);
-  typewriter = λ h typewriter same. same;
+  numbered = λ h l other there same. tt;
+  typewriter = λ h l t kept same. same;
   enters = λ h dir moves same. absurd moves;
   terminal = λ h tty same. same;
   signalled = λ h same. same;

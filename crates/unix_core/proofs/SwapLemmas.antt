@@ -50,13 +50,13 @@ use Rattle.abstract_unix.specs.declared.ends.Ends.TheVariants.{AtEnd}
 use Rattle.abstract_unix.specs.Whole.{Owed, CanGoOn}
 use Rattle.abstract_unix.specs.declared.turned.Turned.TheVariants as told
 use Rattle.abstract_unix.specs.declared.turned.Turned.TheVariants.{Ran}
-use Rattle.abstract_unix.specs.Turn.{Happened, Turn, settled, settled_after, turned, passes, pass_of, with_slot, disk_lines, after_slot}
+use Rattle.abstract_unix.specs.Turn.{Happened, Turn, settled, settled_after, turned, passes, pass_of, with_slot, after_slot}
 use Rattle.abstract_unix.proofs.RunsLemmas.{whole_answer}
 use Rattle.abstract_unix.proofs.Passing.{pass_sleeps}
 use Rattle.unix_core.specs.declared.world.World.{World}
 use Rattle.unix_core.specs.declared.machine.Stage.{Stage}
 use Rattle.unix_core.specs.declared.machine.Stage.TheVariants as stage
-use Rattle.unix_core.specs.Slots.{IsCounted}
+use Rattle.unix_core.specs.Slots.{with_sent, slot_items, IsCounted}
 use Rattle.unix_core.specs.Parts.{unix_of, board_in, system_at, phase_of, IsGood, IsNew, IsKernel, Takes}
 use Rattle.unix_core.proofs.BootKernelLemmas.{stopped_kernel}
 use Rattle.unix_core.proofs.CoverLemmas.{agree_covered}
@@ -345,13 +345,13 @@ module _ (w : World) (u : Table) (x : ImagesState) (a z : Taken) (good : IsGood 
         ((λ i. (pass (board_in w)).items ++ (settled (moved.board i)).items) ∙ ap (λ (o : Turn). o.items) (sym done))
 
     -- where the pass was a slot, it has been counted in this world
-    module _ (v : World) (unix : unix_of v ≡ with_slot (unix_of now))
-        (woken : board_in v ≡ (logged {W = Unix} (board_in now) (map Show (disk_lines (with_slot (unix_of now))))).board) where
+    module _ (v : World) (unix : unix_of v ≡ with_sent (with_slot (unix_of now)))
+        (woken : board_in v ≡ (logged {W = Unix} (board_in now) (map Show (slot_items (with_slot (unix_of now))))).board) where
       happens : pass_of (system_at w) ≡ moves (system_at w)
       happens = pass_happens (system_at w) (none_stopped _ goes)
 
-      unix_then : unix_of v ≡ with_slot (unix_of w)
-      unix_then = unix ∙ ap with_slot after_unix
+      unix_then : unix_of v ≡ with_sent (with_slot (unix_of w))
+      unix_then = unix ∙ ap (λ (u : Unix). with_sent (with_slot u)) after_unix
 
       board_then : board_in v ≡ (woken_log (unix_of w) (pass (board_in w)).board).board
       board_then = woken ∙ (λ i. (woken_log (after_unix i) (moved.board i)).board)
@@ -362,12 +362,12 @@ module _ (w : World) (u : Table) (x : ImagesState) (a z : Taken) (good : IsGood 
           subst (λ (h : Happened). Takes (settled_after (after_slot h)) at last) (sym happens)
           (settled_takes (moves (system_at w)) refl (λ none. refl) v unix_then board_then at last kernel started final)
 
-      pub slot_items : (b c d : Taken) → Took a (pass (board_in w)).items b → Took b (disk_lines (with_slot (unix_of now))) c
+      pub slot_took : (b c d : Taken) → Took a (pass (board_in w)).items b → Took b (slot_items (with_slot (unix_of now))) c
           → Took c (settled (board_in v)).items d → Took a (settled_after (after_slot (pass_of (system_at w)))).items d
-      slot_items b c d first second third =
+      slot_took b c d first second third =
           subst (λ (h : Happened). Took a (settled_after (after_slot h)).items d) (sym happens)
           (settled_items (moves (system_at w)) refl (λ none. refl) v unix_then board_then a b c d first
-          (subst (λ (u : Unix). Took b (disk_lines (with_slot u)) c) after_unix second) third)
+          (subst (λ (u : Unix). Took b (slot_items (with_slot u)) c) after_unix second) third)
 
       pub slot_answer : Ran ≡ turned (settled_after (after_slot (pass_of (system_at w))))
       slot_answer = sym (ap (λ (h : Happened). turned (settled_after (after_slot h))) happens ∙ whole_answer (moves (system_at w)))

@@ -1,9 +1,9 @@
 -- A process begins to wait for the disk, or has waited: its u area is another one, and the rest of the world as it was.
-use Rattle.std.proofs.Common.{◌≡◌, ◌≢◌, ◌∙◌, ◌<◌, ◌≤◌, ◌+◌, ◌==◌, ◌&&◌, not, cond, ℕ, Bool, true, false, Option, Some, None, refl, sym, ap, subst, inl, inr, arith}
+use Rattle.std.proofs.Common.{◌≡◌, ◌≢◌, ◌∙◌, ◌<◌, ◌≤◌, ◌+◌, ◌-◌, ◌==◌, ◌&&◌, not, cond, ℕ, Bool, true, false, Option, Some, None, refl, sym, ap, subst, inl, inr, arith}
 use Rattle.std.proofs.lemmas.Bool.{eq-eqb, ne_eqb}
 use Rattle.u_area.specs.declared.layout.TheConstants.{NOTHING_PENDING, DISK_WAIT}
 use Rattle.u_area.specs.declared.area.UArea.{UArea}
-use Rattle.u_area.specs.Pending.{IsPipeCall}
+use Rattle.u_area.specs.Pending.{IsFileCall}
 use Rattle.v6_base.specs.declared.entry.Chan.TheVariants.{Disk}
 use Rattle.v6_base.specs.Image.{Image}
 use Rattle.pick_rules.specs.Priority.{pribio}
@@ -26,7 +26,7 @@ use Rattle.abstract_unix.specs.Calls.{waiting_area, waiting_until, disk_end, wai
 use Rattle.abstract_unix.specs.Whole.{CanGoOn}
 use Rattle.abstract_unix.proofs.Owing.{some_within}
 use Rattle.abstract_unix.proofs.GoingOnLemmas.{moved_goes_on}
-use Rattle.abstract_unix.proofs.PendingRows.{never_in_pipe}
+use Rattle.abstract_unix.proofs.PendingRows.{never_in_call}
 use Rattle.unix_core.specs.declared.world.World.{World}
 use Rattle.unix_core.specs.declared.slots.Slots.{Slots}
 use Rattle.unix_core.specs.Slots.{passed_in, timing_in, CanWait, HasWaited, rested_area}
@@ -36,14 +36,14 @@ use Rattle.unix_core.proofs.PutLemmas.{with_images, with_kept, good_but}
 use Rattle.unix_core.proofs.AreaLemmas.{ruled_unix, ruled_board, own_area}
 use Rattle.unix_core.proofs.SlotWorlds.{with_slots, ready_slots}
 
--- 1. The pending call of who runs is another one, and no wait in a pipe.
+-- 1. The pending call of who runs is another one, and no wait in a call on a file.
 pub record IsSameImage (u v : UArea) : Type 0 where
   pub clicks : clicks_of u ≡ clicks_of v
   pub files : u.files ≡ v.files
   pub dir : u.dir ≡ v.dir
 
 module _ (w : World) (s : ℕ) (ready : IsReady w s) (rule : UArea → UArea) (like : (u : UArea) → IsSameImage (rule u) u)
-    (never : (u : UArea) → IsPipeCall (rule u).pending → ⊥) (x : ImagesState)
+    (never : (u : UArea) → IsFileCall (rule u).pending → ⊥) (x : ImagesState)
     (kept : x.kept ≡ with_area w.procs.images.kept s (rule (area_of w.procs.images.kept s))) where
   abbrev p : Process
   p = process_of (unix_of w) s
@@ -80,22 +80,25 @@ module _ (w : World) (s : ℕ) (ready : IsReady w s) (end : ℕ) (is : end ≡ d
 
   pub wait_ready : IsReady waited s
   wait_ready = ready_slots (with_images w x) slots s
-      (moved_ready w s ready (waiting_area end) (λ u. record { clicks = refl; files = refl; dir = refl }) (λ u. not_pipe) x kept)
+      (moved_ready w s ready (waiting_area end) (λ u. record { clicks = refl; files = refl; dir = refl }) (λ u. no_file_call) x kept)
     where
-      not_pipe : IsPipeCall DISK_WAIT → ⊥
-      not_pipe (inl three) = absurd (omega (arith, three))
-      not_pipe (inr four) = absurd (omega (arith, four))
+      no_file_call : IsFileCall DISK_WAIT → ⊥
+      no_file_call (inl (inl one)) = absurd (omega (arith, one))
+      no_file_call (inl (inr two)) = absurd (omega (arith, two))
+      no_file_call (inr (inl three)) = absurd (omega (arith, three))
+      no_file_call (inr (inr four)) = absurd (omega (arith, four))
 
 -- how the slots are counted then
 pub has_waited : (waits : Bool) (old new : Slots) (end : ℕ) → CanWait old → end ≡ passed_in old + 1 + old.disk → new.due ≤ end
     → new.due ≤ old.due → passed_in old < new.due → passed_in new ≡ passed_in old → new.left ≤ new.due → new.disk ≡ old.disk
-    → HasWaited waits old new
-has_waited waits old new end can is ends sooner ahead passed within disk = record {
-  timing = λ i. record { passed = passed i; disk = disk i };
+    → new.pace ≡ old.pace → new.set_at ≡ old.set_at → HasWaited waits old new
+has_waited waits old new end can is ends sooner ahead passed within disk pace set = record {
+  timing = λ i. record { passed = passed i; disk = disk i; pace = pace i; since = passed i - set i };
   within = within;
   sooner = sooner;
   ahead = ahead;
   ends = λ some. omega (arith, ends, is);
+  set = set;
 }
 
 pub waited_any : (waits : Bool) (old mid new : Slots) → mid ≡ old → HasWaited true mid new → HasWaited waits old new
@@ -105,6 +108,7 @@ waited_any waits old mid new same w = subst (λ (x : Slots). HasWaited waits x n
   sooner = w.sooner;
   ahead = w.ahead;
   ends = λ some. w.ends refl;
+  set = w.set;
 })
 
 -- whether a read waits, asked in another order
@@ -166,7 +170,7 @@ module _ (w : World) (s : ℕ) (ready : IsReady w s) (x : ImagesState)
   rest_come = record { ending = refl; unix = ruled_unix w s ready rested_area x kept; board = ruled_board w s ready rested_area x kept }
 
   pub rest_ready : IsReady (with_images w x) s
-  rest_ready = moved_ready w s ready rested_area (λ u. record { clicks = refl; files = refl; dir = refl }) (λ u. never_in_pipe NOTHING_PENDING refl) x kept
+  rest_ready = moved_ready w s ready rested_area (λ u. record { clicks = refl; files = refl; dir = refl }) (λ u. never_in_call NOTHING_PENDING refl) x kept
 
 pub rested_sizes : (u v : UArea) (m : Image) → v ≡ rested_area u → HasSizes u m → HasSizes v m
 rested_sizes u v m is has =

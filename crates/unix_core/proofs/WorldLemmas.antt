@@ -1,7 +1,7 @@
 -- A process that runs: what a world says of it, what its calls on files are handed, and that they leave it running.
 use Rattle.std.proofs.Common.{◌≡◌, ◌≢◌, ◌+◌, ℕ, false, List, ◌++◌, length, get_or, set, map, min, Option, Some, None, refl, sym, ap, ◌∙◌, subst}
 use Rattle.v6_base.specs.Image.{Image}
-use Rattle.v6_base.specs.Trace.{Item, Log, sent, entries_of}
+use Rattle.v6_base.specs.Trace.{Item, entries_of}
 use Rattle.u_area.specs.declared.area.UArea.{UArea}
 use Rattle.pick_rules.specs.declared.table.Table.{Table}
 use Rattle.proc_tab.specs.declared.row.Row.{Row}
@@ -38,7 +38,7 @@ use Rattle.abstract_unix.specs.Whole.{Told, told_of, told_in, Owes, Owed, CanGoO
 use Rattle.abstract_unix.proofs.Owing.{told_at, refer_told, sound_by, file_owes}
 use Rattle.abstract_unix.proofs.PendingRows.{Pends}
 use Rattle.abstract_unix.proofs.GoingOnLemmas.{file_goes_on}
-use Rattle.unix_core.proofs.FileLemmas.{ordered_items, shown_woken, shown_slots}
+use Rattle.unix_core.proofs.FileLemmas.{told_in_order, shown_woken, shown_slots}
 
 -- who runs lives
 pub ready_alive : (w : World) (s : ℕ) → IsReady w s → IsAlive w.procs s
@@ -88,7 +88,7 @@ handed_is w s ready form holds =
       marks = ready.good.marks i;
       files = w.files.table;
       pipes = w.files.pipes;
-      line = w.files.line;
+      lines = w.files.lines;
       u = area i;
       row = row i;
       image = image i;
@@ -181,7 +181,7 @@ module _ (w w' : World) (s : ℕ) (ready : IsReady w s) (u : UArea) (row : Row) 
     table = after.table;
     core = after.core;
     texts = after.texts.texts;
-    shown = (λ i. sent 0 (all.bytes i) ++ map Log (all.entries i)) ∙ sym (ordered_items items);
+    shown = told_in_order w'.tape items all.lines all.entries;
     slots = subst HaveSlots (sym all.entries) (shown_slots s (entries_of items) ready.user (runs_low w s ready.good.agree ready.runs) fits.only_lines);
     wakes = λ t k. shown_woken s items fits t k ∙ ap (λ l. board_of (all_woken t l) k) (sym all.entries);
   }

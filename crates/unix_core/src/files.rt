@@ -1,5 +1,7 @@
 //! The inodes that the kernel and its process refer to.
 ghost use Rattle.std.specs.Prelude.{◌≡◌, ℕ, ◌+◌, ◌≤◌, ◌==◌, if◌then◌else◌, slice_index, replicate, length};
+ghost use Rattle.std.specs.List.{All};
+ghost use Rattle.lines_eight.specs.Lines.{HasRoom};
 ghost use Rattle.image_keep.specs.Kept.{IsKept};
 ghost use Rattle.proc_tab.specs.Processes.{AreProcesses};
 ghost use Rattle.sys_procs.specs.Handed.{AreProcs};
@@ -8,6 +10,7 @@ ghost use Rattle.unix_core.specs.Parts.{IsCovered};
 use crate::world::World;
 use fs_nodes::Nodes;
 use image_keep::Images;
+use lines_eight::Lines;
 use open_files::OpenTable;
 use sys_procs::Procs;
 
@@ -19,6 +22,13 @@ pub(crate) fn see_table(table: &OpenTable)
     ensures { length table.now ≡ 100 }
 {
     let _used = table.in_use(0);
+}
+
+/// Sees that few bytes wait to go out on each terminal line.
+pub(crate) fn see_lines(lines: &Lines)
+    ensures { All HasRoom lines.now }
+{
+    let _count = lines.count();
 }
 
 /// Sees what holds of all images that are kept.
@@ -58,6 +68,13 @@ pub(crate) fn see_count(args: &[u16; 4])
     ensures { slice_index args.now 1 ≤ 65535 }
 {
     let _count = args[1];
+}
+
+/// Sees that the number of bytes of a call that waits is a word of 16 bits.
+pub(crate) fn see_words(words: &[u16; 8])
+    ensures { slice_index words.now 2 ≤ 65535 }
+{
+    let _count = words[2];
 }
 
 /// Takes inode 1 as the root and as the directory of process 1.

@@ -13,7 +13,7 @@ ghost use Rattle.u_area.specs.Pending.{is_on_files};
 ghost use Rattle.abstract_unix.specs.Turn.{is_user};
 ghost use Rattle.unix_core.specs.Parts.{unix_of, board_in, IsReady, IsReadyToShow};
 
-use crate::files::{see_count, see_numbers, see_table};
+use crate::files::{see_count, see_lines, see_numbers, see_table, see_words};
 use crate::world::World;
 use abstract_unix::{FileCall, do_file_call};
 use image_keep::{Fixed, Images};
@@ -43,6 +43,7 @@ pub(crate) fn do_on_files(
     see_count(&args);
     world.files.tree.nodes.see();
     see_table(&world.files.table);
+    see_lines(&world.files.lines);
     world.tape.clear();
     let s = fixed.slot;
     let now = world.procs.table.now;
@@ -100,7 +101,7 @@ fn put_back(images: &mut Images, s: Slot, u: &UArea, changed: bool)
     }
 }
 
-/// Goes on with a call on files: a read of a line, or a read or a write of a pipe.
+/// Goes on with a call on files: a read or a write of a line or of a pipe.
 pub(crate) fn resume_on_files(world: &mut World, s: Slot) -> Answer
     requires ready { IsReady world.old s }
     requires pending { is_on_files (area_of world.old.procs.images.kept s).pending ≡ true }
@@ -114,9 +115,11 @@ pub(crate) fn resume_on_files(world: &mut World, s: Slot) -> Answer
 {
     world.files.tree.nodes.see();
     see_table(&world.files.table);
+    see_lines(&world.files.lines);
     world.tape.clear();
     let now = world.procs.table.now;
     let mut u = world.procs.images.area(s);
+    see_words(&u.call);
     let mut row = *world.procs.rows.row(s);
     let answer = {
         let mut space = world.procs.images.space(s);
@@ -152,6 +155,7 @@ pub(crate) fn put_core(world: &mut World, s: Slot) -> bool
 {
     world.files.tree.nodes.see();
     see_table(&world.files.table);
+    see_lines(&world.files.lines);
     let now = world.procs.table.now;
     let u = world.procs.images.area(s);
     let space = world.procs.images.space(s);
@@ -171,6 +175,7 @@ pub(crate) fn close_files(world: &mut World, s: Slot)
 {
     world.files.tree.nodes.see();
     see_table(&world.files.table);
+    see_lines(&world.files.lines);
     world.tape.clear();
     let now = world.procs.table.now;
     let mut u = world.procs.images.area(s);

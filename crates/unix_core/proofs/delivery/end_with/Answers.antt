@@ -107,7 +107,7 @@ returns-in-Ok-clause-come g c =
     let ready = then w new s t shown state is in
     let now : World = record w1 { files = record w1.files { tree = c.end_proc-ended.new.tree }; procs = c.end_proc-ended.new.p } in
     let e = c.end_proc-ended.ensures in
-    let rests : Rests w1 now = record { pipes = refl; line = refl; tape = refl; core = refl; slots = refl } in
+    let rests : Rests w1 now = record { pipes = refl; lines = refl; tape = refl; core = refl; slots = refl } in
     let none = ended_goes _ _ e.does.answer c.in-Ok.is in
     exit_come w w1 now s ready n c.see.ensures (closed_unix w new s t shown state is) (closed_board w new s t shown state is) none
     (ended_unix w1 now s ready n e.agree none (end_state w1 s ready n _ none e.does.left.state) e.does.left.shown refl rests) e.does.left.shown
@@ -126,7 +126,7 @@ returns-in-Ok-clause-good g c goes =
     let ready = then w new s t shown state is in
     let now : World = record w1 { files = record w1.files { tree = c.end_proc-ended.new.tree }; procs = c.end_proc-ended.new.p } in
     let e = c.end_proc-ended.ensures in
-    let rests : Rests w1 now = record { pipes = refl; line = refl; tape = refl; core = refl; slots = refl } in
+    let rests : Rests w1 now = record { pipes = refl; lines = refl; tape = refl; core = refl; slots = refl } in
     let closed = closed_then w w1 s c.requires.ready ready (closed_unix w new s t shown state is) in
     let none = ended_goes _ _ e.does.answer c.in-Ok.is in
     ended_good w1 now s ready n e.agree none (end_state w1 s ready n _ none e.does.left.state) e.does.left.shown refl rests c.see.ensures closed
@@ -160,7 +160,7 @@ returns-in-Err-clause-come g c =
     let ready = then w new s t shown state is in
     let now : World = record w1 { files = record w1.files { tree = c.end_proc-ended.new.tree }; procs = c.end_proc-ended.new.p } in
     let e = c.end_proc-ended.ensures in
-    let rests : Rests w1 now = record { pipes = refl; line = refl; tape = refl; core = refl; slots = refl } in
+    let rests : Rests w1 now = record { pipes = refl; lines = refl; tape = refl; core = refl; slots = refl } in
     let halt = ended_stops _ c.in-Err.kind _ e.does.answer c.in-Err.is in
     exit_stops w w1 now s ready n c.see.ensures (closed_unix w new s t shown state is) (closed_board w new s t shown state is)
     halt.0 halt.1.0 (Panic c.in-Err.kind) (ap Panic halt.1.1)
@@ -179,7 +179,7 @@ returns-in-Err-clause-runs g c other =
     let ready = then w new s t c.close_files.ensures.shown c.close_files.ensures.unix c.pass_on.ensures.table in
     let now : World = record w1 { files = record w1.files { tree = c.end_proc-ended.new.tree }; procs = c.end_proc-ended.new.p } in
     let e = c.end_proc-ended.ensures in
-    let rests : Rests w1 now = record { pipes = refl; line = refl; tape = refl; core = refl; slots = refl } in
+    let rests : Rests w1 now = record { pipes = refl; lines = refl; tape = refl; core = refl; slots = refl } in
     let halt = ended_stops _ c.in-Err.kind _ e.does.answer c.in-Err.is in
     stopped_runs w1 now s ready c.args.status halt.0 halt.1.0 e.does.left.state e.does.left.shown refl rests
 

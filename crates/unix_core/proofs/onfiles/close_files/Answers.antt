@@ -37,7 +37,7 @@ set_area-requires c =
     let lent = lends w c.args.s {r = row} w.procs.images.kept c.args.s c.requires.ready c.see.ensures c.area-u.ensures.sizes c.area-u.ensures.holds c.area-u.ensures.u refl refl refl in
     record {
       image = c.requires.ready.good.running c.args.s c.requires.ready.runs c.requires.ready.user;
-      sizes = sizes_put w c.args.s lent closing (closing_confined c.args.s (given w c.args.s)).steady c.close_all.new.f c.close_all.new.u row image (c.close_all.ensures.state row image);
+      sizes = sizes_put w c.args.s lent closing (closing_confined c.args.s (given w c.args.s) c.see_lines.ensures).steady c.close_all.new.f c.close_all.new.u row image (c.close_all.ensures.state row image);
     }
 
 pub returns : goal.returns
@@ -46,7 +46,7 @@ returns c =
     let row : Row = row_at w.procs.rows c.args.s in
     let image : Image = image_of w.procs.images.kept c.args.s in
     let lent = lends w c.args.s {r = row} w.procs.images.kept c.args.s c.requires.ready c.see.ensures c.area-u.ensures.sizes c.area-u.ensures.holds c.area-u.ensures.u refl refl refl in
-    let done = call_done w c.args.s lent closing (closing_confined c.args.s (given w c.args.s))
+    let done = call_done w c.args.s lent closing (closing_confined c.args.s (given w c.args.s) c.see_lines.ensures)
     (close_pends (given w c.args.s) (none_pending (process_of (unix_of w) c.args.s) c.requires.user)) c.clear.new.self c.close_all.new.trace c.close_all.new.f c.close_all.new.u row image
     {a = Ret 0 0}
     (record {

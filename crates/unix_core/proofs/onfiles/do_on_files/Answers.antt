@@ -37,7 +37,7 @@ put_back-requires c =
     (same_kept c.space_at-space.ensures.images) c.space_at-space.ensures.slot in
     let back = lent_back w.procs.images.kept c.space_at-space.result.images.now.kept now s c.space_at-space.result.slot c.do_file_call-answer.new.space.slot _ _
     (same_kept c.space_at-space.ensures.images) c.space_at-space.ensures.slot c.do_file_call-answer.ensures.memory in
-    let put = area_put w s lent (λ h. file_row c.args.call h s c.args.args w.procs.table.now) (row_confined c.args.call (given w s) s c.args.args w.procs.table.now c.see_count.ensures).steady
+    let put = area_put w s lent (λ h. file_row c.args.call h s c.args.args w.procs.table.now) (row_confined c.args.call (given w s) s c.args.args w.procs.table.now c.see_count.ensures c.see_lines.ensures).steady
     c.do_file_call-answer.new.files c.do_file_call-answer.new.u c.do_file_call-answer.new.row _ c.do_file_call-answer.ensures.does.state now back in
     let parts : Handed = handed w.files c.area-u.result c.row.result.now (image_of c.space_at-space.result.images.now.kept c.space_at-space.result.slot) in
     let did = c.do_file_call-answer.ensures.does in
@@ -55,7 +55,7 @@ set_row-requires-clause-pid c =
     let s : ℕ = c.args.fixed.now.slot in
     let lent = lends w s _ _ c.requires.ready c.see.ensures c.area-u.ensures.sizes c.area-u.ensures.holds c.area-u.ensures.u c.row.ensures
     (same_kept c.space_at-space.ensures.images) c.space_at-space.ensures.slot in
-    (row_put w s lent (λ h. file_row c.args.call h s c.args.args w.procs.table.now) (row_confined c.args.call (given w s) s c.args.args w.procs.table.now c.see_count.ensures).steady
+    (row_put w s lent (λ h. file_row c.args.call h s c.args.args w.procs.table.now) (row_confined c.args.call (given w s) s c.args.args w.procs.table.now c.see_count.ensures c.see_lines.ensures).steady
     c.do_file_call-answer.new.files c.do_file_call-answer.new.u c.do_file_call-answer.new.row _ c.do_file_call-answer.ensures.does.state).pid
 
 pub set_row-requires-clause-ppid : goal.set_row-requires-clause-ppid
@@ -64,7 +64,7 @@ set_row-requires-clause-ppid c =
     let s : ℕ = c.args.fixed.now.slot in
     let lent = lends w s _ _ c.requires.ready c.see.ensures c.area-u.ensures.sizes c.area-u.ensures.holds c.area-u.ensures.u c.row.ensures
     (same_kept c.space_at-space.ensures.images) c.space_at-space.ensures.slot in
-    (row_put w s lent (λ h. file_row c.args.call h s c.args.args w.procs.table.now) (row_confined c.args.call (given w s) s c.args.args w.procs.table.now c.see_count.ensures).steady
+    (row_put w s lent (λ h. file_row c.args.call h s c.args.args w.procs.table.now) (row_confined c.args.call (given w s) s c.args.args w.procs.table.now c.see_count.ensures c.see_lines.ensures).steady
     c.do_file_call-answer.new.files c.do_file_call-answer.new.u c.do_file_call-answer.new.row _ c.do_file_call-answer.ensures.does.state).ppid
 
 pub returns : goal.returns
@@ -76,7 +76,7 @@ returns c =
     (same_kept c.space_at-space.ensures.images) c.space_at-space.ensures.slot in
     let back = lent_back w.procs.images.kept c.space_at-space.result.images.now.kept now s c.space_at-space.result.slot c.do_file_call-answer.new.space.slot _ _
     (same_kept c.space_at-space.ensures.images) c.space_at-space.ensures.slot c.do_file_call-answer.ensures.memory in
-    let done = call_done w s lent (λ h. file_row c.args.call h s c.args.args w.procs.table.now) (row_confined c.args.call (given w s) s c.args.args w.procs.table.now c.see_count.ensures)
+    let done = call_done w s lent (λ h. file_row c.args.call h s c.args.args w.procs.table.now) (row_confined c.args.call (given w s) s c.args.args w.procs.table.now c.see_count.ensures c.see_lines.ensures)
     (row_pends c.args.call (given w s) s c.args.args w.procs.table.now (none_pending (process_of (unix_of w) s) c.requires.user))
     c.clear.new.self c.do_file_call-answer.new.trace c.do_file_call-answer.new.files c.do_file_call-answer.new.u c.do_file_call-answer.new.row _ c.do_file_call-answer.ensures.does
     c.set_row.new.self c.put_back.new.images c.clear.ensures c.do_file_call-answer.ensures.frame c.see_numbers.ensures c.set_row.ensures

@@ -41,7 +41,7 @@ returns-clause-unix c =
     let row : Row = row_at w.procs.rows c.args.s in
     let lent = lends w c.args.s {r = row} _ _ c.requires.ready c.see.ensures c.area-u.ensures.sizes c.area-u.ensures.holds c.area-u.ensures.u refl
     (same_kept c.space-space.ensures.images) c.space-space.ensures.slot in
-    dumped_unix w c.args.s lent (none_pending (process_of (unix_of w) c.args.s) c.requires.user) w.procs.table.now c.write_core.new.f
+    dumped_unix w c.args.s lent (none_pending (process_of (unix_of w) c.args.s) c.requires.user) c.see_lines.ensures w.procs.table.now c.write_core.new.f
     c.space-space.result.images.now (same_kept c.space-space.ensures.images) (c.write_core.ensures.state row) (c.write_core.ensures.kept row)
 
 pub returns-clause-ready : goal.returns-clause-ready
@@ -50,7 +50,7 @@ returns-clause-ready c =
     let row : Row = row_at w.procs.rows c.args.s in
     let lent = lends w c.args.s {r = row} _ _ c.requires.ready c.see.ensures c.area-u.ensures.sizes c.area-u.ensures.holds c.area-u.ensures.u refl
     (same_kept c.space-space.ensures.images) c.space-space.ensures.slot in
-    dumped_ready w c.args.s lent (none_pending (process_of (unix_of w) c.args.s) c.requires.user) w.procs.table.now c.write_core.new.f
+    dumped_ready w c.args.s lent (none_pending (process_of (unix_of w) c.args.s) c.requires.user) c.see_lines.ensures w.procs.table.now c.write_core.new.f
     c.space-space.result.images.now (same_kept c.space-space.ensures.images) (c.write_core.ensures.state row) (c.write_core.ensures.kept row)
 
 pub returns-clause-user : goal.returns-clause-user
@@ -59,5 +59,5 @@ returns-clause-user c =
     let row : Row = row_at w.procs.rows c.args.s in
     let lent = lends w c.args.s {r = row} _ _ c.requires.ready c.see.ensures c.area-u.ensures.sizes c.area-u.ensures.holds c.area-u.ensures.u refl
     (same_kept c.space-space.ensures.images) c.space-space.ensures.slot in
-    dumped_user w c.args.s lent (none_pending (process_of (unix_of w) c.args.s) c.requires.user) w.procs.table.now c.write_core.new.f
+    dumped_user w c.args.s lent (none_pending (process_of (unix_of w) c.args.s) c.requires.user) c.see_lines.ensures w.procs.table.now c.write_core.new.f
     c.space-space.result.images.now (same_kept c.space-space.ensures.images) (c.write_core.ensures.state row) (c.write_core.ensures.kept row)
