@@ -1,5 +1,6 @@
 -- What the writing of the file `core` keeps: all that a change of inodes keeps. It never sleeps.
 use Rattle.std.proofs.Common.{◌==◌, ◌+◌, ℕ, Bool, true, false, cond, List, length, Result, Ok, Err, is_ok, slice_index, ◌≡◌, refl, sym, ap, ◌∙◌}
+use Rattle.std.specs.List.{All}
 use Rattle.std.proofs.lemmas.Bool.{eq-eqb}
 use Rattle.v6_base.specs.declared.answer.Answer.{Answer}
 use Rattle.v6_base.specs.declared.answer.Answer.TheVariants.{Ret, Fail, Sleep}
@@ -14,6 +15,7 @@ use Rattle.fs_tree.specs.declared.user.User.{User}
 use Rattle.fs_tree.specs.declared.user.Want.TheVariants.{Write}
 use Rattle.fs_tree.specs.Finding.{Inodes, Finding, make_in, put_back}
 use Rattle.fs_tree.specs.Permission.{access}
+use Rattle.lines_eight.specs.Lines.{HasRoom}
 use Rattle.sys_files.specs.Handed.{Handed, r0, node_at, user_of, with_inodes, let_go}
 use Rattle.sys_files.specs.Did.{Did, fails, is_done, check, must, until_end, then_named, by_made}
 use Rattle.sys_files.specs.Making.{new_in, entry_written, writes_entry, with_links, enters_new, truncated_in, with_no_blocks}
@@ -107,11 +109,12 @@ module _ (P : Handed → Type 0)
           (λ l answer q. made_so now l answer q)
       by false = record { state = p; over = tt }
 
--- Of its process all stays, and the marks of the texts.
-pub core_steady : (h : Handed) (now : ℕ) → Steady h (core_file h now).state
-core_steady h now =
+-- Of its process all stays, and the marks of the texts; and on no line do more bytes wait than there is room for.
+pub core_steady : (h : Handed) (now : ℕ) → All HasRoom h.lines → Steady h (core_file h now).state
+core_steady h now room =
     (core_keeps (Steady h)
-    (λ l inodes count s. record { row = s.row; area = s.area; image = s.image; marks = s.marks }) h now (steady_same h)).state
+    (λ l inodes count s. record { row = s.row; area = s.area; image = s.image; marks = s.marks; room = s.room }) h now
+    (steady_same h room)).state
 
 -- The file of the name is looked for, in the directory of the process.
 module _ (h after : Handed) (now : ℕ) (name : List ℕ) (same : name ≡ core_name)

@@ -203,15 +203,17 @@ abbrev pub IsCounted : Handed → Handed → Type 0
 IsCounted old h = Counted old.files old.u.files h.files h.u.files
 
 pub counted_walks : (old : Handed) (slot : ℕ) → Walks (IsCounted old) (λ d. IsCounted old d.state) (λ count. Unit {0})
-    (λ ino. Unit {0}) (Unit {0}) slot
+    (λ ino. Unit {0}) (λ line. Unit {0}) (Unit {0}) slot
 counted_walks old slot = record {
   refused = λ h e p. p;
   done = λ h a b p. p;
   lets_go = λ ino d p. p;
-  waits = λ h entry at count p. p;
+  waits = λ h l entry at count calling line p. p;
+  waits_for_room = λ h l entry at count done calling line p. p;
   waits_in_pipe = λ h chan pending entry at count left which of awaits p. p;
   tells = λ entries d few all quiet p. p;
-  showing = λ line image at count d few p. p;
+  lets_out = λ h l front back d few first second here quiet p. p;
+  showing = λ l line bytes count d long few p. p;
   inodes = λ h inodes same p. p;
   opened = λ h ino kind fd entry plain number free moves p. counted_opened old.files old.u.files h.files h.u.files p
       (opened ino kind) fd entry refl number free;
@@ -227,7 +229,8 @@ counted_walks old slot = record {
   marked = λ h pipe p. p;
   gone = λ h ino none p. p;
   known = λ h entry is p. (tt, tt);
-  typewriter = λ h typewriter p. p;
+  numbered = λ h l other there p. tt;
+  typewriter = λ h l t kept p. p;
   enters = λ h dir moves p. p;
   terminal = λ h tty p. p;
   signalled = λ h p. p;
