@@ -20,7 +20,7 @@ from pdp11 import ARGUMENTS
 from program import V6, ProgramError, add_version
 from rowfile import DATA, DISK_BYTES, HI, SWAP_AT, TEXT, Row, RowError, names
 
-FILES = ("term", "log", "final")
+FILES = ("term", *(f"term.{line}" for line in range(1, 8)), "log", "final", "final2")
 ENDED = 0, 7  # of runs whose log comes to its end: done, and a panic
 
 
@@ -73,18 +73,19 @@ class Runner:
 
     def run(self, row):
         """What a row comes to: its image and, by name, what is to be compared."""
-        base = self.base(row.numbers["made"])
-        image = row.image(base)
-        for name, data in (("image", image), ("script", row.script), ("empty", b"")):
+        image = row.image(self.base(row.disk.numbers["made"]))
+        images = [image] + ([row.second.image(self.base(row.second.numbers["made"]))] if row.second else [])
+        for name, data in (*zip(("image", "image2"), images), ("script", row.script), ("empty", b"")):
             self.put(name, data)
         for name in FILES:
             self.put(name, b"")
-        came = {}
+        came = {"images": images}
         came["status"], came["report"] = self.judged(row.command().split(" ") if row.command() else [])
         came.update((name, self.get(name)) for name in FILES)
-        if row.lines["check"] is not None:
-            self.put("left", came["final"])
-            came["check"] = self.call(["check", "left"])[1]
+        for disk, final in zip(row.disks(), ("final", "final2")):
+            if disk.check is not None:
+                self.put("left", came[final])
+                came[f"check of {final}"] = self.call(["check", "left"])[1]
         if came["log"] and came["status"] in ENDED:
             came["audit"] = self.call(["audit", "log"])[1]
         return image, came
@@ -94,25 +95,34 @@ def differences(row, image, came):
     """What a run came to otherwise than its row says: (what, wanted, came)."""
     wanted = {"status": row.numbers["status"], "report": row.lines["report"]}
     came = {**came, "shown": len(came["term"])}
-    wanted.update({"term": row.term} if row.numbers["shown"] is None else {"shown": row.numbers["shown"]})
-    log, disk = row.wanted_log(image), row.wanted_disk(image)
-    if "audit" in came:
-        wanted["audit"] = b"lawful: %d lines\n" % came["log"].count(b"\n")
+    wanted.update({"term": row.terms[0]} if row.numbers["shown"] is None else {"shown": row.numbers["shown"]})
+    wanted.update((f"term.{line}", row.terms[line]) for line in range(1, 8))
+    log = row.wanted_log(image)
+    if "audit" in came or row.lines["audit"] is not None:
+        wanted["audit"] = row.lines["audit"] or b"lawful: %d lines\n" % came["log"].count(b"\n")
     if log is not None:
         wanted["log"] = log
         came["log"] = came["log"][-len(log):] if row.is_end else came["log"]
-    if row.lines["check"] is not None:
-        wanted["check"] = row.lines["check"]
-    left = came["final"]
-    if disk is not None or not row.leaves_disk():
-        wanted["final"], came["final"] = before_swap(disk or b""), before_swap(left)
-    found = [(what, value, came[what]) for what, value in wanted.items() if came[what] != value]
+    found = [(what, value, came.get(what, b"")) for what, value in wanted.items() if came.get(what, b"") != value]
     if log is None and came["log"].endswith(b"end\n") != row.ends():
         found.append(("last line of the log", b"end" if row.ends() else b"none", came["log"][-20:]))
-    for at, data in row.left or []:
-        if (disk is None or at >= SWAP_AT) and left[at : at + len(data)] != data:
-            found.append((f"disk at {at}", data, left[at : at + len(data)]))
-    return found
+    found += left_differences(row.disk, "final", image, row.leaves_disk(), came)
+    if row.second:
+        return found + left_differences(row.second, "final2", came["images"][1], row.leaves_disk(), came)
+    return found + [("final2", b"", came["final2"])] * bool(came["final2"])
+
+
+def left_differences(disk, name, image, is_left, came):
+    """The same of a disk that is left. The first one has a swap area, which is no part of the whole of it."""
+    whole, left = disk.wanted(image), came[name]
+    counts = before_swap if name == "final" else bytes
+    if (whole is not None or not is_left) and counts(left) != counts(whole or b""):
+        yield name, counts(whole or b""), counts(left)
+    for at, data in disk.left or []:
+        if (whole is None or at >= SWAP_AT) and left[at : at + len(data)] != data:
+            yield f"{name} at {at}", data, left[at : at + len(data)]
+    if disk.check is not None and came[f"check of {name}"] != disk.check:
+        yield f"check of {name}", disk.check, came[f"check of {name}"]
 
 
 def before_swap(disk):
@@ -167,12 +177,13 @@ def show(row, image, came, found):
         print(f"frame {name}")
     if row.program() is not None:
         print("/etc/init", *whole_program(row, image), sep="\n")
-    for inode, block, data, sources in row.files:
+    for inode, block, data, sources in row.files():
         print(f"the file of inode {inode}, in block {block}: header {' '.join(f'{w:o}' for w in header(data))}")
         for at, part, source in sources:
             print(*([f'  {at:6o}  "{plain(part)}"'] if source is None else code(part, at)), sep="\n")
     print("v6", row.command())
-    for name, data in (("script", row.script), ("terminal", came["term"]), ("log", came["log"]), ("report", came["report"])):
+    lines = [(f"line {line}", came[f"term.{line}"]) for line in range(1, 8) if came[f"term.{line}"]]
+    for name, data in (("script", row.script), ("terminal", came["term"]), *lines, ("log", came["log"]), ("report", came["report"])):
         print(name, *squeezed(shown(data)), sep="\n")
     tell(row, found)
 

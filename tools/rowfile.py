@@ -12,10 +12,11 @@ HI_BYTES = 34304
 DISK_BYTES = 2494464  # of a disk that a run leaves
 SWAP_AT = 2048000  # where its swap area begins
 INODE_7, HEADER, TEXT = 1216, 33792, 33808  # of /etc/init on the disk of examples/hi
-SECTIONS = ("init", "before", "after", "over", "disk", "left", "script", "term", "log")
+PROGRAM = ("before", "init", "after")  # parts of a program, in their order
+TERMINALS = {"term": 0, **{f"term {line}": line for line in range(1, 8)}}  # sections, and the lines whose bytes they have
 PANIC = 7  # the status of a run that comes to a panic
-NUMBERS = ("size", "made", "core", "clicks", "fill", "status", "shown")
-LINES = ("report", "check", "command")
+NUMBERS = ("core", "clicks", "fill", "status", "shown")
+LINES = ("report", "command", "audit")
 ESCAPES = {"n": b"\n", "r": b"\r", "t": b"\t", "\\": b"\\", '"': b'"'}
 TIMES = re.compile(r"(\d+) times (.*)")
 
@@ -73,20 +74,56 @@ def octal_words(text):
     return b"".join(int(word, 8).to_bytes(2, "little") for word in words)
 
 
+class Disk:
+    """What a row says of a disk: what it is before the run, and what is left of it."""
+
+    def __init__(self, name):
+        self.name = name
+        self.numbers = {"size": None, "made": None}
+        self.pieces, self.files, self.left, self.left_all, self.check = [], [], None, False, None
+
+    def image(self, base, program=None):
+        """The bytes of the disk. The base is that of examples/hi, or the one that is made."""
+        if self.numbers["size"] and self.numbers["made"]:
+            raise RowError(f"{self.name}: the size of a disk that is made is given")
+        size = self.numbers["size"] or len(base)
+        image = bytearray(base[:size].ljust(size, b"\0"))
+        pieces = []
+        if program is not None:
+            count = len(program).to_bytes(2, "little")
+            pieces += [(INODE_7 + 6, (16 + len(program)).to_bytes(2, "little")), (HEADER + 2, count + bytes(4)), (TEXT, program)]
+        for inode, block, data, _ in self.files:
+            pieces += [(1024 + 32 * (inode - 1) + 6, len(data).to_bytes(2, "little")), (512 * block, data)]
+        put(image, pieces + self.pieces)
+        return bytes(image)
+
+    def wanted(self, image):
+        """The whole disk that is left, or None where pieces of it count."""
+        if not self.left_all:
+            return None
+        disk = bytearray(image.ljust(DISK_BYTES, b"\0"))
+        put(disk, self.left or [])
+        return bytes(disk)
+
+
 class Row:
     """What a row file says, with its frames. Each line of a program also stays as (address, words or None, source)."""
 
     def __init__(self, name, data=DATA):
         self.name, self.data = name, data
         self.remarks, self.frames = [], []
-        self.numbers = {"size": None, "made": None, "core": 1200, "clicks": 37, "fill": 0, "status": 0, "shown": None}
-        self.lines = {"report": b"", "check": None, "command": None}
-        self.parts = {"before": None, "init": None, "after": None}
+        self.numbers = {"core": 1200, "clicks": 37, "fill": 0, "status": 0, "shown": None}
+        self.lines = {"report": b"", "command": None, "audit": None}
+        self.parts = dict.fromkeys(PROGRAM)
         self.sources = {"before": [], "init": [], "after": [], "over": []}
-        self.pieces, self.files, self.left, self.left_all = [], [], None, False
-        self.script, self.term, self.log = b"", b"", None
+        self.disk, self.second = Disk(name), None
+        self.script, self.terms, self.log = b"", [b""] * len(TERMINALS), None
         self.is_booted = self.is_end = False
         self.read(os.path.join("rows", name))
+
+    def disks(self):
+        """The disks of which it speaks."""
+        return [self.disk] if self.second is None else [self.disk, self.second]
 
     def read(self, path):
         with open(os.path.join(self.data, path), "rb") as file:
@@ -119,36 +156,54 @@ class Row:
         elif name in LINES:
             self.lines[name] = rest.encode("ascii") + b"\n" * (name != "command")
         elif name == "told":
-            self.term = octal_words(rest)
+            self.terms[0] = octal_words(rest)
+        elif name == "second" and not rest and self.second is None:
+            self.second = Disk(self.name)
+        elif not self.of_a_disk(self.disks()[-1], name, rest):
+            self.open(f"{name} {rest}".rstrip())
+
+    def of_a_disk(self, disk, name, rest):
+        """Takes a line that says one thing of a disk, the second one where it has begun; whether it is such a line."""
+        if name in disk.numbers:
+            disk.numbers[name] = int(rest)
+        elif name == "check":
+            disk.check = rest.encode("ascii") + b"\n"
         elif name == "file":
             inode, block = map(int, rest.split())
-            self.section, self.files = "file", self.files + [(inode, block, bytearray(), [])]
+            self.section = "file"
+            disk.files.append((inode, block, bytearray(), []))
         elif name == "left" and rest == "all":
-            self.left_all = True
-        elif name in SECTIONS and not rest:
-            self.open(name)
+            disk.left_all = True
         else:
-            raise RowError(f"{name}: no such line")
+            return False
+        return True
 
     def open(self, name):
         self.section = name
         if name in self.parts:
             self.parts[name] = bytearray()
-        elif name in ("script", "term"):
-            setattr(self, name, b"")
+        elif name == "script":
+            self.script = b""
+        elif name in TERMINALS:
+            self.terms[TERMINALS[name]] = b""
         elif name == "log":
             self.log = self.log or b""
         elif name == "left":
-            self.left = self.left or []
+            self.disks()[-1].left = self.disks()[-1].left or []
+        elif name not in ("over", "disk"):
+            raise RowError(f"{name}: no such line")
 
     def content(self, text):
-        if self.section in ("script", "term"):
-            setattr(self, self.section, getattr(self, self.section) + repeated(text))
+        if self.section == "script":
+            self.script += repeated(text)
+        elif self.section in TERMINALS:
+            self.terms[TERMINALS[self.section]] += repeated(text)
         elif self.section == "log":
             self.log_line(text)
         elif self.section in ("disk", "left"):
-            (self.pieces if self.section == "disk" else self.left).append(piece(text))
-        elif self.section in ("init", "before", "after", "over", "file"):
+            disk = self.disks()[-1]
+            (disk.pieces if self.section == "disk" else disk.left).append(piece(text))
+        elif self.section in (*PROGRAM, "over", "file"):
             self.words(text)
         else:
             raise RowError("a line of no section")
@@ -170,12 +225,12 @@ class Row:
             found, _, source = rest.partition(";")
             data = octal_words(found)
         if self.section == "over":
-            self.pieces.append((TEXT + int(at, 8), data))
+            self.disk.pieces.append((TEXT + int(at, 8), data))
             self.sources["over"].append((int(at, 8), data, source))
             return
         whole, sources = self.parts.get(self.section), self.sources.get(self.section)
         if self.section == "file":
-            _, _, whole, sources = self.files[-1]
+            _, _, whole, sources = self.disks()[-1].files[-1]
         if self.section == "file" and at == "header":
             if whole or len(data) != 16:
                 raise RowError("a header has eight words, and stands first")
@@ -189,7 +244,7 @@ class Row:
 
     def programs(self):
         """The lines of each program that have a source: the part or the file, and (address, words, source) each."""
-        parts = [*self.sources.items(), *((f"file {inode}", sources) for inode, _, _, sources in self.files)]
+        parts = [*self.sources.items(), *((f"file {inode}", sources) for inode, _, _, sources in self.files())]
         for name, sources in parts:
             lines = tuple((at, bytes(data), source) for at, data, source in sources if source)
             if lines:
@@ -211,21 +266,13 @@ class Row:
         parts = [part for part in self.parts.values() if part is not None]
         return b"".join(parts).ljust(self.numbers["fill"], b"\0") if parts else None
 
+    def files(self):
+        """The files that are put on the disks."""
+        return [file for disk in self.disks() for file in disk.files]
+
     def image(self, base):
-        """The bytes of the disk. The base is that of examples/hi, or the one that is made."""
-        if self.numbers["size"] and self.numbers["made"]:
-            raise RowError(f"{self.name}: the size of a disk that is made is given")
-        size = self.numbers["size"] or len(base)
-        image = bytearray(base[:size].ljust(size, b"\0"))
-        program = self.program()
-        pieces = []
-        if program is not None:
-            count = len(program).to_bytes(2, "little")
-            pieces += [(INODE_7 + 6, (16 + len(program)).to_bytes(2, "little")), (HEADER + 2, count + bytes(4)), (TEXT, program)]
-        for inode, block, data, _ in self.files:
-            pieces += [(1024 + 32 * (inode - 1) + 6, len(data).to_bytes(2, "little")), (512 * block, data)]
-        put(image, pieces + self.pieces)
-        return bytes(image)
+        """The bytes of the first disk, with the program in the place of its /etc/init."""
+        return self.disk.image(base, self.program())
 
     def command(self):
         """The words of the command, in which the files are called so."""
@@ -241,21 +288,17 @@ class Row:
                   f"image 1 {self.numbers['clicks']} at 1\ntrap 1\ngo 1\n")
         return booted.encode() + self.log
 
+    def is_run(self):
+        """Whether the command is one of those that keep a log: `run`, and those of more lines or disks."""
+        return self.command().startswith("run")
+
     def ends(self):
         """Whether the log's last line is `end`: where a run is done."""
-        return self.numbers["status"] == 0 and self.lines["command"] is None
+        return self.numbers["status"] == 0 and self.is_run()
 
     def leaves_disk(self):
         """Whether a disk is left: where a run is done, or comes to a panic and isn't `memory`."""
-        return self.numbers["status"] == 0 or (self.numbers["status"] == PANIC and self.lines["command"] is None)
-
-    def wanted_disk(self, image):
-        """The whole disk that is left, or None where pieces of it count."""
-        if not self.left_all:
-            return None
-        disk = bytearray(image.ljust(DISK_BYTES, b"\0"))
-        put(disk, self.left or [])
-        return bytes(disk)
+        return self.numbers["status"] == 0 or (self.numbers["status"] == PANIC and self.is_run())
 
 
 @functools.lru_cache(maxsize=None)

@@ -46,7 +46,7 @@ class Comments(Case):
             row = rowfile.Row(name)
             with self.subTest(name):
                 row.check_sources()
-                for sources in (*row.sources.values(), *(file[3] for file in row.files)):
+                for sources in (*row.sources.values(), *(file[3] for file in row.files())):
                     for at, words, source in sources:
                         self.assertTrue(source or source is None or not any(words), f"at {at:o}")
 
@@ -83,7 +83,7 @@ class Language(Case):
 
     def test_a_row(self):
         row = self.row(ROW.replace("    ..\n", ""))
-        self.assertEqual((row.script, row.term), (b"run 10\nrun 10\n", b"HI\r\n"))
+        self.assertEqual((row.script, row.terms[0]), (b"run 10\nrun 10\n", b"HI\r\n"))
         with open(rowfile.HI, "rb") as file:
             base = file.read()
         image = row.image(base)
@@ -95,9 +95,24 @@ class Language(Case):
         self.assertEqual(row.wanted_log(image), log)
         self.assertEqual(row.command(), "run image 64 script term log final")
 
+    def test_lines_and_a_second_disk(self):
+        """Each terminal has a section; what stands behind `second` tells of that disk, and not of the first."""
+        text = 'made 3\nterm\n    "a"\nterm 7\n    "b"\n    2 times "c"\naudit lawful: 2 lines\ncheck ok\nleft\n    5  01\n'
+        row = self.row(text + "second\nsize 40000\nfile 9 67\n    header 1 2 3 4 5 6 7 10\ndisk\n    1040  ff\nleft all\ncheck no\n")
+        self.assertEqual((row.terms[0], row.terms[6], row.terms[7], row.lines["audit"]), (b"a", b"", b"bcc", b"lawful: 2 lines\n"))
+        self.assertEqual([(d.numbers, d.left, d.left_all, d.check) for d in row.disks()],
+                         [({"size": None, "made": 3}, [(5, b"\1")], False, b"ok\n"),
+                          ({"size": 40000, "made": None}, None, True, b"no\n")])
+        image, wanted = row.second.image(bytes(39999)), bytearray(40000)
+        wanted[1040] = 255
+        wanted[1286:1288], wanted[67 * 512 : 67 * 512 + 16] = b"\x10\0", b"\1\0\2\0\3\0\4\0\5\0\6\0\7\0\10\0"
+        self.assertEqual(image, bytes(wanted))
+        self.assertEqual(row.second.wanted(image), bytes(wanted).ljust(rowfile.DISK_BYTES, b"\0"))
+
     def test_faults(self):
         for text, wanted in ((ROW, "15: .. is the first line of a log"), ("init\n    2  0\n", "2: the address is 0, and not 2"),
-                             ("nothing\n", "1: nothing: no such line"), ("  run 5\n", "1: a line of no section"),
+                             ("nothing\n", "1: nothing: no such line"), ("term 8\n", "1: term 8: no such line"),
+                             ("second\nsecond\n", "2: second: no such line"), ("  run 5\n", "1: a line of no section"),
                              ('term\n  "a\n', '2: "a: the text has no end'), ('term\n  "\\q"\n', '2: "\\q": \\q: no such escape'),
                              ('term\n  "\\08"\n', '2: "\\08": \\0: no such escape'), ("told 8\n", "1: 8: octal words are wanted"),
                              ("disk\n    5  1\n", "2: 1: bytes in hexadecimal are wanted"),
@@ -181,7 +196,7 @@ script
 
     def test_a_row_that_does_not_hold(self):
         image = rowfile.Row("programs/hi_over_memory")
-        image.term = b"HO\r\n"
+        image.terms[0] = b"HO\r\n"
         runner = tool("row").Runner(tool("row").V6, self.folder)
         found = tool("row").differences(image, *runner.run(image))
         self.assertEqual(found, [("term", b"HO\r\n", b"HI\r\n")])

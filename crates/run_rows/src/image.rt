@@ -1,5 +1,6 @@
 //! The disk that a row's run begins with.
-use crate::row::{File, Row};
+use crate::disk::{Disk, File};
+use crate::row::Row;
 use make_image::build;
 use run_fixtures::{HI_BYTES, TEXT, hi_image, put};
 use std::alloc::{AllocError, Global};
@@ -64,24 +65,36 @@ fn program_of(alloc: Global, row: &Row) -> Result<Vec<u8>, AllocError> {
 }
 
 /// The disk before anything is put on it.
-fn base_of(alloc: Global, row: &Row) -> Result<Vec<u8>, AllocError> {
-    match row.numbers.made {
+fn base_of(alloc: Global, disk: &Disk) -> Result<Vec<u8>, AllocError> {
+    match disk.made {
         Some(number) => build(alloc, u32::try_from(number).unwrap_or(u32::MAX)),
-        None => hi_image(alloc, row.numbers.size.unwrap_or(HI_BYTES), &[]),
+        None => hi_image(alloc, disk.size.unwrap_or(HI_BYTES), &[]),
     }
 }
 
-/// The image of the row's disk.
+/// The files of a disk, and what else is put on it.
+fn put_all(image: &mut [u8], disk: &Disk) {
+    for file in disk.files.iter() {
+        put_file(image, file);
+    }
+    for piece in disk.pieces.iter() {
+        put(image, &[(piece.at, piece.bytes.as_slice())]);
+    }
+}
+
+/// The image of the row's disk, with its program.
 pub fn image_of(alloc: Global, row: &Row) -> Result<Vec<u8>, AllocError> {
-    let mut image = base_of(alloc, row)?;
+    let mut image = base_of(alloc, &row.disk)?;
     if row.has_program {
         put_program(&mut image, &program_of(alloc, row)?);
     }
-    for file in row.files.iter() {
-        put_file(&mut image, file);
-    }
-    for piece in row.pieces.iter() {
-        put(&mut image, &[(piece.at, piece.bytes.as_slice())]);
-    }
+    put_all(&mut image, &row.disk);
+    Ok(image)
+}
+
+/// The image of a disk that has no program of the row's.
+pub fn plain_image(alloc: Global, disk: &Disk) -> Result<Vec<u8>, AllocError> {
+    let mut image = base_of(alloc, disk)?;
+    put_all(&mut image, disk);
     Ok(image)
 }

@@ -1,5 +1,10 @@
 //! Whether a run comes to what its row says.
-use crate::image::image_of;
+ghost use Rattle.std.specs.Prelude.{IfOk};
+ghost use Rattle.v6_port.specs.Outside.{IsIdle};
+ghost use Rattle.v6_port.specs.Memory.{memory};
+
+use crate::disk::Disk;
+use crate::image::{image_of, plain_image};
 use crate::row::Row;
 use fs_codec::DISK_BYTES;
 use run_fixtures::{Rooms, end_over, have, host_in, host_with, put};
@@ -13,6 +18,9 @@ const ROOMS: Rooms = Rooms {
     log: 4_194_304,
     report: 200,
 };
+
+/// Room for what a line beside the console shows.
+const LINE_ROOM: usize = 16_384;
 
 /// Something that came out otherwise than the row says.
 #[derive(Drop)]
@@ -48,6 +56,33 @@ fn words_of(alloc: Global, row: &Row) -> Result<String, AllocError> {
             format!(in alloc; "run image {core} script term log final")
         }
     }
+}
+
+/// Whether the row's command is one of those that keep a log: `run`, and those of more lines or disks.
+fn is_run(row: &Row) -> bool {
+    match &row.command {
+        None => true,
+        Some(words) => words.as_str().starts_with("run"),
+    }
+}
+
+/// The host of the row: files in memory, room for the terminals of all lines, and for a second disk where the row has one.
+fn host_of(alloc: Global, row: &Row, image: &[u8], second: &[u8]) -> Result<MemHost, AllocError>
+    ensures { IfOk result (λ host. IsIdle (memory host).outside) }
+{
+    let mut host = host_in(alloc, image, &row.script, ROOMS)?;
+    host.room(OutPort::Line(1), "term.1", LINE_ROOM)?;
+    host.room(OutPort::Line(2), "term.2", LINE_ROOM)?;
+    host.room(OutPort::Line(3), "term.3", LINE_ROOM)?;
+    host.room(OutPort::Line(4), "term.4", LINE_ROOM)?;
+    host.room(OutPort::Line(5), "term.5", LINE_ROOM)?;
+    host.room(OutPort::Line(6), "term.6", LINE_ROOM)?;
+    host.room(OutPort::Line(7), "term.7", LINE_ROOM)?;
+    if row.has_second {
+        host.add("image2", second)?;
+        host.room(OutPort::Second, "final2", DISK_BYTES)?;
+    }
+    Ok(host)
 }
 
 /// A word of the image.
@@ -88,7 +123,7 @@ fn log_differs(
         let came = if row.is_end { log.get(before..) } else { None };
         return compared(alloc, "log", &wanted, came.unwrap_or(log));
     }
-    let ends = row.numbers.status == 0 && row.command.is_none();
+    let ends = row.numbers.status == 0 && is_run(row);
     if log.ends_with(b"end\n") == ends {
         return Ok(None);
     }
@@ -99,10 +134,10 @@ fn log_differs(
 /// Where the swap area begins: block 4000.
 const SWAP_AT: usize = 2_048_000;
 
-/// A disk, as far as it comes before the swap area; or all of what isn't as long as a disk.
-fn before_swap(disk: &[u8]) -> &[u8] {
+/// A disk, as far as it comes before its swap area; or all of what isn't as long as a disk.
+fn before_swap(disk: &[u8], swap_at: usize) -> &[u8] {
     if disk.len() == DISK_BYTES {
-        disk.get(..SWAP_AT).unwrap_or(disk)
+        disk.get(..swap_at).unwrap_or(disk)
     } else {
         disk
     }
@@ -110,32 +145,36 @@ fn before_swap(disk: &[u8]) -> &[u8] {
 
 /// Whether a run that comes to this leaves a disk: one that is done, and one that comes to a panic, where it isn't `memory`.
 fn leaves_disk(row: &Row) -> bool {
-    row.numbers.status == 0 || (row.numbers.status == 7 && row.command.is_none())
+    row.numbers.status == 0 || (row.numbers.status == 7 && is_run(row))
 }
 
-/// The disk that is left: nothing where the run leaves none; the image with zeros behind it, but for some pieces, up to the swap
-/// area, and these pieces; or these pieces alone.
-fn disk_differs(
+/// All of a disk that is left, as far as it comes before the swap area: the image with zeros behind it, but for some pieces.
+fn whole_differs(
     alloc: Global,
-    row: &Row,
+    disk: &Disk,
+    swap_at: usize,
     image: &[u8],
     left: &[u8],
 ) -> Result<Option<Difference>, AllocError> {
-    if !leaves_disk(row) {
-        return compared(alloc, "final disk", b"", left.get(..16).unwrap_or(left));
+    if !disk.left_all {
+        return Ok(None);
     }
-    if row.left_all {
-        let mut disk = vec![in alloc; 0; DISK_BYTES]?;
-        put(&mut disk, &[(0, image)]);
-        for piece in row.left.iter() {
-            put(&mut disk, &[(piece.at, piece.bytes.as_slice())]);
-        }
-        let found = compared(alloc, "final disk", before_swap(&disk), before_swap(left))?;
-        if found.is_some() {
-            return Ok(found);
-        }
+    let mut whole = vec![in alloc; 0; DISK_BYTES]?;
+    put(&mut whole, &[(0, image)]);
+    for piece in disk.left.iter() {
+        put(&mut whole, &[(piece.at, piece.bytes.as_slice())]);
     }
-    for piece in row.left.iter() {
+    let wanted = before_swap(&whole, swap_at);
+    compared(alloc, "final disk", wanted, before_swap(left, swap_at))
+}
+
+/// Pieces of a disk that is left.
+fn pieces_differ(
+    alloc: Global,
+    disk: &Disk,
+    left: &[u8],
+) -> Result<Option<Difference>, AllocError> {
+    for piece in disk.left.iter() {
         if !have(left, &[(piece.at, piece.bytes.as_slice())]) {
             let came = left.get(piece.at..).unwrap_or(b"".as_slice());
             let came = came.get(..piece.bytes.len()).unwrap_or(came);
@@ -145,9 +184,13 @@ fn disk_differs(
     Ok(None)
 }
 
-/// What `check` reports of the disk that is left.
-fn check_differs(alloc: Global, row: &Row, left: &[u8]) -> Result<Option<Difference>, AllocError> {
-    if !row.has_check {
+/// What `check` reports of a disk that is left.
+fn check_differs(
+    alloc: Global,
+    disk: &Disk,
+    left: &[u8],
+) -> Result<Option<Difference>, AllocError> {
+    if !disk.has_check {
         return Ok(None);
     }
     let mut host = host_with(alloc, left, b"")?;
@@ -155,12 +198,95 @@ fn check_differs(alloc: Global, row: &Row, left: &[u8]) -> Result<Option<Differe
     compared(
         alloc,
         "check of the final disk",
-        &row.check,
+        &disk.check,
         host.bytes(OutPort::Report),
     )
 }
 
-/// The status, the report and the terminal.
+/// A disk that is left, and where its swap area begins.
+fn disk_differs(
+    alloc: Global,
+    disk: &Disk,
+    swap_at: usize,
+    image: &[u8],
+    left: &[u8],
+) -> Result<Option<Difference>, AllocError> {
+    let found = whole_differs(alloc, disk, swap_at, image, left)?;
+    if found.is_some() {
+        return Ok(found);
+    }
+    let found = pieces_differ(alloc, disk, left)?;
+    if found.is_some() {
+        return Ok(found);
+    }
+    check_differs(alloc, disk, left)
+}
+
+/// The disks that are left: nothing where the run leaves none. The second one has no swap area.
+fn disks_differ(
+    alloc: Global,
+    row: &Row,
+    image: &[u8],
+    second: &[u8],
+    host: &MemHost,
+) -> Result<Option<Difference>, AllocError> {
+    let left = host.bytes(OutPort::Final);
+    let left_second = host.bytes(OutPort::Second);
+    if !leaves_disk(row) {
+        let left = if left.is_empty() { left_second } else { left };
+        return compared(alloc, "final disk", b"", left.get(..16).unwrap_or(left));
+    }
+    let found = disk_differs(alloc, &row.disk, SWAP_AT, image, left)?;
+    if found.is_some() || !row.has_second {
+        return Ok(found);
+    }
+    disk_differs(alloc, &row.second, DISK_BYTES, second, left_second)
+}
+
+/// What `audit` reports of the log.
+fn audit_differs(alloc: Global, row: &Row, log: &[u8]) -> Result<Option<Difference>, AllocError> {
+    if !row.has_audit {
+        return Ok(None);
+    }
+    let mut host = host_with(alloc, b"", log)?;
+    let _ = end_over(alloc, "audit script", &mut host)?;
+    compared(
+        alloc,
+        "audit of the log",
+        &row.audit,
+        host.bytes(OutPort::Report),
+    )
+}
+
+/// What the terminal of a line shows: 0 is line 1.
+fn shown_on(host: &MemHost, line: usize) -> &[u8] {
+    match line {
+        0 => host.bytes(OutPort::Line(1)),
+        1 => host.bytes(OutPort::Line(2)),
+        2 => host.bytes(OutPort::Line(3)),
+        3 => host.bytes(OutPort::Line(4)),
+        4 => host.bytes(OutPort::Line(5)),
+        5 => host.bytes(OutPort::Line(6)),
+        _ => host.bytes(OutPort::Line(7)),
+    }
+}
+
+/// What the terminals of the lines 1 to 7 show.
+fn lines_differ(
+    alloc: Global,
+    row: &Row,
+    host: &MemHost,
+) -> Result<Option<Difference>, AllocError> {
+    for (line, wanted) in row.lines.iter().enumerate() {
+        let found = compared(alloc, "terminal of a line", wanted, shown_on(host, line))?;
+        if found.is_some() {
+            return Ok(found);
+        }
+    }
+    Ok(None)
+}
+
+/// The status, the report and the terminals.
 fn end_differs(
     alloc: Global,
     row: &Row,
@@ -178,10 +304,14 @@ fn end_differs(
     if report.is_some() {
         return Ok(report);
     }
-    shown_differs(alloc, row, host.bytes(OutPort::Term))
+    let shown = shown_differs(alloc, row, host.bytes(OutPort::Term))?;
+    if shown.is_some() {
+        return Ok(shown);
+    }
+    lines_differ(alloc, row, host)
 }
 
-/// What the terminal shows, or how many bytes.
+/// What the console shows, or how many bytes.
 fn shown_differs(alloc: Global, row: &Row, term: &[u8]) -> Result<Option<Difference>, AllocError> {
     match row.numbers.shown {
         None => compared(alloc, "terminal", &row.term, term),
@@ -202,7 +332,8 @@ fn shown_differs(alloc: Global, row: &Row, term: &[u8]) -> Result<Option<Differe
 /// The first thing in which the row's run comes out otherwise than the row says.
 pub fn first_difference(alloc: Global, row: &Row) -> Result<Option<Difference>, AllocError> {
     let image = image_of(alloc, row)?;
-    let mut host = host_in(alloc, &image, &row.script, ROOMS)?;
+    let second = plain_image(alloc, &row.second)?;
+    let mut host = host_of(alloc, row, &image, &second)?;
     let words = words_of(alloc, row)?;
     let status = end_over(alloc, words.as_str(), &mut host)?;
     let end = end_differs(alloc, row, status, &host)?;
@@ -213,9 +344,9 @@ pub fn first_difference(alloc: Global, row: &Row) -> Result<Option<Difference>, 
     if log.is_some() {
         return Ok(log);
     }
-    let disk = disk_differs(alloc, row, &image, host.bytes(OutPort::Final))?;
+    let disk = disks_differ(alloc, row, &image, &second, &host)?;
     if disk.is_some() {
         return Ok(disk);
     }
-    check_differs(alloc, row, host.bytes(OutPort::Final))
+    audit_differs(alloc, row, host.bytes(OutPort::Log))
 }

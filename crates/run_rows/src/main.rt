@@ -2,6 +2,7 @@
 //! otherwise the first thing in which its run comes out otherwise. A row that can't be read doesn't hold.
 #![tactic(auto)]
 
+mod disk;
 mod fault;
 mod image;
 mod judge;

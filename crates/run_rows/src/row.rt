@@ -1,23 +1,11 @@
 //! A row: a whole run with what it must come to, as its file says line by line. docs/rows.md has the language.
+use crate::disk::Disk;
 use crate::fault::Fault;
-use crate::text::{disk_bytes, halves, number, program_bytes, push_line, push_words};
-use run_fixtures::TEXT;
+use crate::text::{address, halves, number, program_bytes, push_line, push_report, push_words};
 use std::alloc::Global;
 
-/// Bytes, and the place on the disk where they stand.
-#[derive(Drop)]
-pub struct Piece {
-    pub at: usize,
-    pub bytes: Vec<u8>,
-}
-
-/// The file of an inode: the block in which it begins, and its bytes.
-#[derive(Drop)]
-pub struct File {
-    pub inode: usize,
-    pub block: usize,
-    pub bytes: Vec<u8>,
-}
+/// How many lines a machine has beside the console, which is line 0.
+pub const LINES: usize = 7;
 
 /// What the lines that follow are part of.
 #[derive(Clone, Copy)]
@@ -32,16 +20,14 @@ pub enum Section {
     Left,
     Script,
     Term,
+    /// What the terminal of a line shows: 0 is line 1.
+    Line(usize),
     Log,
 }
 
 /// The numbers of a row.
 #[derive(Clone, Copy)]
 pub struct Numbers {
-    /// The bytes of the image, where they aren't those of the disk of `examples/hi`.
-    pub size: Option<usize>,
-    /// The number of the generator's disk, which then takes its place.
-    pub made: Option<usize>,
     /// Clicks of core.
     pub core: usize,
     /// Clicks of the image of `/etc/init`, of which `booted` in the log tells.
@@ -64,13 +50,16 @@ pub struct Row {
     pub init: Vec<u8>,
     pub after: Vec<u8>,
     pub has_program: bool,
-    pub files: Vec<File>,
-    /// What else is put on the disk.
-    pub pieces: Vec<Piece>,
+    pub disk: Disk,
+    /// The second disk, of which the lines behind `second` tell, where it has one.
+    pub second: Disk,
+    pub has_second: bool,
     pub script: Vec<u8>,
     /// The words of the command, where they aren't those of `run`.
     pub command: Option<String>,
     pub term: Vec<u8>,
+    /// What the terminals of the lines 1 to 7 show.
+    pub lines: [Vec<u8>; LINES],
     pub log: Vec<u8>,
     pub has_log: bool,
     /// Whether the log begins with the lines that each run has until `/etc/init` is executed, and whether the row has its end
@@ -78,19 +67,27 @@ pub struct Row {
     pub is_booted: bool,
     pub is_end: bool,
     pub report: Vec<u8>,
-    /// What of the disk is left otherwise; `left_all`, where all else of it is as it was.
-    pub left: Vec<Piece>,
-    pub left_all: bool,
-    /// What `check` reports of the disk that is left.
-    pub check: Vec<u8>,
-    pub has_check: bool,
+    /// What `audit` reports of the log.
+    pub audit: Vec<u8>,
+    pub has_audit: bool,
+}
+
+// Nothing is shown on any of them.
+fn no_lines(alloc: Global) -> [Vec<u8>; LINES] {
+    [
+        Vec::new(alloc),
+        Vec::new(alloc),
+        Vec::new(alloc),
+        Vec::new(alloc),
+        Vec::new(alloc),
+        Vec::new(alloc),
+        Vec::new(alloc),
+    ]
 }
 
 impl Row {
     pub fn new(alloc: Global) -> Row {
         let numbers = Numbers {
-            size: None,
-            made: None,
             core: 1200,
             clicks: 37,
             fill: 0,
@@ -104,20 +101,20 @@ impl Row {
             init: Vec::new(alloc),
             after: Vec::new(alloc),
             has_program: false,
-            files: Vec::new(alloc),
-            pieces: Vec::new(alloc),
+            disk: Disk::new(alloc),
+            second: Disk::new(alloc),
+            has_second: false,
             script: Vec::new(alloc),
             command: None,
             term: Vec::new(alloc),
+            lines: no_lines(alloc),
             log: Vec::new(alloc),
             has_log: false,
             is_booted: false,
             is_end: false,
             report: Vec::new(alloc),
-            left: Vec::new(alloc),
-            left_all: false,
-            check: Vec::new(alloc),
-            has_check: false,
+            audit: Vec::new(alloc),
+            has_audit: false,
         }
     }
 
@@ -136,10 +133,14 @@ impl Row {
         }
     }
 
-    /// A line that is a name alone begins a section, but for the command of no words.
+    /// A line that is a name alone begins a section, but for the command of no words and for the second disk.
     fn open(&mut self, name: &str) -> Result<Section, Fault> {
         if name == "command" {
             self.command = Some(String::new(self.alloc));
+            return Ok(Section::None);
+        }
+        if name == "second" {
+            self.has_second = true;
             return Ok(Section::None);
         }
         let section = match name {
@@ -164,62 +165,59 @@ impl Row {
         Ok(section)
     }
 
+    /// The terminal of a line begins.
+    fn open_line(&mut self, number: usize) -> Result<Section, Fault> {
+        let line = number.wrapping_sub(1);
+        match self.lines.get_mut(line) {
+            Some(term) => term.clear(),
+            None => return Err(Fault::Wrong("a line from 1 to 7 is wanted")),
+        }
+        Ok(Section::Line(line))
+    }
+
     /// A line that says one thing.
     fn take_directive(&mut self, name: &str, rest: &str) -> Result<Section, Fault> {
         match name {
-            "size" => self.numbers.size = Some(number(rest)?),
-            "made" => self.numbers.made = Some(number(rest)?),
             "core" => self.numbers.core = number(rest)?,
             "clicks" => self.numbers.clicks = number(rest)?,
             "fill" => self.numbers.fill = number(rest)?,
             "status" => self.numbers.status = number(rest)?,
             "shown" => self.numbers.shown = Some(number(rest)?),
-            "file" => return self.begin_file(rest),
-            _ => self.take_text(name, rest)?,
-        }
-        Ok(Section::None)
-    }
-
-    fn take_text(&mut self, name: &str, rest: &str) -> Result<(), Fault> {
-        match name {
+            "term" => return self.open_line(number(rest)?),
             "told" => push_words(&mut self.term, rest)?,
             "command" => self.command = Some(String::from_str(self.alloc, rest)?),
             "report" => push_report(&mut self.report, rest)?,
-            "check" => {
-                self.has_check = true;
-                push_report(&mut self.check, rest)?;
+            "audit" => {
+                self.has_audit = true;
+                push_report(&mut self.audit, rest)?;
             }
-            "left" if rest == "all" => self.left_all = true,
-            _ => return Err(Fault::Wrong("no such line")),
+            _ if self.has_second => return self.second.take_directive(name, rest),
+            _ => return self.disk.take_directive(name, rest),
         }
-        Ok(())
-    }
-
-    fn begin_file(&mut self, rest: &str) -> Result<Section, Fault> {
-        let (inode, block) = halves(rest)?;
-        let file = File {
-            inode: number(inode)?,
-            block: number(block)?,
-            bytes: Vec::new(self.alloc),
-        };
-        self.files.push(file)?;
-        Ok(Section::File)
+        Ok(Section::None)
     }
 
     /// A line of a section.
     fn take_content(&mut self, section: Section, text: &str) -> Result<(), Fault> {
         match section {
-            Section::None => Err(Fault::Wrong("a line of no section")),
             Section::Before => take_words(self.alloc, &mut self.before, 0, text),
             Section::Init => { take_words(self.alloc, &mut self.init, self.before.len(), text) }
             Section::After => take_words(self.alloc, &mut self.after, 0, text),
-            Section::Over => take_over(self.alloc, &mut self.pieces, text),
-            Section::File => take_file(self.alloc, &mut self.files, text),
-            Section::Disk => take_piece(self.alloc, &mut self.pieces, text),
-            Section::Left => take_piece(self.alloc, &mut self.left, text),
+            Section::Over => self.disk.take_over(text),
             Section::Script => push_line(self.alloc, &mut self.script, text),
             Section::Term => push_line(self.alloc, &mut self.term, text),
+            Section::Line(line) => self.take_shown(line, text),
             Section::Log => self.take_log(text),
+            _ if self.has_second => self.second.take_content(section, text),
+            _ => self.disk.take_content(section, text),
+        }
+    }
+
+    /// What the terminal of a line shows.
+    fn take_shown(&mut self, line: usize, text: &str) -> Result<(), Fault> {
+        match self.lines.get_mut(line) {
+            Some(term) => push_line(self.alloc, term, text),
+            None => Err(Fault::Wrong("a line of no section")),
         }
     }
 
@@ -237,20 +235,6 @@ impl Row {
     }
 }
 
-fn push_report(out: &mut Vec<u8>, text: &str) -> Result<(), Fault> {
-    out.extend_from_slice(text.as_bytes())?;
-    out.push(b'\n')?;
-    Ok(())
-}
-
-/// An address in a program, in octal.
-fn address(text: &str) -> Result<usize, Fault> {
-    match usize::from_str_radix(text, 8) {
-        Ok(at) => Ok(at),
-        Err(_) => Err(Fault::Wrong("an address in octal is wanted")),
-    }
-}
-
 /// A line of a program, whose words so far begin at `start`: it must say the address at which it stands.
 fn take_words(alloc: Global, out: &mut Vec<u8>, start: usize, text: &str) -> Result<(), Fault> {
     let (at, words) = halves(text)?;
@@ -258,40 +242,5 @@ fn take_words(alloc: Global, out: &mut Vec<u8>, start: usize, text: &str) -> Res
         return Err(Fault::Wrong("the words stand at another address"));
     }
     out.extend_from_slice(&program_bytes(alloc, words)?)?;
-    Ok(())
-}
-
-/// A line that is put over the program that is there.
-fn take_over(alloc: Global, pieces: &mut Vec<Piece>, text: &str) -> Result<(), Fault> {
-    let (at, words) = halves(text)?;
-    let at = TEXT.saturating_add(address(at)?);
-    let bytes = program_bytes(alloc, words)?;
-    pieces.push(Piece { at, bytes })?;
-    Ok(())
-}
-
-fn take_piece(alloc: Global, pieces: &mut Vec<Piece>, text: &str) -> Result<(), Fault> {
-    let (at, rest) = halves(text)?;
-    let at = number(at)?;
-    let bytes = disk_bytes(alloc, rest)?;
-    pieces.push(Piece { at, bytes })?;
-    Ok(())
-}
-
-/// A line of a file: the eight words of its header, or words at their address behind the header.
-fn take_file(alloc: Global, files: &mut Vec<File>, text: &str) -> Result<(), Fault> {
-    let Some(file) = files.last_mut() else {
-        return Err(Fault::Wrong("a line of no file"));
-    };
-    let (at, words) = halves(text)?;
-    let bytes = program_bytes(alloc, words)?;
-    let is_header = at == "header";
-    if is_header && (!file.bytes.is_empty() || bytes.len() != 16) {
-        return Err(Fault::Wrong("a header has eight words, and stands first"));
-    }
-    if !is_header && address(at)?.checked_add(16) != Some(file.bytes.len()) {
-        return Err(Fault::Wrong("the words stand at another address"));
-    }
-    file.bytes.extend_from_slice(&bytes)?;
     Ok(())
 }

@@ -10,6 +10,21 @@ pub fn number(text: &str) -> Result<usize, Fault> {
     }
 }
 
+/// An address in a program, in octal.
+pub fn address(text: &str) -> Result<usize, Fault> {
+    match usize::from_str_radix(text, 8) {
+        Ok(at) => Ok(at),
+        Err(_) => Err(Fault::Wrong("an address in octal is wanted")),
+    }
+}
+
+/// A line that is reported.
+pub fn push_report(out: &mut Vec<u8>, text: &str) -> Result<(), Fault> {
+    out.extend_from_slice(text.as_bytes())?;
+    out.push(b'\n')?;
+    Ok(())
+}
+
 /// The bytes of octal words, the low byte first.
 pub fn push_words(out: &mut Vec<u8>, text: &str) -> Result<(), Fault> {
     for word in text.split_ascii_whitespace() {
