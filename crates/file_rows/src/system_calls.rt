@@ -7,6 +7,7 @@
 mod calls;
 mod console;
 mod console_modes;
+mod console_paced;
 mod console_reads;
 mod descriptors;
 mod disk;

@@ -9,6 +9,8 @@
 #![tactic(auto)]
 
 #[cfg(test)]
+mod eight;
+#[cfg(test)]
 mod images;
 #[cfg(test)]
 mod instructions;

@@ -2,16 +2,19 @@
 use self::Edit::{Keys, With};
 use self::Output::{After, First};
 use self::Step::{
-    Closes, Each, Faults, Has, IsOpen, Many, Opens, Puts, PutsMany, Reads, ReadsAt, ReadsMany,
-    Sets, Shown, ShownMany, Types, Waits,
+    Closes, Counted, Each, Empties, Faults, Flushes, Has, IsOpen, Many, Opens, Paces, Puts,
+    PutsMany, Reads, ReadsAt, ReadsMany, Rounds, Sends, Sets, Shown, ShownMany, Takes, TakesMany,
+    Types, Waits,
 };
 
 mod edits;
 mod outputs;
+mod paced;
 mod scenes;
 
 use self::edits::EDITS;
 use self::outputs::OUTPUTS;
+use self::paced::{LET_OUT, PACED};
 use self::scenes::{COLUMNS, FAULTS, KEYS, LINES, MODES, PIECES, ROOM, SHOWN};
 use std::alloc::{AllocError, Global};
 use std::process::Abort;
@@ -24,8 +27,8 @@ use v6_base::{Space, Tape, Whole};
 enum Step {
     /// The line is opened.
     Opens,
-    /// The line is closed.
-    Closes,
+    /// The line is closed. Where bytes waited to go out, who waits for room is to be woken.
+    Closes(bool),
     /// Whether it is open.
     IsOpen(bool),
     /// Keys are typed. The last of them comes to this, and those before it to nothing.
@@ -44,16 +47,32 @@ enum Step {
     Faults(u16, u16, &'static [u8]),
     /// A read of so many bytes has to wait.
     Waits(u16),
-    /// Bytes are written to the line.
+    /// Bytes are written to the line, which takes them all.
     Puts(&'static [u8]),
     /// One byte is written so often.
     PutsMany(u8, usize),
+    /// Bytes are written to the line in one write, of which it takes so many.
+    Takes(&'static [u8], u16),
+    /// The same of one byte so often, 256 times at most.
+    TakesMany(u8, usize, u16),
     /// This was shown since the last such look.
     Shown(&'static [u8]),
     /// The same, where it is one byte so often, 256 times at most.
     ShownMany(u8, usize),
-    /// The modes are set.
+    /// So many bytes were shown since the last such look.
+    Counted(usize),
+    /// Bytes are sent so often. Each time it is told so whether who waits for room is to be woken.
+    Sends(usize, bool),
+    /// The pace is turned on or off, and it is told so whether who waits for room is to be woken.
+    Paces(bool, bool),
+    /// All that was typed and what waits to go out is lost, and it is told so whether who waits for room is to be woken.
+    Flushes(bool),
+    /// A key and a new line are typed and read, so often.
+    Rounds(u8, usize),
+    /// The modes are set, and no byte waits to go out.
     Sets([u16; 3]),
+    /// The modes are set, and bytes waited to go out: who waits for room is to be woken.
+    Empties([u16; 3]),
     /// These are the modes.
     Has([u16; 3]),
 }
@@ -175,10 +194,53 @@ fn types_many(c: &mut Console, key: u8, times: usize, keyed: Keyed) -> bool {
     true
 }
 
-fn puts_many(c: &mut Console, byte: u8, times: usize) {
+/// A line without a pace takes all bytes.
+fn puts(c: &mut Console, bytes: &[u8]) -> bool {
+    takes(c, bytes, u16::try_from(bytes.len()).unwrap_or(u16::MAX))
+}
+
+fn takes(c: &mut Console, bytes: &[u8], count: u16) -> bool {
+    bytes.len() <= 65535 && c.line.write(bytes, &mut c.tape) == count
+}
+
+fn takes_many(c: &mut Console, byte: u8, times: usize, count: u16) -> bool {
+    let all = [byte; 256];
+    takes(c, &all[..times.min(256)], count)
+}
+
+fn puts_many(c: &mut Console, byte: u8, times: usize) -> bool {
     for _ in 0..times {
-        c.line.write(&[byte], &mut c.tape);
+        if !puts(c, &[byte]) {
+            return false;
+        }
     }
+    true
+}
+
+fn sends(c: &mut Console, times: usize, show: bool) -> bool {
+    for _ in 0..times {
+        if c.line.send(&mut c.tape) != show {
+            return false;
+        }
+    }
+    true
+}
+
+/// A key and a new line are typed, and then read.
+fn rounds(c: &mut Console, key: u8, times: usize) -> bool {
+    for _ in 0..times {
+        let keys = [key, b'\n'];
+        if !types(c, &keys, Keyed::Ready) || !reads(c, 100, 300, &keys, gives(&keys)) {
+            return false;
+        }
+    }
+    true
+}
+
+fn counted(c: &mut Console, count: usize) -> bool {
+    let same = c.tape.bytes().len() == count;
+    c.tape.clear();
+    same
 }
 
 fn shown_many(c: &mut Console, byte: u8, times: usize) -> bool {
@@ -196,21 +258,29 @@ fn shown(c: &mut Console, bytes: &[u8]) -> bool {
 fn holds(c: &mut Console, step: Step) -> bool {
     match step {
         Opens => c.line.opened(),
-        Closes => c.line.closed(),
+        Closes(show) => return c.line.closed(&mut c.tape) == show,
         IsOpen(is_open) => return c.line.is_open() == is_open,
         Types(keys, keyed) => return types(c, keys, keyed),
         Each(keys, keyed) => return types_each(c, keys, keyed),
         Many(key, times, keyed) => return types_many(c, key, times, keyed),
         ReadsMany(count, byte, times) => return reads_many(c, count, byte, times),
-        PutsMany(byte, times) => puts_many(c, byte, times),
+        PutsMany(byte, times) => return puts_many(c, byte, times),
         ShownMany(byte, times) => return shown_many(c, byte, times),
         Reads(count, bytes) => return reads(c, 100, count, bytes, gives(bytes)),
         ReadsAt(at, count, bytes) => return reads(c, at, count, bytes, gives(bytes)),
         Faults(at, count, bytes) => return reads(c, at, count, bytes, Took::Fault),
         Waits(count) => return reads(c, 100, count, &[], Took::Wait),
-        Puts(bytes) => c.line.write(bytes, &mut c.tape),
+        Puts(bytes) => return puts(c, bytes),
+        Takes(bytes, count) => return takes(c, bytes, count),
+        TakesMany(byte, times, count) => return takes_many(c, byte, times, count),
         Shown(bytes) => return shown(c, bytes),
-        Sets(modes) => c.line.set_modes(modes),
+        Counted(count) => return counted(c, count),
+        Sends(times, show) => return sends(c, times, show),
+        Paces(on, show) => return c.line.set_pace(on, &mut c.tape) == show,
+        Flushes(show) => return c.line.flush() == show,
+        Rounds(key, times) => return rounds(c, key, times),
+        Sets(modes) => return !c.line.set_modes(modes, &mut c.tape),
+        Empties(modes) => return c.line.set_modes(modes, &mut c.tape),
         Has(modes) => return c.line.modes() == modes,
     }
     true
@@ -253,7 +323,7 @@ fn makes(c: &mut Console, edit: Edit) -> bool {
         With(characters, keys, line) => (characters, 0o36, keys, line),
     };
     c.line.opened();
-    c.line.set_modes([0, characters, flags]);
+    let _ = c.line.set_modes([0, characters, flags], &mut c.tape);
     for key in keys {
         let _ = c.line.typed(*key, &mut c.tape);
     }
@@ -278,11 +348,10 @@ fn goes_out(c: &mut Console, output: Output) -> bool {
         After(columns, flags, bytes, wanted) => (columns, flags, bytes, wanted),
     };
     c.line.opened();
-    c.line.set_modes([0, 0, flags]);
-    puts_many(c, b'x', columns);
+    let _ = c.line.set_modes([0, 0, flags], &mut c.tape);
+    let _ = puts_many(c, b'x', columns);
     c.tape.clear();
-    c.line.write(bytes, &mut c.tape);
-    shown(c, wanted)
+    puts(c, bytes) && shown(c, wanted)
 }
 
 /// The first output that fails.
@@ -334,6 +403,16 @@ fn keys_are_shown(rt: HostRuntime) {
 #[test]
 fn columns_are_counted(rt: HostRuntime) {
     judge(&rt, first_row(rt.alloc(), &COLUMNS));
+}
+
+#[test]
+fn bytes_wait_to_go_out(rt: HostRuntime) {
+    judge(&rt, first_row(rt.alloc(), &PACED));
+}
+
+#[test]
+fn bytes_that_wait_are_let_out(rt: HostRuntime) {
+    judge(&rt, first_row(rt.alloc(), &LET_OUT));
 }
 
 #[test]

@@ -1,13 +1,13 @@
 //! What scripts ask for, and which lines are none: docs/manual/scripts.md, line by line.
 use crate::tell;
-use script_text::Event::{Byte, Clock, Disk, Run, Switch, Tick};
+use script_text::Event::{Byte, Clock, Disk, Hangup, Line, Pace, Run, Switch, Tick};
 use script_text::ScriptFault::{BadLine, TooLong, TooManySlots};
 use script_text::{Event, ScriptFault, read};
 use std::alloc::{AllocError, Global};
 use std::process::Abort;
 
 /// A script and its events.
-static EVENTS: [(&[u8], &[Event]); 41] = [
+static EVENTS: [(&[u8], &[Event]); 49] = [
     // The last line may lack its line feed, and a carriage return right before one is dropped.
     (b"", &[]),
     (b"tick", &[Tick]),
@@ -39,6 +39,14 @@ static EVENTS: [(&[u8], &[Event]); 41] = [
     (b"disk 0", &[Disk(0)]),
     (b"disk 000000003\r\n", &[Disk(3)]),
     (b"disk 999999999", &[Disk(999_999_999)]),
+    (b"pace 0", &[Pace(0)]),
+    (b"pace 000000007\r\n", &[Pace(7)]),
+    (b"pace 999999999", &[Pace(999_999_999)]),
+    // A terminal line has one digit, from 0 to 7.
+    (b"line 0", &[Line(0)]),
+    (b"line 7\n", &[Line(7)]),
+    (b"hangup 0\r\n", &[Hangup(0)]),
+    (b"hangup 7", &[Hangup(7)]),
     // Octal numbers have all their digits.
     (b"byte 000", &[Byte(0)]),
     (b"byte 101\n", &[Byte(65)]),
@@ -74,6 +82,10 @@ static EVENTS: [(&[u8], &[Event]); 41] = [
         ],
     ),
     (b"run 1\n;\nrun 2\n\nrun 3", &[Run(1), Run(2), Run(3)]),
+    (
+        b"pace 1\nline 2\ntype a\nhangup 2\nline 0\n",
+        &[Pace(1), Line(2), Byte(97), Byte(13), Hangup(2), Line(0)],
+    ),
 ];
 
 /// Scripts whose first line is none.
@@ -109,6 +121,13 @@ switch
 switch\x20
 disk
 disk\x20
+pace
+pace\x20
+line
+line\x20
+hangup
+hangup\x20
+hang 1
 # Words are parted by one space, and no space follows the last.
 clock  1
 clock 1\x20
@@ -124,6 +143,15 @@ switch 12345\x20
 disk  3
 disk 3\x20
 disk 3 3
+pace  3
+pace 3\x20
+pace 3 3
+line  3
+line 3\x20
+line 3 3
+hangup  3
+hangup 3\x20
+hangup 3 3
 # No sign, no other byte than a digit, and at most nine of those.
 clock +1
 clock -1
@@ -141,6 +169,10 @@ disk +3
 disk 3x
 disk 0000000003
 disk 1000000000
+pace +3
+pace 3x
+pace 0000000003
+pace 1000000000
 # Octal digits alone, in their number, and no more than fits.
 byte 12
 byte 0012
@@ -158,6 +190,22 @@ switch 200000
 switch 777777
 switch 000008
 switch -00001
+line 8
+line 9
+line 00
+line 07
+line 10
+line -1
+line +1
+line a
+hangup 8
+hangup 9
+hangup 00
+hangup 07
+hangup 10
+hangup -1
+hangup +1
+hangup a
 # No text has these bytes.
 type \x7f
 type \t

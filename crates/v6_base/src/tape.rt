@@ -1,5 +1,5 @@
 //! A trace in memory.
-ghost use Rattle.std.specs.Prelude.{◌≡◌, ◌<◌, ◌++◌, ◌∷◌, [], IfOk, length};
+ghost use Rattle.std.specs.Prelude.{◌≡◌, ◌<◌, ◌++◌, ◌∷◌, [], true, ℕ, IfOk, length};
 ghost use Rattle.v6_base.specs.Trace.{Byte, Log};
 ghost use Rattle.v6_base.specs.Tape.{blank, bytes_of, is_full, taken_on, recorded};
 

@@ -61,6 +61,8 @@ pub enum Told {
     Fails(Errno),
     /// It waits for keys, at the priority of terminal input.
     Waits,
+    /// It waits for room in what waits to go out on the console, at the priority of terminal output.
+    WaitsToShow,
     /// It waits for bytes of a pipe, or for room, at the priority of pipes.
     WaitsIn(Chan),
 }
@@ -208,6 +210,13 @@ pub fn is(answer: Answer, r0: u16, told: Told) -> bool {
                 == Answer::Sleep {
                     pri: 10,
                     chan: Chan::Keys,
+                }
+        }
+        Told::WaitsToShow => {
+            answer
+                == Answer::Sleep {
+                    pri: 20,
+                    chan: Chan::Show,
                 }
         }
         Told::WaitsIn(chan) => answer == Answer::Sleep { pri: 1, chan },

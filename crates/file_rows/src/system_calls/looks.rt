@@ -7,6 +7,7 @@ use crate::system_calls::world::World;
 use fs_check::{Tally, accept, tally};
 use fs_codec::DiskNode;
 use fs_nodes::Nodes;
+use lines_eight::Lines;
 use open_files::OpenFile;
 use v6_base::{Chan, Entry, Space, Tape, Whole};
 
@@ -49,6 +50,8 @@ pub enum Look {
     Shown(&'static [u8], usize),
     /// The lines of the log since the last look at what was shown or logged.
     Logged(&'static [Entry]),
+    /// What was shown since the last such look, and the lines of the log.
+    ShownAndLogged(&'static [u8], &'static [Entry]),
     /// The signal that the process has, or 0.
     Posted(u8),
     /// How many inodes are used and how many blocks free; and the disk has no fault.
@@ -147,6 +150,25 @@ fn has_shown(tape: &mut Tape, bytes: &[u8], wakes: usize) -> bool {
     right
 }
 
+fn has_both(tape: &mut Tape, bytes: &[u8], entries: &[Entry]) -> bool {
+    let right = tape.bytes() == bytes && tape.entries() == entries;
+    tape.clear();
+    right
+}
+
+/// The modes of the console.
+fn modes(lines: &Lines) -> [u16; 3] {
+    if lines.count() > 0 {
+        lines.modes(0)
+    } else {
+        [u16::MAX; 3]
+    }
+}
+
+fn is_open(lines: &Lines) -> bool {
+    lines.count() > 0 && lines.is_open(0)
+}
+
 fn has_logged(tape: &mut Tape, entries: &[Entry]) -> bool {
     let right = tape.entries() == entries;
     tape.clear();
@@ -213,11 +235,12 @@ pub fn shows(w: &mut World, look: Look) -> bool
         Look::Directory(ino) => w.u.dir == ino,
         Look::Terminal(tty) => w.row.tty == tty,
         Look::Pending(pending, words) => w.u.pending == pending && w.u.call == words,
-        Look::Modes(modes) => w.files.line.modes() == modes,
-        Look::IsOpen(is) => w.files.line.is_open() == is,
+        Look::Modes(wanted) => modes(&w.files.lines) == wanted,
+        Look::IsOpen(is) => is_open(&w.files.lines) == is,
         Look::Memory(at, bytes) => has_bytes(&w.space, at, bytes),
         Look::Shown(bytes, wakes) => has_shown(&mut w.tape, bytes, wakes),
         Look::Logged(entries) => has_logged(&mut w.tape, entries),
+        Look::ShownAndLogged(bytes, entries) => has_both(&mut w.tape, bytes, entries),
         Look::Posted(sig) => w.row.sig == sig,
         Look::Counts(used, free) => counts(&mut w.files.tree.nodes, used, free, w.now),
         _ => shows_inode(&mut w.files.tree.nodes, look),

@@ -3,16 +3,17 @@ ghost use Rattle.std.specs.Prelude.{◌≡◌, true};
 ghost use Rattle.v6_base.specs.Image.{Image};
 ghost use Rattle.proc_tab.specs.declared.row.Row.{Row};
 ghost use Rattle.sys_files.specs.Handed.{handed};
-ghost use Rattle.sys_files.specs.Sound.{IsInPipe, CanGoOn};
+ghost use Rattle.sys_files.specs.Sound.{CanGoOn};
 ghost use Rattle.file_rows.specs.Ready.{IsReady};
 
 use crate::file_system::files::have_room;
 use crate::system_calls::calls::{Call, Told, answer, is, number};
 use crate::system_calls::looks::{Look, shows};
 use crate::system_calls::world::{World, begin};
+use lines_eight::Lines;
 use std::alloc::{AllocError, Global};
 use sys_files::resume_file;
-use tty_line::Line;
+use u_area::is_on_files;
 use v6_base::{Space, Tape, Whole};
 
 /// A step of a scene.
@@ -40,6 +41,10 @@ pub enum Step {
     Puts(u16, &'static [u8]),
     /// These bytes are typed on the console. Whom that wakes or interrupts is no matter here.
     Types(&'static [u8]),
+    /// The console has a pace from now on, or none.
+    Paces(bool),
+    /// So many bytes are sent on the console. The last of them wakes those who wait for room or not, and the others do not.
+    Sends(u16, bool),
     /// `/f` is opened so often, by the numbers from 0 on.
     Opens(u16),
 }
@@ -64,26 +69,15 @@ fn does(w: &mut World, call: Call, told: Told) -> bool
     is(answer, number(call), told)
 }
 
-/// Whether the process waits in a pipe whose end is open still.
-fn is_in_pipe(w: &World) -> bool
-    ensures { result ≡ true → (row : Row) (image : Image) → IsInPipe (handed w.entry.now.files w.entry.now.u row image) }
-{
-    let [entry, _, count, left, ..] = w.u.call;
-    if entry >= 100 || left > count || !w.files.table.in_use(entry as u8) {
-        return false;
-    }
-    w.files.table.file(entry as u8).kind.pipe
-}
-
-/// Whether the process waits in a call that can go on: a read of the console, or a read or a write of a pipe.
+/// Whether the process waits in a call that can go on: a read or a write of the console, or of a pipe, whose file is open still.
 fn can_go_on(w: &World) -> bool
     ensures { result ≡ true → (row : Row) (image : Image) → CanGoOn (handed w.entry.now.files w.entry.now.u row image) }
 {
-    match w.u.pending {
-        1 => true,
-        3 | 4 => is_in_pipe(w),
-        _ => false,
+    let [entry, _, count, so_far, ..] = w.u.call;
+    if entry >= 100 || so_far > count || !w.files.table.in_use(entry as u8) {
+        return false;
     }
+    is_on_files(w.u.pending) && (w.u.pending <= 2 || w.files.table.file(entry as u8).kind.pipe)
 }
 
 fn goes_on(w: &mut World, told: Told) -> bool
@@ -106,9 +100,28 @@ fn goes_on(w: &mut World, told: Told) -> bool
     is(answer, r0, told)
 }
 
-fn types(line: &mut Line, bytes: &[u8], tape: &mut Tape) -> bool {
+fn types(lines: &mut Lines, bytes: &[u8], tape: &mut Tape) -> bool {
     for byte in bytes {
-        let _ = line.typed(*byte, tape);
+        if lines.count() > 0 {
+            let _ = lines.typed(0, *byte, tape);
+        }
+    }
+    true
+}
+
+fn paces(lines: &mut Lines, on: bool, tape: &mut Tape) -> bool {
+    if lines.count() > 0 {
+        let _ = lines.set_pace(0, on, tape);
+    }
+    true
+}
+
+fn sends(lines: &mut Lines, count: u16, show: bool, tape: &mut Tape) -> bool {
+    for k in 0..count {
+        let wanted = show && k == count - 1;
+        if lines.count() == 0 || lines.send(0, tape) != wanted {
+            return false;
+        }
     }
     true
 }
@@ -159,7 +172,9 @@ fn holds(w: &mut World, step: Step) -> bool
         Step::Has(look) => shows(w, look),
         Step::Opens(count) => opens(w, count),
         Step::Puts(at, bytes) => puts(&mut w.space, at, bytes),
-        Step::Types(bytes) => types(&mut w.files.line, bytes, &mut w.tape),
+        Step::Types(bytes) => types(&mut w.files.lines, bytes, &mut w.tape),
+        Step::Paces(on) => paces(&mut w.files.lines, on, &mut w.tape),
+        Step::Sends(count, show) => sends(&mut w.files.lines, count, show, &mut w.tape),
         _ => changes(w, step),
     }
 }

@@ -6,11 +6,11 @@ use crate::file_system::opened::open;
 use crate::system_calls::disk::image;
 use fs_nodes::Nodes;
 use fs_tree::Tree;
+use lines_eight::Lines;
 use open_files::OpenTable;
 use proc_tab::Row;
 use std::alloc::{AllocError, Global};
 use sys_files::{Files, Pipes};
-use tty_line::Line;
 use u_area::UArea;
 use v6_base::{Space, Tape, Whole};
 
@@ -114,7 +114,7 @@ fn parts(nodes: Nodes, space: Whole, tape: Tape) -> World
         files: Files {
             tree: Tree::new(nodes),
             table: OpenTable::new(),
-            line: Line::new(),
+            lines: Lines::new(1),
             pipes: Pipes::new(),
         },
         u: PROCESS,
