@@ -1,4 +1,4 @@
--- Who waits in a pipe can go on: what changes of processes and of open files keep that.
+-- Who waits in a call on an open file can go on: what changes of processes and of open files keep that.
 use Rattle.std.proofs.Common.{◌≡◌, ◌≢◌, ◌<◌, ◌≤◌, ◌+◌, ◌∙◌, ℕ, true, false, List, length, get_or, set, Option, Some, None, slice_index, refl, sym, ap, subst, inl, inr, arith, ◌⊎◌}
 use Rattle.std.proofs.lemmas.Bool.{cases_eq}
 use Rattle.std.proofs.lemmas.List.{get_or-set_same, get_or-set_other, length-set}
@@ -44,7 +44,7 @@ abbrev pub Waiting : ℕ → Type 0
 Waiting n = IsFileCall n ⊎ (n ≡ DISK_WAIT)
 
 pub never_waiting : {P : Type 0} (n : ℕ) → n ≡ NOTHING_PENDING → Waiting n → P
-never_waiting n free (inl pipe) = never_in_call n free pipe
+never_waiting n free (inl call) = never_in_call n free call
 never_waiting n free (inr disk) = absurd (omega (arith, free, disk))
 
 -- Who waits so in a slot waited in it before, in the same call and with the same numbers.
@@ -84,7 +84,7 @@ all_waited_same ps s = waited_same (get_or ps s None)
 pub all_waited_then : (a b c : List (Option Process)) → AllWaited a b → AllWaited b c → AllWaited a c
 all_waited_then a b c first second s = waited_then (get_or a s None) (get_or b s None) (get_or c s None) (first s) (second s)
 
--- a process that waits as another does, and one that waits neither in a pipe nor for the disk
+-- a process that waits as another does, and one that waits neither on an open file nor for the disk
 pub like_waited : (p q : Process) → q.is_zombie ≡ p.is_zombie → q.u.pending ≡ p.u.pending → q.u.call ≡ p.u.call
     → q.u.files ≡ p.u.files → WaitedIn (Some p) (Some q)
 like_waited p q dead pending call files r is waits =
@@ -166,7 +166,7 @@ world_goes_on u w can waited = waited_goes_on u (with_world u w) can waited refl
 pub none_goes_on : (u : Unix) → ((s : ℕ) (p : Process) → process_at u s ≡ Some p → p.u.pending ≡ NOTHING_PENDING) → CanGoOn u
 none_goes_on u none = goes_on_by u (λ s p is lives waits. never_in_call p.u.pending (none s p is) waits)
 
--- What the process of a slot is handed waits at an end,
+-- What the process of a slot is handed waits with its file there,
 pub handed_pends : (u : Unix) (s : ℕ) → CanGoOn u → get_or u.processes s None ≡ Some (process_of u s)
     → (process_of u s).is_zombie ≡ false
     → Pends (handed_of u (process_of u s))
@@ -249,9 +249,9 @@ pub file_goes_on : (refs : List ℕ) (u : Unix) (s : ℕ) (h : Handed) → Owed 
 file_goes_on refs u s h owed can is lives kept pends = handed_back_goes_on u s h owed.numbers can is lives kept.others pends
 
 -- 3. fork(II): files that are shared stay open, of the same kind.
-shared_end : (files : List (Option OpenFile)) (mine more : List ℕ) (entry : ℕ) → HasFile files mine entry
-    → HasFile (shared files more) mine entry
-shared_end files mine more entry end =
+shared_end : (files : List (Option OpenFile)) (mine more : List ℕ) (pending entry : ℕ) → HasFile files mine pending entry
+    → HasFile (shared files more) mine pending entry
+shared_end files mine more pending entry end =
     let low = some_within files entry end.file end.there in
     record {
       file = with_more (times more entry) end.file;
@@ -263,7 +263,7 @@ shared_end files mine more entry end =
 pub shared_goes_on : (u : Unix) (more : List ℕ) → CanGoOn u → CanGoOn (record u { files = shared u.files more })
 shared_goes_on u more can = goes_on_by (record u { files = shared u.files more }) (λ s p is lives waits.
     let own = file_held u s can p is lives waits in
-    record { end = shared_end u.files p.u.files more (slice_index p.u.call 0) own.end; left = own.left })
+    record { end = shared_end u.files p.u.files more p.u.pending (slice_index p.u.call 0) own.end; left = own.left })
 
 pub shares_goes_on : (u : Unix) (more : List ℕ) (answer : Answer) → CanGoOn u
     → CanGoOn (record u { files = shares u.files more answer })

@@ -1,4 +1,4 @@
--- A process that comes out of a trap waits for nothing, and what comes from outside keeps who waits in a pipe.
+-- A process that comes out of a trap waits for nothing, and what comes from outside keeps who waits in a call on a file.
 use Rattle.std.proofs.Common.{◌≡◌, ◌<◌, ◌∙◌, ◌==◌, ◌&&◌, not, ℕ, Bool, true, false, cond, nat_lt, List, [], length, get_or, Option, Some, None, refl, ap, arith, option_map, unwrap_or}
 use Rattle.std.proofs.lemmas.Bool.{eqb-true, eq-eqb}
 use Rattle.std.proofs.lemmas.List.{get_or-set_same, length-set}

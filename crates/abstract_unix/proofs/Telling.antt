@@ -1,5 +1,5 @@
 -- What the terminal lines tell, one after another, fits: bytes change nothing, and who waits for a line may be woken.
-use Rattle.std.proofs.Common.{◌≡◌, ◌==◌, ◌≤◌, ◌<◌, ◌+◌, ◌||◌, ℕ, suc, Bool, true, false, cond, List, [], ◌∷◌, ◌++◌, length, map, refl, sym, subst, arith}
+use Rattle.std.proofs.Common.{◌≡◌, ◌==◌, ◌≤◌, ◌<◌, ◌+◌, ◌||◌, ℕ, suc, Bool, true, false, cond, List, [], ◌∷◌, ◌++◌, length, map, refl, sym, ap, subst, arith}
 use Rattle.std.proofs.lemmas.Bool.{eqb-false}
 use Rattle.std.proofs.lemmas.List.{map-append}
 use Rattle.v6_base.specs.Trace.{Item, sent}
@@ -81,7 +81,7 @@ each_apt v call l (t ∷ ts) seen few p =
 
 pub lines_apt : (v : Seats) (call : Terminal → Said) (lines : List Terminal) (seen : Seen) → length lines ≤ 8 → Paused v seen
     → Apt {W = Unix} (Paused v) seen (map Show (each_line call lines).items)
-lines_apt v call lines seen few p = each_apt v call 0 lines seen few p
+lines_apt v call lines seen few p = each_apt v call 0 lines seen (omega (arith, few)) p
 
 first_no : (x y : Bool) → (x || y) ≡ false → x ≡ false
 first_no true y e = absurd (cc e)
@@ -110,7 +110,7 @@ lines_quiet Q call lines seen none q = each_quiet Q call 0 lines seen none q
 -- the lines keep their number
 each_length : (call : Terminal → Said) (l : ℕ) (lines : List Terminal) → length (each_from l call lines).lines ≡ length lines
 each_length call l [] = refl
-each_length call l (t ∷ ts) = let rest = each_length call (suc l) ts in omega (arith, rest)
+each_length call l (t ∷ ts) = ap suc (each_length call (suc l) ts)
 
 pub lines_length : (call : Terminal → Said) (lines : List Terminal) → length (each_line call lines).lines ≡ length lines
 lines_length call lines = each_length call 0 lines

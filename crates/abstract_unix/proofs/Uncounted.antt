@@ -68,10 +68,7 @@ key_timing l key.Ready u = refl
 key_timing l (key.Flushed show) u = refl
 key_timing l (key.Signal n show) u = refl
 
--- nothing is logged yet
-nothing_yet : System → Logged Unix
-nothing_yet m = record { items = []; board = m.board; stop = None }
-
+-- nor does a wake
 woken_goes : (b : Bool) (chan : Chan) (l : Logged Unix) → l.stop ≡ None → (fold log_one l (wakes b chan)).stop ≡ None
 woken_goes true chan l none = shown_goes (Log (Wake chan) ∷ []) l none
 woken_goes false chan l none = none
@@ -99,9 +96,9 @@ byte_timing m l byte =
 
     stops : (logged m.board (map Show items ++ keys ++ room)).stop ≡ None
     stops =
-        ap (λ (done : Logged Unix). done.stop) (fold-append log_one (nothing_yet m) (map Show items) (keys ++ room)
-        ∙ fold-append log_one (fold log_one (nothing_yet m) (map Show items)) keys room)
-        ∙ woken_goes (calls_show k.keyed) (show_of l) _ (woken_goes (calls k.keyed) (keys_of l) _ (shown_goes items (nothing_yet m) refl))
+        ap (λ (done : Logged Unix). done.stop) (fold-append log_one (nothing_logged m.board) (map Show items) (keys ++ room)
+        ∙ fold-append log_one (fold log_one (nothing_logged m.board) (map Show items)) keys room)
+        ∙ woken_goes (calls_show k.keyed) (show_of l) _ (woken_goes (calls k.keyed) (keys_of l) _ (shown_goes items (nothing_logged m.board) refl))
 
 pub hangup_timing : (m : System) (l : ℕ) → (event_of (Hangup l) m).next.unix.timing ≡ m.unix.timing
 hangup_timing m l = ap (λ (u : Unix). u.timing) (settled_unix (hangup_of m l)) ∙ by (terminal_at m.unix l).is_open
@@ -115,7 +112,7 @@ hangup_timing m l = ap (λ (u : Unix). u.timing) (settled_unix (hangup_of m l)) 
     by : (b : Bool) → (cond b (hangs_up m l) (happens m.unix (nothing_logged m.board))).unix.timing ≡ m.unix.timing
     by true =
         ap (λ o. (left_by o (record (with_terminal m.unix l s.terminal) { processes = all_signalled (has_line l) SIGHUP m.unix.processes })).timing)
-        (shown_goes items (nothing_yet m) refl)
+        (shown_goes items (nothing_logged m.board) refl)
     by false = refl
 
 -- the pace counts anew, but not the slots
@@ -123,7 +120,7 @@ pub pace_passed : (m : System) (n : ℕ) → (event_of (Pace n) m).next.unix.tim
 pace_passed m n =
     ap (λ (u : Unix). u.timing.passed) (settled_unix (paced_of m n))
     ∙ ap (λ o. (left_by o (record m.unix { lines = all.lines; timing = record m.unix.timing { pace = n; since = 0 } })).timing.passed)
-    (shown_goes all.items (nothing_yet m) refl)
+    (shown_goes all.items (nothing_logged m.board) refl)
   where
     all : AllTold
     all = each_line (turned_to (not (n == 0))) m.unix.lines

@@ -1,4 +1,4 @@
--- Calls on processes: who waits in a pipe afterwards waited in it before, and a call that comes to an answer waits for nothing.
+-- Calls on processes: who waits on a file afterwards waited before, and a call that comes to an answer waits for nothing.
 use Rattle.std.proofs.Common.{◌≡◌, ◌<◌, ◌≤◌, ◌&&◌, ◌==◌, ◌∙◌, not, is_none, ℕ, Bool, true, false, cond, List, [], length, get_or, set, map, Option, Some, None, slice_index, refl, sym, ap, subst, inl, inr, arith, unwrap_or}
 use Rattle.std.specs.Prelude.{Result, Ok, Err, bit_and, slice_index_or, slice_set}
 use Rattle.std.proofs.lemmas.Bool.{cases_lt, cases_eq}
@@ -54,7 +54,7 @@ abbrev IsFreeIn : Option Process → Type 0
 IsFreeIn o = (unwrap_or o no_process).u.pending ≡ NOTHING_PENDING
 
 module _ (ps : List (Option Process)) (s : ℕ) where
-  -- A world in which the process that calls waits for nothing, and in which who waits in a pipe waited in it before.
+  -- A world in which the process that calls waits for nothing, and in which who waits in a call on a file waited in it before.
   pub record IsFree (w : World) : Type 0 where
     pub waited : AllWaited ps w.processes
     pub free : (process_of w s).u.pending ≡ NOTHING_PENDING
@@ -99,10 +99,12 @@ module _ (ps : List (Option Process)) (s : ℕ) where
     ];
   }
 
-  -- a call that wants no place for an image: where it sleeps, its process waits in no pipe, and not for the disk
+  -- a call that wants no place for an image: where it sleeps, its process waits in no call on a file, and not for the disk
   apart : (n : ℕ) → is_on_files n ≡ false → (n == DISK_WAIT) ≡ false → Waiting n → ⊥
-  apart n none other (inl (inl three)) = let on : is_on_files n ≡ true = ap is_on_files three in cc (none, on)
-  apart n none other (inl (inr four)) = let on : is_on_files n ≡ true = ap is_on_files four in cc (none, on)
+  apart n none other (inl (inl (inl one))) = let on : is_on_files n ≡ true = ap is_on_files one in cc (none, on)
+  apart n none other (inl (inl (inr two))) = let on : is_on_files n ≡ true = ap is_on_files two in cc (none, on)
+  apart n none other (inl (inr (inl three))) = let on : is_on_files n ≡ true = ap is_on_files three in cc (none, on)
+  apart n none other (inl (inr (inr four))) = let on : is_on_files n ≡ true = ap is_on_files four in cc (none, on)
   apart n none other (inr disk) = let on : (n == DISK_WAIT) ≡ true = ap (λ m. m == DISK_WAIT) disk in cc (other, on)
 
   plain_eased : (w : World) (c : Comes) → Plain s w c → IsFree w → IsEased c
@@ -233,7 +235,7 @@ module _ (ps : List (Option Process)) (s : ℕ) where
       let d = clicks_up_to p.u.text_size at in
       eased_if (is_refused p.u.text_size d p.u.stack_size w.limit) _ _ (eased _ is) (expands_eased w d p.u.stack_size is)
 
--- A signal is sent to some: who waits in a pipe waited in it before.
+-- A signal is sent to some: who waits in a call on a file waited in it before.
 signalled_at : (who : ℕ → Process → Bool) (n : ℕ) (ps : List (Option Process)) (r : ℕ) → r < 50
     → get_or (all_signalled who n ps) r None ≡ signalled_if who n r (get_or ps r None)
 signalled_at who n ps r low = get_or-map-range_with_len (λ s. signalled_if who n s (get_or ps s None)) 0 50 r r None low (omega arith)

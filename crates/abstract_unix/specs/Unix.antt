@@ -12,13 +12,12 @@ use Rattle.sys_procs.specs.World.{Clock}
 pub use Rattle.sys_procs.specs.TextTable.{Text}
 unfoldable pub use Rattle.sys_procs.specs.TextTable.{no_texts}
 
--- How many slots have passed, and how many a transfer from the disk takes: 0 is none. After each so many slots the lines send, of which
--- so many have passed since that was set: 0 is none, where bytes don't wait.
+-- slots, as they are counted
 pub record Timing : Type 0 where
-  pub passed : ℕ
-  pub disk : ℕ
-  pub pace : ℕ
-  pub since : ℕ
+  pub passed : ℕ  -- so many have been taken
+  pub disk : ℕ  -- a transfer from the disk takes so many: 0 is none
+  pub pace : ℕ  -- the lines send after each so many: 0 is at once
+  pub since : ℕ  -- so many have been taken since the pace was set
 
 pub record Unix : Type 0 where
   pub store : Store  -- the file system
@@ -26,7 +25,7 @@ pub record Unix : Type 0 where
   pub files : List (Option OpenFile)  -- the table of open files, with 100 entries
   pub pipes : List Pipe  -- that are open: how far each has been read, and which of its ends wait
   pub texts : List (Option Text)  -- 40 entries
-  pub lines : List Terminal  -- the terminal lines, one or eight, from the console on
+  pub lines : List Terminal  -- the terminal lines, one or eight, from line 0 on, which is the console
   pub clock : Clock
   pub switches : ℕ  -- the console's
   pub last_pid : ℕ  -- the number that was given last to a process
