@@ -60,7 +60,8 @@ no_file = record { ino = 0; kind = record { reading = false; writing = false; pi
 abbrev pub file_of : Handed → ℕ → OpenFile
 file_of h entry = unwrap_or (file_at h.files entry) no_file
 
--- The terminal lines that there are, are the character devices 0,0, which is the console, 0,1 and so on. The null device is 8,2.
+-- The terminal lines that there are, are the character devices 0,0, which is the console, 0,1 and so on. The null device is
+-- 8,2.
 abbrev pub line_of : Handed → Node → Option ℕ
 line_of h node = if is_character_device node.mode && nat_lt node.device (length h.lines) then Some node.device else None
 

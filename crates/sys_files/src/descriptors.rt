@@ -125,8 +125,8 @@ fn is_line_open(f: &Files, line: u8) -> bool
     false
 }
 
-/// Closes a line with the last of its files, which was this one. The bytes that wait go out, what was typed is lost, and who waits
-/// is woken.
+/// Closes a line with the last of its files, which was this one. The bytes that wait go out, what was typed is lost, and
+/// who waits is woken.
 fn close_line<T: Trace>(f: &mut Files, file: OpenFile, trace: &mut T)
     requires referenced { 0 < slice_index f.old.tree.nodes.references file.ino }
     requires others { AreReferred f.old.table f.old.tree.nodes.references }

@@ -12,8 +12,8 @@ use lines_eight::Lines;
 /// The number of the null device: major 8, minor 2.
 const NULL: u16 = 8 * 256 + 2;
 
-/// The number of the terminal line that an inode is, of those that there are: the character devices 0, 0, which is the console, 0, 1
-/// and so on.
+/// The number of the terminal line that an inode is, of those that there are: the character devices 0,0, which is the
+/// console, 0,1 and so on.
 pub(crate) fn line_of(lines: &Lines, inode: &DiskNode) -> Option<u8>
     ensures line { (h : Handed) (node : Node) → h.lines ≡ lines.now → Shows inode.now node → result ≡ line_of h node }
     ensures there { IfSome result (λ l. l < length lines.now) }

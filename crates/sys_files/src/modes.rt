@@ -76,7 +76,8 @@ fn words_at<S: Space>(space: &S, at: u16) -> Option<[u8; 6]>
     Some(bytes)
 }
 
-/// Sets the modes of a line, from the bytes of three words. The bytes that wait go out, what was typed is lost, and who waits is woken.
+/// Sets the modes of a line, from the bytes of three words. The bytes that wait go out, what was typed is lost, and who
+/// waits is woken.
 fn set_modes<T: Trace>(lines: &mut Lines, l: u8, bytes: &[u8; 6], trace: &mut T)
     requires there { l < length lines.old }
     ensures line { lines.new ≡ with_terminal lines.old l
@@ -115,8 +116,8 @@ fn put_modes<S: Space>(lines: &Lines, l: u8, u: &UArea, space: &mut S, at: u16) 
 }
 
 /// 31, stty(II): sets the modes of the terminal that the number in R0 names, from three words at an address, `args[0]`: the
-/// speeds; the character that erases, in the low byte, and the one that kills; the flags. The bytes that wait go out, and what was typed is
-/// lost.
+/// speeds; the character that erases, in the low byte, and the one that kills; the flags. The bytes that wait go out, and
+/// what was typed is lost.
 ///
 /// # Errors
 ///
