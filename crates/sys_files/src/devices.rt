@@ -21,7 +21,8 @@ pub(crate) fn line_of(lines: &Lines, inode: &DiskNode) -> Option<u8>
     ensures eight { length lines.now ≤ 8 }
 {
     let device = inode.addr[0];
-    if is_character_device(inode.mode) && device < u16::from(lines.count()) {
+    let count = u16::from(lines.count());
+    if is_character_device(inode.mode) && device < count {
         return Some(device as u8);
     }
     None
