@@ -6,6 +6,7 @@
 //! the manual and from Lions' Commentary that the table names; none is an answer that this program gave.
 mod calls;
 mod console;
+mod console_lines;
 mod console_modes;
 mod console_paced;
 mod console_reads;

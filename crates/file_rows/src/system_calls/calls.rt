@@ -61,8 +61,8 @@ pub enum Told {
     Fails(Errno),
     /// It waits for keys, at the priority of terminal input.
     Waits,
-    /// It waits for room in what waits to go out on the console, at the priority of terminal output.
-    WaitsToShow,
+    /// It waits for keys, or for room in what waits to go out, of a line of this channel, at this priority.
+    WaitsOn(i8, Chan),
     /// It waits for bytes of a pipe, or for room, at the priority of pipes.
     WaitsIn(Chan),
 }
@@ -212,13 +212,7 @@ pub fn is(answer: Answer, r0: u16, told: Told) -> bool {
                     chan: Chan::Keys,
                 }
         }
-        Told::WaitsToShow => {
-            answer
-                == Answer::Sleep {
-                    pri: 20,
-                    chan: Chan::Show,
-                }
-        }
+        Told::WaitsOn(pri, chan) => answer == Answer::Sleep { pri, chan },
         Told::WaitsIn(chan) => answer == Answer::Sleep { pri: 1, chan },
     }
 }

@@ -9,7 +9,7 @@ use fs_codec::DiskNode;
 use fs_nodes::Nodes;
 use lines_eight::Lines;
 use open_files::OpenFile;
-use v6_base::{Chan, Entry, Space, Tape, Whole};
+use v6_base::{Chan, Entry, LINES, Space, Tape, Whole};
 
 /// What is looked at, and what must be there.
 #[derive(Clone, Copy)]
@@ -50,8 +50,8 @@ pub enum Look {
     Shown(&'static [u8], usize),
     /// The lines of the log since the last look at what was shown or logged.
     Logged(&'static [Entry]),
-    /// What was shown since the last such look, and the lines of the log.
-    ShownAndLogged(&'static [u8], &'static [Entry]),
+    /// What went out since the last such look on this line, and on no other; and the lines of the log.
+    WentOut(u8, &'static [u8], &'static [Entry]),
     /// The signal that the process has, or 0.
     Posted(u8),
     /// How many inodes are used and how many blocks free; and the disk has no fault.
@@ -150,8 +150,18 @@ fn has_shown(tape: &mut Tape, bytes: &[u8], wakes: usize) -> bool {
     right
 }
 
-fn has_both(tape: &mut Tape, bytes: &[u8], entries: &[Entry]) -> bool {
-    let right = tape.bytes() == bytes && tape.entries() == entries;
+/// These bytes went out on one line, and none on another.
+fn has_sent(tape: &mut Tape, line: u8, bytes: &[u8], entries: &[Entry]) -> bool {
+    let mut right = tape.entries() == entries;
+    for l in 0..LINES {
+        let found = tape.bytes_on(l);
+        right = right
+            && if l == line {
+                found == bytes
+            } else {
+                found.is_empty()
+            };
+    }
     tape.clear();
     right
 }
@@ -240,7 +250,7 @@ pub fn shows(w: &mut World, look: Look) -> bool
         Look::Memory(at, bytes) => has_bytes(&w.space, at, bytes),
         Look::Shown(bytes, wakes) => has_shown(&mut w.tape, bytes, wakes),
         Look::Logged(entries) => has_logged(&mut w.tape, entries),
-        Look::ShownAndLogged(bytes, entries) => has_both(&mut w.tape, bytes, entries),
+        Look::WentOut(line, bytes, entries) => has_sent(&mut w.tape, line, bytes, entries),
         Look::Posted(sig) => w.row.sig == sig,
         Look::Counts(used, free) => counts(&mut w.files.tree.nodes, used, free, w.now),
         _ => shows_inode(&mut w.files.tree.nodes, look),

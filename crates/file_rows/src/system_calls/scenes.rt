@@ -41,10 +41,14 @@ pub enum Step {
     Puts(u16, &'static [u8]),
     /// These bytes are typed on the console. Whom that wakes or interrupts is no matter here.
     Types(&'static [u8]),
-    /// The console has a pace from now on, or none.
-    Paces(bool),
-    /// So many bytes are sent on the console. The last of them wakes those who wait for room or not, and the others do not.
-    Sends(u16, bool),
+    /// The same on another line.
+    TypesOn(u8, &'static [u8]),
+    /// There are eight lines from now on, and none is open.
+    EightLines,
+    /// A line has a pace from now on, or none.
+    Paces(u8, bool),
+    /// So many bytes are sent on a line. The last of them wakes those who wait for room or not, and the others do not.
+    Sends(u8, u16, bool),
     /// `/f` is opened so often, by the numbers from 0 on.
     Opens(u16),
 }
@@ -100,26 +104,26 @@ fn goes_on(w: &mut World, told: Told) -> bool
     is(answer, r0, told)
 }
 
-fn types(lines: &mut Lines, bytes: &[u8], tape: &mut Tape) -> bool {
+fn types(lines: &mut Lines, l: u8, bytes: &[u8], tape: &mut Tape) -> bool {
     for byte in bytes {
-        if lines.count() > 0 {
-            let _ = lines.typed(0, *byte, tape);
+        if l < lines.count() {
+            let _ = lines.typed(l, *byte, tape);
         }
     }
     true
 }
 
-fn paces(lines: &mut Lines, on: bool, tape: &mut Tape) -> bool {
-    if lines.count() > 0 {
-        let _ = lines.set_pace(0, on, tape);
+fn paces(lines: &mut Lines, l: u8, on: bool, tape: &mut Tape) -> bool {
+    if l < lines.count() {
+        let _ = lines.set_pace(l, on, tape);
     }
     true
 }
 
-fn sends(lines: &mut Lines, count: u16, show: bool, tape: &mut Tape) -> bool {
+fn sends(lines: &mut Lines, l: u8, count: u16, show: bool, tape: &mut Tape) -> bool {
     for k in 0..count {
         let wanted = show && k == count - 1;
-        if lines.count() == 0 || lines.send(0, tape) != wanted {
+        if l >= lines.count() || lines.send(l, tape) != wanted {
             return false;
         }
     }
@@ -156,6 +160,7 @@ fn changes(w: &mut World, step: Step) -> bool
         Step::OnLine(tty) => w.row.tty = tty,
         Step::Fresh => w.u.files = [0; 15],
         Step::Posts(sig) => w.row.sig = sig,
+        Step::EightLines => w.files.lines = Lines::new(8),
         Step::Text => w.space.set_sizes(1, 20, 1),
         _ => return false,
     }
@@ -172,9 +177,10 @@ fn holds(w: &mut World, step: Step) -> bool
         Step::Has(look) => shows(w, look),
         Step::Opens(count) => opens(w, count),
         Step::Puts(at, bytes) => puts(&mut w.space, at, bytes),
-        Step::Types(bytes) => types(&mut w.files.lines, bytes, &mut w.tape),
-        Step::Paces(on) => paces(&mut w.files.lines, on, &mut w.tape),
-        Step::Sends(count, show) => sends(&mut w.files.lines, count, show, &mut w.tape),
+        Step::Types(bytes) => types(&mut w.files.lines, 0, bytes, &mut w.tape),
+        Step::TypesOn(l, bytes) => types(&mut w.files.lines, l, bytes, &mut w.tape),
+        Step::Paces(l, on) => paces(&mut w.files.lines, l, on, &mut w.tape),
+        Step::Sends(l, count, show) => sends(&mut w.files.lines, l, count, show, &mut w.tape),
         _ => changes(w, step),
     }
 }
