@@ -188,13 +188,13 @@ pub taken_all : (t : Terminal) (image : Image) (at n : ℕ) → AreTaken t image
 taken_all t image at n are = take_all n (readable image at n) (let whole = are.whole in omega (arith, whole))
 
 module _ (t : Terminal) (image : Image) (at n most : ℕ) (low : at < 65536) (are : AreTaken t image at n) where
-  read : List ℕ
+  abbrev read : List ℕ
   read = readable image at n
 
-  piece : List ℕ
+  abbrev piece : List ℕ
   piece = readable image ((at + n) % 65536) most
 
-  taken : ℕ
+  abbrev taken : ℕ
   taken = written (after_shown t read) piece
 
   taken_few : taken ≤ length piece

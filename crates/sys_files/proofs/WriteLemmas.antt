@@ -218,12 +218,6 @@ piped_on h slot call now reads =
     if reads then reads_pipe h (slice_index call 0) (slice_index call 1) (slice_index call 2) now
     else writes_pipe h slot (slice_index call 0) (slice_index call 1) (slice_index call 2) (slice_index call 3) now
 
-abbrev on_by : Handed → ℕ → ℕ → Bool → Bool → Bool → Bool → Did
-on_by h slot now first second third fourth =
-    let rest : Handed = without_pending h in
-    let call : List ℕ = h.u.call in
-    if first || second then lined_on rest (line_kept rest (slice_index call 0)) call third else piped_on rest slot call now fourth
-
 abbrev resumed_by : Handed → ℕ → ℕ → Bool → Did → Did
 resumed_by h slot now broken goes = if broken then fails (without_pending h) EINTR else goes
 

@@ -1,5 +1,5 @@
 //! Bytes are read and written: `rdwr` and `seek` in Lions' Commentary, `sys2.c`.
-ghost use Rattle.std.specs.Prelude.{◌≡◌, ◌<◌, ◌≤◌, ◌+◌, ◌%◌, ◌^◌, ℕ, IfSome, IsSome, ◌==◌, length, if◌then◌else◌, slice_index, take};
+ghost use Rattle.std.specs.Prelude.{◌≡◌, ◌<◌, ◌≤◌, ◌+◌, ◌%◌, ◌^◌, IsSome, ◌==◌, ◌||◌, length, if◌then◌else◌, slice_index, take};
 ghost use Rattle.v6_base.specs.Trace.{Took, sent};
 ghost use Rattle.proc_tab.specs.declared.row.Row.{Row};
 ghost use Rattle.u_area.specs.declared.area.UArea.{UArea};
@@ -17,7 +17,7 @@ ghost use Rattle.sys_files.specs.Sound.{IsSound, CanGoOn};
 ghost use Rattle.sys_files.specs.Does.{Does};
 ghost use Rattle.sys_files.specs.Entering.{did_with};
 
-use crate::descriptors::{file_of, open_entry};
+use crate::descriptors::{file_of, open_entry, see_entries};
 use crate::devices::line_at;
 use crate::files::Files;
 use crate::piping::{Transfer, read_pipe, write_pipe};
@@ -245,6 +245,7 @@ fn line_kept(f: &Files, entry: u16) -> u8
         → result ≡ line_kept h entry }
     ensures there { result < length f.now.lines }
 {
+    see_entries(&f.table);
     let ino = f.table.file(entry as u8).ino;
     line_at(&f.tree.nodes, &f.lines, ino).unwrap_or(0)
 }
@@ -296,6 +297,13 @@ fn resume_line<S: Space, T: Trace>(
     )
 }
 
+/// Whether the pending call is a read or a write of a line.
+fn is_on_line(pending: u8) -> bool
+    ensures { result ≡ (pending == LINE_READ) || (pending == LINE_WRITE) }
+{
+    pending == LINE_READ || pending == LINE_WRITE
+}
+
 /// Takes up a call again in which a process slept, as the per-process area keeps it: a read or a write of a line, the write at the
 /// byte where it stood, or a read or a write of a pipe. It may wait again.
 ///
@@ -328,7 +336,7 @@ pub fn resume_file<S: Space, T: Trace>(
     if due(row, u).is_some() {
         return Answer::Fail(Errno::EINTR);
     }
-    if pending == LINE_READ || pending == LINE_WRITE {
+    if is_on_line(pending) {
         return resume_line(f, pending, call, u, row, space, trace);
     }
     let transfer = Transfer {
