@@ -140,7 +140,7 @@ written_few t (x ∷ xs) = few_by_one (is_stopped t) (written (after_shown t (x 
 -- What a write takes of bytes in two parts, of which it takes the first whole.
 pub written_parts : (t : Terminal) (xs ys : List ℕ) → written t xs ≡ length xs
     → written t (xs ++ ys) ≡ length xs + written (after_shown t xs) ys
-written_parts t [] ys all = sym (ap (λ (u : Terminal). written u ys) (after_nothing t))
+written_parts t [] ys all = let same = ap (λ (u : Terminal). written u ys) (after_nothing t) in omega (arith, same)
 written_parts t (x ∷ xs) ys all = by (is_stopped t) refl (written_parts (after_shown t (x ∷ [])) xs ys) where
   next : Terminal
   next = after_shown t (x ∷ [])
@@ -186,20 +186,22 @@ shows_none t = by t.is_paced where
   by false = refl
 
 -- A write lets no more bytes wait than there is room for.
-room_nothing : (t : Terminal) → length t.output ≤ 1008 → length (after_shown t []).output ≤ 1008
+pub room_nothing : (t : Terminal) → length t.output ≤ 1008 → length (after_shown t []).output ≤ 1008
 room_nothing t room = let same = ap (λ (u : Terminal). length u.output) (after_nothing t) in omega (arith, same, room)
+
+-- one byte becomes at most 8
+pub few_forms : (t : Terminal) (x : ℕ) → length (forms t (x ∷ [])) ≤ 8
+few_forms t x =
+    let few = few_shown (flags t) t.column x in
+    let long = ap (length {A = ℕ}) (append-nil (shown_byte (flags t) t.column x)) in omega (arith, few, long)
 
 room_one : (t : Terminal) (x : ℕ) → is_stopped t ≡ false → length t.output ≤ 1008 → length (after_shown t (x ∷ [])).output ≤ 1008
 room_one t x goes room = by t.is_paced refl where
-  one : length (forms t (x ∷ [])) ≤ 8
-  one = let few = few_shown (flags t) t.column x in
-      let long = ap (length {A = ℕ}) (append-nil (shown_byte (flags t) t.column x)) in omega (arith, few, long)
-
   by : (b : Bool) → t.is_paced ≡ b → length {A = ℕ} (cond b (t.output ++ forms t (x ∷ [])) t.output) ≤ 1008
   by true is =
       let few : length t.output ≤ 50 = ltb-false 50 (length t.output) (sym (ap (λ b. b && nat_lt 50 (length t.output)) is) ∙ goes) in
       let long = length-append t.output (forms t (x ∷ [])) in
-      let most = one in
+      let most = few_forms t x in
       omega (arith, few, long, most)
   by false is = room
 
