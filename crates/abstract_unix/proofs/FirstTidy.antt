@@ -1,5 +1,5 @@
 -- A run begins with a tidy Unix.
-use Rattle.std.proofs.Common.{◌≡◌, ◌∙◌, ◌≤◌, ◌+◌, ◌*◌, ◌==◌, ◌||◌, ℕ, zero, suc, not, nat_lt, Bool, true, false, List, [], ◌∷◌, length, map, filter, get_or, replicate, Option, Some, None, option_map, slice_index, refl, sym, ap, arith}
+use Rattle.std.proofs.Common.{◌≡◌, ◌∙◌, ◌≤◌, ◌+◌, ◌*◌, ◌==◌, ◌||◌, ℕ, zero, suc, not, nat_lt, Bool, true, false, List, [], ◌∷◌, length, map, filter, get_or, replicate, Option, Some, None, option_map, slice_index, refl, sym, ap, subst, arith}
 use Rattle.std.proofs.lemmas.Bool.{ltb-false}
 use Rattle.std.proofs.lemmas.List.{length-replicate}
 use Rattle.std.proofs.lemmas.List.Elements.{All-from_get_or}
@@ -122,6 +122,6 @@ module _ (store : Store) (core lines : ℕ) where
     fifteen = told_first;
     waits = none_goes_on u user_first;
     count = few;
-    eight = let long = length-replicate lines first_terminal in omega (arith, long, some);
+    eight = subst (λ n. n ≤ 8) (sym (length-replicate lines first_terminal)) some;
     pipes = λ entry file at pipe. absurd (let none : None ≡ Some file = sym (no_file entry) ∙ at in cc none);
   }

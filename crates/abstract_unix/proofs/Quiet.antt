@@ -284,13 +284,13 @@ calm_walks old s = record {
     numbers = record { count = p.numbers.count; pipes = pipes_gone h.files h.pipes ino none p.numbers.pipes; eight = p.numbers.eight };
   };
   known = λ h entry is p. end_known h entry p.numbers.pipes is;
-  numbered = λ h l other there p. (omega (arith, other), let few = p.numbers.eight in omega (arith, few, there));
+  numbered = λ h l other there p. (omega (arith, other), (let few = p.numbers.eight in omega (arith, few, there)));
   typewriter = λ h l t kept p. record {
     same = p.same;
     numbers = record {
       count = p.numbers.count;
       pipes = p.numbers.pipes;
-      eight = let few = p.numbers.eight in let long = length-set h.lines l t in omega (arith, few, long);
+      eight = subst (λ n. n ≤ 8) (sym (length-set h.lines l t)) p.numbers.eight;
     };
   };
   enters = λ h dir moves p. record { same = same_call_in p; numbers = record { count = p.numbers.count; pipes = p.numbers.pipes; eight = p.numbers.eight } };
