@@ -1,4 +1,4 @@
-use Rattle.std.proofs.Common.{◌≡◌, ◌++◌, length, ap, arith, length-append}
+use Rattle.std.proofs.Common.{length, ap, arith, length-append}
 use Rattle.tty_line.specs.Output.{shown_byte}
 use Rattle.tty_line.proofs.OutputLemmas.{few_shown}
 use Rattle.tty_line.proofs.QueueLemmas.{all_wait}
