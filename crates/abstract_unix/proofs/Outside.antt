@@ -275,7 +275,7 @@ both_apt u l keys room seen few p =
 -- The lines are those of the Unix before; its terminal has changed.
 key_apt : (u : Unix) (l : ℕ) (terminal : Terminal) (seen : Seen) (keyed : Keyed) → (calls keyed ≡ true → l < 8) → Paused (seats_of u) seen
     → Apt (Paused (seats_of (with_key l keyed (with_terminal u l terminal)))) seen
-    (map Show (key_lines l keyed u) ++ wakes (calls keyed) (keys_of l) ++ wakes (calls_show keyed) (show_of l))
+    (map Show (key_lines l keyed u) ++ (wakes (calls keyed) (keys_of l) ++ wakes (calls_show keyed) (show_of l)))
 unfolding Apt
 key_apt u l terminal seen Nothing few p = p
 key_apt u l terminal seen Ready few p = both_apt (with_terminal u l terminal) l true false seen (few refl) p

@@ -94,7 +94,7 @@ byte_timing m l byte =
     room : List (Effect Unix)
     room = wakes (calls_show k.keyed) (show_of l)
 
-    stops : (logged m.board (map Show items ++ keys ++ room)).stop ≡ None
+    stops : (logged m.board (map Show items ++ (keys ++ room))).stop ≡ None
     stops =
         ap (λ (done : Logged Unix). done.stop) (fold-append log_one (nothing_logged m.board) (map Show items) (keys ++ room)
         ∙ fold-append log_one (fold log_one (nothing_logged m.board) (map Show items)) keys room)

@@ -133,7 +133,7 @@ typed_of m l byte =
     let k : Typed = typed (terminal_at m.unix l) byte in
     happens (with_key l k.keyed (with_terminal m.unix l k.terminal))
     (logged m.board (map Show (sent l k.shown ++ key_lines l k.keyed m.unix)
-    ++ wakes (calls k.keyed) (keys_of l) ++ wakes (calls_show k.keyed) (show_of l)))
+    ++ (wakes (calls k.keyed) (keys_of l) ++ wakes (calls_show k.keyed) (show_of l))))
 
 -- A line hangs up: those whose terminal it is have a signal, and it is flushed. It stays open.
 abbrev pub hangs_up : System → ℕ → Happened
