@@ -5,6 +5,7 @@ use Rattle.std.specs.List.{All}
 use Rattle.std.proofs.lemmas.Bool.{lt-leb, eqb-true, eqb-false, ne_eqb}
 use Rattle.std.proofs.lemmas.List.{append-nil}
 use Rattle.std.proofs.lemmas.List.Elements.{All-nil, All-append}
+use Rattle.std.proofs.lemmas.List.Sums.{sum_by-cons}
 use Rattle.v6_base.specs.Image.{Image}
 use Rattle.v6_base.specs.Access.{load_byte}
 use Rattle.v6_base.specs.declared.space.Trap.{Trap}
@@ -93,8 +94,8 @@ few_up_to slot m k lines bytes items fewer less few = record {
 }
 
 bytes_in-append : (xs ys : List Item) → bytes_in (xs ++ ys) ≡ bytes_in xs + bytes_in ys
-bytes_in-append [] ys = refl
-bytes_in-append (Byte line byte ∷ xs) ys = ap suc (bytes_in-append xs ys)
+bytes_in-append [] ys = omega arith
+bytes_in-append (Byte line byte ∷ xs) ys = let rest = bytes_in-append xs ys in omega (arith, rest)
 bytes_in-append (Log e ∷ xs) ys = bytes_in-append xs ys
 
 bytes_in-sent : (line : ℕ) (bytes : List ℕ) → bytes_in (sent line bytes) ≡ length bytes
@@ -159,9 +160,9 @@ fits_lines slot entries few all =
 -- lines, bytes of a terminal line, and lines
 pub few_told : (slot line : ℕ) (front back : List Entry) (bytes : List ℕ) → length front + length back ≤ 4 → length bytes ≤ 1008
     → All (IsOfCall slot) front → All (IsOfCall slot) back
-    → AreFew slot 4 1008 (map Log front ++ sent line bytes ++ map Log back)
+    → AreFew slot 4 1008 (map Log front ++ (sent line bytes ++ map Log back))
 few_told slot line front back bytes few less first second =
-    few_up_to slot (length front + (0 + length back)) (0 + (length bytes + 0)) 4 1008 (map Log front ++ sent line bytes ++ map Log back)
+    few_up_to slot (length front + (0 + length back)) (0 + (length bytes + 0)) 4 1008 (map Log front ++ (sent line bytes ++ map Log back))
     (omega (arith, few)) (omega (arith, less))
     (few_then slot (length front) 0 (0 + length back) (length bytes + 0) (map Log front) (sent line bytes ++ map Log back) (few_lines slot front first)
     (few_then slot 0 (length bytes) (length back) 0 (sent line bytes) (map Log back) (few_sent slot line bytes) (few_lines slot back second)))
@@ -250,7 +251,7 @@ one_more l (suc n) line byte items = by (line == l) refl (one_more (suc l) n lin
 
 no_items : (l n : ℕ) → lines_from l n [] ≡ 0
 no_items l zero = refl
-no_items l (suc n) = no_items (suc l) n
+no_items l (suc n) = let rest = no_items (suc l) n in omega (arith, rest)
 
 not_by_log : (l n : ℕ) (e : Entry) (items : List Item) → lines_from l n (Log e ∷ items) ≡ lines_from l n items
 not_by_log l zero e items = refl
@@ -273,7 +274,8 @@ sum_on_lines [] l items are = refl
 sum_on_lines (bytes ∷ lines) l items are =
     let here = ap length (are 0) ∙ ap (λ n. length (line_bytes n items)) (let e : l + 0 ≡ l = omega arith in e) in
     let rest = sum_on_lines lines (suc l) items (λ i. are (suc i) ∙ ap (λ n. line_bytes n items) (let e : l + suc i ≡ suc l + i = omega arith in e)) in
-    omega (arith, here, rest)
+    let all = sum_by-cons length bytes lines in
+    omega (arith, all, here, rest)
 
 -- a part of a list, after nothing
 part_of : {A : Type 0} (old part rest all new : List A) → new ≡ old ++ part → old ≡ [] → all ≡ part ++ rest
@@ -293,7 +295,8 @@ never_filled slot old new items fits spare entry_room byte_room took =
     (took.holds.entries refl) spare.entries (ap entries_of took.split ∙ entries_of-append took.part took.rest) in
     let lines : (l : ℕ) → bytes_of new l ≡ line_bytes l took.part =
     λ l. took.holds.bytes l refl ∙ ap (λ bytes. bytes ++ line_bytes l took.part) (spare.lines l) in
-    let sum = sum_on_lines new.lines 0 took.part lines in
+    let sum = sum_on_lines new.lines 0 took.part
+    (λ i. lines i ∙ ap (λ n. line_bytes n took.part) (let e : i ≡ 0 + i = omega arith in e)) in
     let some = few_on_lines 0 (length new.lines) took.part in
     let whole = ap bytes_in took.split ∙ bytes_in-append took.part took.rest in
     let few_entries : length new.entries < new.entry_room =

@@ -172,7 +172,7 @@ confined_walks old slot = record {
   };
   tells = λ entries d few all quiet c. record { fits = fits_lines slot entries (omega (arith, few)) all; steady = c.steady };
   lets_out = λ h l front back d few first second s quiet c. record {
-    fits = few_up_to slot 4 1008 most_entries most_bytes (map Log front ++ sent l (line_at h l).output ++ map Log back) (omega arith) (omega arith)
+    fits = few_up_to slot 4 1008 most_entries most_bytes (map Log front ++ (sent l (line_at h l).output ++ map Log back)) (omega arith) (omega arith)
         (few_told slot l front back (line_at h l).output few (room_any h.lines l s.room) first second);
     steady = c.steady;
   };
