@@ -102,7 +102,7 @@ pub record Walks (P : Handed → Type 0) (Q : Did → Type 0) (Few Known Line : 
       → Q (record d { items = map Log entries })
   pub lets_out : (h : Handed) (l : ℕ) (front back : List Entry) (d : Did) → length front + length back ≤ 4 → All (IsLineOf Known Line slot) front
       → All (IsLineOf Known Line slot) back → P h → d.items ≡ [] → Q d
-      → Q (record d { items = map Log front ++ sent l (line_at h l).output ++ map Log back })
+      → Q (record d { items = map Log front ++ (sent l (line_at h l).output ++ map Log back) })
   pub showing : (l : ℕ) (line : Terminal) (bytes : List ℕ) (count : ℕ) (d : Did) → length bytes ≤ count → Few count → Q d
       → Q (record d { items = sent l (shows line bytes) })
   pub inodes : (h : Handed) (inodes : Inodes) → inodes.store.count ≡ h.inodes.store.count → P h → P (with_inodes h inodes)

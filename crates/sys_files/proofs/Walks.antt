@@ -307,17 +307,17 @@ module _ {P : Handed → Type 0} {Q : Did → Type 0} {Few Known Line : ℕ → 
     closes_by h a b ino false named p = k.done h a b p
 
     -- what a line tells that lets out what waits, after an end of a pipe or not
-    told_by_line : (h after : Handed) (a b ino l : ℕ) (pipe show : Bool) → (pipe ≡ true → Known ino) → (l ≢ 0 → l < length h.lines) → P h → P after
+    told_by_line : (h rest : Handed) (a b ino l : ℕ) (pipe show : Bool) → (pipe ≡ true → Known ino) → (l ≢ 0 → l < length h.lines) → P h → P rest
         → Q (record {
           answer = Ret a b;
-          state = after;
+          state = rest;
           items = cond pipe (Log (Wake (chan.Write ino)) ∷ Log (Wake (chan.Read ino)) ∷ []) []
-              ++ sent l (line_at h l).output ++ wakes_if true (keys_of l) ++ wakes_if show (show_of l);
+              ++ (sent l (line_at h l).output ++ (wakes_if true (keys_of l) ++ wakes_if show (show_of l)));
         })
-    told_by_line h after a b ino l pipe show named there p q = by pipe show named
+    told_by_line h rest a b ino l pipe show named there p q = by pipe show named
       where
         told : Did
-        told = record { answer = Ret a b; state = after; items = [] }
+        told = record { answer = Ret a b; state = rest; items = [] }
 
         line : l ≢ 0 → Line l
         line other = k.numbered h l other (there other) p
@@ -336,15 +336,15 @@ module _ {P : Handed → Type 0} {Q : Did → Type 0} {Few Known Line : ℕ → 
 
         by : (pipe show : Bool) → (pipe ≡ true → Known ino) → Q (record {
           answer = Ret a b;
-          state = after;
+          state = rest;
           items = cond pipe (Log (Wake (chan.Write ino)) ∷ Log (Wake (chan.Read ino)) ∷ []) []
-              ++ sent l (line_at h l).output ++ wakes_if true (keys_of l) ++ wakes_if show (show_of l);
+              ++ (sent l (line_at h l).output ++ (wakes_if true (keys_of l) ++ wakes_if show (show_of l)));
         })
         by true true name =
-            k.lets_out h l ends (Wake (keys_of l) ∷ Wake (show_of l) ∷ []) told (omega arith) (roused (name refl)) both p refl (k.done after a b q)
-        by true false name = k.lets_out h l ends (Wake (keys_of l) ∷ []) told (omega arith) (roused (name refl)) keys p refl (k.done after a b q)
-        by false true name = k.lets_out h l [] (Wake (keys_of l) ∷ Wake (show_of l) ∷ []) told (omega arith) no_line both p refl (k.done after a b q)
-        by false false name = k.lets_out h l [] (Wake (keys_of l) ∷ []) told (omega arith) no_line keys p refl (k.done after a b q)
+            k.lets_out h l ends (Wake (keys_of l) ∷ Wake (show_of l) ∷ []) told (omega arith) (roused (name refl)) both p refl (k.done rest a b q)
+        by true false name = k.lets_out h l ends (Wake (keys_of l) ∷ []) told (omega arith) (roused (name refl)) keys p refl (k.done rest a b q)
+        by false true name = k.lets_out h l [] (Wake (keys_of l) ∷ Wake (show_of l) ∷ []) told (omega arith) no_line both p refl (k.done rest a b q)
+        by false false name = k.lets_out h l [] (Wake (keys_of l) ∷ []) told (omega arith) no_line keys p refl (k.done rest a b q)
 
     -- Pipes are read and written. What a call on a pipe comes to has one line of its own at most.
     told_after : (first rest : List Entry) (d : Did) → length first ≤ 1 → length rest ≤ 1 → All (IsLineOf Known Line slot) first

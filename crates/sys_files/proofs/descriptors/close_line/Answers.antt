@@ -33,7 +33,7 @@ returns-then-not-is_line_open-clause-items g c = λ u row image.
     let h : Handed = handed c.args.f.now u row image in
     let l = c.in-Some.line in
     took_then _ _ _ _ _ _ c.closed-show.ensures.items c.tell_flushed.ensures.items
-    (ap (λ show. sent l (said.closed (terminal_at c.args.f.now.lines l)).shown ++ wakes_if true (keys_of l) ++ wakes_if show (show_of l)) c.closed-show.ensures.show
+    (ap (λ show. sent l (said.closed (terminal_at c.args.f.now.lines l)).shown ++ (wakes_if true (keys_of l) ++ wakes_if show (show_of l))) c.closed-show.ensures.show
     ∙ ap (λ (k : Closing). k.items) (sym (line_shut h l (sym (c.is_line_open.ensures u row image) ∙ c.if-not-is_line_open.true))
     ∙ ap (closes_line h) (sym c.in-Some.is ∙ c.line_at.ensures.line h refl)))
 

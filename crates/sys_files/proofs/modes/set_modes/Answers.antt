@@ -9,5 +9,5 @@ pub returns-clause-items : goal.returns-clause-items
 returns-clause-items g c =
     let l = c.args.l in
     took_then _ _ _ _ _ _ c.set_modes-show.ensures.items c.tell_flushed.ensures.items
-    (ap (λ show. sent l (terminal_at c.args.lines.now l).output ++ wakes_if true (keys_of l) ++ wakes_if show (show_of l))
+    (ap (λ show. sent l (terminal_at c.args.lines.now l).output ++ (wakes_if true (keys_of l) ++ wakes_if show (show_of l)))
     c.set_modes-show.ensures.show)
