@@ -1,8 +1,8 @@
 -- What a pending call on files is.
-use Rattle.std.proofs.Common.{◌≡◌, ◌==◌, ◌||◌, ◌⊎◌, inl, inr, ℕ, Bool, true, false, refl}
+use Rattle.std.proofs.Common.{◌≡◌, ◌==◌, ◌||◌, inl, inr, ℕ, Bool, true, false, refl}
 use Rattle.std.proofs.lemmas.Bool.{eqb-true, eq-eqb}
 use Rattle.u_area.specs.declared.layout.TheConstants.{LINE_READ, LINE_WRITE, PIPE_READ, PIPE_WRITE}
-use Rattle.u_area.specs.Pending.{IsLineCall, IsPipeCall, IsFileCall, is_on_files}
+use Rattle.u_area.specs.Pending.{IsPipeCall, IsFileCall, is_on_files}
 
 -- it is a read or a write of a line, or of a pipe
 pub on_files_cases : (n : ℕ) → is_on_files n ≡ true → IsFileCall n
