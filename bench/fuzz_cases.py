@@ -1,6 +1,7 @@
 """What the fuzzer makes of a seed: a command with its files, and what stands where it looks for them."""
 import copy
 import random
+import re
 import struct
 from dataclasses import dataclass, field
 
@@ -11,14 +12,16 @@ import processes
 import spoil
 from fuzz_hosts import random_host
 from random_disk import Tree
+from random_lines import random_lines
 from random_script import random_script
 
 TOP = __file__.rsplit("/", 2)[0]
 HI = f"{TOP}/examples/hi/image"
 INODE_7, HEADER, TEXT = 1216, 33792, 33808  # of /etc/init on the disk of examples/hi
 RUN = ("run", "image", "CORE", "script", "term", "log", "final")
+RUN8 = ("run8", *RUN[1:])
 MEMORY = ("memory", "image", "CORE", "script", "final")
-KINDS = {"disk": 26, "words": 12, "hostile": 22, "script": 14, "host": 12, "command": 4, "odd": 10}
+KINDS = {"disk": 26, "words": 12, "hostile": 22, "script": 14, "host": 12, "command": 4, "odd": 10, "lines": 14}
 BENCH = (file_calls.Case, console.Case, processes.Case, processes.ExecCase, processes.PipeCase, processes.SignalCase)
 CORES = (64, 65, 100, 200, 600, 1200, 2048, 3967, 3968)
 
@@ -72,6 +75,13 @@ def of_bench(rng, seed, kinds=BENCH):
     return Case(seed, "", case.image, str(case.core), lines, end, sort=kind.__name__)
 
 
+def on_lines(rng, case):
+    """The same under `run8`, where programs open other lines than the console under some of its names: those that the disk has."""
+    there = [line for line in range(1, 8) if b"tty%d\0" % line in case.image]
+    image = re.sub(rb"(?<=/dev/tty)8(?=\0)", lambda found: b"%d" % rng.choice((8, *there)), case.image)
+    return case.with_(image=image, command=RUN8)
+
+
 def program_places(image):
     """Where the words of programs stand on a disk: those of files that begin with a magic number, in their first blocks."""
     disk, places = spoil.Disk(None, image), []
@@ -102,11 +112,12 @@ def some_lines(rng):
     """A script for a program that does something at once: slots and ticks, and some keys."""
     lines = [b"clock %d" % rng.choice((0, 1, 5, 20, 100))] if rng.random() < 0.6 else []
     lines += [b"disk %d" % rng.choice((1, 2, 5, 30))] if rng.random() < 0.3 else []
+    lines += [b"pace %d" % rng.choice((1, 1, 2, 5, 30))] if rng.random() < 0.3 else []
     for _ in range(rng.choice((1, 1, 3, 8))):
         lines.append(b"run %d" % rng.choice((10, 50, 100, 300, 600, 1000)))
         if rng.random() < 0.5:
             keys = (b"type abc", b"byte 177", b"byte 034", b"byte 004", b"tick", b"type", b"switch 123456", b"disk 0",
-                    b"type a\\#b@c")
+                    b"type a\\#b@c", b"pace 0", b"pace 1", b"line 1", b"line 0", b"hangup 0")
             lines.append(rng.choice(keys))
     return lines
 
@@ -157,21 +168,21 @@ def script(rng, seed):
 def host(rng, seed):
     """A case whose files are no plain files."""
     case = hostile_program(rng, seed) if rng.random() < 0.4 else of_bench(rng, seed)
-    command = RUN if rng.random() < 0.8 else MEMORY
+    command = rng.choice((RUN, RUN, RUN8, MEMORY))
     return case.with_(command=command, host=random_host(rng, command))
 
 
 def command(rng, seed):
     """Words of all kinds, good and bad."""
     case = Case(seed, "", read(HI), lines=[b"run 30"])
-    commands = (("check", "image"), ("make", str(rng.randrange(200)), "final"), ("demo", str(rng.randrange(3))), RUN, MEMORY,
+    commands = (("check", "image"), ("make", str(rng.randrange(200)), "final"), ("demo", str(rng.randrange(3))), RUN, RUN8, MEMORY,
                 ("make", "CORE", "final"))
     chosen = list(rng.choice(commands))
     cores = ("63", "64", "3968", "3969", "0064", "000001200", "0000001200", "1200 ", "", "-1", "+64", "12x", "999999999",
              "1e3", "64\n")
     kind = rng.random()
     if kind < 0.3:
-        odd = ("", "run", "check", "image", "RUN", "run8", "--help", "x" * 5000, "\udcff", "audits")
+        odd = ("", "run", "check", "image", "RUN", "run2", "--help", "x" * 5000, "\udcff", "audits")
         chosen[rng.randrange(len(chosen))] = rng.choice(odd)
     elif kind < 0.5:
         del chosen[rng.randrange(len(chosen))]
@@ -189,8 +200,15 @@ def odd(rng, seed):
     return case.with_(image=image)
 
 
+def lines(rng, seed):
+    """Programs over the lines of a terminal, mostly of eight."""
+    image, said, is_eight = random_lines(rng, read(HI))
+    core = str(rng.choice((3968, 3968, 1200, 200, 100)))
+    return Case(seed, "", image, core, said, command=RUN8 if is_eight else RUN)
+
+
 MAKERS = {"disk": disk, "words": words, "hostile": hostile_program, "script": script, "host": host, "command": command,
-          "odd": odd}
+          "odd": odd, "lines": lines}
 
 
 def case_of(seed, kind=None):
@@ -199,6 +217,7 @@ def case_of(seed, kind=None):
     chosen = rng.choices(list(KINDS), KINDS.values())[0]
     kind = kind or chosen
     made = MAKERS[kind](rng, seed)
+    made = on_lines(rng, made) if made.command == RUN and rng.random() < 0.3 else made
     made.kind, made.seed = kind, seed
     made.places = program_places(made.image)
     return made

@@ -14,9 +14,11 @@ import tempfile
 from file_calls import DISK_BYTES, SWAP_AT, first_difference, line_difference, node_differences
 from fuzz_hosts import FAULT, SENTINEL, Host, Stand, input_bytes, write_faults
 
-USAGE = (b"usage: v6 run IMAGE CORE SCRIPT TERM LOG FINAL, memory IMAGE CORE SCRIPT FINAL, check IMAGE, make N FINAL, demo N, audit LOG\n")
+USAGE = (b"usage: v6 run IMAGE CORE SCRIPT TERM LOG FINAL, run8 IMAGE CORE SCRIPT TERM LOG FINAL, "
+         b"memory IMAGE CORE SCRIPT FINAL, check IMAGE, make N FINAL, demo N, audit LOG\n")
 PANICS = {"swap": b"panic: out of swap space\n", "zombie": b"panic: out of swap\n", "text": b"panic: out of text\n"}
 OUTPUTS = ("term", "log", "final")
+LINES = tuple(f"term.{line}" for line in range(1, 8))  # what `run8` writes beside the console's
 DONE, USAGE_STATUS, READ_FAULT, WRITE_FAULT, CORE_SIZE, SCRIPT_FAULT, IMAGE_FAULT, PANIC = range(8)
 MOST_SLOTS = 20_000  # that the reference follows
 MOST_EVENTS = 30_000
@@ -25,7 +27,6 @@ REFERENCE_SECONDS = 60  # of processor time
 NOBODY = 65534
 VALGRIND = ("valgrind", "-q", "--error-exitcode=99")
 LATER_CALLS = (21, 22)  # mount and umount
-LATER_LINES = re.compile(rb"(?m)^(pace|line|hangup)(?= )")  # of scripts, which the reference has and v6 hasn't
 
 ALL_BITS = bytes([0, 255] + [0] * 254)
 
@@ -66,10 +67,10 @@ def in_time(body):
 
 
 def events_of(script):
-    """The events of a script, or the line of its fault. A line of a later kernel is none."""
+    """The events of a script, or the line of its fault."""
     reader = modules()[3]
     try:
-        return reader.read(LATER_LINES.sub(lambda found: b"X" * len(found[0]), script)), None
+        return reader.read(script), None
     except reader.BadScript as fault:
         return None, fault.text.encode() + b"\n"
 
@@ -93,14 +94,25 @@ def refused(image, core, script):
     return (Outcome(SCRIPT_FAULT, fault, None) if fault else None), events
 
 
-def reference_run(image, core, script):
-    """What a run comes to by the reference."""
+def written(command):
+    """The files that a command writes, in the order in which it opens them."""
+    outputs = [name for name in OUTPUTS if name in command]
+    return [*outputs[:1], *LINES, *outputs[1:]] if command[0] == "run8" and outputs[:1] == ["term"] else outputs
+
+
+def port_of(name):
+    """What a report calls the port of a file."""
+    return name.replace("term.", "line")
+
+
+def reference_run(image, core, script, lines=1):
+    """What a run comes to by the reference, over so many lines."""
     came, events = refused(image, core, script)
     if came:
         return came
     if slots_of(events) > MOST_SLOTS or len(events) > MOST_EVENTS:
         raise TooSlow
-    run = in_time(lambda: modules()[2].Run(image, core, events))
+    run = in_time(lambda: modules()[2].Run(image, core, events, lines))
     return Outcome(PANIC if run.panic else DONE, PANICS.get(run.panic, b""), run)
 
 
@@ -162,8 +174,8 @@ class Program:
                 status, report = self.call(words or case.words(), folder, host, under)
             finally:
                 stand.end()
-            files = {name: stand.bytes(name) for name in OUTPUTS}
-            hurt = [name for name in OUTPUTS if host.kinds.get(name) in FAULT and not stand.is_there_still(name)]
+            files = {name: stand.bytes(name) for name in OUTPUTS + LINES}
+            hurt = [name for name in OUTPUTS + LINES if host.kinds.get(name) in FAULT and not stand.is_there_still(name)]
             return Ran(status, report, files), hurt
 
 
@@ -227,9 +239,11 @@ def run_differences(case, ran, want):
         yield from nothing_written(ran)
         return
     term, log, final = (ran.files[name] for name in OUTPUTS)
-    shown, text = bytes(want.run.u.lines[0].shown), "".join(line + "\n" for line in want.run.log).encode()
-    if term != shown:
-        yield "terminal: " + first_difference(shown, term or b"")
+    text = "".join(line + "\n" for line in want.run.log).encode()
+    for line, data in enumerate([term, *(ran.files[name] for name in LINES)]):
+        shown = bytes(want.run.u.lines[line].shown) if line < len(want.run.u.lines) else None
+        if data != shown:
+            yield f"terminal {line}: " + first_difference(shown or b"", data or b"")
     if log != text:
         yield "log: " + line_difference(text, log or b"")
     yield from store_differences(case.image, want.run.u.stores[0], final or b"")
@@ -273,7 +287,7 @@ def by_itself(program, case):
 def run_case(program, case, counts):
     """A run whose files are plain."""
     try:
-        want = reference_run(case.image, number(case.core), case.script())
+        want = reference_run(case.image, number(case.core), case.script(), 8 if case.command[0] == "run8" else 1)
     except TooSlow:
         counts["not followed by the reference"] += 1
         yield from by_itself(program, case)
@@ -283,7 +297,7 @@ def run_case(program, case, counts):
     yield from run_differences(case, ran, want)
     counts[f"status {want.status}"] += 1
     counts["lines of logs"] += len(want.run.log) if want.run else 0
-    if case.seed % 3 == 0:
+    if case.seed % 3 == 0 and case.command[0] == "run":
         counts["memories compared"] += 1
         yield from memory_differences(program, case, want)
 
@@ -306,7 +320,7 @@ def plain_outputs(program, case, files):
 def host_case(program, case, counts):
     """A run over a host that fails."""
     host, files = case.host, contents(case)
-    outputs = [name for name in OUTPUTS if name in case.command]
+    outputs = written(case.command)
     came, events = refused(files["image"], number(case.core), files["script"])
     ran, hurt = program.over(case, host)
     counts["host: " + (", ".join(sorted(set(host.kinds.values()))) or ("same" if host.same else "limit"))] += 1
@@ -337,7 +351,7 @@ def fault_differences(case, ran, plain, outputs):
     host = case.host
     may, must = write_faults(host, {name: plain.files[name] or b"" for name in outputs})
     answers = [] if must else [(plain.status, plain.report if "report" not in host.kinds else b"")]
-    answers += [(WRITE_FAULT, f"write fault: {name}\n".encode()) for name in may]
+    answers += [(WRITE_FAULT, f"write fault: {port_of(name)}\n".encode()) for name in may]
     if (ran.status, ran.report) not in answers:
         yield f"status: {ran.status} {ran.report[:200]!r}, and one of {answers} is right"
     if host.same and set(host.same) <= set(outputs):
@@ -364,8 +378,8 @@ def command_case(program, case, counts):
     if any("\udc80" <= letter <= "\udcff" for word in words for letter in word):
         words = ["a word that is no text"]
     match words:
-        case ["run", image, core, script, *outputs] if len(outputs) == 3 and number(core) is not None:
-            yield from named_case(case, ran, (image, core, script), outputs)
+        case ["run" | "run8", image, core, script, *outputs] if len(outputs) == 3 and number(core) is not None:
+            yield from named_case(case, ran, (image, core, script), outputs, 8 if words[0] == "run8" else 1)
         case ["memory", image, core, script, output] if number(core) is not None:
             yield from named_case(case, ran, (image, core, script), [output])
         case ["check", image]:
@@ -385,19 +399,21 @@ def command_case(program, case, counts):
             yield from nothing_written(ran)
 
 
-def named_case(case, ran, inputs, outputs):
+def named_case(case, ran, inputs, outputs, lines=1):
     """A run over files of any names, of which two are there, and of which some can't be."""
     image, core, script = inputs
     there = {"image": case.image, "script": case.script()}
     came, _ = refused(there.get(image), int(core), there.get(script))
     bad = [port for port, name in zip(OUTPUTS[-len(outputs) :], outputs) if not 0 < len(name) < 256]
+    if lines > 1 and bad != ["term"] and len(outputs[0]) > 253:  # the names of its lines have two letters more
+        bad = ["line1"]
     if came:
         yield from answered(ran, came.status, came.report)
         yield from nothing_written(ran)
     elif bad:
         yield from answered(ran, WRITE_FAULT, f"write fault: {bad[0]}\n".encode())
     else:
-        want = reference_run(there[image], int(core), there[script])
+        want = reference_run(there[image], int(core), there[script], lines)
         yield from run_differences(case, ran, want) if tuple(outputs) == OUTPUTS else answered(ran, want.status, want.report)
 
 

@@ -15,7 +15,7 @@ from row import plain
 from rowfile import HEADER, INODE_7, RowError, Row, place
 
 PAGES = {"disk": "disk-image.md", "odd": "disk-image.md", "words": "calls.md", "hostile": "calls.md", "script": "scripts.md",
-         "host": "ports.md", "command": "commands.md"}
+         "host": "ports.md", "command": "commands.md", "lines": "terminal.md"}
 IN_LINE, GAP = 16, 3  # bytes of a disk in a line, and how far two that differ may be apart in it
 MOST_BYTES = 100_000  # of a disk that differ, in a row file
 
@@ -102,13 +102,16 @@ def wanted_lines(case, found):
     if case.command[0] == "check":
         status, report = check_answer(case.image)
         return ([f"status {status}"] if status else []) + [f"report {report.decode().rstrip()}"]
-    want = reference_run(case.image, number(case.core), case.script())
+    is_eight = case.command[0] == "run8"
+    want = reference_run(case.image, number(case.core), case.script(), 8 if is_eight else 1)
     lines = [f"status {want.status}"] if want.status else []
     lines += [f"report {want.report.decode().rstrip()}"] if want.report else []
-    if want.run is None or case.command[0] != "run":
+    if want.run is None or not is_eight and case.command[0] != "run":
         return lines
     log = "".join(f"{line}\n" for line in want.run.log).encode()
-    lines += ["term", *texts(bytes(want.run.u.lines[0].shown)), "log", *texts(log)]
+    shown = [(f"term {number}" if number else "term", bytes(line.shown)) for number, line in enumerate(want.run.u.lines)]
+    lines += [text for name, data in shown if data for text in (name, *texts(data))]
+    lines += ["log", *texts(log)]
     store = want.run.u.stores[0]
     left = [line for name in found for line in left_lines(store, re.match(r"final inode (\d+), ", name))]
     return [*lines, *(["left", *dict.fromkeys(left)] if left else []), f"check ok {len(store.nodes)} nodes {store.room} free"]

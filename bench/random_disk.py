@@ -98,8 +98,9 @@ class Tree:
             self.add(dev, "tty8", Inode(0o120000 | rng.choice((0o666, 0o622, 0)), device=CONSOLE))
         if self.odd(0.9):
             self.add(dev, "null", Inode(0o120000 | rng.choice((0o666, 0o222, 0)), device=NULL))
-        for name, kind, device in (("rk0", BLOCKS, 0), ("tty1", CHARACTER, 1), ("mem", CHARACTER, 8 << 8)):
-            if self.odd(0.3):
+        lines = [(f"tty{line}", CHARACTER, line) for line in range(1, 8) if self.odd(0.3)]
+        for name, kind, device in (("rk0", BLOCKS, 0), *(lines if self.odd(0.5) else []), ("mem", CHARACTER, 8 << 8)):
+            if kind == CHARACTER and device < 8 or self.odd(0.3):
                 self.add(dev, name, Inode(USED | kind | 0o666, rng.choice((0, 0, 700)), device=device))
 
     def add_more(self):

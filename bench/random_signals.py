@@ -212,6 +212,8 @@ def random_signal_script(rng, slots):
         operator.clock()
     if rng.random() < 0.4:
         operator.disk()
+    if rng.random() < 0.5:
+        operator.pace()
     while operator.slots < operator.most:
         operator.line()
     return Script(operator.lines, [b"\n"] * len(operator.lines))

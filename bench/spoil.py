@@ -208,7 +208,7 @@ def spoiled_line(rng, line):
     elif kind == 4:
         return rng.choice(NO_LINES)
     elif kind == 5:
-        return rng.choice((b"", b"tick", b"run 0", b"clock 1", b"disk 1", b"type", b"byte 177", b"byte 034", b"switch 177777",
+        return rng.choice((b"", b"tick", b"run 0", b"clock 1", b"disk 1", b"pace 1", b"pace 0", b"line 1", b"hangup 0", b"type", b"byte 177", b"byte 034", b"switch 177777",
                            b"; \xff"))
     elif kind == 6:
         return line[:at]
@@ -240,7 +240,7 @@ def random_events(rng):
     """Lines of all kinds in any order, without regard to sense."""
     lines = []
     for _ in range(rng.choice((3, 10, 30, 100, 300))):
-        kind = rng.randrange(10)
+        kind = rng.randrange(12)
         if kind < 3:
             lines.append(b"run %d" % rng.choice((0, 1, 1, 2, 5, 10, 60, 200)))
         elif kind == 3:
@@ -255,6 +255,10 @@ def random_events(rng):
             lines.append(b"switch %06o" % rng.getrandbits(16))
         elif kind == 8:
             lines.append(b"disk %d" % rng.choice((0, 1, 1, 2, 3, 7, 60, 999999999)))
+        elif kind == 9:
+            lines.append(b"pace %d" % rng.choice((0, 0, 1, 1, 2, 3, 7, 60, 999999999)))
+        elif kind == 10:
+            lines.append(rng.choice((b"line %d", b"line %d", b"hangup %d")) % rng.choice((0, 0, 0, 1, 2, 7)))
         else:
             lines += [b"byte %03o" % rng.choice(KEYS)] * rng.choice((1, 2, 255, 256, 257))
     return lines
