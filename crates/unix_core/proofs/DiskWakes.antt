@@ -154,13 +154,13 @@ lines_below n k ps = map line_for (meant_below (waits_until n) n k ps)
 abbrev one_line : Bool → ℕ → List Item
 one_line b k = cond b (line_for k ∷ []) []
 
-abbrev board_by : Board → List Item → Board
+abbrev pub board_by : Board → List Item → Board
 board_by b xs = (logged {W = Unix} b (map Show xs)).board
 
 board_is : (b : Board) (xs : List Item) → board_by b xs ≡ fold board_after b xs
 board_is b xs = ap (λ (l : Logged Unix). l.board) (logged_shown b xs)
 
-board_more : (b : Board) (xs ys : List Item) → board_by (board_by b xs) ys ≡ board_by b (xs ++ ys)
+pub board_more : (b : Board) (xs ys : List Item) → board_by (board_by b xs) ys ≡ board_by b (xs ++ ys)
 board_more b xs ys =
     board_is (board_by b xs) ys ∙ ap (λ c. fold board_after c ys) (board_is b xs) ∙ sym (fold-append board_after b xs ys) ∙ sym (board_is b (xs ++ ys))
 

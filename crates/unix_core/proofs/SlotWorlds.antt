@@ -1,5 +1,9 @@
 -- A world whose slots are counted otherwise: what is so of it still is.
-use Rattle.std.proofs.Common.{◌≡◌, ◌≢◌, ◌∙◌, ◌<◌, ◌≤◌, ◌+◌, ◌-◌, ◌==◌, ◌||◌, ◌++◌, not, cond, ℕ, true, false, [], length, map, refl, sym, ap, subst, inl, inr, arith}
+use Rattle.std.proofs.Common.{◌≡◌, ◌≢◌, ◌∙◌, ◌<◌, ◌≤◌, ◌+◌, ◌-◌, ◌==◌, ◌||◌, ◌++◌, not, cond, ℕ, Bool, true, false, List, [], length, map, refl, sym, ap, subst, inl, inr, arith}
+use Rattle.v6_base.specs.Trace.{Took, Taken}
+use Rattle.v6_base.proofs.Took.{took_more}
+use Rattle.tty_line.specs.Terminal.{Terminal}
+use Rattle.pick_rules.specs.Board.{Board}
 use Rattle.pick_rules.specs.Effects.{Show}
 use Rattle.pick_rules.specs.Logged.{logged}
 use Rattle.sys_procs.specs.declared.procs.Procs.{Procs}
@@ -8,18 +12,20 @@ use Rattle.sys_procs.specs.Agree.{Agree}
 use Rattle.sys_procs.specs.Handed.{AreProcs}
 use Rattle.tty_line.specs.Said.{sends}
 use Rattle.lines_eight.specs.Told.{AllTold, each_line}
-use Rattle.abstract_unix.specs.Unix.{Unix}
+use Rattle.abstract_unix.specs.Unix.{Timing, Unix}
 use Rattle.abstract_unix.specs.Turn.{with_slot, disk_lines, is_sending}
 use Rattle.abstract_unix.proofs.Stretches.{nobody_due}
 use Rattle.unix_core.specs.declared.world.World.{World}
 use Rattle.unix_core.specs.declared.slots.Slots.{Slots}
 use Rattle.unix_core.specs.declared.machine.Stage.{Stage}
 use Rattle.unix_core.specs.Memory.{kept_in}
-use Rattle.unix_core.specs.Slots.{timing_in, IsCounted, processes_of, woken_with, AreDueFrom, sent_after, with_sent, slot_items, slot_wakes}
+use Rattle.unix_core.specs.Slots.{passed_in, timing_in, NoneSend, IsCounted, processes_of, woken_with, AreDueFrom, sent_after, with_sent, slot_items, slot_wakes}
 use Rattle.unix_core.specs.Parts.{unix_of, board_in, phase_of, goes_on, one_before, IsGood, IsReady, IsUser, IsCovered, IsKernel}
 use Rattle.unix_core.proofs.GoingLemmas.{going_same}
-use Rattle.unix_core.proofs.CountLemmas.{counted_one}
+use Rattle.unix_core.proofs.CountLemmas.{counted_one, counted_same}
+use Rattle.unix_core.proofs.DiskWakes.{board_more}
 use Rattle.unix_core.proofs.TableLemmas.{RunsImage, with_table, good_table}
+use Rattle.unix_core.proofs.TypedLemmas.{with_lines, lines_good}
 
 abbrev pub with_slots : World → Slots → World
 with_slots w slots = record w { slots = slots }
@@ -160,20 +166,94 @@ module _ (w : World) (left : w.slots.left ≡ 0) (good : IsGood (one_before w)) 
   pub lines_are : woken_with w.slots.due (processes_of w.procs) ≡ disk_lines (unix_of w)
   lines_are = let e : w.slots.due ≡ w.slots.due - w.slots.left = omega (arith, left) in ap (λ n. woken_with n (processes_of w.procs)) e
 
-  pub reach_counted : AreDueFrom next w.slots.due (processes_of w.procs) → IsCounted anew (unix_of reached)
-  reach_counted due = subst (IsCounted anew) (sym reach_unix) (record {
-    within = omega arith;
-    disk = counted.disk;
-    due = record {
-      next = omega (arith, late);
-      each = λ s q is waits. elim (due s q is waits) [
-        | inl low ↦ inl (omega (arith, low, left))
-        | inr high ↦ inr high
-      ];
-    };
-    graves = counted.graves;
-  })
+  -- so many slots have been taken
+  pub reach_passed : passed_in anew ≡ w.slots.due
+  reach_passed = omega (arith, late)
 
-  -- where nobody was woken, nothing else has changed
-  pub reach_none : p ≡ w.procs → reached ≡ with_slots w anew
-  reach_none is = ap (λ (x : Procs). record w { procs = x; slots = anew }) is
+  pub reach_set : w.slots.set_at ≤ w.slots.due
+  reach_set = let set = counted.set in omega (arith, set)
+
+  -- Then the lines have sent, where they do.
+  module _ (v : World) (sent : unix_of v ≡ with_sent (unix_of reached)) where
+    pub sent_unix : unix_of v ≡ with_sent (unix_of w)
+    sent_unix = sent ∙ ap with_sent reach_unix
+
+    pub sent_board : board_in reached ≡ (logged {W = Unix} (board_in w) (map Show (woken_with w.slots.due (processes_of w.procs)))).board
+        → board_in v ≡ (logged {W = Unix} (board_in reached) (map Show (sent_after (unix_of reached)).items)).board
+        → board_in v ≡ (logged {W = Unix} (board_in w) (map Show (slot_items (unix_of w)))).board
+    sent_board woken board =
+        board ∙ ap (λ (u : Unix). (logged {W = Unix} (board_in reached) (map Show (sent_after u).items)).board) reach_unix
+        ∙ ap (λ (b : Board). (logged {W = Unix} b (map Show (sent_after (unix_of w)).items)).board)
+        (woken ∙ ap (λ lines. (logged {W = Unix} (board_in w) (map Show lines)).board) lines_are)
+        ∙ board_more (board_in w) (disk_lines (unix_of w)) (sent_after (unix_of w)).items
+
+    pub sent_any : (a b : Bool) → a ≡ not (length (woken_with w.slots.due (processes_of w.procs)) == 0) → b ≡ (sent_after (unix_of reached)).wakes
+        → (a || b) ≡ slot_wakes (unix_of w)
+    sent_any a b woken any =
+        let one : a ≡ not (length (disk_lines (unix_of w)) == 0) = woken ∙ ap (λ lines. not (length lines == 0)) lines_are in
+        let two : b ≡ (sent_after (unix_of w)).wakes = any ∙ ap (λ (u : Unix). (sent_after u).wakes) reach_unix in
+        λ i. one i || two i
+
+    pub sent_took : (a b c : Taken) → Took a (woken_with w.slots.due (processes_of w.procs)) b → Took b (sent_after (unix_of reached)).items c
+        → Took a (slot_items (unix_of w)) c
+    sent_took a b c first second =
+        took_more a b c (disk_lines (unix_of w)) (sent_after (unix_of w)).items (subst (λ lines. Took a lines b) lines_are first)
+        (subst (λ (u : Unix). Took b (sent_after u).items c) reach_unix second)
+
+    pub sent_counted : timing_in v.slots ≡ timing_in anew → v.slots.left ≤ v.slots.due → v.slots.due ≤ next → w.slots.due < v.slots.due
+        → v.slots.set_at ≡ w.slots.set_at → NoneSend w.slots.due v.slots → AreDueFrom next w.slots.due (processes_of w.procs)
+        → IsCounted v.slots (unix_of v)
+    sent_counted timing within sooner later set none due =
+        let passed : passed_in v.slots ≡ w.slots.due = ap (λ (t : Timing). t.passed) timing ∙ reach_passed in
+        let disk : v.slots.disk ≡ w.slots.disk = ap (λ (t : Timing). t.disk) timing in
+        let pace : v.slots.pace ≡ w.slots.pace = ap (λ (t : Timing). t.pace) timing in
+        let were : w.slots.set_at ≤ w.slots.due = reach_set in
+        subst (IsCounted v.slots) (sym sent_unix) (record {
+          within = within;
+          disk = subst (λ n. n ≤ 999999999) (sym disk) counted.disk;
+          pace = subst (λ n. n ≤ 999999999) (sym pace) counted.pace;
+          set = omega (arith, set, were, passed);
+          sends = subst (λ n. NoneSend n v.slots) (sym passed) none;
+          due = record {
+            next = omega (arith, later, left);
+            each = λ s q is waits. elim (due s q is waits) [
+              | inl low ↦ inl (omega (arith, low, left))
+              | inr high ↦ inr (omega (arith, high, sooner))
+            ];
+          };
+          graves = counted.graves;
+        })
+
+-- where nobody was woken, nothing but the lines and the slots has changed
+pub none_woken : (a b : Bool) → (a || b) ≡ false → (a ≡ false) × (b ≡ false)
+none_woken true b e = absurd (cc e)
+none_woken false true e = absurd (cc e)
+none_woken false false e = (refl, refl)
+
+-- 3. The lines are others: what is so of a kernel still is.
+module _ (w : World) (lines : List Terminal) where
+  user_lines : (s : ℕ) → IsUser s w → IsUser s (with_lines w lines)
+  user_lines s user = record {
+    ready = record { good = lines_good w lines user.ready.good; runs = user.ready.runs; user = user.ready.user };
+    user = user.user;
+    settled = user.settled;
+  }
+
+  covered_lines : IsCovered w → IsCovered (with_lines w lines)
+  unfolding kept_in
+  covered_lines covered = covered
+
+  pub kernel_lines : (at : Stage) → IsKernel at w → IsKernel at (with_lines w lines)
+  kernel_lines at kernel = record {
+    new = λ e. let was = kernel.new e in record { good = lines_good w lines was.good; runs = was.runs; nobody_out = was.nobody_out };
+    stopped = λ e. covered_lines (kernel.stopped e);
+    finished = λ e. covered_lines (kernel.finished e);
+    running = λ f e. let was = kernel.running f e in record { user = user_lines f.slot was.user; fixed = was.fixed };
+    resting = λ e. let was = kernel.resting e in record {
+      good = lines_good w lines was.good;
+      settled = was.settled;
+      idle = was.idle;
+      calls = was.calls;
+    };
+    counted = λ goes. counted_same w.slots (unix_of w) (unix_of (with_lines w lines)) refl refl (kernel.counted goes);
+  }

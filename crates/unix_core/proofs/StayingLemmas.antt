@@ -57,7 +57,7 @@ use Rattle.abstract_unix.specs.Errors.{error_number}
 use Rattle.pick_rules.specs.Priority.{pribio}
 use Rattle.abstract_unix.specs.Calls.{in_order, handed_of, with_handed, world_of, with_world, with_area, entered_area, words_passed, asked, refused_area, refuses, answers, file_row, process_row, did_by, came_by, forks, closes_all, exits_with, grows, grown_by, reads_disk, loads_program, waits_for_disk, takes_time, does_call, sysent_of, does_asked, resumed}
 use Rattle.abstract_unix.specs.Delivery.{heeds, catches, signal_status, dumped, ends_by, delivers_if, delivers_due, ends_by_ending}
-use Rattle.abstract_unix.specs.Turn.{Happened, settled, stays, settling, calls_for_settling, settled_after, machine_of, with_machine, passes_setd, faults, comes_to, instruction, is_user, begins_turn, turn, end_effects, turn_of, pass_of, slot_of, whole_slot}
+use Rattle.abstract_unix.specs.Turn.{Happened, happens, settled, stays, settling, calls_for_settling, settled_after, machine_of, with_machine, passes_setd, faults, comes_to, instruction, is_user, begins_turn, turn, end_effects, turn_of, pass_of, slot_of, whole_slot}
 use Rattle.abstract_unix.specs.Outside.{mode_of, timed, charged, ticked, is_as_trap, wakes, tick_effects, tick_delivery, delivers_to, tick_of, calls, calls_show, with_key, key_lines, typed_of, hangs_up, hangup_of, turned_to, paced_of}
 use Rattle.abstract_unix.proofs.RunsLemmas.{after_keeps, after_items_none}
 use Rattle.abstract_unix.specs.Runs.{Slot, Tick, Byte, Switch, Disk, Pace, Hangup, event_of, start_of}

@@ -1,5 +1,5 @@
 //! The parts of a kernel, and what each event does to them.
-ghost use Rattle.std.specs.Prelude.{◌≡◌, ◌≢◌, ◌<◌, ◌≤◌, ℕ, Bool, IsTrue, true, false, None, Some, length, map};
+ghost use Rattle.std.specs.Prelude.{◌≡◌, ◌≢◌, ◌<◌, ◌≤◌, ℕ, Bool, IsTrue, true, false, None, Some, map};
 ghost use Rattle.v6_base.specs.Trace.{Took};
 ghost use Rattle.fs_nodes.specs.FileSystem.{SameRest};
 ghost use Rattle.pick_rules.specs.Choice.{chosen, settle};
@@ -10,7 +10,7 @@ ghost use Rattle.abstract_unix.specs.declared.ends.Ends.TheVariants.{AtEnd};
 ghost use Rattle.abstract_unix.specs.Unix.{Unix, System, Started, process_of};
 ghost use Rattle.abstract_unix.specs.Endings.{is_early};
 ghost use Rattle.abstract_unix.specs.Turn.{Happened, after_slot, turned, ticked_by, turned_by, ending_of, turn, turn_of, settled, settled_after, pass_of};
-ghost use Rattle.abstract_unix.specs.Outside.{calls, calls_show, charged, mode_of, tick_entry, timed_area, is_user_mode, tick_of, with_key, key_lines, typed_of, hangs_up, hangup_of, paced_of};
+ghost use Rattle.abstract_unix.specs.Outside.{calls, calls_show, charged, mode_of, tick_entry, timed_area, is_user_mode, tick_of, with_key, key_lines, typed_of, hangup_of, paced_of};
 ghost use Rattle.unix_core.specs.Slots.{IsCounted};
 ghost use Rattle.unix_core.specs.Parts.{unix_of, board_in, system_at, turn_at, turn_end, phase_of, slot_in, one_before, is_over, IsGood, IsReady, IsUser, IsRunning, IsCovered, IsKernel, IsKnown, IsStill, HasCome, HasStepped, Takes, delivers_where};
 
@@ -30,7 +30,7 @@ use swap_sched::pass;
 use sys_procs::signal_line;
 use tty_line::Keyed;
 use u_area::{NOTHING_PENDING, UArea};
-use v6_base::{Chan, Entry, LINES, PanicKind, Slot, Trace};
+use v6_base::{Chan, Entry, PanicKind, Slot, Trace};
 
 /// How far a run has come, and what the next slot finds.
 #[derive(Clone, Copy)]
@@ -572,39 +572,61 @@ impl Machine {
         }
     }
 
-    /// Takes a byte that is typed on a line, and sends the signal that it makes. A line that isn't there drops it.
+    /// A byte is typed on a line: it sends the signal that it makes, and wakes who waits for it. A line that isn't there drops it.
+    fn take_key<T: Trace>(&mut self, l: u8, byte: u8, trace: &mut T)
+        requires good { IsGood self.old.world }
+        requires counted { IsCounted self.old.world.slots (unix_of self.old.world) }
+        ensures good { IsGood self.new.world }
+        ensures counted { IsCounted self.new.world.slots (unix_of self.new.world) }
+        ensures unix { unix_of self.new.world ≡ (typed_of (system_at self.old.world) l byte).unix }
+        ensures board { board_in self.new.world ≡ (typed_of (system_at self.old.world) l byte).log.board }
+        ensures tree { self.new.world.files.tree ≡ self.old.world.files.tree }
+        ensures items { Took (T.taken trace.old) (typed_of (system_at self.old.world) l byte).log.items (T.taken trace.new) }
+        ensures frame { T.leads_to trace.old trace.new }
+    {
+        if l >= self.world.files.lines.count() {
+            return;
+        }
+        let keyed = self.world.files.lines.typed(l, byte, trace);
+        self.send_key(l, keyed, trace);
+        let table = &mut self.world.procs.table;
+        wake(table, calls(keyed), keys_of(l), trace);
+        wake(table, calls_show(keyed), show_of(l), trace);
+    }
+
+    /// Takes a byte that is typed on a line, and settles.
     pub(crate) fn typed<T: Trace>(&mut self, l: u8, byte: u8, trace: &mut T)
         requires kernel { IsKernel self.old.stage self.old.world }
         requires started { phase_of self.old.stage ≡ Started }
-        requires line { l < LINES }
         ensures takes { Takes (settled_after (typed_of (system_at self.old.world) l byte)) self.new.stage self.new.world }
         ensures rest { SameRest self.old.world.files.tree.nodes self.new.world.files.tree.nodes }
         ensures items { Took (T.taken trace.old)
             (settled_after (typed_of (system_at self.old.world) l byte)).items (T.taken trace.new) }
         ensures frame { T.leads_to trace.old trace.new }
     {
-        if l < self.world.files.lines.count() {
-            let keyed = self.world.files.lines.typed(l, byte, trace);
-            self.send_key(l, keyed, trace);
-            let table = &mut self.world.procs.table;
-            wake(table, calls(keyed), keys_of(l), trace);
-            wake(table, calls_show(keyed), show_of(l), trace);
-        }
+        self.take_key(l, byte, trace);
         self.settle(trace);
     }
 
-    /// Those whose terminal is a line that is open have a signal, and it is flushed: who waits for it is woken.
+    /// A line hangs up: those whose terminal it is have a signal, and it is flushed; who waits for it is woken. One that isn't there or
+    /// isn't open ignores it.
     fn hang_up<T: Trace>(&mut self, l: u8, trace: &mut T)
         requires good { IsGood self.old.world }
-        requires there { l < length self.old.world.files.lines }
+        requires counted { IsCounted self.old.world.slots (unix_of self.old.world) }
         ensures good { IsGood self.new.world }
-        ensures unix { unix_of self.new.world ≡ (hangs_up (system_at self.old.world) l).unix }
-        ensures board { board_in self.new.world ≡ (hangs_up (system_at self.old.world) l).log.board }
-        ensures items { Took (T.taken trace.old) (hangs_up (system_at self.old.world) l).log.items (T.taken trace.new) }
-        ensures frame { T.leads_to trace.old trace.new }
+        ensures counted { IsCounted self.new.world.slots (unix_of self.new.world) }
+        ensures unix { unix_of self.new.world ≡ (hangup_of (system_at self.old.world) l).unix }
+        ensures board { board_in self.new.world ≡ (hangup_of (system_at self.old.world) l).log.board }
         ensures tree { self.new.world.files.tree ≡ self.old.world.files.tree }
-        ensures slots { self.new.world.slots ≡ self.old.world.slots }
+        ensures items { Took (T.taken trace.old) (hangup_of (system_at self.old.world) l).log.items (T.taken trace.new) }
+        ensures frame { T.leads_to trace.old trace.new }
     {
+        if l >= self.world.files.lines.count() {
+            return;
+        }
+        if !self.world.files.lines.is_open(l) {
+            return;
+        }
         signal_line(&mut self.world.procs, l, SIGHUP, trace);
         let show = self.world.files.lines.flush(l);
         let table = &mut self.world.procs.table;
@@ -612,20 +634,18 @@ impl Machine {
         wake(table, show, show_of(l), trace);
     }
 
-    /// Takes the hang-up of a line. One that isn't there or isn't open ignores it.
+    /// Takes the hang-up of a line, and settles.
     pub(crate) fn hangup<T: Trace>(&mut self, l: u8, trace: &mut T)
         requires kernel { IsKernel self.old.stage self.old.world }
         requires started { phase_of self.old.stage ≡ Started }
-        requires line { l < LINES }
         ensures takes { Takes (settled_after (hangup_of (system_at self.old.world) l)) self.new.stage self.new.world }
+        ensures started { phase_of self.new.stage ≡ Started }
         ensures rest { SameRest self.old.world.files.tree.nodes self.new.world.files.tree.nodes }
         ensures items { Took (T.taken trace.old)
             (settled_after (hangup_of (system_at self.old.world) l)).items (T.taken trace.new) }
         ensures frame { T.leads_to trace.old trace.new }
     {
-        if l < self.world.files.lines.count() && self.world.files.lines.is_open(l) {
-            self.hang_up(l, trace);
-        }
+        self.hang_up(l, trace);
         self.settle(trace);
     }
 
@@ -636,6 +656,7 @@ impl Machine {
         requires few { n ≤ 999999999 }
         requires fresh { (unix_of self.old.world).timing.passed ≤ 3000000001 }
         ensures takes { Takes (settled_after (paced_of (system_at self.old.world) n)) self.new.stage self.new.world }
+        ensures started { phase_of self.new.stage ≡ Started }
         ensures rest { SameRest self.old.world.files.tree.nodes self.new.world.files.tree.nodes }
         ensures items { Took (T.taken trace.old)
             (settled_after (paced_of (system_at self.old.world) n)).items (T.taken trace.new) }

@@ -3,7 +3,7 @@ ghost use Rattle.std.specs.Prelude.{◌≡◌, ◌<◌, [], ◌∷◌};
 ghost use Rattle.v6_base.specs.Trace.{Took, Log, sent};
 ghost use Rattle.v6_base.specs.Tape.{bytes_of};
 ghost use Rattle.pick_rules.specs.Table.{IsTable};
-ghost use Rattle.unix_core.specs.Passing.{HasSlot, HaveSlots, woken_by, all_woken, shown_by};
+ghost use Rattle.unix_core.specs.Passing.{HasSlot, HaveSlots, woken_by, all_woken, bytes_shown, shown_by};
 
 use pick_rules::Table;
 use sys_procs::signal_slot;
@@ -41,6 +41,20 @@ fn show_bytes<T: Trace>(tape: &Tape, l: u8, trace: &mut T)
     }
 }
 
+/// Passes on the bytes that a tape has taken, lowest line first.
+#[inline(always)]
+fn show_lines<T: Trace>(tape: &Tape, trace: &mut T)
+    ensures items { Took (T.taken trace.old) (bytes_shown 0 LINES tape.now) (T.taken trace.new) }
+    ensures frame { T.leads_to trace.old trace.new }
+{
+    if tape.is_silent() {
+        return;
+    }
+    for l in 0..LINES {
+        show_bytes(tape, l, trace);
+    }
+}
+
 /// Passes on what a tape has taken: the bytes, lowest line first, and then the lines of the log, of which each wakes those who sleep for
 /// its channel.
 #[inline(always)]
@@ -52,11 +66,7 @@ pub(crate) fn pass_on<T: Trace>(tape: &Tape, table: &mut Table, trace: &mut T)
     ensures items { Took (T.taken trace.old) (shown_by tape.now) (T.taken trace.new) }
     ensures frame { T.leads_to trace.old trace.new }
 {
-    if !tape.is_silent() {
-        for l in 0..LINES {
-            show_bytes(tape, l, trace);
-        }
-    }
+    show_lines(tape, trace);
     let entries = tape.entries();
     for i in 0..entries.len() {
         wake_by(entries[i], table, trace);

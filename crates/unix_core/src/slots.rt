@@ -365,6 +365,11 @@ pub(crate) fn set_pace<T: Trace>(world: &mut World, n: u32, trace: &mut T) -> bo
     ensures counted { IsCounted world.new.slots (unix_of world.new) }
     ensures running { world.new.procs.table.running ≡ world.old.procs.table.running }
     ensures tree { world.new.files.tree ≡ world.old.files.tree }
+    ensures others { world.new ≡ record world.old {
+      files = record world.old.files { lines = world.new.files.lines };
+      procs = world.new.procs;
+      slots = world.new.slots;
+    } }
     ensures same { result ≡ false → world.new.procs ≡ world.old.procs }
     ensures items { Took (T.taken trace.old) (paced_of (system_at world.old) n).log.items (T.taken trace.new) }
     ensures frame { T.leads_to trace.old trace.new }
@@ -399,7 +404,11 @@ fn send_after<T: Trace>(world: &mut World, passed: u32, trace: &mut T) -> bool
     ensures set { world.new.slots.set_at ≡ world.old.slots.set_at }
     ensures sends { NoneSend passed world.new.slots }
     ensures running { world.new.procs.table.running ≡ world.old.procs.table.running }
-    ensures tree { world.new.files.tree ≡ world.old.files.tree }
+    ensures others { world.new ≡ record world.old {
+      files = record world.old.files { lines = world.new.files.lines };
+      procs = record world.old.procs { table = world.new.procs.table };
+      slots = world.new.slots;
+    } }
     ensures same { result ≡ false → world.new.procs ≡ world.old.procs }
     ensures items { Took (T.taken trace.old) (sent_after (unix_of world.old)).items (T.taken trace.new) }
     ensures frame { T.leads_to trace.old trace.new }

@@ -1,11 +1,7 @@
-use Rattle.std.proofs.Common.{◌∙◌, ◌==◌, map, not, length, ap, subst}
-use Rattle.v6_base.specs.Trace.{Took}
-use Rattle.pick_rules.specs.Effects.{Show}
-use Rattle.pick_rules.specs.Logged.{logged}
-use Rattle.abstract_unix.specs.Unix.{Unix}
+use Rattle.std.proofs.Common.{◌≡◌, ◌∙◌, sym, ap, arith}
+use Rattle.sys_procs.specs.declared.procs.Procs.{Procs}
 use Rattle.unix_core.specs.declared.world.World.{World}
-use Rattle.unix_core.specs.Parts.{board_in}
-use Rattle.unix_core.proofs.SlotWorlds.{reach_good, reach_unix, lines_are, reach_counted}
+use Rattle.unix_core.proofs.SlotWorlds.{reach_good, reach_passed, reach_set, sent_unix, sent_board, sent_any, sent_took, sent_counted, none_woken}
 use Rattle.unix_core.proofs.slots.reach.Goals as goal
 
 pub wake_disks-woken-requires-clause-agree : goal.wake_disks-woken-requires-clause-agree
@@ -14,47 +10,90 @@ wake_disks-woken-requires-clause-agree g c = c.requires.good.agree
 pub wake_disks-woken-requires-clause-graves : goal.wake_disks-woken-requires-clause-graves
 wake_disks-woken-requires-clause-graves g c = c.requires.counted.graves
 
-pub returns-clause-unix : goal.returns-clause-unix
-returns-clause-unix g c =
-    let w : World = c.args.world.now in
-    let e = c.wake_disks-woken.ensures in
-    reach_unix w c.requires.left c.requires.good c.requires.counted c.wake_disks-woken.new.procs e.others e.agree e.running e.clock
-    c.wake_disks-woken.result.next e.next
-
-pub returns-clause-board : goal.returns-clause-board
-returns-clause-board g c =
-    let w : World = c.args.world.now in
-    let e = c.wake_disks-woken.ensures in
-    e.board ∙ ap (λ lines. (logged {W = Unix} (board_in w) (map Show lines)).board)
-    (lines_are w c.requires.left c.requires.good c.requires.counted c.wake_disks-woken.new.procs e.others e.agree e.running e.clock
-    c.wake_disks-woken.result.next e.next)
-
-pub returns-clause-any : goal.returns-clause-any
-returns-clause-any g c =
-    let w : World = c.args.world.now in
-    let e = c.wake_disks-woken.ensures in
-    e.any ∙ ap (λ lines. not (length lines == 0))
-    (lines_are w c.requires.left c.requires.good c.requires.counted c.wake_disks-woken.new.procs e.others e.agree e.running e.clock
-    c.wake_disks-woken.result.next e.next)
-
-pub returns-clause-good : goal.returns-clause-good
-returns-clause-good g c =
+pub send_after-sent-requires-clause-good : goal.send_after-sent-requires-clause-good
+send_after-sent-requires-clause-good g c =
     let w : World = c.args.world.now in
     let e = c.wake_disks-woken.ensures in
     reach_good w c.requires.left c.requires.good c.requires.counted c.wake_disks-woken.new.procs e.others e.agree e.running e.clock
     c.wake_disks-woken.result.next e.next
 
+pub send_after-sent-requires-clause-passed : goal.send_after-sent-requires-clause-passed
+send_after-sent-requires-clause-passed g c =
+    let w : World = c.args.world.now in
+    let e = c.wake_disks-woken.ensures in
+    reach_passed w c.requires.left c.requires.good c.requires.counted c.wake_disks-woken.new.procs e.others e.agree e.running e.clock
+    c.wake_disks-woken.result.next e.next
+
+pub send_after-sent-requires-clause-within : goal.send_after-sent-requires-clause-within
+send_after-sent-requires-clause-within g c = omega arith
+
+pub send_after-sent-requires-clause-before : goal.send_after-sent-requires-clause-before
+send_after-sent-requires-clause-before g c = c.wake_disks-woken.ensures.next
+
+pub send_after-sent-requires-clause-pace : goal.send_after-sent-requires-clause-pace
+send_after-sent-requires-clause-pace g c = c.requires.counted.pace
+
+pub send_after-sent-requires-clause-set : goal.send_after-sent-requires-clause-set
+send_after-sent-requires-clause-set g c =
+    let w : World = c.args.world.now in
+    let e = c.wake_disks-woken.ensures in
+    reach_set w c.requires.left c.requires.good c.requires.counted c.wake_disks-woken.new.procs e.others e.agree e.running e.clock
+    c.wake_disks-woken.result.next e.next
+
+pub returns-clause-unix : goal.returns-clause-unix
+returns-clause-unix g c =
+    let w : World = c.args.world.now in
+    let e = c.wake_disks-woken.ensures in
+    sent_unix w c.requires.left c.requires.good c.requires.counted c.wake_disks-woken.new.procs e.others e.agree e.running e.clock
+    c.wake_disks-woken.result.next e.next c.send_after-sent.new.world c.send_after-sent.ensures.unix
+
+pub returns-clause-board : goal.returns-clause-board
+returns-clause-board g c =
+    let w : World = c.args.world.now in
+    let e = c.wake_disks-woken.ensures in
+    sent_board w c.requires.left c.requires.good c.requires.counted c.wake_disks-woken.new.procs e.others e.agree e.running e.clock
+    c.wake_disks-woken.result.next e.next c.send_after-sent.new.world c.send_after-sent.ensures.unix e.board c.send_after-sent.ensures.board
+
+pub returns-clause-any : goal.returns-clause-any
+returns-clause-any g c =
+    let w : World = c.args.world.now in
+    let e = c.wake_disks-woken.ensures in
+    sent_any w c.requires.left c.requires.good c.requires.counted c.wake_disks-woken.new.procs e.others e.agree e.running e.clock
+    c.wake_disks-woken.result.next e.next c.send_after-sent.new.world c.send_after-sent.ensures.unix _ _ e.any
+    c.send_after-sent.ensures.any
+
 pub returns-clause-counted : goal.returns-clause-counted
 returns-clause-counted g c =
     let w : World = c.args.world.now in
+    let s = c.send_after-sent.ensures in
     let e = c.wake_disks-woken.ensures in
-    reach_counted w c.requires.left c.requires.good c.requires.counted c.wake_disks-woken.new.procs e.others e.agree e.running e.clock
-    c.wake_disks-woken.result.next e.next e.due
+    sent_counted w c.requires.left c.requires.good c.requires.counted c.wake_disks-woken.new.procs e.others e.agree e.running e.clock
+    c.wake_disks-woken.result.next e.next c.send_after-sent.new.world c.send_after-sent.ensures.unix s.timing s.within s.sooner s.later s.set s.sends
+    e.due
+
+pub returns-clause-running : goal.returns-clause-running
+returns-clause-running g c = c.send_after-sent.ensures.running ∙ c.wake_disks-woken.ensures.running
+
+pub returns-clause-tree : goal.returns-clause-tree
+returns-clause-tree g c = ap (λ (x : World). x.files.tree) c.send_after-sent.ensures.others
+
+pub returns-clause-others : goal.returns-clause-others
+returns-clause-others g c =
+    let w : World = c.args.world.now in
+    let v : World = c.send_after-sent.new.world in
+    c.send_after-sent.ensures.others
+    ∙ ap (λ (p : Procs). record w { files = record w.files { lines = v.files.lines }; procs = p; slots = v.slots })
+    (sym (ap (λ (x : World). x.procs) c.send_after-sent.ensures.others))
+
+pub returns-clause-same : goal.returns-clause-same
+returns-clause-same g c none =
+    let both = none_woken c.wake_disks-woken.result.any c.send_after-sent.result none in
+    c.send_after-sent.ensures.same both.1 ∙ c.wake_disks-woken.ensures.same both.0
 
 pub returns-clause-items : goal.returns-clause-items
 returns-clause-items g c =
     let w : World = c.args.world.now in
     let e = c.wake_disks-woken.ensures in
-    subst (λ lines. Took (g.T.Trace.taken c.args.trace.now) lines (g.T.Trace.taken c.wake_disks-woken.new.trace))
-    (lines_are w c.requires.left c.requires.good c.requires.counted c.wake_disks-woken.new.procs e.others e.agree e.running e.clock
-    c.wake_disks-woken.result.next e.next) e.items
+    sent_took w c.requires.left c.requires.good c.requires.counted c.wake_disks-woken.new.procs e.others e.agree e.running e.clock
+    c.wake_disks-woken.result.next e.next c.send_after-sent.new.world c.send_after-sent.ensures.unix _ _ _ e.items
+    c.send_after-sent.ensures.items

@@ -1,4 +1,4 @@
-use Rattle.std.proofs.Common.{◌≡◌, ◌∙◌, ℕ, ap}
+use Rattle.std.proofs.Common.{◌≡◌, ◌∙◌, ◌-◌, ℕ, ap}
 use Rattle.abstract_unix.specs.Calls.{waiting_area}
 use Rattle.image_keep.specs.Kept.{with_area, area_of, image_of}
 use Rattle.image_keep.specs.State.{ImagesState}
@@ -43,7 +43,7 @@ returns-clause-unix c =
     let e = c.add.ensures in
     wait_unix w c.args.s c.requires.ready c.wait_end-end.result c.wait_end-end.ensures c.set_area.new.self
     (waits_so w c.args.s c.wait_end-end.result c.area.result c.waiting-u.result c.set_area.new.self c.set_area.ensures c.waiting-u.ensures c.area.ensures.u) c.add.new.self
-    (λ i. record { passed = e.passed i; disk = e.disk i })
+    (λ i. record { passed = e.passed i; disk = e.disk i; pace = e.pace i; since = e.passed i - e.set i })
 
 pub returns-clause-board : goal.returns-clause-board
 returns-clause-board c =
@@ -51,7 +51,7 @@ returns-clause-board c =
     let e = c.add.ensures in
     wait_board w c.args.s c.requires.ready c.wait_end-end.result c.wait_end-end.ensures c.set_area.new.self
     (waits_so w c.args.s c.wait_end-end.result c.area.result c.waiting-u.result c.set_area.new.self c.set_area.ensures c.waiting-u.ensures c.area.ensures.u) c.add.new.self
-    (λ i. record { passed = e.passed i; disk = e.disk i })
+    (λ i. record { passed = e.passed i; disk = e.disk i; pace = e.pace i; since = e.passed i - e.set i })
 
 pub returns-clause-ready : goal.returns-clause-ready
 returns-clause-ready c =
@@ -59,10 +59,10 @@ returns-clause-ready c =
     let e = c.add.ensures in
     wait_ready w c.args.s c.requires.ready c.wait_end-end.result c.wait_end-end.ensures c.set_area.new.self
     (waits_so w c.args.s c.wait_end-end.result c.area.result c.waiting-u.result c.set_area.new.self c.set_area.ensures c.waiting-u.ensures c.area.ensures.u) c.add.new.self
-    (λ i. record { passed = e.passed i; disk = e.disk i })
+    (λ i. record { passed = e.passed i; disk = e.disk i; pace = e.pace i; since = e.passed i - e.set i })
 
 pub returns-clause-slots : goal.returns-clause-slots
 returns-clause-slots c =
     let e = c.add.ensures in
     has_waited _ c.args.world.now.slots c.add.new.self c.wait_end-end.result c.requires.waits c.wait_end-end.ensures e.ends e.sooner e.later e.passed
-    e.within e.disk
+    e.within e.disk e.pace e.set

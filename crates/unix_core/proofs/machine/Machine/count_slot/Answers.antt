@@ -1,8 +1,8 @@
-use Rattle.std.proofs.Common.{refl, sym, ap, subst, arith}
+use Rattle.std.proofs.Common.{◌∙◌, refl, sym, ap, subst, arith}
 use Rattle.v6_base.proofs.Took.{took_nothing}
 use Rattle.unix_core.specs.declared.world.World.{World}
 use Rattle.unix_core.specs.Parts.{goes_on, IsKernel, IsStill}
-use Rattle.unix_core.proofs.SlotWorlds.{kernel_slots, some_left, less, less_unix, before_is, due_fresh, none_due, less_counted}
+use Rattle.unix_core.proofs.SlotWorlds.{kernel_slots, some_left, less, before_is, due_fresh, none_shown, less_sent, less_board, less_any, less_counted}
 use Rattle.unix_core.proofs.SlotEnds.{still_takes, still_items}
 use Rattle.unix_core.proofs.machine.Machine.count_slot.Goals as goal
 
@@ -34,11 +34,14 @@ returns-clause-takes g c h still =
     let m = c.args.self.now in
     let w : World = m.world in
     let counted = c.requires.kernel.counted (ap goes_on c.requires.started) in
-    still_takes h w (less w counted) still (none_due w counted c.if-self-eq0.false) (less_unix w counted) refl m.stage
+    still_takes h w (less w counted) still (sym (less_any w counted c.if-self-eq0.false)) (sym (less_board w counted c.if-self-eq0.false))
+    (less_sent w counted c.if-self-eq0.false) refl m.stage
     (kernel_slots w (less w counted).slots m.stage (λ goes. less_counted w counted c.if-self-eq0.false) c.requires.kernel) c.requires.started
 
 pub returns-clause-items : goal.returns-clause-items
 returns-clause-items g c h still =
     let w : World = c.args.self.now.world in
     let counted = c.requires.kernel.counted (ap goes_on c.requires.started) in
-    took_nothing _ _ (still_items h w (less w counted) still (none_due w counted c.if-self-eq0.false) (less_unix w counted) refl)
+    took_nothing _ _ (still_items h w (less w counted) still (sym (less_any w counted c.if-self-eq0.false))
+    (sym (less_board w counted c.if-self-eq0.false)) (less_sent w counted c.if-self-eq0.false) refl
+    ∙ none_shown w counted c.if-self-eq0.false)
