@@ -5,42 +5,84 @@
 
 It needs valgrind. The /etc/init of a disk made from examples/hi/image writes 128 bytes over and over. The program runs it for
 a number of such writes and for twice that number under callgrind; printed is the difference of the two counts, divided by the
-number of bytes, for bytes that are shown and for 004, which isn't. The first count less the second is what showing costs.
+number of bytes, for bytes that are shown and for 004, which isn't; and the same under `run8`, on line 0 and on line 7. The first
+count less the second is what showing costs. Behind each stands the most that it may be.
+
+Under `pace 1` a byte goes out after each slot. The process sleeps in its write but for one slot in 21, when it is woken and goes
+on. Printed is such a slot, less one in which nobody runs and nothing waits: a byte with its part of a wake, of a choice, and of a
+write that goes on; and the same on line 7.
 """
 import os
+import re
 import struct
+import subprocess
 import sys
 import tempfile
 
-from instructions import count, disk_of
+from instructions import disk_of
 
-WRITES = 5_000
+WRITES, PACED_SLOTS = 5_000, 21_000
 
 # open, its name at 24, mode 1; over and over: write 128 bytes from 40; CLR R0; BR. The first slot is the exec.
 OPEN = [0o104405, 24, 1]
 LOOP = [0o104404, 40, 128, 0o005000, 0o000773, 0, 0, 0, 0]
+# the same, with a read of a byte, which waits for good, in the place of the write
+READ = [0o104403, 40, 1, *LOOP[3:]]
 SLOTS_BEFORE, SLOTS_OF_WRITE = 2, 3
+DEVICE = 1024 + 32 * 4 + 8  # of /dev/tty8, which is inode 5
+PACED = "run 3\npace 1\n"
 
 
-def disk_that_writes(byte):
+def disk_that_writes(byte, line=0, loop=LOOP):
+    """A disk whose /dev/tty8 is that line."""
     data = b"/dev/tty8".ljust(16, b"\0") + byte * 128
-    return disk_of(OPEN + LOOP + list(struct.unpack(f"<{len(data) // 2}H", data)))
+    image = disk_of([OPEN[0], 24, 0 if loop is READ else 1, *loop, *struct.unpack(f"<{len(data) // 2}H", data)])
+    image[DEVICE] = line
+    return image
 
 
-def cost(program, byte):
+def count(program, image, script, command):
     with tempfile.TemporaryDirectory() as folder:
-        with open(f"{folder}/image", "wb") as file:
-            file.write(disk_that_writes(byte))
-        once, twice = (count(program, SLOTS_BEFORE + SLOTS_OF_WRITE * n, folder) for n in (WRITES, 2 * WRITES))
-        return (twice - once) / (128 * WRITES)
+        for name, data in (("image", image), ("script", script.encode())):
+            with open(f"{folder}/{name}", "wb") as file:
+                file.write(data)
+        words = ["valgrind", "--tool=callgrind", "--callgrind-out-file=/dev/null", program, command, "image", "100", "script", "term",
+                 "log", "final"]
+        ran = subprocess.run(words, cwd=folder, stderr=subprocess.PIPE, text=True, check=True)
+        return int(re.search(r"Collected : (\d+)", ran.stderr)[1])
+
+
+def cost(program, image, before, slots, parts, command="run"):
+    """What so many slots cost, behind some lines of a script, divided."""
+    once, twice = (count(program, image, f"{before}run {slots * n}\n", command) for n in (1, 2))
+    return (twice - once) / parts
+
+
+def row(name, cost_of_it, most=""):
+    print(f"{cost_of_it:6.1f}  {most:>3}  {name}", flush=True)
+
+
+def shown(program, byte, line=0, command="run"):
+    return cost(program, disk_that_writes(byte, line), f"run {SLOTS_BEFORE}\n", SLOTS_OF_WRITE * WRITES, 128 * WRITES, command)
+
+
+def paced(program, line, command):
+    """A slot after which a byte goes out, less one in which nobody runs and nothing waits."""
+    slots = [cost(program, disk_that_writes(b"A", line, loop), PACED, PACED_SLOTS, PACED_SLOTS, command) for loop in (LOOP, READ)]
+    return slots[0] - slots[1]
 
 
 def main():
     if len(sys.argv) != 2 or not os.access(sys.argv[1], os.X_OK):
         sys.exit(__doc__)
     program = os.path.abspath(sys.argv[1])
-    print(f"{cost(program, b'A'):6.1f}  a byte that is shown", flush=True)
-    print(f"{cost(program, bytes([4])):6.1f}  a byte that isn't", flush=True)
+    row("a byte that is shown", shown(program, b"A"), "80")
+    row("a byte that isn't", shown(program, bytes([4])))
+    row("a byte that is shown on line 0, under `run8`", shown(program, b"A", 0, "run8"), "80")
+    row("a byte that is shown on line 7", shown(program, b"A", 7, "run8"), "80")
+    row("a byte that goes out under `pace 1`", paced(program, 0, "run"), "200")
+    row("the same on line 7", paced(program, 7, "run8"), "200")
 
 
-main()
+if __name__ == "__main__":
+    main()

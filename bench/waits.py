@@ -60,7 +60,7 @@ def loop_row(program, name, first, before):
 def loops(program):
     judge(program, many.memory_loop(SLEEPERS), "", " tout")
     judge(program, many.memory_loop(READERS), LONG, " disk.")
-    for name, line in (("no line `disk`", ""), ("`disk 0`", "disk 0\n"), ("`disk 3`", "disk 3\n")):
+    for name, line in (("no line `disk`", ""), ("`disk 0`", "disk 0\n"), ("`disk 3`", "disk 3\n"), ("`pace 1`", "pace 1\n")):
         loop_row(program, f"the loop over memory, {name}", [], line)
         loop_row(program, f"the same beside {OTHERS} that sleep", SLEEPERS, line)
     loop_row(program, f"the loop beside {OTHERS} that wait for the disk, `disk 1000000`", READERS, LONG)
