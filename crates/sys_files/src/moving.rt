@@ -263,7 +263,7 @@ fn resume_line<S: Space, T: Trace>(
     requires used { IsSome (file_at f.old.table (slice_index call 0)) }
     requires referred { (file : OpenFile) → file_at f.old.table (slice_index call 0) ≡ Some file
         → 0 < slice_index f.old.tree.nodes.references file.ino }
-    requires within { pending ≡ LINE_WRITE → slice_index call 3 ≤ slice_index call 2 }
+    requires within { slice_index call 3 ≤ slice_index call 2 }
     ensures answer { (h : Handed) → h.u ≡ u.old → h.row ≡ row.now → h.files ≡ f.old.table → h.lines ≡ f.old.lines
         → h.inodes.store ≡ f.old.tree.nodes.store → h.image ≡ S.image space.old
         → result ≡ (goes_on_line h pending call).answer }

@@ -51,9 +51,9 @@ resume_line-requires g c =
     let h : Handed = handed c.args.f.now c.args.u.now c.args.row.now (g.S.Space.image c.args.space.now) in
     let can = c.requires.pending in
     record {
-      used = subst IsSome (sym can.there) tt;
+      used = subst IsSome (sym can.there) refl;
       referred = λ file is. file_referred h (slice_index h.u.call 0) file c.requires.sound is;
-      within = λ is. can.within;
+      within = can.within;
     }
 
 pub read_pipe-requires : goal.read_pipe-requires
@@ -61,7 +61,7 @@ read_pipe-requires g c =
     let h : Handed = handed c.args.f.now c.args.u.now c.args.row.now (g.S.Space.image c.args.space.now) in
     let can = c.requires.pending in
     record {
-      used = subst IsSome (sym can.there) tt;
+      used = subst IsSome (sym can.there) refl;
       pipe = end_kept h can (sym c.is_on_line.ensures ∙ c.if-is_on_line.false);
       pipes = c.requires.sound.pipes;
       referred = λ file is. file_referred h (slice_index h.u.call 0) file c.requires.sound is;
@@ -72,7 +72,7 @@ write_pipe-requires g c =
     let h : Handed = handed c.args.f.now c.args.u.now c.args.row.now (g.S.Space.image c.args.space.now) in
     let can = c.requires.pending in
     record {
-      used = subst IsSome (sym can.there) tt;
+      used = subst IsSome (sym can.there) refl;
       pipe = end_kept h can (sym c.is_on_line.ensures ∙ c.if-is_on_line.false);
       pipes = c.requires.sound.pipes;
       referred = λ file is. file_referred h (slice_index h.u.call 0) file c.requires.sound is;

@@ -42,6 +42,15 @@ more_items l t u read piece all is parts =
     ∙ sym (sent-append l (shows t read) (shows (after_shown t read) piece))
     ∙ ap (sent l) (shows-append t read piece ∙ ap (shows t) parts)
 
+pub overflow_add-shown : goal.overflow_add-shown
+overflow_add-shown g c =
+    let image = g.S.Space.image c.args.space.now in
+    let piece : List ℕ = readable image ((c.args.at + c.loop-shown.shown) % 65536) c.min-most.result in
+    let few = written_few (terminal_at c.loop-shown.lines c.args.l) piece in
+    let less = readable_few image ((c.args.at + c.loop-shown.shown) % 65536) c.min-most.result in
+    let h = c.loop-shown-test.true in
+    omega (arith, c.show_piece-taken.ensures.taken, few, less, c.min-most.ensures, h, c.ranges.count)
+
 pub loop-shown-preserved : goal.loop-shown-preserved
 loop-shown-preserved g c =
     let image = g.S.Space.image c.args.space.now in
@@ -53,9 +62,9 @@ loop-shown-preserved g c =
     let are = c.loop-shown.invariant.are in
     let h = c.loop-shown-test.true in
     let now : terminal_at c.loop-shown.lines c.args.l ≡ after_shown t read =
-    ap (λ (ts : List Terminal). terminal_at ts c.args.l) c.loop-shown.invariant.line ∙ at_set c.args.lines.now c.args.l (after_shown t read) c.requires in
+    ap (λ (ts : List Terminal). terminal_at ts c.args.l) c.loop-shown.invariant.line ∙ at_set c.args.lines.now c.args.l (after_shown t read) c.requires.there in
     let taken : c.show_piece-taken.result ≡ written (after_shown t read) piece = c.show_piece-taken.ensures.taken ∙ ap (λ (u : Terminal). written u piece) now in
-    let all : most ≤ written (after_shown t read) piece = omega (arith, taken, c.if-taken-lt-most.false) in
+    let all : most ≤ written (after_shown t read) piece = omega (arith, taken, c.if-taken-most.false) in
     let as_taken : take c.show_piece-taken.result piece ≡ piece =
     ap (λ n. take n piece) taken ∙ taken_piece t image c.args.at shown most (omega arith) are all in
     let whole : shown + c.show_piece-taken.result ≡ shown + most =
@@ -69,15 +78,15 @@ loop-shown-preserved g c =
     record {
       few = omega (arith, c.min-most.ensures, h, whole);
       are = subst (AreTaken t image c.args.at) (sym whole) (taken_more t image c.args.at shown most (omega arith) are all);
-      line = more_lines c.args.lines.now c.loop-shown.lines _ c.args.l t read (take c.show_piece-taken.result piece) _ c.requires
+      line = more_lines c.args.lines.now c.loop-shown.lines _ c.args.l t read (take c.show_piece-taken.result piece) _ c.requires.there
           c.loop-shown.invariant.line c.show_piece-taken.ensures.line parts;
       items = took_then _ _ _ _ _ _ c.loop-shown.invariant.items c.show_piece-taken.ensures.items
           (more_items c.args.l t _ read (take c.show_piece-taken.result piece) _ now parts);
       frame = g.met.T.Trace.goes_on _ _ _ c.loop-shown.invariant.frame c.show_piece-taken.ensures.frame;
     }
 
-pub returns-then-taken-lt-most-clause-taken : goal.returns-then-taken-lt-most-clause-taken
-returns-then-taken-lt-most-clause-taken g c =
+pub returns-then-taken-most-clause-taken : goal.returns-then-taken-most-clause-taken
+returns-then-taken-most-clause-taken g c =
     let image = g.S.Space.image c.args.space.now in
     let t : Terminal = terminal_at c.args.lines.now c.args.l in
     let shown : ℕ = c.loop-shown.shown in
@@ -87,14 +96,14 @@ returns-then-taken-lt-most-clause-taken g c =
     let are = c.loop-shown.invariant.are in
     let h = c.loop-shown-test.true in
     let now : terminal_at c.loop-shown.lines c.args.l ≡ after_shown t read =
-    ap (λ (ts : List Terminal). terminal_at ts c.args.l) c.loop-shown.invariant.line ∙ at_set c.args.lines.now c.args.l (after_shown t read) c.requires in
+    ap (λ (ts : List Terminal). terminal_at ts c.args.l) c.loop-shown.invariant.line ∙ at_set c.args.lines.now c.args.l (after_shown t read) c.requires.there in
     let taken : c.show_piece-taken.result ≡ written (after_shown t read) piece = c.show_piece-taken.ensures.taken ∙ ap (λ (u : Terminal). written u piece) now in
-    let less : written (after_shown t read) piece < most = omega (arith, taken, c.if-taken-lt-most.true) in
+    let less : written (after_shown t read) piece < most = omega (arith, taken, c.if-taken-most.true) in
     let stops = taken_stops t image c.args.at shown most (omega arith) are c.args.count (omega (arith, c.min-most.ensures, h)) less in
     omega (arith, taken, stops)
 
-pub returns-then-taken-lt-most-clause-line : goal.returns-then-taken-lt-most-clause-line
-returns-then-taken-lt-most-clause-line g c =
+pub returns-then-taken-most-clause-line : goal.returns-then-taken-most-clause-line
+returns-then-taken-most-clause-line g c =
     let image = g.S.Space.image c.args.space.now in
     let t : Terminal = terminal_at c.args.lines.now c.args.l in
     let shown : ℕ = c.loop-shown.shown in
@@ -104,17 +113,17 @@ returns-then-taken-lt-most-clause-line g c =
     let are = c.loop-shown.invariant.are in
     let h = c.loop-shown-test.true in
     let now : terminal_at c.loop-shown.lines c.args.l ≡ after_shown t read =
-    ap (λ (ts : List Terminal). terminal_at ts c.args.l) c.loop-shown.invariant.line ∙ at_set c.args.lines.now c.args.l (after_shown t read) c.requires in
+    ap (λ (ts : List Terminal). terminal_at ts c.args.l) c.loop-shown.invariant.line ∙ at_set c.args.lines.now c.args.l (after_shown t read) c.requires.there in
     let taken : c.show_piece-taken.result ≡ written (after_shown t read) piece = c.show_piece-taken.ensures.taken ∙ ap (λ (u : Terminal). written u piece) now in
-    let less : written (after_shown t read) piece < most = omega (arith, taken, c.if-taken-lt-most.true) in
+    let less : written (after_shown t read) piece < most = omega (arith, taken, c.if-taken-most.true) in
     let front = taken_front t image c.args.at shown most (omega arith) are c.args.count (omega (arith, c.min-most.ensures, h)) less in
     let parts : read ++ take c.show_piece-taken.result piece ≡ take (shown + c.show_piece-taken.result) (readable image c.args.at c.args.count) =
     ap (λ n. read ++ take n piece) taken ∙ sym front ∙ ap (λ n. take (shown + n) (readable image c.args.at c.args.count)) (sym taken) in
-    more_lines c.args.lines.now c.loop-shown.lines _ c.args.l t read (take c.show_piece-taken.result piece) _ c.requires
+    more_lines c.args.lines.now c.loop-shown.lines _ c.args.l t read (take c.show_piece-taken.result piece) _ c.requires.there
     c.loop-shown.invariant.line c.show_piece-taken.ensures.line parts
 
-pub returns-then-taken-lt-most-clause-items : goal.returns-then-taken-lt-most-clause-items
-returns-then-taken-lt-most-clause-items g c =
+pub returns-then-taken-most-clause-items : goal.returns-then-taken-most-clause-items
+returns-then-taken-most-clause-items g c =
     let image = g.S.Space.image c.args.space.now in
     let t : Terminal = terminal_at c.args.lines.now c.args.l in
     let shown : ℕ = c.loop-shown.shown in
@@ -124,9 +133,9 @@ returns-then-taken-lt-most-clause-items g c =
     let are = c.loop-shown.invariant.are in
     let h = c.loop-shown-test.true in
     let now : terminal_at c.loop-shown.lines c.args.l ≡ after_shown t read =
-    ap (λ (ts : List Terminal). terminal_at ts c.args.l) c.loop-shown.invariant.line ∙ at_set c.args.lines.now c.args.l (after_shown t read) c.requires in
+    ap (λ (ts : List Terminal). terminal_at ts c.args.l) c.loop-shown.invariant.line ∙ at_set c.args.lines.now c.args.l (after_shown t read) c.requires.there in
     let taken : c.show_piece-taken.result ≡ written (after_shown t read) piece = c.show_piece-taken.ensures.taken ∙ ap (λ (u : Terminal). written u piece) now in
-    let less : written (after_shown t read) piece < most = omega (arith, taken, c.if-taken-lt-most.true) in
+    let less : written (after_shown t read) piece < most = omega (arith, taken, c.if-taken-most.true) in
     let front = taken_front t image c.args.at shown most (omega arith) are c.args.count (omega (arith, c.min-most.ensures, h)) less in
     let parts : read ++ take c.show_piece-taken.result piece ≡ take (shown + c.show_piece-taken.result) (readable image c.args.at c.args.count) =
     ap (λ n. read ++ take n piece) taken ∙ sym front ∙ ap (λ n. take (shown + n) (readable image c.args.at c.args.count)) (sym taken) in

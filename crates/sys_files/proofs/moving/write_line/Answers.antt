@@ -49,8 +49,8 @@ items_is h l entry at count done n lines image lines_same image_same is =
     ∙ ap (λ m. sent l (shows (line_at h l) (take m (readable h.image from left))))
     (count_is h l from left n lines image lines_same image_same is)
 
-pub returns-then-taken-eq-left-clause-answer : goal.returns-then-taken-eq-left-clause-answer
-returns-then-taken-eq-left-clause-answer g c h lines_same u_same row_same image_same =
+pub returns-then-taken-left-clause-answer : goal.returns-then-taken-left-clause-answer
+returns-then-taken-left-clause-answer g c h lines_same u_same row_same image_same =
     let image = g.S.Space.image c.args.space.now in
     let from : ℕ = (c.args.at + c.args.done) % 65536 in
     let left : ℕ = c.args.count - c.args.done in
@@ -58,13 +58,13 @@ returns-then-taken-eq-left-clause-answer g c h lines_same u_same row_same image_
     let within = c.requires.within in
     let is = count_is h c.args.l from left n c.args.lines.now image lines_same image_same c.show_all-taken.ensures.taken in
     let few = readable_few h.image from left in
-    let end = c.if-taken-eq-left.true in
+    let end = c.if-taken-left.true in
     let case = shows_case h c.args.l c.args.entry c.args.at c.args.count c.args.done n false true is
     (le-ltb n (length (readable h.image from left)) (omega (arith, few, end))) (eq-eqb (c.args.done + n) c.args.count (omega (arith, end, within))) in
     ap (λ (u : UArea). Ret c.args.count (slice_index u.r 1)) (sym u_same) ∙ ap (λ (d : Did). d.answer) (sym case)
 
-pub returns-then-taken-eq-left-clause-state : goal.returns-then-taken-eq-left-clause-state
-returns-then-taken-eq-left-clause-state g c h lines_same u_same row_same image_same =
+pub returns-then-taken-left-clause-state : goal.returns-then-taken-left-clause-state
+returns-then-taken-left-clause-state g c h lines_same u_same row_same image_same =
     let image = g.S.Space.image c.args.space.now in
     let from : ℕ = (c.args.at + c.args.done) % 65536 in
     let left : ℕ = c.args.count - c.args.done in
@@ -72,14 +72,14 @@ returns-then-taken-eq-left-clause-state g c h lines_same u_same row_same image_s
     let within = c.requires.within in
     let is = count_is h c.args.l from left n c.args.lines.now image lines_same image_same c.show_all-taken.ensures.taken in
     let few = readable_few h.image from left in
-    let end = c.if-taken-eq-left.true in
+    let end = c.if-taken-left.true in
     let case = shows_case h c.args.l c.args.entry c.args.at c.args.count c.args.done n false true is
     (le-ltb n (length (readable h.image from left)) (omega (arith, few, end))) (eq-eqb (c.args.done + n) c.args.count (omega (arith, end, within))) in
     shown_is h c.args.l from left n c.args.lines.now c.show_all-taken.new.lines image c.args.u.now lines_same image_same u_same c.show_all-taken.ensures.line
     ∙ ap (λ (d : Did). d.state) (sym case)
 
-pub returns-then-taken-eq-left-clause-items : goal.returns-then-taken-eq-left-clause-items
-returns-then-taken-eq-left-clause-items g c h lines_same image_same =
+pub returns-then-taken-left-clause-items : goal.returns-then-taken-left-clause-items
+returns-then-taken-left-clause-items g c h lines_same image_same =
     subst (λ (items : List Item). Took (g.T.Trace.taken c.args.trace.now) items (g.T.Trace.taken c.show_all-taken.new.trace))
     (items_is h c.args.l c.args.entry c.args.at c.args.count c.args.done c.show_all-taken.result c.args.lines.now (g.S.Space.image c.args.space.now)
     lines_same image_same c.show_all-taken.ensures.taken) c.show_all-taken.ensures.items
@@ -95,7 +95,7 @@ returns-then-is_ok-clause-answer g c h lines_same u_same row_same image_same =
     let can : c.is_ok.result ≡ nat_lt n (length (readable image from left)) =
     let some = written_few (terminal_at c.args.lines.now c.args.l) (readable image from left) in
     let few : n ≤ length (readable image from left) = omega (arith, c.show_all-taken.ensures.taken, some) in
-    let less : n < left = omega (arith, c.if-taken-eq-left.false, c.show_all-taken.ensures.most) in
+    let less : n < left = omega (arith, c.if-taken-left.false, c.show_all-taken.ensures.most) in
     c.is_ok.ensures ∙ ap is_ok c.load_byte.ensures
     ∙ readable_next image from n left (omega arith) (readable_whole image from n left (omega arith) few) less in
     let next = next_is h from left n image c.args.lines.now c.args.l c.is_ok.result image_same c.show_all-taken.ensures.taken can in
@@ -115,7 +115,7 @@ returns-then-is_ok-clause-state g c h lines_same u_same row_same image_same =
     let can : c.is_ok.result ≡ nat_lt n (length (readable image from left)) =
     let some = written_few (terminal_at c.args.lines.now c.args.l) (readable image from left) in
     let few : n ≤ length (readable image from left) = omega (arith, c.show_all-taken.ensures.taken, some) in
-    let less : n < left = omega (arith, c.if-taken-eq-left.false, c.show_all-taken.ensures.most) in
+    let less : n < left = omega (arith, c.if-taken-left.false, c.show_all-taken.ensures.most) in
     c.is_ok.ensures ∙ ap is_ok c.load_byte.ensures
     ∙ readable_next image from n left (omega arith) (readable_whole image from n left (omega arith) few) less in
     let next = next_is h from left n image c.args.lines.now c.args.l c.is_ok.result image_same c.show_all-taken.ensures.taken can in
@@ -143,12 +143,12 @@ returns-clause-answer g c h lines_same u_same row_same image_same =
     let can : c.is_ok.result ≡ nat_lt n (length (readable image from left)) =
     let some = written_few (terminal_at c.args.lines.now c.args.l) (readable image from left) in
     let few : n ≤ length (readable image from left) = omega (arith, c.show_all-taken.ensures.taken, some) in
-    let less : n < left = omega (arith, c.if-taken-eq-left.false, c.show_all-taken.ensures.most) in
+    let less : n < left = omega (arith, c.if-taken-left.false, c.show_all-taken.ensures.most) in
     c.is_ok.ensures ∙ ap is_ok c.load_byte.ensures
     ∙ readable_next image from n left (omega arith) (readable_whole image from n left (omega arith) few) less in
     let next = next_is h from left n image c.args.lines.now c.args.l c.is_ok.result image_same c.show_all-taken.ensures.taken can in
     let case = shows_case h c.args.l c.args.entry c.args.at c.args.count c.args.done n false false is (next ∙ c.if-is_ok.false)
-    (ne_eqb (c.args.done + n) c.args.count (λ e. omega (arith, e, within, c.if-taken-eq-left.false))) in
+    (ne_eqb (c.args.done + n) c.args.count (λ e. omega (arith, e, within, c.if-taken-left.false))) in
     ap (λ (d : Did). d.answer) (sym case)
 
 pub returns-clause-state : goal.returns-clause-state
@@ -162,12 +162,12 @@ returns-clause-state g c h lines_same u_same row_same image_same =
     let can : c.is_ok.result ≡ nat_lt n (length (readable image from left)) =
     let some = written_few (terminal_at c.args.lines.now c.args.l) (readable image from left) in
     let few : n ≤ length (readable image from left) = omega (arith, c.show_all-taken.ensures.taken, some) in
-    let less : n < left = omega (arith, c.if-taken-eq-left.false, c.show_all-taken.ensures.most) in
+    let less : n < left = omega (arith, c.if-taken-left.false, c.show_all-taken.ensures.most) in
     c.is_ok.ensures ∙ ap is_ok c.load_byte.ensures
     ∙ readable_next image from n left (omega arith) (readable_whole image from n left (omega arith) few) less in
     let next = next_is h from left n image c.args.lines.now c.args.l c.is_ok.result image_same c.show_all-taken.ensures.taken can in
     let case = shows_case h c.args.l c.args.entry c.args.at c.args.count c.args.done n false false is (next ∙ c.if-is_ok.false)
-    (ne_eqb (c.args.done + n) c.args.count (λ e. omega (arith, e, within, c.if-taken-eq-left.false))) in
+    (ne_eqb (c.args.done + n) c.args.count (λ e. omega (arith, e, within, c.if-taken-left.false))) in
     shown_is h c.args.l from left n c.args.lines.now c.show_all-taken.new.lines image c.args.u.now lines_same image_same u_same c.show_all-taken.ensures.line
     ∙ ap (λ (d : Did). d.state) (sym case)
 
