@@ -336,7 +336,7 @@ typed_fine u seen l byte eight p = typed_for (system_at u seen) seen l byte eigh
 
 -- A line hangs up: a signal is sent, and sleepers wake.
 hung_apt : (u : Unix) (l : ℕ) (seen : Seen) → l < 8 → Paused (seats_of u) seen
-    → Apt (Paused (seats_of (record u { processes = all_signalled (has_line l) SIGHUP u.processes }))) seen
+    → Apt {W = Unix} (Paused (seats_of (record u { processes = all_signalled (has_line l) SIGHUP u.processes }))) seen
     (map Show (signal_lines SIGHUP (meant_in (has_line l) u.processes) ++ told l (flush (terminal_at u l))))
 unfolding Apt
 hung_apt u l seen few p =

@@ -202,4 +202,4 @@ module _ (s : ℕ) (seen : Seen) where
       by None = call_paused s (seats_of u) seen i out
       by (Some sig) =
           if_paused (handler_of (process_of u s).u sig == 0) (ends_by (heeds u s) s sig) (catches (heeds u s) s sig)
-          (ends_paused (heeds u s) sig (record { count = numbers.count; pipes = numbers.pipes }) (heeded s seen u i)) (caught_paused (heeds u s) sig (heeded s seen u i) out)
+          (ends_paused (heeds u s) sig (record { count = numbers.count; eight = numbers.eight; pipes = numbers.pipes }) (heeded s seen u i)) (caught_paused (heeds u s) sig (heeded s seen u i) out)
