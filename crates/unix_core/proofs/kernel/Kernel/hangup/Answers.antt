@@ -14,7 +14,7 @@ pub hangup-requires-clause-started : goal.hangup-requires-clause-started
 hangup-requires-clause-started g c = ap (λ (v : KernelState). v.phase) c.self.view_is ∙ c.requires.started
 
 pub returns-clause-phase : goal.returns-clause-phase
-returns-clause-phase g c = c.hangup.ensures.takes.phase
+returns-clause-phase g c = c.hangup.ensures.started
 
 pub returns-clause-next : goal.returns-clause-next
 returns-clause-next g c = c.hangup.ensures.takes.system ∙ ap (λ (k : KernelState). (settled_after (hangup_of k.system c.args.l)).next) c.self.view_is

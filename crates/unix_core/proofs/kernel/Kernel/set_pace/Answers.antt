@@ -14,7 +14,7 @@ pub set_pace-requires-clause-started : goal.set_pace-requires-clause-started
 set_pace-requires-clause-started g c = ap (λ (v : KernelState). v.phase) c.self.view_is ∙ c.requires.started
 
 pub returns-clause-phase : goal.returns-clause-phase
-returns-clause-phase g c = c.set_pace.ensures.takes.phase
+returns-clause-phase g c = c.set_pace.ensures.started
 
 pub returns-clause-next : goal.returns-clause-next
 returns-clause-next g c = c.set_pace.ensures.takes.system ∙ ap (λ (k : KernelState). (settled_after (paced_of k.system c.args.n)).next) c.self.view_is
