@@ -1,11 +1,12 @@
 -- One byte, or one line of the log, more in the trace over a host.
-use Rattle.std.proofs.Common.{◌≡◌, ℕ, Bool, true, false, ◌&&◌, is_some, List, [], ◌∷◌, ◌++◌, length, nat_le, refl, sym, ◌∙◌, ap, subst, append_assoc, take, drop, Result, Ok, Err, is_err, eqb, cond, arith}
+use Rattle.std.proofs.Common.{◌≡◌, ◌≢◌, ℕ, Bool, true, false, ◌&&◌, is_some, List, [], ◌∷◌, ◌++◌, length, nat_le, refl, sym, ◌∙◌, ap, subst, append_assoc, take, drop, Result, Ok, Err, is_err, eqb, eqb-true, cond, arith}
+use Rattle.std.proofs.lemmas.Bool.{ne_eqb}
 use Rattle.std.proofs.lemmas.List.{append-nil, take-append-drop}
 use Rattle.v6_base.specs.declared.entry.Entry.{Entry}
 use Rattle.v6_base.specs.LogLine.{entry_line}
 use Rattle.v6_base.specs.Trace as trace
 use Rattle.v6_base.specs.Trace.{Item, HoldsMore, Took, Appends, line_bytes, text_of}
-use Rattle.v6_base.proofs.Took.{holds_same}
+use Rattle.v6_base.proofs.Took.{holds_same, took_refused, took_whole}
 use Rattle.v6_port.specs.declared.host.Failed.{Failed}
 use Rattle.v6_port.specs.declared.host.OutPort.TheVariants as out_port
 use Rattle.v6_port.specs.Outside.{Out, same, PortState, Environment, Outside, Tells, OnlyAt}
@@ -13,7 +14,7 @@ use Rattle.v6_port.specs.Calls.{Writes}
 use Rattle.v6_run.specs.declared.ports.Kept.{Kept}
 use Rattle.v6_run.specs.declared.ports.Kept.TheVariants as kept
 use Rattle.v6_run.specs.declared.ports.TheConstants.{SCREEN_ROOM}
-use Rattle.v6_run.specs.Ports.{term, log_of, failed_port, is_silent, is_wanted, is_counted, kept_byte, kept_text, of_line_0, taken_of, shown_on, taken_by, screened}
+use Rattle.v6_run.specs.Ports.{term, log_of, failed_port, is_silent, is_wanted, is_counted, kept_byte, kept_text, of_line_0, tells_line_0, taken_of, shown_on, taken_by, screened}
 
 pub no_byte : (k : Kept) → is_some (failed_port k) ≡ false → kept_byte k ≡ []
 no_byte kept.Nothing goes = refl
@@ -69,17 +70,24 @@ both_told : (a b : Bool) → (a && b) ≡ true → b ≡ true
 both_told true b is = is
 both_told false b is = cc
 
+one_told : (a b : Bool) → (a && b) ≡ true → a ≡ true
+one_told true b is = refl
+one_told false b is = cc
+
 -- an item is taken, where none of it is lost
 module _ (old new : Outside) (before after : Kept) (item : Item) (was : is_wanted before ≡ true) (stays : is_wanted after ≡ true) (fixed : new.fixed ≡ old.fixed)
     (bytes : Tells old → (line : ℕ) → of_line_0 ((term new).bytes ++ kept_byte after) line ≡ of_line_0 ((term old).bytes ++ kept_byte before) line ++ line_bytes line (item ∷ []))
     (text : Tells old → (log_of new).bytes ++ kept_text after ≡ ((log_of old).bytes ++ kept_text before) ++ text_of (item ∷ [])) where
+  still_told : (is_wanted after && new.fixed.tells) ≡ (is_wanted before && old.fixed.tells)
+  still_told = ap (λ (f : Environment). is_wanted after && f.tells) fixed ∙ ap (λ w. w && old.fixed.tells) (stays ∙ sym was)
+
   holds_item : HoldsMore (taken_of old before) (item ∷ []) (taken_of new after)
   holds_item = record {
-    tells_bytes = ap (λ (f : Environment). is_wanted after && f.tells) fixed ∙ ap (λ w. w && old.fixed.tells) (stays ∙ sym was);
-    bytes = λ told. bytes (both_told (is_wanted before) old.fixed.tells told);
+    tells_bytes = λ line. ap (λ b. tells_line_0 b line) still_told;
+    bytes = λ line told. bytes (both_told (is_wanted before) old.fixed.tells (one_told _ _ told)) line;
     tells_entries = refl;
     entries = λ told. absurd (let no_entries : false ≡ true = told in cc);
-    tells_text = ap (λ (f : Environment). is_wanted after && f.tells) fixed ∙ ap (λ w. w && old.fixed.tells) (stays ∙ sym was);
+    tells_text = still_told;
     text = λ told. text (both_told (is_wanted before) old.fixed.tells told);
   }
 
@@ -107,8 +115,8 @@ took_while_cut o k item is_cut = record {
 -- and one of which nothing is wanted takes all, and tells nothing
 holds_unwanted : (o : Outside) (item : Item) → HoldsMore (taken_of o kept.Unwanted) (item ∷ []) (taken_of o kept.Unwanted)
 holds_unwanted o item = record {
-  tells_bytes = refl;
-  bytes = λ told. absurd (let untold : false ≡ true = told in cc);
+  tells_bytes = λ line. refl;
+  bytes = λ line told. absurd (let untold : false ≡ true = told in cc);
   tells_entries = refl;
   entries = λ told. absurd (let untold : false ≡ true = told in cc);
   tells_text = refl;
@@ -135,8 +143,8 @@ on_line line byte old new is = elim (eqb 0 line) as (λ b. (cond b new []) ≡ (
 -- A trace that counts takes a line of the log, and tells nothing of it.
 holds_uncounted : (bytes : List ℕ) (entry : Entry) → HoldsMore (shown_on bytes) (trace.Log entry ∷ []) (shown_on bytes)
 holds_uncounted bytes entry = record {
-  tells_bytes = refl;
-  bytes = λ told line. sym (append-nil (of_line_0 bytes line));
+  tells_bytes = λ line. refl;
+  bytes = λ line told. sym (append-nil (of_line_0 bytes line));
   tells_entries = refl;
   entries = λ told. absurd (let untold : false ≡ true = told in cc);
   tells_text = refl;
@@ -146,8 +154,8 @@ holds_uncounted bytes entry = record {
 -- and it takes a byte, where there is room
 holds_counted : (bytes : List ℕ) (byte : ℕ) → HoldsMore (shown_on bytes) (trace.Byte 0 byte ∷ []) (shown_on (bytes ++ byte ∷ []))
 holds_counted bytes byte = record {
-  tells_bytes = refl;
-  bytes = λ told line. on_line line byte bytes (bytes ++ byte ∷ []) refl;
+  tells_bytes = λ line. refl;
+  bytes = λ line told. on_line line byte bytes (bytes ++ byte ∷ []) refl;
   tells_entries = refl;
   entries = λ told. absurd (let untold : false ≡ true = told in cc);
   tells_text = refl;
@@ -219,6 +227,39 @@ module _ (o : Outside) (byte : ℕ) where
   byte_appended (kept.Line rest) silent = λ uncut. absurd (let never : true ≡ false = uncut in cc)
   byte_appended kept.Unwanted silent = λ uncut. holds_unwanted o (trace.Byte 0 byte)
   byte_appended (kept.Screen bytes) silent = appended_on (kept.Screen bytes) bytes.items _ refl
+
+-- A byte on another line than line 0 is none of what is told.
+module _ (line byte : ℕ) (other : line ≢ 0) where
+  unseen : (told_line : ℕ) → eqb 0 told_line ≡ true → line_bytes told_line (trace.Byte line byte ∷ []) ≡ []
+  unseen told_line first = subst (λ l. line_bytes l (trace.Byte line byte ∷ []) ≡ []) (eqb-true 0 told_line first) (ap (λ b. cond b (byte ∷ []) []) (ne_eqb line 0 other))
+
+  module _ (t : trace.Taken) (first : (l : ℕ) → t.tells_bytes l ≡ true → eqb 0 l ≡ true) where
+    holds_elsewhere : HoldsMore t (trace.Byte line byte ∷ []) t
+    holds_elsewhere = record {
+      tells_bytes = λ l. refl;
+      bytes = λ l told. sym (ap (λ bytes. t.bytes l ++ bytes) (unseen l (first l told)) ∙ append-nil (t.bytes l));
+      tells_entries = refl;
+      entries = λ told. sym (append-nil t.entries);
+      tells_text = refl;
+      text = λ told. sym (append-nil t.text);
+    }
+
+    took_by_cut : (is_cut : Bool) → t.cut ≡ is_cut → Took t (trace.Byte line byte ∷ []) t
+    took_by_cut true is = took_refused t (trace.Byte line byte ∷ []) is
+    took_by_cut false is = took_whole t t (trace.Byte line byte ∷ []) is holds_elsewhere
+
+  tells_first : (o : Outside) (k : Kept) (l : ℕ) → (taken_by o k).tells_bytes l ≡ true → eqb 0 l ≡ true
+  tells_first o kept.Nothing l told = both_told _ _ told
+  tells_first o (kept.Byte kept_byte) l told = both_told _ _ told
+  tells_first o (kept.Line rest) l told = both_told _ _ told
+  tells_first o kept.Unwanted l told = both_told _ _ told
+  tells_first o (kept.Screen bytes) l told = told
+
+  pub byte_elsewhere : (o : Outside) (k : Kept) → Took (taken_by o k) (trace.Byte line byte ∷ []) (taken_by o k)
+  byte_elsewhere o k = took_by_cut (taken_by o k) (tells_first o k) (taken_by o k).cut refl
+
+  pub elsewhere_appended : (o : Outside) (k : Kept) → Appends (taken_by o k) (trace.Byte line byte) (taken_by o k)
+  elsewhere_appended o k = λ uncut. holds_elsewhere (taken_by o k) (tells_first o k)
 
 -- the byte is written, or kept
 module _ (old new : Outside) (before after : Kept) (byte : ℕ) (was : is_wanted before ≡ true) (stays : is_wanted after ≡ true) (goes : is_some (failed_port before) ≡ false) (only : OnlyAt (same (Out out_port.Term)) old new)

@@ -1,5 +1,5 @@
 -- What a host's terminal and log have got of what a run shows.
-use Rattle.std.proofs.Common.{◌≡◌, ℕ, false, is_some, List, [], ◌++◌, length, nat_le, refl, sym, ◌∙◌, ap, subst, append_assoc}
+use Rattle.std.proofs.Common.{◌≡◌, ℕ, true, false, is_some, List, [], ◌++◌, length, nat_le, refl, sym, ◌∙◌, ap, subst, append_assoc}
 use Rattle.std.proofs.lemmas.List.{append-nil, append_cancel_left}
 use Rattle.v6_base.specs.Trace.{Item, Took, line_bytes, text_of}
 use Rattle.v6_base.proofs.Took.{line_bytes-append, text_of-append}
@@ -9,7 +9,7 @@ use Rattle.v6_run.specs.declared.ports.Kept.{Kept}
 use Rattle.v6_run.specs.declared.ports.Kept.TheVariants as kept
 use Rattle.v6_run.specs.declared.ports.Kept.TheVariants.{Nothing}
 use Rattle.v6_run.specs.declared.ports.TheConstants.{SCREEN_ROOM}
-use Rattle.v6_run.specs.Ports.{term, log_of, failed_port, kept_byte, kept_text, taken_of, taken_by, shown_on, is_counted, HasCounted, Extends, Goes, HasShown, HasShownFronts}
+use Rattle.v6_run.specs.Ports.{term, log_of, failed_port, kept_byte, kept_text, tells_line_0, taken_of, taken_by, shown_on, is_counted, HasCounted, Extends, Goes, HasShown, HasShownFronts}
 use Rattle.v6_run.proofs.PortLemmas.{no_byte, no_text, uncounted}
 
 -- What was written with what was kept is what was taken: so what was written is a front of it all.
@@ -29,8 +29,11 @@ all_written old new kept part rest all none whole taken split =
     sym (append-nil new) ∙ ap (λ l. new ++ l) (sym none) ∙ taken ∙ ap (λ l. old ++ l) (sym (append-nil part) ∙ ap (λ l. part ++ l) (sym whole) ∙ sym split)
 
 module _ (old new : Outside) (kept : Kept) (items : List Item) (took : Took (taken_of old Nothing) items (taken_of new kept)) (goes : Goes old Nothing new kept) (told : Tells old) where
+  one_line_told : Tells old → (tells_line_0 old.fixed.tells 0) ≡ true
+  one_line_told is = ap (λ b. tells_line_0 b 0) is
+
   taken_bytes : (term new).bytes ++ kept_byte kept ≡ (term old).bytes ++ line_bytes 0 took.part
-  taken_bytes = took.holds.bytes told 0 ∙ ap (λ l. l ++ line_bytes 0 took.part) (append-nil (term old).bytes)
+  taken_bytes = took.holds.bytes 0 (one_line_told told) ∙ ap (λ l. l ++ line_bytes 0 took.part) (append-nil (term old).bytes)
 
   taken_text : (log_of new).bytes ++ kept_text kept ≡ (log_of old).bytes ++ text_of took.part
   taken_text = took.holds.text told ∙ ap (λ l. l ++ text_of took.part) (append-nil (log_of old).bytes)

@@ -154,6 +154,30 @@ fn keep_line(kept: &mut Kept, line: &Line, count: usize)
     *kept = Kept::Line(rest_of(line, count));
 }
 
+impl<'a, H: Host> Ports<'a, H> {
+    ghost use Rattle.std.specs.Prelude.{◌∷◌, []};
+    ghost use Rattle.v6_base.specs.Trace.{Byte, Took, Appends};
+    ghost use Rattle.v6_run.specs.Ports.{taken_by, Goes};
+
+    /// Takes a byte of the terminal.
+    fn show(&mut self, byte: u8)
+        ensures took { Took (taken_by (H.outside self.old.host.now) self.old.kept) (Byte 0 byte ∷ [])
+            (taken_by (H.outside self.new.host.now) self.new.kept) }
+        ensures whole { Appends (taken_by (H.outside self.old.host.now) self.old.kept) (Byte 0 byte)
+            (taken_by (H.outside self.new.host.now) self.new.kept) }
+        ensures goes { Goes (H.outside self.old.host.now) self.old.kept (H.outside self.new.host.now) self.new.kept }
+        ensures same_reference { self.new.host.ghost_name ≡ self.old.host.ghost_name }
+    {
+        if self.is_silent() {
+            keep(&mut self.kept, byte);
+            return;
+        }
+        if self.host.write(OutPort::Term, &[byte]).is_err() {
+            keep_byte(&mut self.kept, byte);
+        }
+    }
+}
+
 impl<'a, H: Host> Trace for Ports<'a, H> {
     ghost use Rattle.std.proofs.Common.{refl, ◌∙◌};
     ghost use Rattle.v6_run.specs.Ports.{taken_by, Goes};
@@ -180,15 +204,8 @@ impl<'a, H: Host> Trace for Ports<'a, H> {
     }
 
     fn out_on(&mut self, line: u8, byte: u8) {
-        if line != 0 {
-            return;
-        }
-        if self.is_silent() {
-            keep(&mut self.kept, byte);
-            return;
-        }
-        if self.host.write(OutPort::Term, &[byte]).is_err() {
-            keep_byte(&mut self.kept, byte);
+        if line == 0 {
+            self.show(byte);
         }
     }
 }

@@ -2,7 +2,7 @@ use Rattle.std.proofs.Common.{sym, ◌∙◌, subst, [], ◌∷◌}
 use Rattle.v6_base.specs.Trace.{Byte, Took, Appends}
 use Rattle.v6_run.specs.Ports.{taken_by}
 use Rattle.v6_run.proofs.PortLemmas.{took_written, took_kept, byte_silently, byte_appended}
-use Rattle.v6_run.proofs.ports.PortsTrace.out.Goals as goal
+use Rattle.v6_run.proofs.ports.Ports.show.Goals as goal
 
 pub returns-then-is_silent-clause-took : goal.returns-then-is_silent-clause-took
 returns-then-is_silent-clause-took g c =
