@@ -249,10 +249,10 @@ module _ (line byte : ℕ) (other : line ≢ 0) where
     took_by_cut false is = took_whole t t (trace.Byte line byte ∷ []) is holds_elsewhere
 
   tells_first : (o : Outside) (k : Kept) (l : ℕ) → (taken_by o k).tells_bytes l ≡ true → eqb 0 l ≡ true
-  tells_first o kept.Nothing l told = both_told _ _ told
-  tells_first o (kept.Byte kept_byte) l told = both_told _ _ told
-  tells_first o (kept.Line rest) l told = both_told _ _ told
-  tells_first o kept.Unwanted l told = both_told _ _ told
+  tells_first o kept.Nothing l told = both_told (is_wanted kept.Nothing && o.fixed.tells) (eqb 0 l) told
+  tells_first o (kept.Byte kept_byte) l told = both_told (is_wanted (kept.Byte kept_byte) && o.fixed.tells) (eqb 0 l) told
+  tells_first o (kept.Line rest) l told = both_told (is_wanted (kept.Line rest) && o.fixed.tells) (eqb 0 l) told
+  tells_first o kept.Unwanted l told = both_told (is_wanted kept.Unwanted && o.fixed.tells) (eqb 0 l) told
   tells_first o (kept.Screen bytes) l told = told
 
   pub byte_elsewhere : (o : Outside) (k : Kept) → Took (taken_by o k) (trace.Byte line byte ∷ []) (taken_by o k)

@@ -28,7 +28,7 @@ pub run_counted-requires-clause-can : goal.run_counted-requires-clause-can
 run_counted-requires-clause-can g c =
     let kernel = c.in_ok-kernel.kernel in
     let image = c.in_ok-image.image.items in
-    let boots_is = subst (λ l. boots l DEMO_CORE ≡ Some kernel.system) c.deref.ensures.value c.in_ok-kernel.ensures.system in
+    let boots_is = subst (λ l. boots l DEMO_CORE 1 ≡ Some kernel.system) c.deref.ensures.value c.in_ok-kernel.ensures.system in
     subst (λ l. CanTake kernel.system l) (sym c.deref-2.ensures.value)
     (boot_can image DEMO_CORE kernel.system c.in_ok-script.script.events.items boots_is c.in_ok-script.ensures.slots c.in_ok-script.ensures.rates)
 
