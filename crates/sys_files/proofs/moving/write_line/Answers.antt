@@ -2,6 +2,7 @@ use Rattle.std.proofs.Common.{◌<◌, ◌≡◌, ◌≤◌, ◌+◌, ◌-◌, �
 use Rattle.std.specs.Result.{is_ok}
 use Rattle.std.proofs.lemmas.Bool.{eq-eqb, ne_eqb, le-ltb}
 use Rattle.v6_base.specs.Image.{Image}
+use Rattle.v6_base.specs.Access.{load_byte}
 use Rattle.v6_base.specs.Trace.{Item, Took, sent}
 use Rattle.v6_base.specs.declared.answer.Answer.TheVariants.{Ret}
 use Rattle.u_area.specs.declared.area.UArea.{UArea}
@@ -32,7 +33,15 @@ shown_is h l from left n lines new image u lines_same image_same u_same is =
     (λ i. record h { lines = is i; u = area i })
     ∙ sym (λ i. record h { lines = with_terminal (lines_same i) l (after_shown (terminal_at (lines_same i) l) (take n (readable (image_same i) from left))) })
 
--- whether the byte that comes next can be read
+-- whether the byte that comes next can be read, after those that were taken
+can_be_read : (t : Terminal) (image : Image) (from left n : ℕ) (b : Bool) → from < 65536 → n ≡ written t (readable image from left) → n < left
+    → b ≡ is_ok (load_byte image ((from + n) % 65536)) → b ≡ nat_lt n (length (readable image from left))
+can_be_read t image from left n b low is less asked =
+    let some = written_few t (readable image from left) in
+    let few : n ≤ length (readable image from left) = omega (arith, is, some) in
+    asked ∙ readable_next image from n left low (readable_whole image from n left low few) less
+
+-- the same to one who is handed the memory
 next_is : (h : Handed) (from left n : ℕ) (image : Image) (lines : List Terminal) (l : ℕ) (b : Bool) → h.image ≡ image
     → n ≡ written (terminal_at lines l) (readable image from left) → b ≡ nat_lt n (length (readable image from left))
     → nat_lt n (length (readable h.image from left)) ≡ b
@@ -92,12 +101,8 @@ returns-then-is_ok-clause-answer g c h lines_same u_same row_same image_same =
     let n : ℕ = c.show_all-taken.result in
     let within = c.requires.within in
     let is = count_is h c.args.l from left n c.args.lines.now image lines_same image_same c.show_all-taken.ensures.taken in
-    let can : c.is_ok.result ≡ nat_lt n (length (readable image from left)) =
-    let some = written_few (terminal_at c.args.lines.now c.args.l) (readable image from left) in
-    let few : n ≤ length (readable image from left) = omega (arith, c.show_all-taken.ensures.taken, some) in
-    let less : n < left = omega (arith, c.if-taken-left.false, c.show_all-taken.ensures.most) in
-    c.is_ok.ensures ∙ ap is_ok c.load_byte.ensures
-    ∙ readable_next image from n left (omega arith) (readable_whole image from n left (omega arith) few) less in
+    let can = can_be_read (terminal_at c.args.lines.now c.args.l) image from left n c.is_ok.result (omega arith) c.show_all-taken.ensures.taken
+    (omega (arith, c.if-taken-left.false, c.show_all-taken.ensures.most)) (c.is_ok.ensures.value ∙ ap is_ok c.load_byte.ensures) in
     let next = next_is h from left n image c.args.lines.now c.args.l c.is_ok.result image_same c.show_all-taken.ensures.taken can in
     let case = shows_case h c.args.l c.args.entry c.args.at c.args.count c.args.done n true (c.args.done + n == c.args.count) is (next ∙ c.if-is_ok.true) refl in
     let bytes : List ℕ = readable h.image from left in
@@ -112,12 +117,8 @@ returns-then-is_ok-clause-state g c h lines_same u_same row_same image_same =
     let n : ℕ = c.show_all-taken.result in
     let within = c.requires.within in
     let is = count_is h c.args.l from left n c.args.lines.now image lines_same image_same c.show_all-taken.ensures.taken in
-    let can : c.is_ok.result ≡ nat_lt n (length (readable image from left)) =
-    let some = written_few (terminal_at c.args.lines.now c.args.l) (readable image from left) in
-    let few : n ≤ length (readable image from left) = omega (arith, c.show_all-taken.ensures.taken, some) in
-    let less : n < left = omega (arith, c.if-taken-left.false, c.show_all-taken.ensures.most) in
-    c.is_ok.ensures ∙ ap is_ok c.load_byte.ensures
-    ∙ readable_next image from n left (omega arith) (readable_whole image from n left (omega arith) few) less in
+    let can = can_be_read (terminal_at c.args.lines.now c.args.l) image from left n c.is_ok.result (omega arith) c.show_all-taken.ensures.taken
+    (omega (arith, c.if-taken-left.false, c.show_all-taken.ensures.most)) (c.is_ok.ensures.value ∙ ap is_ok c.load_byte.ensures) in
     let next = next_is h from left n image c.args.lines.now c.args.l c.is_ok.result image_same c.show_all-taken.ensures.taken can in
     let case = shows_case h c.args.l c.args.entry c.args.at c.args.count c.args.done n true (c.args.done + n == c.args.count) is (next ∙ c.if-is_ok.true) refl in
     let bytes : List ℕ = readable h.image from left in
@@ -140,12 +141,8 @@ returns-clause-answer g c h lines_same u_same row_same image_same =
     let n : ℕ = c.show_all-taken.result in
     let within = c.requires.within in
     let is = count_is h c.args.l from left n c.args.lines.now image lines_same image_same c.show_all-taken.ensures.taken in
-    let can : c.is_ok.result ≡ nat_lt n (length (readable image from left)) =
-    let some = written_few (terminal_at c.args.lines.now c.args.l) (readable image from left) in
-    let few : n ≤ length (readable image from left) = omega (arith, c.show_all-taken.ensures.taken, some) in
-    let less : n < left = omega (arith, c.if-taken-left.false, c.show_all-taken.ensures.most) in
-    c.is_ok.ensures ∙ ap is_ok c.load_byte.ensures
-    ∙ readable_next image from n left (omega arith) (readable_whole image from n left (omega arith) few) less in
+    let can = can_be_read (terminal_at c.args.lines.now c.args.l) image from left n c.is_ok.result (omega arith) c.show_all-taken.ensures.taken
+    (omega (arith, c.if-taken-left.false, c.show_all-taken.ensures.most)) (c.is_ok.ensures.value ∙ ap is_ok c.load_byte.ensures) in
     let next = next_is h from left n image c.args.lines.now c.args.l c.is_ok.result image_same c.show_all-taken.ensures.taken can in
     let case = shows_case h c.args.l c.args.entry c.args.at c.args.count c.args.done n false false is (next ∙ c.if-is_ok.false)
     (ne_eqb (c.args.done + n) c.args.count (λ e. omega (arith, e, within, c.if-taken-left.false))) in
@@ -159,12 +156,8 @@ returns-clause-state g c h lines_same u_same row_same image_same =
     let n : ℕ = c.show_all-taken.result in
     let within = c.requires.within in
     let is = count_is h c.args.l from left n c.args.lines.now image lines_same image_same c.show_all-taken.ensures.taken in
-    let can : c.is_ok.result ≡ nat_lt n (length (readable image from left)) =
-    let some = written_few (terminal_at c.args.lines.now c.args.l) (readable image from left) in
-    let few : n ≤ length (readable image from left) = omega (arith, c.show_all-taken.ensures.taken, some) in
-    let less : n < left = omega (arith, c.if-taken-left.false, c.show_all-taken.ensures.most) in
-    c.is_ok.ensures ∙ ap is_ok c.load_byte.ensures
-    ∙ readable_next image from n left (omega arith) (readable_whole image from n left (omega arith) few) less in
+    let can = can_be_read (terminal_at c.args.lines.now c.args.l) image from left n c.is_ok.result (omega arith) c.show_all-taken.ensures.taken
+    (omega (arith, c.if-taken-left.false, c.show_all-taken.ensures.most)) (c.is_ok.ensures.value ∙ ap is_ok c.load_byte.ensures) in
     let next = next_is h from left n image c.args.lines.now c.args.l c.is_ok.result image_same c.show_all-taken.ensures.taken can in
     let case = shows_case h c.args.l c.args.entry c.args.at c.args.count c.args.done n false false is (next ∙ c.if-is_ok.false)
     (ne_eqb (c.args.done + n) c.args.count (λ e. omega (arith, e, within, c.if-taken-left.false))) in
