@@ -50,7 +50,7 @@ class Script:
         found, slots = collections.Counter(ticks_of(self.data)), 0
         for line, count in self.lines:
             slots += count or 0
-            if line.startswith((b"type", b"byte")):
+            if line.startswith((b"type", b"byte", b"pace", b"hangup")):
                 found[slots] = 0
         return found
 

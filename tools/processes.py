@@ -12,7 +12,7 @@ SLEEPS = "sleeps"  # nobody can run, nobody waits for a key, and somebody sleeps
 RUNS = "runs"  # somebody runs, and nobody waits for a key
 OVER = "over"  # nobody can run, and no key and no tick changes that
 KEYS, TIME = b"keys", b"tout"
-DISK = "disk."  # begins the channel of a process that waits for the disk, behind it the slot of the process
+BY_SLOTS = ("disk.", "show")  # begin the channels of who is woken by a slot: who waits for the disk, or to write under a pace
 MOST_NUMBER = 32767
 CLICK, U_AREA, STACK = 64, 16, 20  # bytes, and the clicks that exec(II) gives to these
 DOES = {"keys": "reads the terminal", "show": "writes on the terminal", "tout": "sleeps for a time", "wait": "waits for a child",
@@ -112,7 +112,7 @@ class Processes:
 
     def state(self):
         readers = self.sleepers(KEYS)
-        is_idle = self.idle and not any(one.does.startswith(DISK) for one in self.slots.values())  # a slot ends a wait for the disk
+        is_idle = self.idle and not any(one.does.startswith(BY_SLOTS) for one in self.slots.values())
         if readers:
             return WAITS if is_idle or self.woken <= readers else BUSY
         if not is_idle:

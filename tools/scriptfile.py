@@ -8,7 +8,8 @@ from files import read_bytes
 MOST = 1048576  # bytes of a script
 COUNT = re.compile(rb"(clock|run) ([0-9]{1,9})")
 HEADER = re.compile(rb"; console: image sha256 ([0-9a-f]{64}) core ([0-9]{1,9})")  # the first line of one of the console
-OTHER = re.compile(rb"tick|type(?: [\x20-\x7e]*)?|byte [0-3][0-7]{2}|switch [01][0-7]{5}|disk [0-9]{1,9}|(?:;.*)?", re.DOTALL)
+OTHER = re.compile(rb"tick|type(?: [\x20-\x7e]*)?|byte [0-3][0-7]{2}|switch [01][0-7]{5}|(?:disk|pace) [0-9]{1,9}|"
+                   rb"(?:line|hangup) [0-7]|(?:;.*)?", re.DOTALL)
 
 
 FAULT = re.compile(r"(script: line|script: too many slots at line) ([0-9]+)")  # as the program tells one

@@ -65,7 +65,9 @@ def channel(name, own):
     kind, _, number = name.partition(".")
     if kind == "wait":
         return "for a child" if number == own else f"for a child in slot {number}"
-    return CHANNELS.get(kind) or f"for {'bytes' if kind == 'read' else 'room'} in the pipe of inode {number}"
+    if kind in CHANNELS:
+        return CHANNELS[kind] + (f" of line {number}" if number else "")
+    return "for the disk" if kind == "disk" else f"for {'bytes' if kind == 'read' else 'room'} in the pipe of inode {number}"
 
 
 def shared(turn):

@@ -2,6 +2,7 @@
 asked for by the program's command `memory`. Where the two differ, that is said: see docs/tools/look.md."""
 import bisect
 import copy
+import math
 
 from dataclasses import dataclass
 
@@ -15,6 +16,7 @@ NEAR = 20_000  # slots of other processes that are gone through, and
 FEW = 12  # turns in the kernel of theirs, before it is asked when the one that is looked for runs again
 ANSWERS = {"read": (1, None), "stat": (1, 36), "fstat": (1, 36), "gtty": (1, 6), "times": (0, 12)}  # which argument of a call says where
 # it writes, and how many bytes; those of a read are its count
+BY_SLOTS = ("wake disk.", "wake show")  # begin lines that may come with the end of a slot
 CHANGES = {"image", "size", "signal", "bare"}  # lines of a turn after which more has changed than a call's answer
 
 
@@ -118,6 +120,7 @@ class Walk:
             return self.jump(limit)
         place = bisect.bisect_right(self.pauses, self.at)
         stop = min(limit, self.pauses[place]) if place < len(self.pauses) else limit
+        stop = min(stop, self.due())
         slot = self.table.running
         if slot is None:
             self.at = stop
@@ -132,6 +135,8 @@ class Walk:
                 return self.jump(limit)
         else:
             self.turn(slot)
+        if self.due() == self.at:
+            self.wakes()
         if self.at in self.events:
             self.pause()
 
@@ -176,6 +181,17 @@ class Walk:
         """The word of the next line, or nothing."""
         return self.lines[self.line].partition(" ")[0] if self.line < len(self.lines) else ""
 
+    def due(self):
+        """The slot with whose end the next line of the log has come by itself; never, where it is another line."""
+        is_wake = self.line < len(self.lines) and self.lines[self.line].startswith(BY_SLOTS)
+        return self.history.slot_of_line(self.line) if is_wake else math.inf
+
+    def wakes(self):
+        """What has come with the end of a slot by itself, and the choice behind it or behind a turn."""
+        while self.next() == "wake" and self.due() == self.at:
+            self.take()
+        self.choice()
+
     def choice(self):
         if self.next() in ("go", "idle"):
             self.take()
@@ -193,7 +209,7 @@ class Walk:
             raise self.differs(f"no line of the log tells of the call that process {row.number} makes")
         while words[0] == "exit" and self.next() == "wake":
             self.take()
-        self.choice()
+        self.wakes()
         told = {line.partition(" ")[0] for line in self.lines[first : self.line]}
         self.done(slot, old, was, words[0], told)
 

@@ -94,6 +94,8 @@ LOGS = (
     ("sleep 1 10 keys\nidle\nwake keys\ngo 1\n", "runs"),
     ("exit 1 swap 4000\nidle\n", "over"),
     ("sleep 1 -50 disk.1\nidle\n", "runs"),  # slots go on, and end the wait
+    ("sleep 1 20 show\nidle\n", "runs"),
+    ("sleep 1 20 show\nidle\nwake show\ngo 1\nsleep 1 10 keys\nidle\n", "waits"),
     ("sleep 1 10 keys\nidle\nwake keys\ngo 1\nsleep 1 -50 disk.1\nidle\n", "runs"),
     ("sleep 1 10 keys\nwake keys\nidle\n", "over"),
     ("sleep 1 10 keys\nsignal 1 2\nidle\n", "over"),
