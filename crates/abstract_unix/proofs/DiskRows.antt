@@ -1,5 +1,5 @@
 -- No row of a call on files leaves a wait for the disk.
-use Rattle.std.proofs.Common.{◌≡◌, ◌⊎◌, ◌∙◌, ◌==◌, ℕ, true, List, refl, inl, inr, arith}
+use Rattle.std.proofs.Common.{◌≡◌, ℕ, true, List, refl, inl, inr, arith}
 use Rattle.u_area.specs.declared.layout.TheConstants.{NOTHING_PENDING, LINE_READ, LINE_WRITE, DISK_WAIT}
 use Rattle.u_area.specs.Pending.{is_on_files, IsPipeCall}
 use Rattle.sys_files.specs.Handed.{Handed}

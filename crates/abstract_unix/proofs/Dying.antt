@@ -12,7 +12,6 @@ use Rattle.fs_tree.specs.Finding.{put_back}
 use Rattle.sys_files.specs.Handed.{Handed}
 use Rattle.sys_files.specs.Descriptors.{Closing, released, dropped, closes, then_closes, close_all}
 use Rattle.sys_files.specs.Descriptors as closing
-use Rattle.std.specs.List.{range_with_len}
 use Rattle.sys_files.proofs.ReleasedLemmas.{released_still, released_last}
 use Rattle.sys_files.proofs.ClosingLemmas.{closed_below, below_more, below_all}
 use Rattle.sys_procs.specs.Process.{Process}

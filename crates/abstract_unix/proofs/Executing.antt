@@ -23,9 +23,8 @@ use Rattle.pick_rules.specs.Effects.{lifted, came}
 use Rattle.pick_rules.specs.Effects as effect
 use Rattle.pick_rules.specs.Fits.{IsSize}
 use Rattle.pick_rules.specs.Lawful.{Seen, seen_after}
-use Rattle.pick_rules.proofs.Shapes.{shape_at}
 use Rattle.log_laws.proofs.Fitting.{Apt}
-use Rattle.log_laws.proofs.Seats.{Seat, Seats, Same, InCall, own}
+use Rattle.log_laws.proofs.Seats.{Seat, Seats, InCall}
 use Rattle.log_laws.proofs.Deaths.{with_own}
 use Rattle.log_laws.proofs.Images.{sized, size_apt, with_text_of, InExec, bare_fits, bare_in, share_apt, text_apt, image_apt}
 use Rattle.log_laws.proofs.Users.{joined_users, free_users}

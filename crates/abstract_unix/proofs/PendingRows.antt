@@ -9,14 +9,12 @@ use Rattle.u_area.specs.declared.layout.TheConstants.{NOTHING_PENDING, LINE_READ
 use Rattle.u_area.specs.declared.area.UArea.{UArea}
 use Rattle.u_area.specs.Pending.{is_on_files, IsLineCall, IsPipeCall, IsFileCall}
 use Rattle.u_area.proofs.PendingLemmas.{on_files_cases, on_pipe}
-use Rattle.pipe_ends.specs.Writes.{waits}
 use Rattle.sys_files.specs.Handed.{Handed, no_file}
 use Rattle.sys_files.specs.Did.{Did, fails}
 use Rattle.sys_files.specs.Core.{core_file}
 use Rattle.sys_files.specs.Descriptors.{close_all}
 use Rattle.sys_files.specs.Moving.{resumes}
 use Rattle.abstract_unix.specs.declared.calls.FileCall.{FileCall}
-use Rattle.abstract_unix.specs.declared.calls.FileCall.TheVariants as file
 use Rattle.abstract_unix.specs.Calls.{file_row}
 use Rattle.abstract_unix.proofs.FileRows.{walk_row}
 use Rattle.sys_files.proofs.Walks.{Walks, IsCalling, IsAwaiting, CanResume, walk_closes, walk_resume, closes_all}

@@ -1,6 +1,6 @@
 -- What a call on processes leaves of the number of nodes, and of what the counts see of processes: the numbers of each, and its
 -- directory.
-use Rattle.std.proofs.Common.{◌≡◌, ◌≢◌, ◌∙◌, ◌<◌, ◌==◌, ◌&&◌, ℕ, not, Bool, true, false, cond, List, [], length, get_or, get_or-set_same, set, set-set, map, Option, Some, None, option_map, unwrap_or, is_none, Result, Ok, Err, slice_index, bit_and, refl, sym, ap, arith}
+use Rattle.std.proofs.Common.{◌≡◌, ◌≢◌, ◌∙◌, ◌<◌, ◌==◌, ◌&&◌, ℕ, not, Bool, true, false, cond, List, [], length, get_or, get_or-set_same, set, set-set, map, Option, Some, None, unwrap_or, is_none, Result, Ok, Err, slice_index, bit_and, refl, sym, ap, arith}
 use Rattle.std.proofs.lemmas.List.{length-map, length-set, map-set, set-get_or, get_or-set_other}
 use Rattle.std.proofs.lemmas.List.FromFn.{get_or-map-range_with_len, length-map-range_with_len}
 use Rattle.std.proofs.Math.ListN.{get_or-map}
@@ -17,7 +17,7 @@ use Rattle.sys_procs.specs.Comes.{Comes, does, logs}
 use Rattle.sys_procs.specs.Tests.{must, user_of, node_at}
 use Rattle.v6_base.specs.declared.entry.Entry.TheVariants.{Bare}
 use Rattle.pick_rules.specs.Effects as effect
-use Rattle.sys_procs.specs.Break.{sized, break_at, expands, grown_or_not}
+use Rattle.sys_procs.specs.Break.{sized, break_at, expands}
 use Rattle.sys_procs.specs.Signals.{signalled, signalled_if, all_signalled, is_reached, meant_in, kill_to}
 use Rattle.sys_procs.specs.TextTable.{text_of, with_text, entry_of}
 use Rattle.sys_procs.specs.Texts.{goes, remaining, with_user, free_entry, new_text, without_text, with_entry, leaves_text, is_sticky, shares_text, makes_text, xalloc_by, xfree}
