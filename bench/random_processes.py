@@ -466,8 +466,8 @@ class Operator(Typist):
 
     def line(self):
         kinds = ((self.runs, 10), (self.types_and_runs, 5), (self.types, 2), (self.bytes, 1), (self.ends_file, 2),
-                 (self.ticks, 3), (self.ticks_and_runs, 3), (self.clock, 4), (self.disk, 3), (self.pace, 4), (self.lines, 1),
-                 (self.switch, 1), (self.remark, 1))
+                 (self.ticks, 3), (self.ticks_and_runs, 3), (self.clock, 4), (self.disk, 3), (self.pace, 4),
+                 (self.chooses_line, 1), (self.switch, 1), (self.remark, 1))
         self.rng.choices([kind for kind, _ in kinds], [weight for _, weight in kinds])[0]()
 
 

@@ -12,9 +12,9 @@ NO_LINES = (
     b"walk", b"run", b"run ", b"run 1234567890", b"run  5", b" run 5", b"run 5 ", b"run -1", b"Run 5", b"run 5\r",
     b"run\t5", b"run 5;", b"tick ", b"tick 1", b"ticks", b"clock", b"clock ", b"clock 1x", b"byte 08", b"byte 400",
     b"byte 7", b"byte 0101", b"byte 018", b"switch 1", b"switch 200000", b"switch 17777", b"switch 1777777", b"typed",
-    b"type a\tb", b"type \x7f", b"type \x80", b"type a\r", b"\t", b" ", b"\r", b"\0", b"hangup", b"disk", b"disk ", b"disk 1234567890", b"disk 3 ", b"line",
-    b"pace", b"pace ", b"pace 1234567890", b"pace -1", b"pace 1 2", b"line 8", b"line 00", b"line 1 ", b"hangup 9", b"hangup 0 0",
-    b"; " + b"x" * 299, b"type " + b"x" * 296)
+    b"type a\tb", b"type \x7f", b"type \x80", b"type a\r", b"\t", b" ", b"\r", b"\0", b"hangup", b"disk", b"disk ",
+    b"disk 1234567890", b"disk 3 ", b"line", b"pace", b"pace ", b"pace 1234567890", b"pace -1", b"pace 1 2", b"line 8",
+    b"line 00", b"line 1 ", b"hangup 9", b"hangup 0 0", b"; " + b"x" * 299, b"type " + b"x" * 296)
 
 
 class Script:
@@ -112,7 +112,7 @@ class Typist:
         """A pace, which is mostly turned off or changed some time later."""
         self.put(b"pace %d" % self.rng.choice((0, 0, 1, 1, 1, 2, 3, 7, 20, 100)))
 
-    def lines(self):
+    def chooses_line(self):
         """What is typed on a line, or on the console once more; or a hangup. Most disks have the console alone."""
         if self.rng.random() < 0.3:
             self.put(b"hangup %d" % self.rng.choice((0, 0, 0, 1, 3, 7)))
@@ -129,7 +129,7 @@ class Typist:
     def line(self):
         kinds = ((self.runs, 8), (self.types_and_runs, 14), (self.types, 6), (self.types_nothing, 2), (self.bytes, 5),
                  (self.ends_file, 3), (self.escapes, 3), (self.fills, 1), (self.types_much, 1), (self.ticks, 2),
-                 (self.clock, 3), (self.disk, 2), (self.pace, 3), (self.lines, 1), (self.switch, 1), (self.remark, 2))
+                 (self.clock, 3), (self.disk, 2), (self.pace, 3), (self.chooses_line, 1), (self.switch, 1), (self.remark, 2))
         self.rng.choices([kind for kind, _ in kinds], [weight for _, weight in kinds])[0]()
 
     def fault(self):
