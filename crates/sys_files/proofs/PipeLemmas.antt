@@ -13,8 +13,7 @@ use Rattle.std.proofs.lemmas.List.Edits.{length-remove, get_or-remove_below, get
 use Rattle.std.proofs.lemmas.List.Folds.{Any-from_list_any, list_any_at, position_or_len-set}
 use Rattle.std.proofs.lemmas.List.Sums.{passes_at_first, fails_before_first, position_or_len_is, count_by-le-length}
 use Rattle.open_files.specs.declared.file.OpenFile.{OpenFile}
-use Rattle.open_files.specs.Files.{file_at, changed, with_change, with_more, times, shared}
-use Rattle.open_files.proofs.FilesLemmas.{shared_at}
+use Rattle.open_files.specs.Files.{file_at, changed, with_change}
 use Rattle.pipe_ends.specs.declared.ends.Pipe.{Pipe}
 use Rattle.sys_files.specs.Pipes.{new_pipe, place_of, pipe_of, with_pipe, without_pipe, is_end_of, has_end, ArePipes}
 use Rattle.sys_files.proofs.OwedLemmas.{used_low, count_changed}

@@ -1,5 +1,5 @@
 -- What a number that lets its file go changes: the pipes, a terminal line, and a reference to the inode.
-use Rattle.std.proofs.Common.{◌≡◌, ◌⊎◌, ℕ, Bool, true, false, not, ◌<◌, ◌==◌, ◌&&◌, List, [], ◌∷◌, length, cond, Option, Some, None, slice_set, refl, ap, ◌∙◌, subst, sym, inl, inr}
+use Rattle.std.proofs.Common.{◌≡◌, ◌⊎◌, ℕ, Bool, true, false, not, ◌<◌, ◌==◌, ◌&&◌, List, [], length, cond, Option, Some, None, slice_set, refl, ap, ◌∙◌, subst, sym, inl, inr}
 use Rattle.open_files.specs.declared.file.OpenFile.{OpenFile}
 use Rattle.open_files.specs.declared.file.Closed.TheVariants.{Still, Last}
 use Rattle.open_files.specs.Files.{file_at, with_fewer, closed}

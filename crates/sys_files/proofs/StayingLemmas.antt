@@ -8,8 +8,7 @@ use Rattle.std.proofs.lemmas.Bool.{cases_eq}
 use Rattle.std.proofs.lemmas.Option.{same_Some}
 use Rattle.std.proofs.lemmas.List.{get_or-set_same}
 use Rattle.open_files.specs.declared.file.OpenFile.{OpenFile}
-use Rattle.open_files.specs.Files.{file_at, times, changed, with_change, with_more, shared}
-use Rattle.open_files.proofs.FilesLemmas.{shared_at}
+use Rattle.open_files.specs.Files.{file_at, times, changed, with_change}
 use Rattle.sys_files.specs.Sound.{StaysOpen, numbers_of}
 use Rattle.sys_files.proofs.OwedLemmas.{used_low}
 use Rattle.sys_files.proofs.PipeLemmas.{set_other, free_other}
