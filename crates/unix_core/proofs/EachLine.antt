@@ -172,7 +172,7 @@ called_first call lines t start good = record {
   items = took_nothing start [] refl;
 }
 
--- as long as there are lines, the table keeps its size
+-- a line that has been called is still there
 pub called_length : {call : Terminal → Said} {k : ℕ} {old new : List Terminal} {first now : Table} {any : Bool} {start end : Taken}
     → HasCalled call k old new first now any start end → k ≤ length old → length new ≡ length old
 called_length {call} {k} {old} {new} was low =
@@ -250,9 +250,9 @@ module _ {call : Terminal → Said} {k : ℕ} {old mid : List Terminal} {first n
   pub called_next : (new : List Terminal) → new ≡ with_terminal mid k (call (terminal_at mid k)).terminal
       → (show : Bool) → show ≡ (call (terminal_at mid k)).show → (chan : Chan) → chan ≡ show_of k
       → (t : Table) → t ≡ called_table show chan now → IsTable t → (b c : Taken) → Took a (sent k (call (terminal_at mid k)).shown) b
-      → ((board : Board) → Took b (logged {W = Unix} board (wakes show chan)).items c)
-      → HasCalled call (k + 1) old new first t (any || show) start c
-  called_next new new_is show show_is chan chan_is t table good b c shown woken =
+      → ((board : Board) → Took b (logged {W = Unix} board (wakes show chan)).items c) → (either : Bool) → either ≡ (any || show)
+      → HasCalled call (k + 1) old new first t either start c
+  called_next new new_is show show_is chan chan_is t table good b c shown woken either either_is =
       let shows : show ≡ (call own).show = show_is ∙ ap (λ x. (call x).show) own_is in
       let bytes : Took a (sent k (call own).shown) b = subst (λ x. Took a (sent k (call x).shown) b) own_is shown in
       let told : wakes_if show chan ≡ wakes_if (call own).show (show_of k) = (λ i. wakes_if (shows i) (chan_is i)) in
@@ -268,8 +268,8 @@ module _ {call : Terminal → Said} {k : ℕ} {old mid : List Terminal} {first n
             ∙ ap (all_woken first) (sym (entries_of-append all (one_told call k own)))
             ∙ ap (λ (x : AllTold). all_woken first (entries_of x.items)) (sym next_is);
         good = good;
-        wakes = (λ i. was.wakes i || shows i) ∙ ap (λ (x : AllTold). x.wakes) (sym next_is);
-        same = λ none. table ∙ ap (λ x. called_table x chan now) (second_no any show none) ∙ was.same (first_no any show none);
+        wakes = either_is ∙ (λ i. was.wakes i || shows i) ∙ ap (λ (x : AllTold). x.wakes) (sym next_is);
+        same = λ none. table ∙ ap (λ x. called_table x chan now) (second_no any show (sym either_is ∙ none)) ∙ was.same (first_no any show (sym either_is ∙ none));
         items = took_then start a c all (one_told call k own) (below call (k + 1) old).items was.items
             (took_more a b c (sent k (call own).shown) (wakes_if (call own).show (show_of k)) bytes wake)
             (ap (λ (x : AllTold). x.items) (sym next_is));

@@ -385,7 +385,7 @@ module _ (m : System) (r : ℕ) where
       let shown : List Item = sent l k.shown ++ key_lines l k.keyed m.unix in
       let keys : List (Effect Unix) = wakes (calls k.keyed) (keys_of l) in
       let room : List (Effect Unix) = wakes (calls_show k.keyed) (show_of l) in
-      left_carried (HasSpared before r) m.board (map Show shown ++ keys ++ room) (with_key l k.keyed (with_terminal m.unix l k.terminal))
+      left_carried (HasSpared before r) m.board (map Show shown ++ (keys ++ room)) (with_key l k.keyed (with_terminal m.unix l k.terminal))
       (carry_both (HasSpared before r) (map Show shown) (keys ++ room) (carry_shown (HasSpared before r) shown)
       (carry_both (HasSpared before r) keys room (carry_wakes (HasSpared before r) (calls k.keyed) (keys_of l))
       (carry_wakes (HasSpared before r) (calls_show k.keyed) (show_of l))))

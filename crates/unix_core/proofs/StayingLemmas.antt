@@ -399,7 +399,7 @@ module _ (m : System) (k : ℕ) where
       let shown : List Item = sent l t.shown ++ key_lines l t.keyed m.unix in
       let keys : List (Effect Unix) = wakes (calls t.keyed) (keys_of l) in
       let room : List (Effect Unix) = wakes (calls_show t.keyed) (show_of l) in
-      left_carried HasStayed m.board (map Show shown ++ keys ++ room) (with_key l t.keyed (with_terminal m.unix l t.terminal))
+      left_carried HasStayed m.board (map Show shown ++ (keys ++ room)) (with_key l t.keyed (with_terminal m.unix l t.terminal))
       (carry_both HasStayed (map Show shown) (keys ++ room) (carry_shown HasStayed shown)
       (carry_both HasStayed keys room (carry_wakes HasStayed (calls t.keyed) (keys_of l)) (carry_wakes HasStayed (calls_show t.keyed) (show_of l))))
       (stays_key l t.keyed (with_terminal m.unix l t.terminal) refl)

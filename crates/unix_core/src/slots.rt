@@ -309,6 +309,13 @@ fn wake_disks<T: Trace>(procs: &mut Procs, passed: u32, trace: &mut T) -> Woken
     woken
 }
 
+/// Whether one of the two is so.
+fn either(a: bool, b: bool) -> bool
+    ensures { result ≡ (a || b) }
+{
+    a || b
+}
+
 /// The lines send, the lowest first, and after each who waits for room on it is woken, where that is called for. Tells whether anybody
 /// is.
 fn send_lines<T: Trace>(lines: &mut Lines, table: &mut Table, trace: &mut T) -> bool
@@ -325,7 +332,7 @@ fn send_lines<T: Trace>(lines: &mut Lines, table: &mut Table, trace: &mut T) -> 
     for l in 0..lines.count() {
         let show = lines.send(l, trace);
         wake(table, show, show_of(l), trace);
-        any = any || show;
+        any = either(any, show);
     }
     any
 }
@@ -346,7 +353,7 @@ fn turn_lines<T: Trace>(lines: &mut Lines, on: bool, table: &mut Table, trace: &
     for l in 0..lines.count() {
         let show = lines.set_pace(l, on, trace);
         wake(table, show, show_of(l), trace);
-        any = any || show;
+        any = either(any, show);
     }
     any
 }
@@ -456,7 +463,7 @@ pub(crate) fn reach<T: Trace>(world: &mut World, trace: &mut T) -> bool
     world.slots.due = woken.next;
     world.slots.left = woken.next - passed;
     let sent = send_after(world, passed, trace);
-    woken.any || sent
+    either(woken.any, sent)
 }
 
 /// Counts a slot that has been taken, wakes who has waited for the disk up to its end, and lets the lines send where they do with its

@@ -1,4 +1,4 @@
-use Rattle.std.proofs.Common.{◌≡◌, ◌∙◌, sym, ap, arith}
+use Rattle.std.proofs.Common.{◌∙◌, sym, ap, arith}
 use Rattle.sys_procs.specs.declared.procs.Procs.{Procs}
 use Rattle.unix_core.specs.declared.world.World.{World}
 use Rattle.unix_core.proofs.SlotWorlds.{reach_good, reach_passed, reach_set, sent_unix, sent_board, sent_any, sent_took, sent_counted, none_woken}
@@ -58,7 +58,8 @@ pub returns-clause-any : goal.returns-clause-any
 returns-clause-any g c =
     let w : World = c.args.world.now in
     let e = c.wake_disks-woken.ensures in
-    sent_any w c.requires.left c.requires.good c.requires.counted c.wake_disks-woken.new.procs e.others e.agree e.running e.clock
+    c.either.ensures
+    ∙ sent_any w c.requires.left c.requires.good c.requires.counted c.wake_disks-woken.new.procs e.others e.agree e.running e.clock
     c.wake_disks-woken.result.next e.next c.send_after-sent.new.world c.send_after-sent.ensures.unix _ _ e.any
     c.send_after-sent.ensures.any
 
@@ -87,7 +88,7 @@ returns-clause-others g c =
 
 pub returns-clause-same : goal.returns-clause-same
 returns-clause-same g c none =
-    let both = none_woken c.wake_disks-woken.result.any c.send_after-sent.result none in
+    let both = none_woken c.wake_disks-woken.result.any c.send_after-sent.result (sym c.either.ensures ∙ none) in
     c.send_after-sent.ensures.same both.1 ∙ c.wake_disks-woken.ensures.same both.0
 
 pub returns-clause-items : goal.returns-clause-items

@@ -88,7 +88,7 @@ here w passed behind at back none some =
     sends_now (unix_of w).timing some (ap (λ p. (p - w.slots.set_at) % w.slots.pace) at ∙ sym back ∙ none)
 
 pub send_lines-requires : goal.send_lines-requires
-send_lines-requires g c = c.requires.good.agree.table
+send_lines-requires g c = record { table = c.requires.good.agree.table }
 
 pub returns-clause-unix : goal.returns-clause-unix
 returns-clause-unix g c =

@@ -16,18 +16,18 @@ loop-l-init g c = record {
 pub send-show-requires : goal.send-show-requires
 send-show-requires g c =
     let long = called_length c.loop-l.invariant.called c.loop-l.invariant.low in
-    omega (arith, long, c.loop-l-test.true, c.count.ensures.count)
+    omega (arith, long, c.loop-l-test.true, c.count-l-end.ensures.count)
 
 pub wake-requires : goal.wake-requires
 wake-requires g c = c.loop-l.invariant.called.good
 
 pub loop-l-preserved : goal.loop-l-preserved
 loop-l-preserved g c =
-    let low : c.loop-l.l < length c.args.lines.now = omega (arith, c.loop-l-test.true, c.count.ensures.count) in
+    let low : c.loop-l.l < length c.args.lines.now = omega (arith, c.loop-l-test.true, c.count-l-end.ensures.count) in
     record {
       called = called_next (λ t. refl) c.loop-l.invariant.called low c.send-show.new.self c.send-show.ensures.line
           c.send-show.result c.send-show.ensures.show c.show_of.result c.show_of.ensures c.wake.new.table c.wake.ensures.table c.wake.ensures.good _ _
-          c.send-show.ensures.items c.wake.ensures.items;
+          c.send-show.ensures.items c.wake.ensures.items c.either-any.result c.either-any.ensures;
       low = omega (arith, low);
       frame = g.met.T.Trace.goes_on _ _ _ c.loop-l.invariant.frame (g.met.T.Trace.goes_on _ _ _ c.send-show.ensures.frame c.wake.ensures.frame);
     }
@@ -35,7 +35,7 @@ loop-l-preserved g c =
 pub returns : goal.returns
 returns g c =
     let was = c.loop-l.invariant.called in
-    let all = called_all was (omega (arith, c.loop-l-test.false, c.count.ensures.count)) in
+    let all = called_all was (omega (arith, c.loop-l-test.false, c.count-l-end.ensures.count)) in
     record {
       lines = all.0;
       any = all.2;

@@ -10,7 +10,7 @@ pub set_pace-requires-clause-before : goal.set_pace-requires-clause-before
 set_pace-requires-clause-before g c = c.requires.counted.due.next
 
 pub turn_lines-requires : goal.turn_lines-requires
-turn_lines-requires g c = c.requires.good.agree.table
+turn_lines-requires g c = record { table = c.requires.good.agree.table }
 
 pub returns-clause-unix : goal.returns-clause-unix
 returns-clause-unix g c =

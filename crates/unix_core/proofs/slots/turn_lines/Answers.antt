@@ -17,18 +17,18 @@ loop-l-init g c = record {
 pub set_pace-show-requires : goal.set_pace-show-requires
 set_pace-show-requires g c =
     let long = called_length c.loop-l.invariant.called c.loop-l.invariant.low in
-    omega (arith, long, c.loop-l-test.true, c.count.ensures.count)
+    omega (arith, long, c.loop-l-test.true, c.count-l-end.ensures.count)
 
 pub wake-requires : goal.wake-requires
 wake-requires g c = c.loop-l.invariant.called.good
 
 pub loop-l-preserved : goal.loop-l-preserved
 loop-l-preserved g c =
-    let low : c.loop-l.l < length c.args.lines.now = omega (arith, c.loop-l-test.true, c.count.ensures.count) in
+    let low : c.loop-l.l < length c.args.lines.now = omega (arith, c.loop-l-test.true, c.count-l-end.ensures.count) in
     record {
       called = called_next (turned_keys c.args.on) c.loop-l.invariant.called low c.set_pace-show.new.self c.set_pace-show.ensures.line
           c.set_pace-show.result c.set_pace-show.ensures.show c.show_of.result c.show_of.ensures c.wake.new.table c.wake.ensures.table c.wake.ensures.good _ _
-          c.set_pace-show.ensures.items c.wake.ensures.items;
+          c.set_pace-show.ensures.items c.wake.ensures.items c.either-any.result c.either-any.ensures;
       low = omega (arith, low);
       frame = g.met.T.Trace.goes_on _ _ _ c.loop-l.invariant.frame (g.met.T.Trace.goes_on _ _ _ c.set_pace-show.ensures.frame c.wake.ensures.frame);
     }
@@ -36,7 +36,7 @@ loop-l-preserved g c =
 pub returns : goal.returns
 returns g c =
     let was = c.loop-l.invariant.called in
-    let all = called_all was (omega (arith, c.loop-l-test.false, c.count.ensures.count)) in
+    let all = called_all was (omega (arith, c.loop-l-test.false, c.count-l-end.ensures.count)) in
     record {
       lines = all.0;
       any = all.2;
