@@ -1,5 +1,5 @@
 -- What a read comes to, by its tests, and what it keeps.
-use Rattle.std.proofs.Common.{◌≡◌, ◌+◌, ◌%◌, ◌^◌, ◌==◌, ℕ, Bool, true, false, cond, pos, List, [], ◌∷◌, is_some, Option, Some, None, Result, Ok, Err, if◌then◌else◌, refl, sym, ap, ◌∙◌, subst}
+use Rattle.std.proofs.Common.{◌≡◌, ◌+◌, ◌%◌, ◌^◌, ℕ, Bool, true, false, cond, pos, List, [], ◌∷◌, is_some, Option, Some, None, Result, Ok, Err, if◌then◌else◌, refl, sym, ap, ◌∙◌, subst}
 use Rattle.v6_base.specs.Image.{Image}
 use Rattle.v6_base.specs.declared.answer.Answer.{Answer}
 use Rattle.v6_base.specs.declared.errno.Errno.{Errno}

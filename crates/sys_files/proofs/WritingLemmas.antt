@@ -8,7 +8,6 @@ use Rattle.v6_base.specs.declared.errno.Errno.{Errno}
 use Rattle.v6_base.proofs.Copies.{load_wraps}
 use Rattle.fs_codec.specs.Store.{Node, Store}
 use Rattle.fs_laws.specs.Pieces.{Moving, write_file}
-use Rattle.fs_laws.proofs.RestLemmas.{rest_then}
 use Rattle.fs_laws.specs.Keys.{node_numbered, room_at, with_node}
 use Rattle.fs_nodes.specs.Copy.{get_from, get_kernel}
 use Rattle.fs_nodes.specs.FileSystem.{FileSystem}
@@ -16,7 +15,6 @@ use Rattle.fs_tree.specs.Entries.{written, answer_to, WritesEntry}
 use Rattle.fs_tree.specs.Finding.{inodes_of}
 use Rattle.sys_files.specs.Handed.{node_in, no_node}
 use Rattle.sys_files.specs.Making.{entry_written}
-use Rattle.sys_files.specs.Entering.{SameReferences}
 use Rattle.sys_files.proofs.PartedWrites.{Alike, unless_ended, file_keeps, two_files}
 use Rattle.pipe_ends.proofs.QueueWrites.{bytes_long}
 use Rattle.sys_files.proofs.LoadedLemmas.{loaded_part}

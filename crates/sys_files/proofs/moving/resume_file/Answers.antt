@@ -90,16 +90,16 @@ returns-then-is_on_line-clause-does g c =
     let e = c.resume_line.ensures in
     let new : Files = c.resume_line.new.f in
     let left : ◌≡◌ {A = Handed} (handed new c.resume_line.new.u c.args.row.now (g.S.Space.image c.resume_line.new.space))
-        (record rest { lines = new.lines; u = c.resume_line.new.u; image = g.S.Space.image c.resume_line.new.space }) =
-        (λ i. record rest {
-          inodes = inodes_of (e.tree i).nodes;
-          marks = (e.tree i).marks;
-          files = e.table i;
-          pipes = e.pipes i;
-          lines = new.lines;
-          u = c.resume_line.new.u;
-          image = g.S.Space.image c.resume_line.new.space;
-        }) in
+    (record rest { lines = new.lines; u = c.resume_line.new.u; image = g.S.Space.image c.resume_line.new.space }) =
+    (λ i. record rest {
+      inodes = inodes_of (e.tree i).nodes;
+      marks = (e.tree i).marks;
+      files = e.table i;
+      pipes = e.pipes i;
+      lines = new.lines;
+      u = c.resume_line.new.u;
+      image = g.S.Space.image c.resume_line.new.space;
+    }) in
     does_by (goes_on_line rest h.u.pending h.u.call)
     (ap (λ (v : UArea). goes_on_line (record h { u = v }) h.u.pending h.u.call) same
     ∙ resume_lined h c.args.slot c.args.now calm (sym c.is_on_line.ensures ∙ c.if-is_on_line.true))
