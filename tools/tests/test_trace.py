@@ -223,6 +223,27 @@ class Traces(Case):
             ["6", "[1]", "ends by signal 10"]])
 
     @unittest.skipUnless(HAS_MEMORY, "v6 has no command memory yet")
+    def test_waits_that_a_slot_ends(self):
+        """For the disk: an exec in slot 1, up to the end of slot 4. For room on the terminal: 51 bytes wait in slot 3, and 30 are left after
+        slot 23."""
+        script = self.put("script", b"disk 3\nrun 20\n")
+        self.assertEqual(self.trace("--v6", V6, os.path.join(HI, "image"), "1200", script), (0, """\
+ 1 [1] exec("/etc/init", ["/etc/init"]) waits for the disk
+ 5 [1] exec("/etc/init", ["/etc/init"]) = done, after 4 slots for the disk
+ 6 [1] open("/dev/tty8", 1) = 0
+ 7 [1] write(0, "hi\\n", 3) = 3
+ 9 [1] exit(0)
+""", ""))
+        source = self.put("sixty.s", b"\tsys\topen; 1f; 1\n\tsys\twrite; 2f; 74\n\tmov\t$0,r0\n\tsys\texit\n1:\t</dev/tty8\\0>\n2:\t<"
+                          + b"x" * 60 + b">\n")
+        status, out, error = self.trace("--v6", V6, self.disk(source), "1200", self.put("script", b"pace 1\nrun 30\n"))
+        self.assertEqual((status, error), (0, ""))
+        write = f'write(0, "{"x" * 32}".., 60)'
+        self.assertEqual([line.replace(" /etc/init]", "]").split(None, 2) for line in out.splitlines()[1:]], [
+            ["2", "[1]", 'open("/dev/tty8", 1) = 0'], ["3", "[1]", f"{write} waits for room to write on the terminal"],
+            ["24", "[1]", f"{write} = 60, after 21 slots for room to write on the terminal"], ["26", "[1]", "exit(0)"]])
+
+    @unittest.skipUnless(HAS_MEMORY, "v6 has no command memory yet")
     def test_a_bad_call(self):
         """No call has the number 63, and the words of times stand at an even address: both are signal 12, which is caught once."""
         source = self.put("bad.s", b"\tsys\tsignal; 14; 1f\n\t104477\n1:\tsys\tgetpid\n\tsys\ttimes; 1\n")
