@@ -4,7 +4,7 @@ use Rattle.abstract_unix.specs.Runs.{Slot, event_of}
 use Rattle.fs_laws.specs.Rest.{SameAround}
 use Rattle.fs_laws.proofs.RestLemmas.{rest_stays}
 use Rattle.unix_core.specs.State.{KernelState}
-use Rattle.sys_files.specs.declared.files.Files.{Files}
+use Rattle.fs_tree.specs.declared.tree.Tree.{Tree}
 use Rattle.unix_core.proofs.TakenLemmas.{step_counted, taken_started, taken_fresh, taken_answer, taken_next, taken_phase, taken_idle, taken_private, taken_texts}
 use Rattle.unix_core.proofs.TakenLemmas.{near_kernel, near_answer, near_takes, near_items, far_running, far_answer, far_takes, far_items}
 use Rattle.unix_core.proofs.kernel.Kernel.turn.Goals as goal
@@ -88,7 +88,7 @@ returns-then-execute-clause-items g c =
 pub returns-then-execute-clause-rest : goal.returns-then-execute-clause-rest
 returns-then-execute-clause-rest g c =
     let same : c.args.self.now.blocks ≡ c.count_slot.new.self.world.files.tree.nodes.blocks =
-    sym (ap (λ (v : KernelState). v.blocks) c.self.view_is) ∙ sym (ap (λ (f : Files). f.tree.nodes.blocks) c.count_slot.ensures.files) in
+    sym (ap (λ (v : KernelState). v.blocks) c.self.view_is) ∙ sym (ap (λ (t : Tree). t.nodes.blocks) c.count_slot.ensures.tree) in
     subst (SameAround c.args.self.now.blocks) same (rest_stays _)
 
 -- It comes to something else.
