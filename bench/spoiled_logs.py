@@ -6,13 +6,15 @@
     bench/spoiled_logs.py write COMMAND COUNT [FIRST] FOLDER
 
 COMMAND is a built v6. It runs COUNT random programs of bench/processes.py, by turns those of the words `small execs`,
-`full`, `small`, `signals` and `pipes`, seeds from FIRST on (0 where it isn't given). Each log must be lawful. Then it is spoiled in six ways,
-always the same for a seed: a line is left out, comes twice or changes places with the next; a number is one more or less; a
-slot is another; a word is another line's. Three judges name the first line that is at fault: `COMMAND audit`, the auditor of the
-reference, and the definition in crates/pick_rules/specs as it stands, which bench/definition.py evaluates. It can't come before
-the line that was spoiled. `quick` leaves the definition out, which takes most of the time. A spoiled log may be lawful still, as where a `wake` comes twice. Of a log of more than 1,500 lines
-these count alone. `write` also leaves each spoiled log in a folder as N.log, and in `verdicts` a line for each: N, the way,
-the spoiled line, and the first line at fault or `lawful`.
+`full`, `small`, `signals` and `pipes`, and programs of bench/random_lines.py over the lines of a terminal, mostly under
+`run8`; seeds from FIRST on (0 where it isn't given). Each log must be lawful. Then it is spoiled in six ways, always the
+same for a seed: a line is left out, comes twice or changes places with the next; a number is one more or less; a slot is
+another; a word is another line's. Three judges name the first line that is at fault: `COMMAND audit`, the auditor of the
+reference, and the definition in crates/pick_rules/specs as it stands, which bench/definition.py evaluates. It can't come
+before the line that was spoiled. `quick` leaves the definition out, which takes most of the time. A spoiled log may be
+lawful still, as where a `wake` comes twice. Of a log of more than 1,500 lines these count alone. `write` also leaves each
+spoiled log in a folder as N.log, and in `verdicts` a line for each: N, the way, the spoiled line, and the first line at
+fault or `lawful`.
 
 The reference is the Python module `abstract_unix`; the environment variable ABSTRACT_UNIX names the folder in which it is.
 """
@@ -26,10 +28,25 @@ import sys
 import tempfile
 
 from definition import Auditor
-from file_calls import by_command
+from file_calls import called, words_of_run
+from fuzz_cases import case_of
 from processes import Case, ExecCase, FullCase, PipeCase, SignalCase, in_small_core
 
-KINDS = (in_small_core(ExecCase), FullCase, in_small_core(Case), SignalCase, PipeCase)
+
+class LineCase:
+    """A program over the lines of a terminal, as the fuzzer has them."""
+
+    def __init__(self, seed):
+        self.case = case_of(seed, "lines")
+        self.core, self.command = self.case.core, self.case.command[0]
+
+    def write(self, folder):
+        for name, data in (("image", self.case.image), ("script", self.case.script())):
+            with open(f"{folder}/{name}", "wb") as file:
+                file.write(data)
+
+
+KINDS = (in_small_core(ExecCase), FullCase, in_small_core(Case), SignalCase, PipeCase, LineCase)
 MOST_LINES = 1500  # of a log, of which the rest is left out
 STATUS = {"unlawful": 9, "bad": 10}
 WORDS = {
@@ -38,11 +55,12 @@ WORDS = {
     "in": ("out",), "out": ("in",), "fork": ("size", "image"), "size": ("fork", "image"), "image": ("size", "fork"),
     "plain": ("sticky",), "sticky": ("plain",), "idle": ("end", "go 1", "tick i"), "end": ("idle", "panic swap"),
     "text": ("zombie", "swap"), "runin": ("runout", "tout"), "runout": ("runin",), "tout": ("keys", "runin"),
-    "keys": ("tout", "show"), "share": ("in", "trap"), "zombie": ("swap",), "tick": ("wake",), "wake": ("go",), "exit": ("image",),
+    "keys": ("tout", "show"), "show": ("keys", "tout"), "share": ("in", "trap"), "zombie": ("swap",), "tick": ("wake",), "wake": ("go",), "exit": ("image",),
     "drop": ("share",), "sleep": ("wake", "trap"),
 }
 # what may stand before the dot of a channel in the place of another word
-NUMBERED = {"wait": ("disk", "read"), "read": ("write", "show"), "write": ("read",), "disk": ("wait", "keys")}
+NUMBERED = {"wait": ("disk", "read"), "read": ("write", "show"), "write": ("read",), "disk": ("wait", "keys"),
+            "keys": ("show", "wait"), "show": ("keys", "read")}
 
 
 def one_of_the_lines(rng, lines, test=lambda line: True):
@@ -158,7 +176,8 @@ def log_of(command, seed):
     case = KINDS[seed % len(KINDS)](seed)
     with tempfile.TemporaryDirectory() as folder:
         case.write(folder)
-        by_command(command, case, folder)
+        words = words_of_run(case, folder, "v6")
+        called([*command, getattr(case, "command", words[0]), *words[1:]])
         with open(f"{folder}/v6.log", encoding="ascii") as file:
             return file.read().splitlines()
 
