@@ -86,11 +86,11 @@ impl Disk {
         match section {
             Section::File => self.take_file(text),
             Section::Disk => {
-                self.pieces.push(piece(self.alloc, text)?)?;
+                self.pieces.push(read_piece(self.alloc, text)?)?;
                 Ok(())
             }
             Section::Left => {
-                self.left.push(piece(self.alloc, text)?)?;
+                self.left.push(read_piece(self.alloc, text)?)?;
                 Ok(())
             }
             _ => Err(Fault::Wrong("a line of no section")),
@@ -125,7 +125,7 @@ impl Disk {
     }
 }
 
-fn piece(alloc: Global, text: &str) -> Result<Piece, Fault> {
+fn read_piece(alloc: Global, text: &str) -> Result<Piece, Fault> {
     let (at, rest) = halves(text)?;
     let at = number(at)?;
     let bytes = disk_bytes(alloc, rest)?;
