@@ -63,12 +63,7 @@ pub(crate) fn numbered(head: &str, number: u32, tail: &str) -> Line
     requires { length head.now + length tail.now ≤ 80 }
     ensures { result.bytes ≡ line_of (head.now ++ decimal number ++ tail.now) }
 {
-    let mut line = Line::new();
-    line.push_str(head);
-    push_number(&mut line, number);
-    line.push_str(tail);
-    line.push_str("\n");
-    line
+    long_numbered(head, u64::from(number), tail)
 }
 
 /// A number of at most twenty digits between two texts, and an LF.
