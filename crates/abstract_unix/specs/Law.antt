@@ -11,9 +11,9 @@ use Rattle.abstract_unix.specs.Runs.{Event, Course, shown_by, runs}
 abbrev pub log_of : Course → List Entry
 log_of c = entries_of (shown_by c)
 
--- For every image, which is bytes, every core size, eight terminal lines at most and every list of events: each line of the log of
--- the run has its numbers in their ranges and fits what the lines before it give; and where the run comes to the script's end, or to
--- a panic, the last line ends it.
+-- For every image, which is bytes, every core size, eight terminal lines at most and every list of events: each line of the log
+-- of the run has its numbers in their ranges and fits what the lines before it give; and where the run comes to the script's
+-- end, or to a panic, the last line ends it.
 abbrev pub LogsAreLawful : Type 0
 LogsAreLawful =
     (image : List ℕ) (core lines : ℕ) (events : List Event) (c : Course) → AreBytes image → 64 ≤ core → core ≤ 3968 → lines ≤ 8

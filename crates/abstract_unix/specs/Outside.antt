@@ -1,5 +1,5 @@
--- What comes from outside: ticks of the clock, keys and hang-ups of the lines, their pace, the switches of the console, and how long a
--- transfer takes. `clock` and `klrint` in Lions' Commentary, `clock.c` and `kl.c`.
+-- What comes from outside: ticks of the clock, keys and hang-ups of the lines, their pace, the switches of the console, and how
+-- long a transfer takes. `clock` and `klrint` in Lions' Commentary, `clock.c` and `kl.c`.
 use Rattle.std.specs.Prelude.{ℕ, ◌+◌, ◌%◌, ◌^◌, ◌==◌, ◌&&◌, Bool, true, false, not, List, [], ◌∷◌, ◌++◌, map, Option, Some, None, if◌then◌else◌}
 use Rattle.v6_base.specs.Trace.{Item, Log, sent}
 use Rattle.v6_base.specs.declared.entry.Chan.{Chan}
@@ -146,8 +146,8 @@ hangs_up m l =
 abbrev pub hangup_of : System → ℕ → Happened
 hangup_of m l = if (terminal_at m.unix l).is_open then hangs_up m l else happens m.unix (nothing_logged m.board)
 
--- The pace of all lines is set, and counted from here. Where it is turned off what waits goes out, lowest line first, and after each
--- line who waits for room on it is woken. The kernel settles where somebody is.
+-- The pace of all lines is set, and counted from here. Where it is turned off what waits goes out, lowest line first, and after
+-- each line who waits for room on it is woken. The kernel settles where somebody is.
 abbrev pub turned_to : Bool → Terminal → Said
 turned_to on t = paced t on
 

@@ -29,8 +29,8 @@ first_process = record no_process {
   «data» = init_data;
 }
 
--- The Unix of a file system with so many clicks of core and so many terminal lines. No file is open, and nobody has opened a line. The
--- time is that of the super-block.
+-- The Unix of a file system with so many clicks of core and so many terminal lines. No file is open, and nobody has opened a
+-- line. The time is that of the super-block.
 abbrev pub first_unix : Store → ℕ → ℕ → Unix
 first_unix store core lines = record {
   store = store;

@@ -1,4 +1,5 @@
--- The turn of a slot, where there is a process: an instruction, or a call that it goes on with, until it exits. `trap` and `swtch` in Lions' Commentary, `trap.c` and `slp.c`.
+-- The turn of a slot, where there is a process: an instruction, or a call that it goes on with, until it exits; and what follows
+-- a slot. `trap` and `swtch` in Lions' Commentary, `trap.c` and `slp.c`.
 use Rattle.std.specs.Prelude.{◌≡◌, ℕ, zero, suc, ◌+◌, ◌*◌, ◌%◌, ◌==◌, ◌&&◌, ◌||◌, Bool, true, false, not, List, [], ◌∷◌, ◌++◌, map, slice_index, Option, Some, None, Result, Ok, Err, if◌then◌else◌}
 use Rattle.v6_base.specs.Trace.{Item, Log}
 use Rattle.v6_base.specs.declared.entry.Chan.TheVariants.{Disk}
@@ -234,8 +235,8 @@ wakes_disks h = followed true h (map Show (disk_lines h.unix))
 abbrev pub is_sending : Timing → Bool
 is_sending t = not (t.pace == 0) && (t.since % t.pace == 0)
 
--- Each line sends, lowest first, and after each who waits for room on it is woken, where that is called for: `ttrstrt` in Lions'
--- Commentary, `tty.c`.
+-- Each line sends, lowest first, and after each who waits for room on it is woken, where that is called for: `ttrstrt` in
+-- Lions' Commentary, `tty.c`.
 abbrev pub sends_lines : Happened → Happened
 sends_lines h =
     let all : AllTold = each_line sends h.unix.lines in
