@@ -1,5 +1,5 @@
 -- The count of slots through what a kernel does: who waits for the disk is woken when the slot has come.
-use Rattle.std.proofs.Common.{◌≡◌, ◌≢◌, ◌∙◌, ◌⊎◌, ◌<◌, ◌≤◌, ◌+◌, ◌*◌, ◌-◌, ◌%◌, ◌==◌, ◌&&◌, not, ℕ, Bool, false, List, get_or, Option, Some, None, slice_index, refl, sym, ap, subst, inl, inr, arith}
+use Rattle.std.proofs.Common.{◌≡◌, ◌∙◌, ◌⊎◌, ◌<◌, ◌≤◌, ◌+◌, ◌*◌, ◌-◌, ◌%◌, ◌==◌, ◌&&◌, not, ℕ, Bool, false, List, get_or, Option, Some, None, slice_index, refl, sym, ap, subst, inl, inr, arith}
 use Rattle.u_area.specs.declared.layout.TheConstants.{NOTHING_PENDING, DISK_WAIT}
 use Rattle.sys_procs.specs.Process.{Process}
 use Rattle.abstract_unix.specs.Unix.{Timing, Unix, process_at, process_of}

@@ -6,7 +6,7 @@ use Rattle.std.proofs.lemmas.Nat.{div-add-mod', mod-mul-add}
 use Rattle.v6_base.specs.Trace.{Took, Taken, entries_of}
 use Rattle.v6_base.proofs.Took.{took_nothing}
 use Rattle.tty_line.specs.Terminal.{Terminal}
-use Rattle.tty_line.specs.Said.{Said, sends, paced}
+use Rattle.tty_line.specs.Said.{sends}
 use Rattle.lines_eight.specs.Told.{AllTold, each_line}
 use Rattle.pick_rules.specs.declared.table.Table.{Table}
 use Rattle.pick_rules.specs.Effects.{Show}
@@ -20,7 +20,7 @@ use Rattle.unix_core.specs.Passing.{all_woken}
 use Rattle.unix_core.specs.Slots.{passed_in, timing_in, NoneSend, IsCounted, sent_after, with_sent}
 use Rattle.unix_core.specs.Parts.{unix_of, board_in, system_at, IsGood}
 use Rattle.unix_core.proofs.CountLemmas.{counted_paced}
-use Rattle.unix_core.proofs.EachLine.{lines_wake, told_world, told_unix, told_board, told_good, told_running}
+use Rattle.unix_core.proofs.EachLine.{lines_wake, told_unix, told_board, told_good, told_running}
 use Rattle.unix_core.proofs.LoggedLemmas.{logged_shown}
 use Rattle.unix_core.proofs.SlotWorlds.{with_slots, good_slots}
 use Rattle.unix_core.proofs.TableLemmas.{with_table}

@@ -1,6 +1,6 @@
-use Rattle.std.proofs.Common.{◌≡◌, ◌∙◌, ◌+◌, ◌++◌, ℕ, zero, suc, List, [], refl, sym, ap, append_assoc, arith}
+use Rattle.std.proofs.Common.{◌≡◌, ◌∙◌, ◌+◌, ◌++◌, ℕ, zero, suc, [], refl, sym, ap, append_assoc, arith}
 use Rattle.std.proofs.lemmas.List.{append-nil}
-use Rattle.v6_base.specs.Trace.{Item, sent}
+use Rattle.v6_base.specs.Trace.{sent}
 use Rattle.v6_base.specs.Tape.{Recording, bytes_of}
 use Rattle.v6_base.specs.declared.trace.TheConstants.{LINES}
 use Rattle.v6_base.proofs.Took.{took_then, took_nothing}

@@ -98,3 +98,6 @@ returns-clause-items g c =
     sent_took w c.requires.left c.requires.good c.requires.counted c.wake_disks-woken.new.procs e.others e.agree e.running e.clock
     c.wake_disks-woken.result.next e.next c.send_after-sent.new.world c.send_after-sent.ensures.unix _ _ _ e.items
     c.send_after-sent.ensures.items
+
+pub returns-clause-frame : goal.returns-clause-frame
+returns-clause-frame g c = g.met.T.Trace.goes_on _ _ _ c.wake_disks-woken.ensures.frame c.send_after-sent.ensures.frame

@@ -1,7 +1,4 @@
-use Rattle.std.proofs.Common.{◌≡◌, ◌∙◌, ◌<◌, length, refl, sym, ap, subst, arith}
-use Rattle.v6_base.specs.declared.entry.Chan.{Chan}
-use Rattle.v6_base.specs.Trace.{Took}
-use Rattle.tty_line.specs.Terminal.{Terminal}
+use Rattle.std.proofs.Common.{◌<◌, length, refl, arith}
 use Rattle.tty_line.specs.Said.{sends}
 use Rattle.unix_core.proofs.EachLine.{called_first, called_next, called_length, called_all}
 use Rattle.unix_core.proofs.slots.send_lines.Goals as goal

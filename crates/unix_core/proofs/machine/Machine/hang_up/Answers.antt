@@ -9,19 +9,19 @@ use Rattle.unix_core.proofs.CountLemmas.{counted_same}
 use Rattle.unix_core.proofs.TurnCounts.{line_counted}
 use Rattle.unix_core.proofs.TableLemmas.{with_table}
 use Rattle.unix_core.proofs.KeyLemmas.{key_good, key_unix, key_board}
-use Rattle.unix_core.proofs.TypedLemmas.{with_lines, lines_good, both_good, both_stop, both_unix, both_board, both_took}
+use Rattle.unix_core.proofs.TypedLemmas.{with_lines, lines_good, both_good, both_unix, both_board, both_took}
 use Rattle.unix_core.proofs.HangupLemmas.{hung_unix, hung_board, hung_took, hung_nowhere, hung_shut}
 use Rattle.unix_core.proofs.machine.Machine.hang_up.Goals as goal
 
 -- a line that isn't there, or isn't open
-pub returns-then-l-ge-count-clause-unix : goal.returns-then-l-ge-count-clause-unix
-returns-then-l-ge-count-clause-unix g c = sym (ap (λ (h : Happened). h.unix) (hung_nowhere (system_at c.args.self.now.world) c.args.l (omega (arith, c.if-l-ge-count.true, c.count.ensures.count))))
+pub returns-then-l-count-clause-unix : goal.returns-then-l-count-clause-unix
+returns-then-l-count-clause-unix g c = sym (ap (λ (h : Happened). h.unix) (hung_nowhere (system_at c.args.self.now.world) c.args.l (omega (arith, c.if-l-count.true, c.count.ensures.count))))
 
-pub returns-then-l-ge-count-clause-board : goal.returns-then-l-ge-count-clause-board
-returns-then-l-ge-count-clause-board g c = sym (ap (λ (h : Happened). h.log.board) (hung_nowhere (system_at c.args.self.now.world) c.args.l (omega (arith, c.if-l-ge-count.true, c.count.ensures.count))))
+pub returns-then-l-count-clause-board : goal.returns-then-l-count-clause-board
+returns-then-l-count-clause-board g c = sym (ap (λ (h : Happened). h.log.board) (hung_nowhere (system_at c.args.self.now.world) c.args.l (omega (arith, c.if-l-count.true, c.count.ensures.count))))
 
-pub returns-then-l-ge-count-clause-items : goal.returns-then-l-ge-count-clause-items
-returns-then-l-ge-count-clause-items g c = took_nothing _ _ (ap (λ (h : Happened). h.log.items) (hung_nowhere (system_at c.args.self.now.world) c.args.l (omega (arith, c.if-l-ge-count.true, c.count.ensures.count))))
+pub returns-then-l-count-clause-items : goal.returns-then-l-count-clause-items
+returns-then-l-count-clause-items g c = took_nothing _ _ (ap (λ (h : Happened). h.log.items) (hung_nowhere (system_at c.args.self.now.world) c.args.l (omega (arith, c.if-l-count.true, c.count.ensures.count))))
 
 pub returns-then-not-is_open-clause-unix : goal.returns-then-not-is_open-clause-unix
 returns-then-not-is_open-clause-unix g c = sym (ap (λ (h : Happened). h.unix) (hung_shut (system_at c.args.self.now.world) c.args.l (sym c.is_open.ensures ∙ c.if-not-is_open.true)))
@@ -34,19 +34,19 @@ returns-then-not-is_open-clause-items g c = took_nothing _ _ (ap (λ (h : Happen
 
 -- one that is
 pub is_open-requires : goal.is_open-requires
-is_open-requires g c = omega (arith, c.if-l-ge-count.false, c.count.ensures.count)
+is_open-requires g c = omega (arith, c.if-l-count.false, c.count.ensures.count)
 
 pub signal_line-requires : goal.signal_line-requires
-signal_line-requires g c = c.requires.good.agree
+signal_line-requires g c = record { agree = c.requires.good.agree }
 
 pub flush-show-requires : goal.flush-show-requires
-flush-show-requires g c = omega (arith, c.if-l-ge-count.false, c.count.ensures.count)
+flush-show-requires g c = omega (arith, c.if-l-count.false, c.count.ensures.count)
 
 pub wake-requires : goal.wake-requires
 wake-requires g c = c.signal_line.ensures.agree.table
 
-pub wake-2-requires : goal.wake-2-requires
-wake-2-requires g c = c.wake.ensures.good
+pub wake-requires-2 : goal.wake-requires-2
+wake-requires-2 g c = c.wake.ensures.good
 
 pub returns-clause-good : goal.returns-clause-good
 returns-clause-good g c =

@@ -1,8 +1,10 @@
-use Rattle.std.proofs.Common.{◌∙◌, sym, ap, subst, map}
-use Rattle.v6_base.specs.Trace.{Took}
+use Rattle.std.proofs.Common.{◌≡◌, ◌∙◌, ℕ, Bool, List, [], refl, sym, ap, subst, map}
+use Rattle.v6_base.specs.Trace.{Item, Took}
+use Rattle.v6_base.proofs.Took.{took_nothing}
 use Rattle.pick_rules.specs.Effects.{Show}
 use Rattle.pick_rules.specs.Logged.{logged}
 use Rattle.tty_line.specs.declared.line.Keyed.{Keyed}
+use Rattle.tty_line.specs.declared.line.Keyed.TheVariants as key
 use Rattle.unix_core.specs.declared.world.World.{World}
 use Rattle.abstract_unix.specs.Unix.{Unix}
 use Rattle.abstract_unix.specs.Outside.{with_key, key_lines}
@@ -37,3 +39,23 @@ returns-in-Signal-clause-items g c =
     let w : World = c.args.self.now.world in
     subst (λ (k : Keyed). Took (g.T.Trace.taken c.args.trace.now) (key_lines c.args.l k (unix_of w)) (g.T.Trace.taken c.signal_line.new.trace)) (sym c.in-Signal.is)
     (c.signal_line.ensures.items w.files.tree.nodes)
+
+-- a key that sends none
+none_sent : (l : ℕ) (k : Keyed) → ((n : ℕ) (show : Bool) → k ≡ key.Signal n show → ⊥) → (u : Unix) → (with_key l k u ≡ u) × (key_lines l k u ≡ [])
+none_sent l key.Nothing other u = (refl, refl)
+none_sent l key.Ready other u = (refl, refl)
+none_sent l (key.Flushed show) other u = (refl, refl)
+none_sent l (key.Signal n show) other u = absurd (other n show refl)
+
+pub returns-in_default : goal.returns-in_default
+returns-in_default g c =
+    let w : World = c.args.self.now.world in
+    let none = none_sent c.args.l c.args.keyed c.in_default.not-Signal (unix_of w) in record {
+      good = c.requires;
+      unix = sym none.0;
+      board = ap (λ (items : List Item). (logged {W = Unix} (board_in w) (map Show items)).board) (sym none.1);
+      items = took_nothing _ _ none.1;
+      frame = g.met.T.Trace.stays _;
+      files = refl;
+      slots = refl;
+    }

@@ -3,7 +3,7 @@ use Rattle.v6_base.specs.Trace.{Took}
 use Rattle.fs_tree.specs.declared.tree.Tree.{Tree}
 use Rattle.sys_files.specs.declared.files.Files.{Files}
 use Rattle.fs_nodes.specs.FileSystem.{FileSystem, SameRest}
-use Rattle.fs_nodes.proofs.HeldLemmas.{same_rest}
+use Rattle.fs_laws.proofs.RestLemmas.{rest_stays}
 use Rattle.sys_procs.specs.declared.procs.Procs.{Procs}
 use Rattle.unix_core.specs.declared.world.World.{World}
 use Rattle.unix_core.specs.Slots.{IsCounted}
@@ -36,14 +36,14 @@ pub returns-then-set_pace-clause-rest : goal.returns-then-set_pace-clause-rest
 returns-then-set_pace-clause-rest g c =
     let nodes : FileSystem = c.args.self.now.world.files.tree.nodes in
     subst (λ (x : FileSystem). SameRest nodes x) (ap (λ (t : Tree). t.nodes) (sym c.set_pace.ensures.tree) ∙ ap (λ (f : Files). f.tree.nodes) (sym c.settle.ensures.files))
-    (same_rest nodes.blocks)
+    (rest_stays nodes.blocks)
 
 pub returns-then-set_pace-clause-frame : goal.returns-then-set_pace-clause-frame
 returns-then-set_pace-clause-frame g c = g.met.T.Trace.goes_on _ _ _ c.set_pace.ensures.frame c.settle.ensures.frame
 
 -- nobody is
-pub returns-clause-takes : goal.returns-clause-takes
-returns-clause-takes g c =
+pub returns-else-set_pace-clause-takes : goal.returns-else-set_pace-clause-takes
+returns-else-set_pace-clause-takes g c =
     let m = c.args.self.now in
     let w : World = m.world in
     let v : World = c.set_pace.new.world in
@@ -58,13 +58,13 @@ returns-clause-takes g c =
     stays_takes (paced_of (system_at c.args.self.now.world) c.args.n) refl (sym c.set_pace.ensures.settles ∙ c.if-set_pace.false) c.set_pace.new.world c.set_pace.ensures.unix c.set_pace.ensures.board
     m.stage kernel c.requires.started
 
-pub returns-clause-items : goal.returns-clause-items
-returns-clause-items g c =
+pub returns-else-set_pace-clause-items : goal.returns-else-set_pace-clause-items
+returns-else-set_pace-clause-items g c =
     subst (λ l. Took (g.T.Trace.taken c.args.trace.now) l (g.T.Trace.taken c.set_pace.new.trace))
     (sym (stays_items (paced_of (system_at c.args.self.now.world) c.args.n) refl (sym c.set_pace.ensures.settles ∙ c.if-set_pace.false) c.set_pace.new.world c.set_pace.ensures.unix c.set_pace.ensures.board))
     c.set_pace.ensures.items
 
-pub returns-clause-rest : goal.returns-clause-rest
-returns-clause-rest g c =
+pub returns-else-set_pace-clause-rest : goal.returns-else-set_pace-clause-rest
+returns-else-set_pace-clause-rest g c =
     let nodes : FileSystem = c.args.self.now.world.files.tree.nodes in
-    subst (λ (x : FileSystem). SameRest nodes x) (ap (λ (t : Tree). t.nodes) (sym c.set_pace.ensures.tree)) (same_rest nodes.blocks)
+    subst (λ (x : FileSystem). SameRest nodes x) (ap (λ (t : Tree). t.nodes) (sym c.set_pace.ensures.tree)) (rest_stays nodes.blocks)

@@ -4,7 +4,7 @@ use Rattle.unix_core.specs.declared.world.World.{World}
 use Rattle.unix_core.specs.declared.machine.Stage.TheVariants as stage
 use Rattle.unix_core.specs.Parts.{Takes}
 use Rattle.sys_procs.proofs.Places.{agree_matches}
-use Rattle.unix_core.proofs.SwapLemmas.{after_good, after_counted, slot_takes, slot_items, slot_answer, with_moved, not_counted, stopped_answer, stopped_items, panic_takes}
+use Rattle.unix_core.proofs.SwapLemmas.{after_good, after_counted, slot_takes, slot_took, slot_answer, with_moved, not_counted, stopped_answer, stopped_items, panic_takes}
 use Rattle.unix_core.proofs.machine.Machine.swap_slot.Goals as goal
 
 pub pass-passed-requires-clause-matches : goal.pass-passed-requires-clause-matches
@@ -45,7 +45,7 @@ pub returns-in-Ok-clause-items : goal.returns-in-Ok-clause-items
 returns-in-Ok-clause-items g c =
     let w : World = c.args.self.now.world in
     let passed = c.pass-passed in
-    slot_items w passed.new.table passed.new.images _ _ c.requires.good passed.ensures.does passed.ensures.same c.see_procs.ensures.images
+    slot_took w passed.new.table passed.new.images _ _ c.requires.good passed.ensures.does passed.ensures.same c.see_procs.ensures.images
     c.in-Ok.ensures.answer c.count-woken.new.world c.count-woken.ensures.unix c.count-woken.ensures.board _ _ _
     passed.ensures.does.items c.count-woken.ensures.items c.settle.ensures.items
 

@@ -13,18 +13,18 @@ use Rattle.unix_core.proofs.TypedLemmas.{with_lines, lines_good, both_good, both
 use Rattle.unix_core.proofs.machine.Machine.take_key.Goals as goal
 
 -- a line that isn't there
-pub returns-then-l-ge-count-clause-unix : goal.returns-then-l-ge-count-clause-unix
-returns-then-l-ge-count-clause-unix g c = sym (ap (λ (h : Happened). h.unix) (typed_nowhere (system_at c.args.self.now.world) c.args.l c.args.byte (omega (arith, c.if-l-ge-count.true, c.count.ensures.count))))
+pub returns-then-l-count-clause-unix : goal.returns-then-l-count-clause-unix
+returns-then-l-count-clause-unix g c = sym (ap (λ (h : Happened). h.unix) (typed_nowhere (system_at c.args.self.now.world) c.args.l c.args.byte (omega (arith, c.if-l-count.true, c.count.ensures.count))))
 
-pub returns-then-l-ge-count-clause-board : goal.returns-then-l-ge-count-clause-board
-returns-then-l-ge-count-clause-board g c = sym (ap (λ (h : Happened). h.log.board) (typed_nowhere (system_at c.args.self.now.world) c.args.l c.args.byte (omega (arith, c.if-l-ge-count.true, c.count.ensures.count))))
+pub returns-then-l-count-clause-board : goal.returns-then-l-count-clause-board
+returns-then-l-count-clause-board g c = sym (ap (λ (h : Happened). h.log.board) (typed_nowhere (system_at c.args.self.now.world) c.args.l c.args.byte (omega (arith, c.if-l-count.true, c.count.ensures.count))))
 
-pub returns-then-l-ge-count-clause-items : goal.returns-then-l-ge-count-clause-items
-returns-then-l-ge-count-clause-items g c = took_nothing _ _ (ap (λ (h : Happened). h.log.items) (typed_nowhere (system_at c.args.self.now.world) c.args.l c.args.byte (omega (arith, c.if-l-ge-count.true, c.count.ensures.count))))
+pub returns-then-l-count-clause-items : goal.returns-then-l-count-clause-items
+returns-then-l-count-clause-items g c = took_nothing _ _ (ap (λ (h : Happened). h.log.items) (typed_nowhere (system_at c.args.self.now.world) c.args.l c.args.byte (omega (arith, c.if-l-count.true, c.count.ensures.count))))
 
 -- one that is
 pub typed-keyed-requires : goal.typed-keyed-requires
-typed-keyed-requires g c = omega (arith, c.if-l-ge-count.false, c.count.ensures.count)
+typed-keyed-requires g c = omega (arith, c.if-l-count.false, c.count.ensures.count)
 
 pub send_key-requires : goal.send_key-requires
 send_key-requires g c = lines_good c.args.self.now.world c.typed-keyed.new.self c.requires.good
@@ -32,8 +32,8 @@ send_key-requires g c = lines_good c.args.self.now.world c.typed-keyed.new.self 
 pub wake-requires : goal.wake-requires
 wake-requires g c = c.send_key.ensures.good.agree.table
 
-pub wake-2-requires : goal.wake-2-requires
-wake-2-requires g c = c.wake.ensures.good
+pub wake-requires-2 : goal.wake-requires-2
+wake-requires-2 g c = c.wake.ensures.good
 
 pub returns-clause-good : goal.returns-clause-good
 returns-clause-good g c =

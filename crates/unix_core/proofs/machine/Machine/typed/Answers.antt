@@ -2,7 +2,7 @@ use Rattle.std.proofs.Common.{◌∙◌, refl, sym, ap, subst}
 use Rattle.fs_nodes.specs.FileSystem.{FileSystem, SameRest}
 use Rattle.fs_tree.specs.declared.tree.Tree.{Tree}
 use Rattle.sys_files.specs.declared.files.Files.{Files}
-use Rattle.fs_nodes.proofs.HeldLemmas.{same_rest}
+use Rattle.fs_laws.proofs.RestLemmas.{rest_stays}
 use Rattle.unix_core.specs.Parts.{system_at, goes_on}
 use Rattle.abstract_unix.specs.Outside.{typed_of}
 use Rattle.unix_core.proofs.BootKernelLemmas.{kernel_good}
@@ -24,7 +24,7 @@ pub returns-clause-rest : goal.returns-clause-rest
 returns-clause-rest g c =
     let nodes : FileSystem = c.args.self.now.world.files.tree.nodes in
     subst (λ (x : FileSystem). SameRest nodes x) (ap (λ (t : Tree). t.nodes) (sym c.take_key.ensures.tree) ∙ ap (λ (f : Files). f.tree.nodes) (sym c.settle.ensures.files))
-    (same_rest nodes.blocks)
+    (rest_stays nodes.blocks)
 
 pub returns-clause-items : goal.returns-clause-items
 returns-clause-items g c =
