@@ -5,6 +5,7 @@ use Rattle.u_area.specs.declared.layout.TheConstants.{NOTHING_PENDING}
 use Rattle.sys_procs.specs.Agree.{ended_by}
 use Rattle.sys_procs.specs.World as its
 use Rattle.v6_base.specs.Trace.{Took}
+use Rattle.fs_laws.proofs.RestLemmas.{rest_then}
 use Rattle.pick_rules.specs.declared.table.Table.{Table}
 use Rattle.pick_rules.specs.Effects.{Show}
 use Rattle.pick_rules.specs.Logged.{Stop, logged}
@@ -202,3 +203,9 @@ returns-in-Ok-clause-frame g c = g.met.T.Trace.goes_on _ _ _ c.pass_on.ensures.f
 
 pub returns-in-Err-clause-frame : goal.returns-in-Err-clause-frame
 returns-in-Err-clause-frame g c = g.met.T.Trace.goes_on _ _ _ c.pass_on.ensures.frame c.end_proc-ended.ensures.frame
+
+pub returns-in-Ok-clause-rest : goal.returns-in-Ok-clause-rest
+returns-in-Ok-clause-rest g c = rest_then _ _ _ c.close_files.ensures.rest c.end_proc-ended.ensures.blocks
+
+pub returns-in-Err-clause-rest : goal.returns-in-Err-clause-rest
+returns-in-Err-clause-rest g c = rest_then _ _ _ c.close_files.ensures.rest c.end_proc-ended.ensures.blocks

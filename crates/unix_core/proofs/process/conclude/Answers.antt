@@ -29,3 +29,8 @@ pub returns-in-Ret-clause-items : goal.returns-in-Ret-clause-items
 returns-in-Ret-clause-items g c =
     let w : World = c.args.world.now in
     took_nothing _ _ (ap (λ (a : Answer). (logged (board_in w) (answers (unix_of w) c.args.s a).effects).items) c.in-Ret.is)
+
+pub returns-in-Sleep-clause-items : goal.returns-in-Sleep-clause-items
+returns-in-Sleep-clause-items g c =
+    let w : World = c.args.world.now in
+    took_nothing _ _ (ap (λ (a : Answer). (logged (board_in w) (answers (unix_of w) c.args.s a).effects).items) c.in-Sleep.is)
