@@ -113,7 +113,8 @@ impl Kernel {
         Ok(Kernel::new(images, tape, nodes, time, core, lines, dispatch))
     }
 
-    /// Makes the kernel for a disk image and so many clicks of core, before the start of its run. It has one terminal line, the console.
+    /// Makes the kernel for a disk image and so many clicks of core, before the start of its run. It has one terminal line, the
+    /// console.
     ///
     /// It keeps a disk of its own, and takes all the memory that it will ever use.
     pub fn boot(alloc: Global, image: &[u8], core: u16) -> Result<Kernel, BootFault>

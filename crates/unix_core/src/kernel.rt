@@ -234,8 +234,9 @@ impl Kernel {
         self.typed_on(0, b, trace);
     }
 
-    /// Takes a byte that is typed on a terminal line: `klrint` in Lions' Commentary, `kl.c`; tty(IV) of the manual. A key that makes a
-    /// signal, 0177 or 034 by the low seven bits, sends it to all that have the line. A line that isn't open or isn't there drops it.
+    /// Takes a byte that is typed on a terminal line: `klrint` in Lions' Commentary, `kl.c`; tty(IV) of the manual. A key that
+    /// makes a signal, 0177 or 034 by the low seven bits, sends it to all that have the line. A line that isn't open or isn't
+    /// there drops it.
     pub fn typed_on<T: Trace>(&mut self, l: u8, b: u8, trace: &mut T)
         requires started { self.old.phase ≡ Started }
         requires line { l < LINES }
@@ -250,8 +251,8 @@ impl Kernel {
         self.machine.typed(l, b, trace);
     }
 
-    /// Takes the hang-up of a terminal line: all that have it as their terminal have signal 1, and what was typed and what waits to go
-    /// out is lost. The line stays open. One that isn't open or isn't there ignores it. signal(II) of the manual.
+    /// Takes the hang-up of a terminal line: all that have it as their terminal have signal 1, and what was typed and what
+    /// waits to go out is lost. The line stays open. One that isn't open or isn't there ignores it. signal(II) of the manual.
     pub fn hangup<T: Trace>(&mut self, l: u8, trace: &mut T)
         requires started { self.old.phase ≡ Started }
         requires line { l < LINES }
@@ -266,9 +267,9 @@ impl Kernel {
         self.machine.hangup(l, trace);
     }
 
-    /// From now on what goes out on a terminal line waits, and with the end of each so many slots, counted from here, each line sends one
-    /// byte, the lowest line first. 0 is none, as at the start: what waits goes out then, and each byte at once. `ttstart` in Lions'
-    /// Commentary, `tty.c`.
+    /// From now on what goes out on a terminal line waits, and with the end of each so many slots, counted from here, each line
+    /// sends one byte, the lowest line first. 0 is none, as at the start: what waits goes out then, and each byte at once.
+    /// `ttstart` in Lions' Commentary, `tty.c`.
     pub fn set_pace<T: Trace>(&mut self, n: u32, trace: &mut T)
         requires started { self.old.phase ≡ Started }
         requires most { n ≤ 999999999 }
