@@ -227,8 +227,8 @@ impl Machine {
         self.refresh();
     }
 
-    /// Counts a slot in which nothing was logged, and which answers this: an instruction was just done, or nobody ran. Where somebody
-    /// is woken with its end, the kernel settles.
+    /// Counts a slot in which nothing was logged, and which answers this: an instruction was just done, or nobody ran. Where
+    /// somebody is woken with its end, the kernel settles.
     #[inline(always)]
     pub(crate) fn count_slot<T: Trace>(&mut self, answer: Turned, trace: &mut T) -> Turned
         requires kernel { IsKernel self.old.stage self.old.world }
@@ -248,8 +248,8 @@ impl Machine {
         answer
     }
 
-    /// The slot that was due has been taken, and nothing was logged in it. It stands out of line: a run has few such slots. It hands
-    /// the answer back, so that who calls it last needs no frame.
+    /// The slot that was due has been taken, and nothing was logged in it. It stands out of line: a run has few such slots. It
+    /// hands the answer back, so that who calls it last needs no frame.
     #[cold]
     #[inline(never)]
     fn reach<T: Trace>(&mut self, answer: Turned, trace: &mut T) -> Turned
@@ -387,8 +387,8 @@ impl Machine {
         }
     }
 
-    /// Takes what the last instruction came to, where it wasn't just done, with the signal that is due then, and settles. It stands
-    /// out of line, beside the loop over slots, and what it takes stays in its place: a copy of it would cost each slot.
+    /// Takes what the last instruction came to, where it wasn't just done, with the signal that is due then, and settles. It
+    /// stands out of line, beside the loop over slots, and what it takes stays in its place: a copy of it would cost each slot.
     #[inline(never)]
     pub(crate) fn after_step<T: Trace>(&mut self, trace: &mut T) -> Turned
         requires running { (f : Fixed) × (self.old.stage ≡ Stage.Running f) }
@@ -436,8 +436,8 @@ impl Machine {
         self.end(s, ending, trace)
     }
 
-    /// Takes a slot in which no process just executes an instruction. Where nobody runs it only counts; what else there is stands
-    /// out of line.
+    /// Takes a slot in which no process just executes an instruction. Where nobody runs it only counts; what else there is
+    /// stands out of line.
     #[inline(always)]
     pub(crate) fn other_slot<T: Trace>(&mut self, trace: &mut T) -> Turned
         requires kernel { IsKernel self.old.stage self.old.world }
@@ -572,7 +572,8 @@ impl Machine {
         }
     }
 
-    /// A byte is typed on a line: it sends the signal that it makes, and wakes who waits for it. A line that isn't there drops it.
+    /// A byte is typed on a line: the signal that it makes is sent, and who waits for it is woken. A line that isn't there drops
+    /// the byte.
     fn take_key<T: Trace>(&mut self, l: u8, byte: u8, trace: &mut T)
         requires good { IsGood self.old.world }
         requires counted { IsCounted self.old.world.slots (unix_of self.old.world) }
@@ -608,8 +609,8 @@ impl Machine {
         self.settle(trace);
     }
 
-    /// A line hangs up: those whose terminal it is have a signal, and it is flushed; who waits for it is woken. One that isn't there or
-    /// isn't open ignores it.
+    /// A line hangs up: those whose terminal it is have a signal, and it is flushed; who waits for it is woken. One that isn't
+    /// there or isn't open ignores it.
     fn hang_up<T: Trace>(&mut self, l: u8, trace: &mut T)
         requires good { IsGood self.old.world }
         requires counted { IsCounted self.old.world.slots (unix_of self.old.world) }

@@ -55,8 +55,8 @@ fn show_lines<T: Trace>(tape: &Tape, trace: &mut T)
     }
 }
 
-/// Passes on what a tape has taken: the bytes, lowest line first, and then the lines of the log, of which each wakes those who sleep for
-/// its channel.
+/// Passes on what a tape has taken: the bytes, lowest line first, and then the lines of the log, of which each wakes those who
+/// sleep for its channel.
 #[inline(always)]
 pub(crate) fn pass_on<T: Trace>(tape: &Tape, table: &mut Table, trace: &mut T)
     requires table { IsTable table.old }

@@ -1,5 +1,5 @@
-//! The slots that have been taken, who waits for the disk up to one of them, and with which of them the lines send: `iowait` and
-//! `iodone` in Lions' Commentary, `bio.c`; `ttstart` and `ttrstrt` there, `tty.c`.
+//! The slots that have been taken, who waits for the disk up to one of them, and with which of them the lines send: `iowait`
+//! and `iodone` in Lions' Commentary, `bio.c`; `ttstart` and `ttrstrt` there, `tty.c`.
 ghost use Rattle.std.specs.Prelude.{◌≡◌, ◌≢◌, ◌<◌, ◌≤◌, ◌+◌, ◌-◌, ◌*◌, ◌%◌, ◌==◌, ◌||◌, ℕ, true, false, not, length, map, min, None, slice_index, slice_index_or};
 ghost use Rattle.v6_base.specs.Trace.{Took, entries_of};
 ghost use Rattle.tty_line.specs.Said.{sends};
@@ -50,8 +50,8 @@ pub(crate) struct Slots {
     pub(crate) set_at: u32,
     /// So many slots are left up to the one that is due, with that one.
     pub(crate) left: u32,
-    /// The number of the slot that is due, the first of a run being 1: before it no wait for the disk ends, and no line sends. `NEVER`
-    /// is none.
+    /// The number of the slot that is due, the first of a run being 1: before it no wait for the disk ends, and no line sends.
+    /// `NEVER` is none.
     pub(crate) due: u32,
 }
 
@@ -230,8 +230,8 @@ fn end_kept(u: &UArea) -> u32
     65536 * u32::from(u.call[4]) + u32::from(u.call[5])
 }
 
-/// The number of the slot with whose end a process waits no more for the disk: `NEVER` where it doesn't wait for it. Who has ended
-/// waits for nothing.
+/// The number of the slot with whose end a process waits no more for the disk: `NEVER` where it doesn't wait for it. Who has
+/// ended waits for nothing.
 fn disk_end(procs: &Procs, s: Slot) -> u32
     requires agree { AreProcs procs.now }
     requires above { 0 < s }
@@ -277,8 +277,8 @@ impl Woken {
     }
 }
 
-/// Wakes those who wait for the disk up to the end of the slot of this number, the lowest first, and finds the next with which a
-/// wait ends.
+/// Wakes those who wait for the disk up to the end of the slot of this number, the lowest first, and finds the next with which
+/// a wait ends.
 fn wake_disks<T: Trace>(procs: &mut Procs, passed: u32, trace: &mut T) -> Woken
     requires agree { AreProcs procs.old }
     requires graves { NoneInGraves (processes_of procs.old) }
@@ -316,8 +316,8 @@ fn either(a: bool, b: bool) -> bool
     a || b
 }
 
-/// The lines send, the lowest first, and after each who waits for room on it is woken, where that is called for. Tells whether anybody
-/// is.
+/// The lines send, the lowest first, and after each who waits for room on it is woken, where that is called for. Tells whether
+/// anybody is.
 fn send_lines<T: Trace>(lines: &mut Lines, table: &mut Table, trace: &mut T) -> bool
     requires table { IsTable table.old }
     ensures lines { lines.new ≡ (each_line sends lines.old).lines }
@@ -337,8 +337,8 @@ fn send_lines<T: Trace>(lines: &mut Lines, table: &mut Table, trace: &mut T) -> 
     any
 }
 
-/// Turns the pace of all lines on or off, the lowest first, and after each wakes who waits for room on it, where that is called for.
-/// Tells whether anybody is woken.
+/// Turns the pace of all lines on or off, the lowest first, and after each wakes who waits for room on it, where that is called
+/// for. Tells whether anybody is woken.
 fn turn_lines<T: Trace>(lines: &mut Lines, on: bool, table: &mut Table, trace: &mut T) -> bool
     requires table { IsTable table.old }
     ensures lines { lines.new ≡ (each_line (turned_to on) lines.old).lines }
@@ -358,8 +358,8 @@ fn turn_lines<T: Trace>(lines: &mut Lines, on: bool, table: &mut Table, trace: &
     any
 }
 
-/// Sets after how many slots the lines send, counted from now on: 0 is none. Where bytes waited then they go out, and who waits for room
-/// is woken. Tells whether anybody is.
+/// Sets after how many slots the lines send, counted from now on: 0 is none. Where bytes waited then they go out, and who waits
+/// for room is woken. Tells whether anybody is.
 pub(crate) fn set_pace<T: Trace>(world: &mut World, n: u32, trace: &mut T) -> bool
     requires good { IsGood world.old }
     requires counted { IsCounted world.old.slots (unix_of world.old) }
@@ -390,7 +390,8 @@ pub(crate) fn set_pace<T: Trace>(world: &mut World, n: u32, trace: &mut T) -> bo
     )
 }
 
-/// The lines send with the end of the slot of this number, where it is one of those with which they do. Tells whether anybody is woken.
+/// The lines send with the end of the slot of this number, where it is one of those with which they do. Tells whether anybody
+/// is woken.
 fn send_after<T: Trace>(world: &mut World, passed: u32, trace: &mut T) -> bool
     requires good { IsGood world.old }
     requires passed { passed_in world.old.slots ≡ passed }
@@ -432,8 +433,8 @@ fn send_after<T: Trace>(world: &mut World, passed: u32, trace: &mut T) -> bool
     send_lines(&mut world.files.lines, &mut world.procs.table, trace)
 }
 
-/// The slot that was due has been taken: who has waited for the disk up to its end is woken, and where the lines send with its end they
-/// do. Tells whether anybody is woken.
+/// The slot that was due has been taken: who has waited for the disk up to its end is woken, and where the lines send with its
+/// end they do. Tells whether anybody is woken.
 #[cold]
 #[inline(never)]
 pub(crate) fn reach<T: Trace>(world: &mut World, trace: &mut T) -> bool
@@ -466,8 +467,8 @@ pub(crate) fn reach<T: Trace>(world: &mut World, trace: &mut T) -> bool
     either(woken.any, sent)
 }
 
-/// Counts a slot that has been taken, wakes who has waited for the disk up to its end, and lets the lines send where they do with its
-/// end. Tells whether anybody is woken.
+/// Counts a slot that has been taken, wakes who has waited for the disk up to its end, and lets the lines send where they do
+/// with its end. Tells whether anybody is woken.
 #[inline(always)]
 pub(crate) fn count<T: Trace>(world: &mut World, trace: &mut T) -> bool
     requires good { IsGood world.old }
