@@ -33,7 +33,7 @@ reference comes to; docs/rows.md has its language. `--seed` does this for one se
 named, and the counts of what is accepted.
 
 The reference is the Python module `abstract_unix`; the environment variable ABSTRACT_UNIX names the folder in which it is. Of
-its calls and lines of scripts those of a later kernel are left out. It needs Linux, and valgrind for what runs under it.
+its calls those of a later kernel are left out. It needs Linux, and valgrind for what runs under it.
 """
 import argparse
 import collections
