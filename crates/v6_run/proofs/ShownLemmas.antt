@@ -1,15 +1,13 @@
 -- What a host's terminal and log have got of what a run shows.
-use Rattle.std.proofs.Common.{◌≡◌, ℕ, true, false, is_some, List, [], ◌++◌, length, nat_le, refl, sym, ◌∙◌, ap, subst, append_assoc}
+use Rattle.std.proofs.Common.{◌≡◌, ℕ, true, false, is_some, List, [], ◌++◌, sym, ◌∙◌, ap, subst, append_assoc}
 use Rattle.std.proofs.lemmas.List.{append-nil, append_cancel_left}
 use Rattle.v6_base.specs.Trace.{Item, Took, line_bytes, text_of}
 use Rattle.v6_base.proofs.Took.{line_bytes-append, text_of-append}
 use Rattle.v6_port.specs.Outside.{Outside, Tells}
 use Rattle.v6_run.specs.Fronts.{HoldsFront}
 use Rattle.v6_run.specs.declared.ports.Kept.{Kept}
-use Rattle.v6_run.specs.declared.ports.Kept.TheVariants as kept
 use Rattle.v6_run.specs.declared.ports.Kept.TheVariants.{Nothing}
-use Rattle.v6_run.specs.declared.ports.TheConstants.{SCREEN_ROOM}
-use Rattle.v6_run.specs.Ports.{term, log_of, failed_port, kept_byte, kept_text, tells_line_0, taken_of, taken_by, shown_on, is_counted, HasCounted, Extends, Goes, HasShown, HasShownFronts}
+use Rattle.v6_run.specs.Ports.{term, log_of, failed_port, kept_byte, kept_text, tells_line_0, taken_of, taken_by, is_counted, Extends, Goes, HasShown, HasShownFronts}
 use Rattle.v6_run.proofs.PortLemmas.{no_byte, no_text, uncounted}
 
 -- What was written with what was kept is what was taken: so what was written is a front of it all.
