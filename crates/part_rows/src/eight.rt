@@ -74,23 +74,29 @@ fn begin(alloc: Global, count: u8) -> Result<Consoles, AllocError> {
 fn types(c: &mut Consoles, l: u8, keys: &[u8], keyed: Keyed) -> bool {
     let mut last = Keyed::Nothing;
     for key in keys {
+        if l >= c.lines.count() {
+            return false;
+        }
         last = c.lines.typed(l, *key, &mut c.tape);
     }
     last == keyed
 }
 
 fn stands(space: &Whole, bytes: &[u8]) -> bool {
-    let mut at = 100;
+    let mut at: u16 = 100;
     for byte in bytes {
         if space.load_byte(at) != Ok(*byte) {
             return false;
         }
-        at += 1;
+        at = at.wrapping_add(1);
     }
     true
 }
 
 fn reads(c: &mut Consoles, l: u8, bytes: &[u8]) -> bool {
+    if l >= c.lines.count() {
+        return false;
+    }
     let took = Took::Done(u16::try_from(bytes.len()).unwrap_or(u16::MAX));
     c.lines.read(l, &mut c.space, 100, 100) == took && stands(&c.space, bytes)
 }
@@ -112,7 +118,14 @@ fn shown(c: &mut Consoles, l: u8, bytes: &[u8]) -> bool {
 }
 
 fn sets(c: &mut Consoles, l: u8, modes: [u16; 3], show: bool) -> bool {
-    c.lines.set_modes(l, modes, &mut c.tape) == show && c.lines.modes(l) == modes
+    if l >= c.lines.count() {
+        return false;
+    }
+    let told = c.lines.set_modes(l, modes, &mut c.tape);
+    if l >= c.lines.count() {
+        return false;
+    }
+    told == show && c.lines.modes(l) == modes
 }
 
 /// The line of a step.
