@@ -33,7 +33,7 @@ def gone_through(command, name, most):
     with tempfile.TemporaryDirectory() as folder:
         runner, image, turns = Runner(command, folder), os.path.join(folder, "disk"), 0
         with open(image, "wb") as out:
-            out.write(row.image(runner.base(row.numbers["made"])))
+            out.write(row.image(runner.base(row.disk.numbers["made"])))
         try:
             walk = Walk(History(Run(command, image, row.numbers["core"], row.script, folder)), 0)
         except (MomentError, ScriptError):

@@ -108,7 +108,7 @@ class Made(Case):
         while len(found) < count:
             row = Row(self.random.choice(known))
             lines = (row.log or b"").count(b"\n")
-            if row.ends() and row.numbers["made"] is None and lines in LINES and Script(row.script).slots <= SLOTS:
+            if row.ends() and row.disk.numbers["made"] is None and lines in LINES and Script(row.script).slots <= SLOTS:
                 image, script = self.put(f"image.{len(found)}", row.image(base)), self.put(f"script.{len(found)}", row.script)
                 found.setdefault(row.name, (image, str(row.numbers["core"]), script))
         return found
