@@ -66,8 +66,8 @@ fn is_run(row: &Row) -> bool {
     }
 }
 
-/// The host of the row: files in memory, room for the terminals of all lines, and for a second disk where the row has one.
-fn host_of(alloc: Global, row: &Row, image: &[u8], second: &[u8]) -> Result<MemHost, AllocError>
+/// Files in memory, with room for the terminals of all lines.
+fn host_of_lines(alloc: Global, row: &Row, image: &[u8]) -> Result<MemHost, AllocError>
     ensures { IfOk result (λ host. IsIdle (memory host).outside) }
 {
     let mut host = host_in(alloc, image, &row.script, ROOMS)?;
@@ -78,11 +78,27 @@ fn host_of(alloc: Global, row: &Row, image: &[u8], second: &[u8]) -> Result<MemH
     host.room(OutPort::Line(5), "term.5", LINE_ROOM)?;
     host.room(OutPort::Line(6), "term.6", LINE_ROOM)?;
     host.room(OutPort::Line(7), "term.7", LINE_ROOM)?;
-    if row.has_second {
-        host.add("image2", second)?;
-        host.room(OutPort::Second, "final2", DISK_BYTES)?;
-    }
     Ok(host)
+}
+
+/// The same with a second disk, and room for what is left of it.
+fn host_of_two(alloc: Global, row: &Row, image: &[u8], second: &[u8]) -> Result<MemHost, AllocError>
+    ensures { IfOk result (λ host. IsIdle (memory host).outside) }
+{
+    let mut host = host_of_lines(alloc, row, image)?;
+    host.add("image2", second)?;
+    host.room(OutPort::Second, "final2", DISK_BYTES)?;
+    Ok(host)
+}
+
+/// The host of the row: with a second disk where the row has one.
+fn host_of(alloc: Global, row: &Row, image: &[u8], second: &[u8]) -> Result<MemHost, AllocError>
+    ensures { IfOk result (λ host. IsIdle (memory host).outside) }
+{
+    if row.has_second {
+        return host_of_two(alloc, row, image, second);
+    }
+    host_of_lines(alloc, row, image)
 }
 
 /// A word of the image.
