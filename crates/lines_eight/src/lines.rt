@@ -1,10 +1,10 @@
 //! The terminal lines.
 ghost use Rattle.std.specs.Prelude.{◌≡◌, ◌≤◌, ◌<◌, ◌⊎◌, length, take};
-ghost use Rattle.std.specs.List.{All};
+ghost use Rattle.std.specs.List.{All, list_any};
 ghost use Rattle.v6_base.specs.Trace as items;
 ghost use Rattle.v6_base.specs.Trace.{sent};
 ghost use Rattle.tty_line.specs.Terminal.{opened};
-ghost use Rattle.tty_line.specs.Said.{flush, closed, with_modes, sends, paced};
+ghost use Rattle.tty_line.specs.Said.{holds, flush, closed, with_modes, sends, paced};
 ghost use Rattle.tty_line.specs.Output.{shows, after_shown, written};
 ghost use Rattle.tty_line.specs.Input.{typed};
 ghost use Rattle.tty_line.specs.Reading.{reads};
@@ -101,6 +101,19 @@ impl Lines {
         ensures most { All HasRoom self.now }
     {
         self.lines.len() as u8
+    }
+
+    /// Whether bytes wait to go out on one of the lines.
+    pub fn holds(&self) -> bool
+        ensures { result ≡ list_any holds self.now }
+    {
+        let lines = self.lines.as_slice();
+        for l in 0..lines.len() {
+            if lines[l].holds() {
+                return true;
+            }
+        }
+        false
     }
 
     /// Whether a line is open.

@@ -3,7 +3,7 @@ ghost use Rattle.std.specs.Prelude.{◌≡◌, ◌≤◌, take, drop, length};
 ghost use Rattle.v6_base.specs.Trace as items;
 ghost use Rattle.v6_base.specs.Trace.{sent};
 ghost use Rattle.tty_line.specs.Terminal.{first_terminal, opened};
-ghost use Rattle.tty_line.specs.Said.{flush, closed, with_modes, sends, paced};
+ghost use Rattle.tty_line.specs.Said.{holds, flush, closed, with_modes, sends, paced};
 ghost use Rattle.tty_line.specs.Output.{shows, after_shown, written};
 ghost use Rattle.tty_line.specs.Input.{typed};
 ghost use Rattle.tty_line.specs.Reading.{reads};
@@ -137,6 +137,13 @@ impl Line {
         ensures { result ≡ self.now.is_open }
     {
         self.is_open
+    }
+
+    /// Whether bytes wait to go out.
+    pub fn holds(&self) -> bool
+        ensures { result ≡ holds self.now }
+    {
+        self.output.len() > 0
     }
 
     /// Opens the line. Where it isn't open yet, its flags become those of a typewriter with capitals alone, `#` erases
