@@ -73,7 +73,8 @@ fn wait_for_keys(line: u8, u: &mut UArea, row: &Row, entry: u16, at: u16, count:
     }
 }
 
-/// Lets the process wait for room on a line, with what it needs to go on and with how many bytes are done, unless a signal is due.
+/// Lets the process wait for room on a line, with what it needs to go on and with how many bytes are done, unless a signal is
+/// due.
 fn wait_for_room(
     line: u8,
     u: &mut UArea,
@@ -193,10 +194,10 @@ fn transfer_of(entry: u8, args: [u16; 4]) -> Transfer
     }
 }
 
-/// 3, read(II): of the number in R0, into a buffer. The arguments are its address and how many bytes are to be read. R0
-/// takes the number of bytes that were read: fewer, where the file ends before, and 0 of the null device. A read of a
-/// terminal line waits until keys are typed, and a read of a pipe until there are bytes or nobody is left who could write; or until a
-/// signal comes. The next read or write begins after what was read, also after an error.
+/// 3, read(II): of the number in R0, into a buffer. The arguments are its address and how many bytes are to be read. R0 takes
+/// the number of bytes that were read: fewer, where the file ends before, and 0 of the null device. A read of a terminal line
+/// waits until keys are typed, and a read of a pipe until there are bytes or nobody is left who could write; or until a signal
+/// comes. The next read or write begins after what was read, also after an error.
 ///
 /// # Errors
 ///
@@ -304,13 +305,13 @@ fn is_on_line(pending: u8) -> bool
     pending == LINE_READ || pending == LINE_WRITE
 }
 
-/// Takes up a call again in which a process slept, as the per-process area keeps it: a read or a write of a line, the write at the
-/// byte where it stood, or a read or a write of a pipe. It may wait again.
+/// Takes up a call again in which a process slept, as the per-process area keeps it: a read or a write of a line, the write at
+/// the byte where it stood, or a read or a write of a pipe. It may wait again.
 ///
 /// # Errors
 ///
-/// `EINTR`: a signal is due. Nothing more was done then. Else those of `read_file` and of `write_file`. Where an address can't be
-/// written for a byte of a line, the byte is lost, and those before it were written.
+/// `EINTR`: a signal is due. Nothing more was done then. Else those of `read_file` and of `write_file`. Where an address can't
+/// be written for a byte of a line, the byte is lost, and those before it were written.
 pub fn resume_file<S: Space, T: Trace>(
     f: &mut Files,
     slot: Slot,
@@ -387,8 +388,8 @@ fn read_front<S: Space>(space: &S, at: u16, into: &mut [u8]) -> usize
     into.len()
 }
 
-/// Shows bytes of a memory on a line, a piece of them from an address on, up to the first that cannot be read or for which there is no
-/// room, and says how many.
+/// Shows bytes of a memory on a line, a piece of them from an address on, up to the first that cannot be read or for which
+/// there is no room, and says how many.
 fn show_piece<S: Space, T: Trace>(
     lines: &mut Lines,
     l: u8,
@@ -412,8 +413,8 @@ fn show_piece<S: Space, T: Trace>(
     lines.write(l, &part[..got], trace)
 }
 
-/// Shows bytes of a memory on a line, so many from an address on, one after another, up to the first that cannot be read or for which
-/// there is no room, and says how many. Addresses wrap round.
+/// Shows bytes of a memory on a line, so many from an address on, one after another, up to the first that cannot be read or for
+/// which there is no room, and says how many. Addresses wrap round.
 fn show_all<S: Space, T: Trace>(
     lines: &mut Lines,
     l: u8,
@@ -545,18 +546,18 @@ fn write_to<S: Space, T: Trace>(
     }
 }
 
-/// 4, write(II): of the number in R0, from a buffer. The arguments are its address and how many bytes are to be
-/// written. R0 takes the number of bytes that were written. The file grows where it must. What is written to a
-/// terminal line is shown byte by byte, up to the first that cannot be read; with a pace the process waits before a byte where more
-/// than 50 wait to go out, or until a signal comes. The null device takes all. A write to a pipe waits until all is written. The next
-/// read or write begins after what was written, also after an error.
+/// 4, write(II): of the number in R0, from a buffer. The arguments are its address and how many bytes are to be written. R0
+/// takes the number of bytes that were written. The file grows where it must. What is written to a terminal line is shown byte
+/// by byte, up to the first that cannot be read; with a pace the process waits before a byte where more than 50 wait to go out,
+/// or until a signal comes. The null device takes all. A write to a pipe waits until all is written. The next read or write
+/// begins after what was written, also after an error.
 ///
 /// # Errors
 ///
-/// `EBADF`: the number is not open, or not for writing. `EPIPE`: nobody can read the pipe any more; the process also has a signal.
-/// Of each piece of a file, in this order. `EFBIG`: it would end
-/// past byte 16,777,215, or in a directory past byte 65,520 and its present size. `ENOSPC`: no block is free. `EFAULT`:
-/// an address of the buffer cannot be read. `EINTR`: the process would wait, and a signal is due.
+/// `EBADF`: the number is not open, or not for writing. `EPIPE`: nobody can read the pipe any more; the process also has a
+/// signal. Of each piece of a file, in this order. `EFBIG`: it would end past byte 16,777,215, or in a directory past byte
+/// 65,520 and its present size. `ENOSPC`: no block is free. `EFAULT`: an address of the buffer cannot be read. `EINTR`: the
+/// process would wait, and a signal is due.
 #[tactic(auto, using(v6_base::proofs::Took::takes))]
 pub fn write_file<S: Space, T: Trace>(
     f: &mut Files,
