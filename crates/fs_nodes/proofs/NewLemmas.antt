@@ -15,7 +15,8 @@ use Rattle.fs_nodes.specs.one_disk.Numbers as disk_numbers
 use Rattle.fs_nodes.proofs.NumbersMake.{draw_free}
 use Rattle.fs_nodes.specs.Disks.{Disks, OfSecond}
 use Rattle.fs_nodes.specs.Keys.{Stores, is_second, store_at, number_of, with_node, room_at, joined}
-use Rattle.fs_nodes.specs.FileSystem.{FileSystem, AreDisks, MakesNode, MakesNone, MakesNoneOn, known_after, next_draw, with_draw, together, referenced, held_on_second}
+use Rattle.fs_nodes.specs.FileSystem.{FileSystem, AreDisks, together, referenced, held_on_second}
+use Rattle.fs_nodes.specs.Numbers.{MakesNode, MakesNone, MakesNoneOn, known_after, next_draw, with_draw}
 use Rattle.fs_nodes.proofs.SideLemmas.{Side, with_root, with_second, root_side, second_side, total_is, none_to_0, one_more}
 
 taken_back : (r : List ℕ) (o : Option (List ℕ)) (n : ℕ) → length r ≡ n + 1 → take (n + 1) (joined r o) ≡ r

@@ -51,6 +51,14 @@ between_refl : (o : Option (List (List ℕ))) → Between SameAround o o
 between_refl None = tt
 between_refl (Some x) = rest_refl x
 
+-- Nothing is written.
+pub nothing_late : (root : disk.FileSystem) (o : Option disk.FileSystem) (fs : FileSystem) → together (record { root = root; second = o }) ≡ fs
+    → WritesLateEach fs.stored fs.blocks fs.stored
+nothing_late root o fs view = subst (λ (f : FileSystem). WritesLateEach f.stored f.blocks f.stored) view (by o) where
+  by : (x : Option disk.FileSystem) → WritesLateEach (together (record { root = root; second = x })).stored (together (record { root = root; second = x })).blocks (together (record { root = root; second = x })).stored
+  by None = record { root = late_stays root.stored root.blocks; second = refl }
+  by (Some s) = record { root = late_stays root.stored root.blocks; second = late_stays s.stored s.blocks }
+
 -- the root's disk
 pub root_side : (root : disk.FileSystem) (second : Option disk.FileSystem) (key : ℕ) → length root.references ≡ root.store.count + 1
     → (is_some second && nat_lt root.store.count key) ≡ false

@@ -115,6 +115,13 @@ impl Nodes {
         see(&self.root, &self.second);
     }
 
+    /// How many inodes the root's disk has.
+    pub fn root_count(&self) -> u32
+        ensures { result ≡ self.now.store.root.count }
+    {
+        self.root.count()
+    }
+
     /// How often the inode of a key is referred to: 0 where there is none of this key.
     pub fn refs(&self, ino: u16) -> u16
         ensures { result ≡ slice_index self.now.references ino }
