@@ -4,7 +4,6 @@ use Rattle.std.proofs.lemmas.Bool.{ltb-false}
 use Rattle.std.proofs.lemmas.List.Elements.{All-from_get_or}
 use Rattle.std.proofs.lemmas.List.Sums.{sum_by-le}
 use Rattle.std.proofs.Math.ListN.{get_or-map}
-use Rattle.fs_codec.specs.Store.{Store}
 use Rattle.fs_codec.specs.Modes.{is_directory}
 use Rattle.fs_codec.specs.Disk.{Disk, disk_of, head, inode, inode_numbers}
 use Rattle.fs_codec.specs.Free.{free_walk}
@@ -16,6 +15,7 @@ use Rattle.fs_codec.specs.declared.fault.ImageFault.{ImageFault}
 use Rattle.fs_codec.specs.declared.fault.ImageFault.TheVariants.{TooLong, BadSuper, NoSwap, BlockTwice, NoRoot}
 use Rattle.u_area.specs.declared.layout.TheConstants.{NOTHING_PENDING}
 use Rattle.fs_laws.proofs.WholeLemmas.{two, five}
+use Rattle.fs_nodes.specs.Keys.{Stores}
 use Rattle.open_files.specs.declared.file.OpenFile.{OpenFile}
 use Rattle.open_files.specs.Files.{file_at}
 use Rattle.sys_files.specs.Sound.{numbers_of}
@@ -68,7 +68,7 @@ get_same x zero k = refl
 get_same x (suc n) zero = refl
 get_same x (suc n) (suc k) = get_same x n k
 
-module _ (store : Store) (core : ℕ) where
+module _ (store : Stores) (core : ℕ) where
   abbrev u : Unix
   u = first_unix store core
 

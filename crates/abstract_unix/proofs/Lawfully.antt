@@ -7,12 +7,12 @@ use Rattle.v6_base.specs.Image.{AreBytes}
 use Rattle.v6_base.specs.Trace.{Log, entries_of}
 use Rattle.v6_base.specs.declared.entry.Chan.TheVariants.{RunOut}
 use Rattle.v6_base.specs.declared.entry.Entry.TheVariants as line
-use Rattle.fs_codec.specs.Store.{Store}
 use Rattle.fs_codec.specs.Faults.{image_fault}
 use Rattle.fs_codec.specs.declared.fault.ImageFault.{ImageFault}
 use Rattle.fs_codec.specs.Words.{bytes_from}
 use Rattle.fs_codec.specs.Disk.{disk_of}
 use Rattle.fs_codec.specs.Stands.{store_of}
+use Rattle.fs_nodes.specs.Keys.{Stores}
 use Rattle.pick_rules.specs.Priority.{pswp}
 use Rattle.pick_rules.specs.Ranges.{IsTime}
 use Rattle.pick_rules.specs.Table.{empty_row, row_at}
@@ -98,7 +98,7 @@ course_fine [] c f = f
 course_fine (e ∷ events) c f = course_fine events (after_event c e) (event_goes c e f)
 
 -- The beginning: two lines, and a choice.
-module _ (store : Store) (core : ℕ) (low : 64 ≤ core) (high : core ≤ 3968) where
+module _ (store : Stores) (core : ℕ) (low : 64 ≤ core) (high : core ≤ 3968) where
   abbrev u : Unix
   u = first_unix store core
 
@@ -215,7 +215,7 @@ logs_are_lawful image core events c are low high e = by (boots image core) refl 
         → FitAll nothing_seen (log_of c) × (is_whole c.ending ≡ true → Lawful (log_of c))
     by None f g = absurd (cc g)
     by (Some m) f g =
-        let store : Store = store_of (disk_of image) in
+        let store : Stores = store_of (disk_of image) in
         let is : course (started (system_with store core)) events ≡ c =
         ap (λ n. course (started n) events) (boots_is image core m f) ∙ cc g in
         let fine : FineCourse (started (system_with store core)) = started_fine store core low high (stamp_in_range image are) (few_nodes image (no_fault image core m f)) in

@@ -2,7 +2,6 @@
 use Rattle.std.proofs.Common.{◌≡◌, ◌∙◌, ◌≤◌, ◌==◌, ℕ, zero, suc, Bool, true, false, cond, ◌++◌, ◌&&◌, List, [], ◌∷◌, length, map, set, get_or, get_or-set_same, unwrap_or, Option, Some, None, refl, sym, ap, subst, inl, inr}
 use Rattle.std.proofs.lemmas.Bool.{eqb-true, eqb-false}
 use Rattle.std.proofs.lemmas.List.FromFn.{length-map-range_with_len}
-use Rattle.fs_codec.specs.Store.{Store}
 use Rattle.tty_line.specs.declared.line.Keyed.{Keyed}
 use Rattle.tty_line.specs.declared.line.Keyed.TheVariants as key
 use Rattle.tty_line.specs.Input.{Typed, typed}
@@ -23,6 +22,7 @@ use Rattle.abstract_unix.specs.Endings.{is_early}
 use Rattle.abstract_unix.specs.Unix.{Unix, System, process_of, with_process}
 use Rattle.v6_base.specs.Trace.{Item, sent}
 use Rattle.v6_base.specs.declared.entry.Chan.TheVariants.{Keys}
+use Rattle.fs_nodes.specs.Keys.{Stores}
 use Rattle.pick_rules.specs.Effects.{Effect, Show}
 use Rattle.sys_procs.specs.World.{Clock}
 use Rattle.abstract_unix.specs.Delivery.{delivers_due}
@@ -65,7 +65,7 @@ tidy_clock u v files pipes processes store waits tidy = record {
   fifty = ap length processes ∙ tidy.fifty;
   fifteen = λ s t e. tidy.fifteen s t (ap (λ ps. get_or (told_in ps) s None) (sym processes) ∙ e);
   waits = waits;
-  count = subst (λ (s : Store). s.count ≤ 65535) (sym store) tidy.count;
+  count = subst (λ (s : Stores). s.count ≤ 65535) (sym store) tidy.count;
   pipes = λ entry file at pipe. subst (λ p. HasPipe p file.ino) (sym pipes)
       (tidy.pipes entry file (ap (λ f. file_at f entry) (sym files) ∙ at) pipe);
 }

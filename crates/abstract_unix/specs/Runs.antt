@@ -5,9 +5,9 @@ use Rattle.fs_codec.specs.Faults.{image_fault}
 use Rattle.v6_base.specs.Trace.{Item, Log}
 use Rattle.v6_base.specs.declared.entry.Entry.TheVariants.{Boot}
 use Rattle.fs_codec.specs.Disk.{disk_of}
-use Rattle.fs_codec.specs.Store.{Store}
 use Rattle.fs_codec.specs.Stands.{store_of}
 use Rattle.fs_laws.specs.Numbers.{synced}
+use Rattle.fs_nodes.specs.Keys.{Stores}
 use Rattle.tty_line.specs.Terminal.{first_terminal}
 use Rattle.pick_rules.specs.Board.{first_board}
 use Rattle.proc_tab.specs.Processes.{no_row}
@@ -31,7 +31,7 @@ first_process = record no_process {
 
 -- The Unix of a file system with so many clicks of core. No file is open, and nobody has opened the console. The time
 -- is that of the super-block.
-abbrev pub first_unix : Store → ℕ → Unix
+abbrev pub first_unix : Stores → ℕ → Unix
 first_unix store core = record {
   store = store;
   processes = None ∷ Some first_process ∷ replicate 48 None;
@@ -47,7 +47,7 @@ first_unix store core = record {
 }
 
 -- the system before its first turn
-abbrev pub system_with : Store → ℕ → System
+abbrev pub system_with : Stores → ℕ → System
 system_with store core = record { unix = first_unix store core; board = first_board core store.stamp }
 
 -- the system that an image without a fault begins with, with so many clicks of core

@@ -1,8 +1,8 @@
 -- All that programs can see of a system: Lions' Commentary, `proc.h`, `user.h`, `file.h`, `text.h`.
 use Rattle.std.specs.Prelude.{ℕ, List, Option, Some, None, slice_index_or, slice_set}
 use Rattle.std.specs.Option.{unwrap_or}
+use Rattle.fs_nodes.specs.Keys.{Stores}
 use Rattle.open_files.specs.declared.file.OpenFile.{OpenFile}
-use Rattle.fs_codec.specs.Store.{Store}
 use Rattle.pipe_ends.specs.declared.ends.Pipe.{Pipe}
 use Rattle.tty_line.specs.Terminal.{Terminal}
 use Rattle.pick_rules.specs.Board.{Board}
@@ -17,7 +17,7 @@ pub record Timing : Type 0 where
   pub disk : ℕ
 
 pub record Unix : Type 0 where
-  pub store : Store  -- the file system
+  pub store : Stores  -- the file system
   pub processes : List (Option Process)  -- by their slots, of which there are 50; slot 0 is the kernel's own
   pub files : List (Option OpenFile)  -- the table of open files, with 100 entries
   pub pipes : List Pipe  -- that are open: how far each has been read, and which of its ends wait

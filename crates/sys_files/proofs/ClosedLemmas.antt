@@ -3,7 +3,7 @@ use Rattle.std.proofs.Common.{◌≡◌, ℕ, Bool, true, false, ◌+◌, ◌<�
 use Rattle.std.proofs.lemmas.Bool.{ne_eqb, eq-eqb, eqb-true, false≢true}
 use Rattle.std.proofs.lemmas.List.Quantifiers.{position-Some}
 use Rattle.v6_base.specs.declared.errno.Errno.TheVariants.{EBADF, EMFILE}
-use Rattle.fs_laws.specs.Keys.{node_numbered}
+use Rattle.fs_nodes.specs.Keys.{node_numbered}
 use Rattle.open_files.specs.declared.file.OpenFile.{OpenFile}
 use Rattle.open_files.specs.declared.file.Closed.{Closed}
 use Rattle.open_files.specs.declared.file.Closed.TheVariants.{Still, Last}

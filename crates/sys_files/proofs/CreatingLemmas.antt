@@ -5,9 +5,9 @@ use Rattle.v6_base.specs.declared.answer.Answer.TheVariants.{Fail}
 use Rattle.v6_base.specs.declared.errno.Errno.{Errno}
 use Rattle.v6_base.specs.declared.errno.Errno.TheVariants.{EMFILE, ENFILE, ENXIO}
 use Rattle.fs_codec.specs.Modes.{is_device}
-use Rattle.fs_codec.specs.Store.{Node, Store}
-use Rattle.fs_laws.proofs.RestLemmas.{rest_then}
-use Rattle.fs_laws.specs.Keys.{with_truncated}
+use Rattle.fs_codec.specs.Store.{Node}
+use Rattle.fs_nodes.proofs.RestLemmas.{rest_then}
+use Rattle.fs_nodes.specs.Keys.{Stores, with_truncated}
 use Rattle.fs_nodes.specs.FileSystem.{FileSystem, SameRest}
 use Rattle.open_files.specs.declared.file.FileKind.{FileKind}
 use Rattle.open_files.specs.Files.{AreOpen, free_number, free_entry}
@@ -29,11 +29,11 @@ use Rattle.sys_files.proofs.GivingLemmas.{OneReferenceLess, gives}
 use Rattle.sys_files.proofs.OpeningLemmas.{opens_kept}
 
 -- A file that gives its blocks back is one of as many.
-truncated_when : (t : Bool) (store other : Store) → other.count ≡ store.count → (cond t store other).count ≡ store.count
+truncated_when : (t : Bool) (store other : Stores) → other.count ≡ store.count → (cond t store other).count ≡ store.count
 truncated_when true store other same = refl
 truncated_when false store other same = same
 
-pub truncated_count : (store : Store) (ino : ℕ) (node : Node) (now : ℕ)
+pub truncated_count : (store : Stores) (ino : ℕ) (node : Node) (now : ℕ)
     → (with_truncated store ino node now).count ≡ store.count
 truncated_count store ino node now = truncated_when (is_device node.mode) store _ refl
 

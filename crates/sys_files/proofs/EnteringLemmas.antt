@@ -7,11 +7,11 @@ use Rattle.std.specs.Option.{is_none}
 use Rattle.v6_base.specs.Access.{then_do}
 use Rattle.v6_base.specs.declared.errno.Errno.{Errno}
 use Rattle.v6_base.specs.declared.errno.Errno.TheVariants.{ENFILE}
-use Rattle.fs_codec.specs.Store.{Node, Store}
+use Rattle.fs_codec.specs.Store.{Node}
 use Rattle.fs_laws.specs.Numbers.{is_free_number, new_node}
 use Rattle.fs_laws.specs.Pieces.{Moving}
-use Rattle.fs_laws.proofs.RestLemmas.{rest_stays}
-use Rattle.fs_laws.specs.Keys.{node_numbered}
+use Rattle.fs_nodes.proofs.RestLemmas.{rest_stays}
+use Rattle.fs_nodes.specs.Keys.{Stores, node_numbered}
 use Rattle.fs_laws.specs.Rest.{SameAround}
 use Rattle.fs_nodes.specs.FileSystem.{FileSystem, SameRest, IsFileSystem}
 use Rattle.fs_nodes.specs.Numbers.{MakesNode, MakesNone}
@@ -49,7 +49,7 @@ none_some : (o : Option Node) → IsSome o → o ≡ None → ⊥
 none_some None some is = absurd (cc)
 none_some (Some node) some is = absurd (cc)
 
-started : (store : Store) (t : Bool) (dir : ℕ) → IsSome (node_numbered store 1) → IsSome (node_numbered store dir)
+started : (store : Stores) (t : Bool) (dir : ℕ) → IsSome (node_numbered store 1) → IsSome (node_numbered store dir)
     → IsSome (node_numbered store (cond t 1 dir))
 started store true dir root some = root
 started store false dir root some = some
@@ -145,7 +145,7 @@ module _ (fs new : FileSystem) (marks : List Bool) (user : User) (dir : ℕ) (by
     has_made (made.Found ino) takes same place = taken fs new ino takes
     has_made (made.Room at offset name) takes same place = record {
       referenced = taken fs new at takes;
-      directory = λ node is. place.directory node (ap (λ (s : Store). node_numbered s at) (sym same) ∙ is);
+      directory = λ node is. place.directory node (ap (λ (s : Stores). node_numbered s at) (sym same) ∙ is);
       begins = place.begins;
       small = place.small;
     }
@@ -177,7 +177,7 @@ written_keeps old new dir m r some each references blocks =
     record {
       references = λ i. ap (λ l. slice_index l i) references;
       count =
-          ap (λ (s : Store). s.count) w.store;
+          ap (λ (s : Stores). s.count) w.store;
       blocks = blocks;
     }
 
@@ -212,7 +212,7 @@ module _ (fs new : FileSystem) (form : IsFileSystem fs) (mode uid gid time : ℕ
         references = λ i. ap (λ l. slice_index l i) made.references
             ∙ ap (λ n. slice_index (slice_set fs.references ino (n + 1)) i) (sym none)
             ∙ once_more fs.references ino i low;
-        count = ap (λ (s : Store). s.count) made.store;
+        count = ap (λ (s : Stores). s.count) made.store;
         blocks = blocks;
       }
 
@@ -233,7 +233,7 @@ module _ (fs new : FileSystem) (form : IsFileSystem fs) (mode uid gid time : ℕ
       let kept : slice_index new.references dir ≡ slice_index fs.references dir =
       ap (λ l. slice_index l dir) made.references ∙ get_or-set_other fs.references ino dir 1 0 other in
       let node_kept : node_numbered new.store dir ≡ node_numbered fs.store dir =
-      ap (λ (s : Store). node_numbered s dir) made.store
+      ap (λ (s : Stores). node_numbered s dir) made.store
       ∙ get_or-set_other fs.store.nodes ino dir (Some (new_node mode uid gid time)) None other in
       record {
         referenced = omega (arith, kept, some);
@@ -247,7 +247,7 @@ module _ (fs new : FileSystem) (form : IsFileSystem fs) (mode uid gid time : ℕ
   none_keeps_entry dir offset e made at = record {
     referenced = subst (λ (l : List ℕ). 0 < slice_index l dir) (sym made.references) at.referenced;
     directory = λ node there_is.
-        at.directory node (ap (λ (s : Store). node_numbered s dir) (sym made.store) ∙ there_is);
+        at.directory node (ap (λ (s : Stores). node_numbered s dir) (sym made.store) ∙ there_is);
     begins = at.begins;
     small = at.small;
   }
@@ -264,7 +264,7 @@ making_store n (Ok a) = referring_store n (can_refer n (named_by_made a)) a
 making_store n (Err e) = refl
 
 -- A node that is changed keeps references and numbers.
-pub changed_keeps : (old new : FileSystem) (ino : ℕ) (f : Node → Store) → IsSome (node_numbered old.store ino)
+pub changed_keeps : (old new : FileSystem) (ino : ℕ) (f : Node → Stores) → IsSome (node_numbered old.store ino)
     → ((node : Node) → node_numbered old.store ino ≡ Some node → new.store ≡ f node)
     → ((node : Node) → (f node).count ≡ old.store.count) → new.references ≡ old.references
     → SameRest old new → SameReferences old new
@@ -273,6 +273,6 @@ changed_keeps old new ino f some each same references blocks =
     record {
       references = λ i. ap (λ l. slice_index l i) references;
       count =
-          ap (λ (s : Store). s.count) (each n.0 n.1) ∙ same n.0;
+          ap (λ (s : Stores). s.count) (each n.0 n.1) ∙ same n.0;
       blocks = blocks;
     }

@@ -2,8 +2,8 @@
 use Rattle.std.proofs.Common.{◌≡◌, ◌+◌, ◌<◌, ◌≤◌, ◌==◌, ℕ, Bool, true, false, cond, List, slice_index, Ok, Err, refl, sym, ap, ◌∙◌, arith}
 use Rattle.std.proofs.lemmas.Bool.{eq-eqb}
 use Rattle.v6_base.specs.declared.errno.Errno.{Errno}
-use Rattle.fs_laws.proofs.RestLemmas.{rest_then}
-use Rattle.fs_laws.specs.Keys.{node_numbered}
+use Rattle.fs_nodes.proofs.RestLemmas.{rest_then}
+use Rattle.fs_nodes.specs.Keys.{node_numbered}
 use Rattle.fs_nodes.specs.FileSystem.{FileSystem, SameRest, IsFileSystem}
 use Rattle.fs_tree.specs.declared.user.User.{User}
 use Rattle.fs_tree.specs.Finding.{Inodes, inodes_of, find_in, put_back}

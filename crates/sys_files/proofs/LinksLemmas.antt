@@ -15,7 +15,7 @@ use Rattle.sys_files.specs.Handed.{no_node, node_in}
 use Rattle.sys_files.specs.Making.{entry_written}
 use Rattle.fs_laws.specs.Touch.{Touching, touching, take_names, gained}
 use Rattle.fs_laws.specs.Pieces.{pieces, Moving, stopped, going_on, writing, size_limit, with_bytes, beginning, write_file}
-use Rattle.fs_laws.specs.Keys.{room_at}
+use Rattle.fs_nodes.specs.Keys.{room_at}
 
 taken_links : (names : List BlockName) (node : Node) (room : ℕ) → (take_names names node room).node.nlink ≡ node.nlink
 taken_links [] node room = refl

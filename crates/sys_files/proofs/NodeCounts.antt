@@ -4,9 +4,9 @@ use Rattle.std.proofs.lemmas.Bool.{leb-true, and_parts}
 use Rattle.v6_base.specs.declared.errno.Errno.{Errno}
 use Rattle.v6_base.specs.declared.errno.Errno.TheVariants.{ENFILE}
 use Rattle.fs_codec.specs.Modes.{is_device}
-use Rattle.fs_codec.specs.Store.{Node, Store}
+use Rattle.fs_codec.specs.Store.{Node}
 use Rattle.fs_laws.specs.Numbers.{is_free_number, Draw, drawn, refill, draw, with_draw, new_node, without_node}
-use Rattle.fs_laws.specs.Keys.{node_numbered, with_node, room_at}
+use Rattle.fs_nodes.specs.Keys.{Stores, node_numbered, with_node, room_at}
 use Rattle.fs_nodes.specs.FileSystem.{referenced}
 use Rattle.fs_tree.specs.declared.made.Made.{Made}
 use Rattle.fs_tree.specs.declared.user.User.{User}
@@ -15,17 +15,17 @@ use Rattle.fs_tree.specs.Tests.{node_in}
 use Rattle.sys_files.specs.Making.{new_numbered, new_in, truncated_in, device_in}
 
 -- A search leaves the number of nodes, and so does what frees or truncates one.
-freed_count : (b : Bool) (store : Store) (ino : ℕ) (node : Node)
+freed_count : (b : Bool) (store : Stores) (ino : ℕ) (node : Node)
     → (cond b (without_node store ino node) store).count ≡ store.count
 freed_count true store ino node = refl
 freed_count false store ino node = refl
 
-gone_count : (b c : Bool) (store : Store) (ino : ℕ) (node : Node)
+gone_count : (b c : Bool) (store : Stores) (ino : ℕ) (node : Node)
     → (cond b (cond c (without_node store ino node) store) store).count ≡ store.count
 gone_count true c store ino node = freed_count c store ino node
 gone_count false c store ino node = refl
 
-pub put_in_count : (store : Store) (ino n : ℕ) (o : Option Node) → (put_in store ino n o).count ≡ store.count
+pub put_in_count : (store : Stores) (ino n : ℕ) (o : Option Node) → (put_in store ino n o).count ≡ store.count
 put_in_count store ino n None = refl
 put_in_count store ino n (Some node) = gone_count _ _ store ino node
 
@@ -63,7 +63,7 @@ pub numbered_count : (n : Inodes) (mode : ℕ) (user : User) (now : ℕ) (d : Dr
 numbered_count n mode user now d None = refl
 numbered_count n mode user now d (Some ino) = same_count n (nat_lt (referenced n.references) 100) _ _ refl refl
 
-truncated_when : (b : Bool) (store other : Store) → other.count ≡ store.count → (cond b store other).count ≡ store.count
+truncated_when : (b : Bool) (store other : Stores) → other.count ≡ store.count → (cond b store other).count ≡ store.count
 truncated_when true store other same = refl
 truncated_when false store other same = same
 
@@ -77,18 +77,18 @@ device_when false n other same = refl
 pub device_count : (n : Inodes) (ino device : ℕ) → (device_in n ino device).store.count ≡ n.store.count
 device_count n ino device = device_when (is_device (node_in n.store ino).mode) n _ refl
 
-pub synced_when : (b : Bool) (store other : Store) → other.count ≡ store.count → (cond b other store).count ≡ store.count
+pub synced_when : (b : Bool) (store other : Stores) → other.count ≡ store.count → (cond b other store).count ≡ store.count
 synced_when true store other same = same
 synced_when false store other same = refl
 
 -- A number that is drawn is one of a node.
-free_within : (store : Store) (i : ℕ) → is_free_number store i ≡ true → (1 ≤ i) × (i ≤ store.count)
+free_within : (store : Stores) (i : ℕ) → is_free_number store i ≡ true → (1 ≤ i) × (i ≤ store.count)
 free_within store i is =
     let first = and_parts (nat_le 1 i && nat_le i store.count) (is_none (node_numbered store i)) is in
     let both = and_parts (nat_le 1 i) (nat_le i store.count) first.0 in
     (leb-true 1 i both.0, leb-true i store.count both.1)
 
-drawn_within : (store : Store) (spare : List ℕ) (ino : ℕ) → (drawn store spare).number ≡ Some ino
+drawn_within : (store : Stores) (spare : List ℕ) (ino : ℕ) → (drawn store spare).number ≡ Some ino
     → (1 ≤ ino) × (ino ≤ store.count)
 drawn_within store [] ino is = absurd (cc is)
 drawn_within store (i ∷ below) ino is = by (is_free_number store i) refl (drawn_within store below ino) is
@@ -99,7 +99,7 @@ drawn_within store (i ∷ below) ino is = by (is_free_number store i) refl (draw
     by true e rest f = let same : i ≡ ino = cc f in subst (λ n. (1 ≤ n) × (n ≤ store.count)) same (free_within store i e)
     by false e rest f = rest f
 
-draw_within : (store : Store) (is_referenced : ℕ → Bool) (ino : ℕ) → (draw store is_referenced).number ≡ Some ino
+draw_within : (store : Stores) (is_referenced : ℕ → Bool) (ino : ℕ) → (draw store is_referenced).number ≡ Some ino
     → (1 ≤ ino) × (ino ≤ store.count)
 draw_within store is_referenced ino is = by (is_some (drawn store (reverse store.spare)).number) is
   where

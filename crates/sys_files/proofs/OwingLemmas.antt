@@ -4,9 +4,9 @@ use Rattle.std.proofs.lemmas.Bool.{eq-eqb, ne_eqb, cases_lt, cases_eq}
 use Rattle.std.proofs.lemmas.List.{get_or_past, set_past, get_or-set_same, get_or-set_other}
 use Rattle.std.proofs.lemmas.List.Sums.{sum_by-cons}
 use Rattle.v6_base.specs.declared.errno.Errno.{Errno}
-use Rattle.fs_codec.specs.Store.{Node, Store}
+use Rattle.fs_codec.specs.Store.{Node}
 use Rattle.fs_laws.specs.Numbers.{without_node}
-use Rattle.fs_laws.specs.Keys.{node_numbered}
+use Rattle.fs_nodes.specs.Keys.{Stores, node_numbered}
 use Rattle.open_files.specs.Files.{file_at, times, AreOpen}
 use Rattle.fs_nodes.specs.FileSystem.{FileSystem, IsFileSystem}
 use Rattle.fs_tree.specs.Name.{name_at}
@@ -144,17 +144,17 @@ kept_takes old now ino taken low k = record {
 }
 
 -- The number of nodes stays where a reference goes.
-freed_count : (t : Bool) (store : Store) (ino : ℕ) (node : Node)
+freed_count : (t : Bool) (store : Stores) (ino : ℕ) (node : Node)
     → (cond t (without_node store ino node) store).count ≡ store.count
 freed_count true store ino node = refl
 freed_count false store ino node = refl
 
-gone_count : (t u : Bool) (store : Store) (ino : ℕ) (node : Node)
+gone_count : (t u : Bool) (store : Stores) (ino : ℕ) (node : Node)
     → (cond t (cond u (without_node store ino node) store) store).count ≡ store.count
 gone_count true u store ino node = freed_count u store ino node
 gone_count false u store ino node = refl
 
-pub put_count : (store : Store) (ino n : ℕ) (o : Option Node) → (put_in store ino n o).count ≡ store.count
+pub put_count : (store : Stores) (ino n : ℕ) (o : Option Node) → (put_in store ino n o).count ≡ store.count
 put_count store ino n None = refl
 put_count store ino n (Some node) = gone_count _ _ store ino node
 

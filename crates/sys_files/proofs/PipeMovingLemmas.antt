@@ -5,8 +5,8 @@ use Rattle.v6_base.specs.Image.{Image}
 use Rattle.v6_base.specs.Trace.{Item}
 use Rattle.v6_base.specs.declared.answer.Answer.{Answer}
 use Rattle.u_area.specs.declared.area.UArea.{UArea}
-use Rattle.fs_codec.specs.Store.{Store}
 use Rattle.fs_nodes.specs.FileSystem.{FileSystem}
+use Rattle.fs_nodes.specs.Keys.{Stores}
 use Rattle.fs_tree.specs.Finding.{inodes_of}
 use Rattle.open_files.specs.declared.file.OpenFile.{OpenFile}
 use Rattle.pipe_ends.specs.declared.ends.Pipe.{Pipe}
@@ -105,13 +105,13 @@ write_comes h slot entry at count left now old new fs pipes piped same store ref
     entry at count (piped_is i)))
 
 -- The pipe after a read is of the same inode.
-pub read_ino : (store : Store) (ends : ℕ) (p now : Pipe) (image : Image) (at count time : ℕ)
+pub read_ino : (store : Stores) (ends : ℕ) (p now : Pipe) (image : Image) (at count time : ℕ)
     → now ≡ (reads store ends p image at count time).pipe → now.ino ≡ p.ino
 read_ino store ends p now image at count time is =
     ap (λ (x : Pipe). x.ino) is ∙ (read_leaves store ends p image at count time).ino
 
 -- The pipe after a write is of the same inode.
-pub written_ino : (store : Store) (ends : ℕ) (p now : Pipe) (image : Image) (at count time : ℕ)
+pub written_ino : (store : Stores) (ends : ℕ) (p now : Pipe) (image : Image) (at count time : ℕ)
     → now ≡ (writes store ends p image at count time).pipe → now.ino ≡ p.ino
 written_ino store ends p now image at count time is =
     ap (λ (x : Pipe). x.ino) is ∙ (write_leaves store ends p image at count time).leaves.ino

@@ -3,8 +3,7 @@ use Rattle.std.proofs.Common.{◌≡◌, ◌≤◌, ◌+◌, ◌==◌, ℕ, zero
 use Rattle.v6_base.specs.Image.{Image}
 use Rattle.v6_base.specs.declared.errno.Errno.{Errno}
 use Rattle.v6_base.proofs.Copies.{SameLengths, same_lengths, bytes_lengths}
-use Rattle.fs_codec.specs.Store.{Store}
-use Rattle.fs_laws.specs.Keys.{room_at}
+use Rattle.fs_nodes.specs.Keys.{Stores, room_at}
 use Rattle.fs_nodes.specs.Copy.{put_into}
 use Rattle.pipe_ends.specs.declared.ends.Pipe.{Pipe}
 use Rattle.pipe_ends.specs.declared.ends.Piped.{Piped}
@@ -16,7 +15,7 @@ use Rattle.pipe_ends.specs.Writes.{WriteCall, Writing, PipeWrite, size_in, appen
 use Rattle.sys_files.proofs.Lengths.{file_keeps}
 
 -- the pipe is of the same inode, and there are as many nodes
-pub record LeavesPipe (number nodes : ℕ) (store : Store) (p : Pipe) : Type 0 where
+pub record LeavesPipe (number nodes : ℕ) (store : Stores) (p : Pipe) : Type 0 where
   pub ino : p.ino ≡ number
   pub count : store.count ≡ nodes
 
@@ -24,7 +23,7 @@ front_ino : (few : Bool) (p : Pipe) → (cond few (rewound p) (record (rewound p
 front_ino true p = refl
 front_ino false p = refl
 
-module _ (store : Store) (ends : ℕ) (p : Pipe) (image : Image) (at count time : ℕ) where
+module _ (store : Stores) (ends : ℕ) (p : Pipe) (image : Image) (at count time : ℕ) where
   abbrev by_read : Bool → PipeRead
   by_read all = cond {A = PipeRead} all (record {
     store = begun_again store p;
@@ -97,7 +96,7 @@ few_rounds zero c w = few_ends w (Done c.count) (omega arith)
 few_rounds (suc more) c w =
     few_tests c w (rounds more c (appended w (append_of c w))) (few_rounds more c (appended w (append_of c w)))
 
-pub write_leaves : (store : Store) (ends : ℕ) (p : Pipe) (image : Image) (at count time : ℕ)
+pub write_leaves : (store : Stores) (ends : ℕ) (p : Pipe) (image : Image) (at count time : ℕ)
     → LeavesFew p.ino store.count count (writes store ends p image at count time)
 unfolding writes
 write_leaves store ends p image at count time =

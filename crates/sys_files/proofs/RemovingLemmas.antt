@@ -6,8 +6,7 @@ use Rattle.std.proofs.lemmas.List.{length-set}
 use Rattle.v6_base.specs.Access.{then_do}
 use Rattle.v6_base.specs.declared.errno.Errno.{Errno}
 use Rattle.v6_base.specs.declared.errno.Errno.TheVariants.{ENFILE}
-use Rattle.fs_codec.specs.Store.{Store}
-use Rattle.fs_laws.specs.Keys.{node_numbered}
+use Rattle.fs_nodes.specs.Keys.{Stores, node_numbered}
 use Rattle.fs_nodes.specs.FileSystem.{FileSystem, SameRest, IsFileSystem}
 use Rattle.fs_tree.specs.declared.user.User.{User}
 use Rattle.fs_tree.specs.Path.{way, to_remove}
@@ -135,7 +134,7 @@ module _ (fs new : FileSystem) (marks : List Bool) (user : User) (dir : ℕ) (by
       let same : new.store ≡ fs.store = ap (λ (n : Inodes). n.store) (inodes ∙ is.inodes) in
       record {
         referenced = omega (arith, more, own);
-        directory = λ node there. place.directory node (ap (λ (s : Store). node_numbered s e.0) (sym same) ∙ there);
+        directory = λ node there. place.directory node (ap (λ (s : Stores). node_numbered s e.0) (sym same) ∙ there);
         begins = place.begins;
         small = place.small;
       })

@@ -7,10 +7,10 @@ use Rattle.v6_base.specs.declared.errno.Errno.{Errno}
 use Rattle.v6_base.specs.declared.errno.Errno.TheVariants.{ENOEXEC, ENOMEM, EACCES, ETXTBSY}
 use Rattle.buf_cache.specs.Blocks.{patched}
 use Rattle.fs_codec.specs.Modes.{file_type}
-use Rattle.fs_codec.specs.Store.{Node, Store}
+use Rattle.fs_codec.specs.Store.{Node}
 use Rattle.fs_codec.specs.declared.modes.TheConstants.{ISUID, ISGID}
 use Rattle.fs_laws.specs.Pieces.{Moving, read_file}
-use Rattle.fs_laws.specs.Keys.{room_at, with_node}
+use Rattle.fs_nodes.specs.Keys.{Stores, room_at, with_node}
 use Rattle.fs_nodes.specs.Copy.{put_into, put_kernel}
 use Rattle.fs_tree.specs.declared.user.Want.TheVariants.{Execute}
 use Rattle.fs_tree.specs.Permission.{permission}
@@ -141,7 +141,7 @@ bare_board b s = applied b (Bare s)
 abbrev pub text_room : Program → ℕ
 text_room program = min program.plan.text (64 * program.text_clicks)
 
-abbrev pub text_in : Store → Program → ℕ → Moving (List ℕ)
+abbrev pub text_in : Stores → Program → ℕ → Moving (List ℕ)
 text_in store program time =
     read_file put_kernel (node_in store program.ino) (room_at store program.ino)
     (replicate (text_room program) 0) 16 (text_room program) time
@@ -172,7 +172,7 @@ cleared_image text plan = record {
   stack = replicate (64 * stack_clicks) 0;
 }
 
-abbrev pub data_in : Store → List ℕ → Program → ℕ → Moving Image
+abbrev pub data_in : Stores → List ℕ → Program → ℕ → Moving Image
 data_in store text program time =
     read_file (put_into (8192 * nseg program.text_clicks)) (node_in store program.ino) (room_at store program.ino)
     (cleared_image text program.plan) (16 + program.plan.text) program.plan.init time

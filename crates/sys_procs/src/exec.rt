@@ -1,7 +1,7 @@
 //! exec(II).
 ghost use Rattle.std.specs.Prelude.{◌≡◌, ◌≤◌, ◌<◌, ◌+◌, ◌*◌, ◌%◌, ◌==◌, if◌then◌else◌, ℕ, false, Some, None, List, length, IfOk, IfErr, IfSome, map, replicate, slice_index, is_some, count_by};
 ghost use Rattle.v6_base.specs.Image.{nseg};
-ghost use Rattle.fs_laws.specs.Keys.{with_node};
+ghost use Rattle.fs_nodes.specs.Keys.{with_node};
 ghost use Rattle.fs_nodes.specs.FileSystem.{FileSystem, SameRest};
 ghost use Rattle.seg_regs.specs.Sizes.{is_refused};
 ghost use Rattle.image_keep.specs.Kept.{Shared, shared, text_of};

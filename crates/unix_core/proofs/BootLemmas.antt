@@ -1,7 +1,6 @@
 -- A volume on the disk of an image is what a kernel begins with.
 use Rattle.std.proofs.Common.{◌≡◌, ◌≤◌, if◌then◌else◌, ℕ, false, List, Some, None, is_some, sym, ap, ◌∙◌, subst, arith}
 use Rattle.fs_codec.specs.Fields.{super_of}
-use Rattle.fs_codec.specs.Store.{Store}
 use Rattle.fs_codec.specs.Disk.{Disk, disk_of, head}
 use Rattle.fs_codec.specs.Faults.{disk_fault, image_fault}
 use Rattle.fs_codec.specs.Stands.{store_of, StandsFor}
@@ -16,6 +15,7 @@ use Rattle.fs_laws.proofs.SyncLemmas.{alike_fault, alike_store}
 use Rattle.fs_laws.proofs.AgreeLemmas.{files_store}
 use Rattle.fs_blocks.specs.State.{State, disk, opened}
 use Rattle.fs_blocks.specs.Store.{store_now}
+use Rattle.fs_nodes.specs.Keys.{Stores}
 use Rattle.abstract_unix.specs.Unix.{System}
 use Rattle.abstract_unix.specs.Runs.{system_with, system_of, boots}
 
@@ -45,12 +45,12 @@ module _ (bytes : List ℕ) (good : image_fault bytes ≡ None) where
     volume_stamp is = volume_time is
 
 -- An image without a fault is booted.
-pub boots_as : (image : List ℕ) (core : ℕ) (store : Store) (m : System) → image_fault image ≡ None → store ≡ store_of (disk_of image)
+pub boots_as : (image : List ℕ) (core : ℕ) (store : Stores) (m : System) → image_fault image ≡ None → store ≡ store_of (disk_of image)
     → m ≡ system_with store core → boots image core ≡ Some m
 boots_as image core store m none is system =
     ap (λ f. if is_some f then None else Some (system_of image core)) none
-    ∙ ap (λ (s : Store). Some (system_with s core)) (sym is) ∙ ap (λ (n : System). Some n) (sym system)
+    ∙ ap (λ (s : Stores). Some (system_with s core)) (sym is) ∙ ap (λ (n : System). Some n) (sym system)
 
 -- A file system that keeps clear of the swap area has no fault there either.
-pub stands_below : (d : Disk) (store : Store) → (head d).f_size ≤ SWAP_START → StandsFor DISK_BLOCKS d store → StandsFor SWAP_START d store
+pub stands_below : (d : Disk) (store : Stores) → (head d).f_size ≤ SWAP_START → StandsFor DISK_BLOCKS d store → StandsFor SWAP_START d store
 stands_below d store low stands = record { sound = whole_within SWAP_START d (whole_is d stands.sound) low; same = stands.same }

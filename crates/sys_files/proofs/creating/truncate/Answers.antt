@@ -1,5 +1,5 @@
 use Rattle.sys_files.proofs.EnteringLemmas.{changed_keeps}
-use Rattle.fs_laws.specs.Keys.{with_truncated}
+use Rattle.fs_nodes.specs.Keys.{with_truncated}
 use Rattle.sys_files.proofs.CreatingLemmas.{truncated_count}
 use Rattle.sys_files.proofs.creating.truncate.Goals as goal
 

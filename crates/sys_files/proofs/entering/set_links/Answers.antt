@@ -1,5 +1,5 @@
 use Rattle.std.proofs.Common.{refl}
-use Rattle.fs_laws.specs.Keys.{with_fields}
+use Rattle.fs_nodes.specs.Keys.{with_fields}
 use Rattle.sys_files.proofs.EnteringLemmas.{changed_keeps}
 use Rattle.sys_files.proofs.entering.set_links.Goals as goal
 

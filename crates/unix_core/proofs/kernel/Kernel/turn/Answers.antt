@@ -1,6 +1,6 @@
 use Rattle.std.proofs.Common.{◌≡◌, ◌∙◌, sym, ap, subst}
 use Rattle.fs_laws.specs.Rest.{SameAround}
-use Rattle.fs_laws.proofs.RestLemmas.{rest_stays}
+use Rattle.fs_nodes.proofs.RestLemmas.{rest_stays}
 use Rattle.unix_core.specs.State.{KernelState}
 use Rattle.sys_files.specs.declared.files.Files.{Files}
 use Rattle.unix_core.proofs.TakenLemmas.{step_counted, taken_started, taken_fresh, taken_answer, taken_next, taken_phase, taken_idle, taken_private, taken_texts}
