@@ -17,6 +17,7 @@ use Rattle.fs_tree.specs.Permission.{permission}
 use Rattle.fs_tree.specs.Name.{name_at}
 pub use Rattle.fs_tree.specs.Entries.{answer_to}
 use Rattle.fs_tree.specs.Finding.{Finding, find_in}
+use Rattle.mount_tab.specs.Mounted.{MountTable}
 use Rattle.aout_head.specs.Header.{Header, header_of, plan_of}
 use Rattle.aout_head.specs.declared.parts.Plan.{Plan}
 use Rattle.aout_head.specs.declared.parts.ExecFault.{ExecFault}
@@ -120,10 +121,10 @@ tests_file w s ino list =
 
 -- All tests of a name and of a list of arguments, in order. Nothing changes but what the reading of the header sets and
 -- touches.
-abbrev pub tests : World → ℕ → ℕ → ℕ → Tested
-tests w s name list =
+abbrev pub tests : MountTable → World → ℕ → ℕ → ℕ → Tested
+tests mounts w s name list =
     let p : Process = process_of w s in
-    let found : Finding ℕ = find_in w.inodes (user_of p) p.u.dir (name_at (image_of w.texts p) name) in
+    let found : Finding ℕ = find_in w.inodes mounts (user_of p) p.u.dir (name_at (image_of w.texts p) name) in
     check (with_inodes w found.inodes) found.answer (λ ino. tests_file (with_inodes w found.inodes) s ino list)
 
 -- the clicks of its image
@@ -243,9 +244,9 @@ abbrev pub done_by : World → ℕ → Result Program Errno → Comes
 done_by w s (Ok program) = loads w s program
 done_by w s (Err e) = fails w e
 
--- 11, exec: a name, and a list of arguments
-unfoldable pub exec_file : World → ℕ → ℕ → ℕ → Comes
-exec_file w s name list = let t : Tested = tests w s name list in done_by t.world s t.answer
+-- 11, exec: a name, which the mount table tells where to cross, and a list of arguments
+unfoldable pub exec_file : MountTable → World → ℕ → ℕ → ℕ → Comes
+exec_file mounts w s name list = let t : Tested = tests mounts w s name list in done_by t.world s t.answer
 
 -- All texts of an inode have so many clicks.
 abbrev pub AreSized : List (Option Text) → ℕ → ℕ → Type 0

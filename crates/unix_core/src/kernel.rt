@@ -1,10 +1,14 @@
 //! The kernel, which takes one event a call.
-ghost use Rattle.std.specs.Prelude.{◌≡◌, ◌≢◌, ◌⊎◌, ◌==◌, ◌<◌, ◌≤◌, ℕ, [], slice_index, slice_set, if◌then◌else◌, true, false};
+ghost use Rattle.std.specs.Prelude.{◌≡◌, ◌≢◌, ◌⊎◌, ◌==◌, ◌<◌, ◌≤◌, ℕ, [], slice_index, slice_set, if◌then◌else◌, true, false, None};
 ghost use Rattle.v6_base.specs.Trace.{Took};
 ghost use Rattle.fs_codec.specs.Disk.{head};
 ghost use Rattle.fs_codec.specs.Stands.{StandsFor};
 ghost use Rattle.fs_codec.specs.declared.layout.TheConstants.{SWAP_START};
 ghost use Rattle.buf_cache.specs.Blocks.{block_at, IsDisk};
+ghost use Rattle.fs_nodes.specs.Disks.{OfSecond};
+ghost use Rattle.fs_nodes.specs.FileSystem.{AllStand};
+ghost use Rattle.fs_tree.specs.Marks.{no_marks};
+ghost use Rattle.fs_tree.specs.Mounting.{AreMounts};
 ghost use Rattle.image_keep.specs.Kept.{Alive, first_kept, with_keeping};
 ghost use Rattle.image_keep.specs.Deposits.{memory_size, HasByte, IsNobodys};
 ghost use Rattle.unix_core.specs.Parts.{first_held};
@@ -22,7 +26,6 @@ use crate::slots::Slots;
 use crate::world::World;
 use abstract_unix::Turned;
 use fs_codec::DISK_BLOCKS;
-use fs_nodes::Nodes;
 use fs_tree::Tree;
 use image_keep::Images;
 use open_files::OpenTable;
@@ -99,7 +102,7 @@ impl Kernel {
     pub(crate) fn new(
         images: Images,
         tape: Tape,
-        nodes: Nodes,
+        tree: Tree,
         time: u32,
         core: u16,
         dispatch: Dispatch,
@@ -108,15 +111,17 @@ impl Kernel {
         requires most { core ≤ 3968 }
         requires images { images.kept ≡ first_kept core }
         requires tape { tape ≡ record { entries = []; bytes = []; entry_room = 64; byte_room = 524288 } }
-        requires referred { (ino : ℕ) → slice_index nodes.references ino ≡ (if ino == 1 then 2 else 0) }
-        requires time { time ≡ nodes.store.stamp }
-        ensures system { result.system ≡ system_with nodes.store core }
-        ensures blocks { result.blocks ≡ nodes.blocks }
-        ensures stored { result.stored ≡ nodes.stored }
+        requires referred { (ino : ℕ) → slice_index tree.nodes.references ino ≡ (if ino == 1 then 2 else 0) }
+        requires mounts { AreMounts tree.mounts tree.nodes.store }
+        requires uncovered { tree.mounts.covered ≡ None }
+        requires unmarked { tree.marks ≡ no_marks }
+        requires time { time ≡ tree.nodes.store.root.stamp }
+        ensures system { result.system ≡ system_with tree.nodes.store core }
+        ensures blocks { result.blocks ≡ tree.nodes.blocks }
+        ensures stored { result.stored ≡ tree.nodes.stored }
         ensures phase { result.phase ≡ New }
     {
-        nodes.see();
-        let tree = Tree::new(nodes);
+        tree.nodes.see();
         let files = Files {
             tree,
             table: OpenTable::new(),
@@ -289,7 +294,7 @@ impl Kernel {
         is_put
     }
 
-    /// Ends a run: writes to the disk what has changed, and the super-block with the time where that has. A file system that
+    /// Ends a run: writes to each disk what has changed, and the super-block with the time where that has. A file system that
     /// keeps clear of the swap area, as each that was booted does, is without a fault there too. sync(II) of the manual;
     /// `update` in Lions' Commentary, `alloc.c`. Core and the swap area then keep what the system tells.
     pub fn finish(&mut self)
@@ -300,11 +305,12 @@ impl Kernel {
         ensures core { self.new.core ≡ self.old.core }
         ensures swap { self.new.swap ≡ self.old.swap }
         ensures stored { self.new.stored ≡ self.new.blocks }
-        ensures stands { StandsFor DISK_BLOCKS (block_at self.new.stored) self.new.system.unix.store }
-        ensures below { (head (block_at self.old.blocks)).f_size ≤ SWAP_START
-            → StandsFor SWAP_START (block_at self.new.stored) self.new.system.unix.store }
+        ensures stands { AllStand self.new.stored self.new.system.unix.store }
+        ensures below { (head (block_at self.old.blocks.root)).f_size ≤ SWAP_START
+            → StandsFor SWAP_START (block_at self.new.stored.root) self.new.system.unix.store.root }
         ensures rest { KeepsRest self.old self.new }
-        ensures form { IsDisk self.new.blocks }
+        ensures form { IsDisk self.new.blocks.root }
+        ensures second_form { OfSecond IsDisk self.new.blocks.second }
     {
         self.machine.stage = Stage::Finished;
         self.machine
