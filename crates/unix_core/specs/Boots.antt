@@ -1,8 +1,9 @@
 -- Why there is no kernel for an image, or for two.
-use Rattle.std.specs.Prelude.{◌≡◌, ◌<◌, ⊤, ℕ, List, Option, Some, None}
+use Rattle.std.specs.Prelude.{◌≡◌, ⊤, ℕ, nat_lt, if◌then◌else◌, List, Option, Some, None}
 use Rattle.std.specs.Option.{option_map}
 use Rattle.buf_cache.specs.Blocks.{blocks_of}
 use Rattle.fs_codec.specs.Faults.{image_fault, fault_within}
+use Rattle.fs_codec.specs.declared.fault.ImageFault.{ImageFault}
 use Rattle.fs_codec.specs.declared.layout.TheConstants.{DISK_BLOCKS}
 use Rattle.fs_nodes.specs.Disks.{Disks}
 use Rattle.fs_nodes.specs.Keys.{key_count}
@@ -23,14 +24,20 @@ abbrev pub RefusesBoot : List ℕ → BootFault → Type 0
 RefusesBoot image (Image fault) = image_fault image ≡ Some fault
 RefusesBoot image NoMemory = ⊤
 
--- The second image has this first fault; or it has none, and there are so many inodes on both disks, more than there are keys.
-abbrev pub IsSecondFault : List ℕ → List ℕ → SecondFault → Type 0
-IsSecondFault image bytes (second.Image fault) = fault_within DISK_BLOCKS bytes ≡ Some fault
-IsSecondFault image bytes (second.Nodes n) =
-    (fault_within DISK_BLOCKS bytes ≡ None) × (n ≡ key_count (stores_of image (Some bytes))) × (65535 < n)
+-- What is wrong with a second image beside a first: its first fault, or else that there are so many inodes on both disks, more than
+-- there are keys.
+abbrev pub counted_fault : ℕ → Option SecondFault
+counted_fault n = if nat_lt 65535 n then Some (second.Nodes n) else None
+
+abbrev pub fault_or_count : Option ImageFault → ℕ → Option SecondFault
+fault_or_count (Some fault) n = Some (second.Image fault)
+fault_or_count None n = counted_fault n
+
+abbrev pub second_fault_of : List ℕ → List ℕ → Option SecondFault
+second_fault_of image bytes = fault_or_count (fault_within DISK_BLOCKS bytes) (key_count (stores_of image (Some bytes)))
 
 -- The first image comes first.
 abbrev pub RefusesBoot2 : List ℕ → List ℕ → Boot2Fault → Type 0
 RefusesBoot2 image bytes (two.Image fault) = image_fault image ≡ Some fault
-RefusesBoot2 image bytes (two.Second fault) = (image_fault image ≡ None) × IsSecondFault image bytes fault
+RefusesBoot2 image bytes (two.Second fault) = (image_fault image ≡ None) × (second_fault_of image bytes ≡ Some fault)
 RefusesBoot2 image bytes two.NoMemory = ⊤

@@ -1,5 +1,5 @@
 //! What a kernel begins with.
-ghost use Rattle.std.specs.Prelude.{◌≡◌, ℕ, ◌≤◌, ◌==◌, if◌then◌else◌, IfOk, IfErr, MatchOption, Some, None, slice_index, length};
+ghost use Rattle.std.specs.Prelude.{◌≡◌, ℕ, ◌≤◌, ◌==◌, if◌then◌else◌, IfOk, IfErr, Some, None, slice_index, length};
 ghost use Rattle.fs_codec.specs.Disk.{disk_of};
 ghost use Rattle.fs_codec.specs.Faults.{image_fault, fault_within};
 ghost use Rattle.fs_codec.specs.Stands.{store_of};
@@ -8,7 +8,7 @@ ghost use Rattle.fs_nodes.specs.Keys.{key_count};
 ghost use Rattle.fs_tree.specs.Marks.{no_marks};
 ghost use Rattle.fs_tree.specs.Mounting.{AreMounts};
 ghost use Rattle.abstract_unix.specs.Runs.{stores_of};
-ghost use Rattle.unix_core.specs.Boots.{IsSecondFault, blocks_on};
+ghost use Rattle.unix_core.specs.Boots.{second_fault_of, blocks_on};
 
 use crate::files::take_root;
 use crate::kernel::Kernel;
@@ -111,11 +111,10 @@ fn inode_count(image: &[u8]) -> u32
     BLOCK_INODES as u32 * u32::from(super_in(image).i_size)
 }
 
-/// What is wrong with the image of a second disk: its first fault, or that both disks have more inodes than there are keys.
-fn second_fault(image: &[u8], second: &[u8]) -> Option<SecondFault>
-    ensures { MatchOption result ((fault_within DISK_BLOCKS second.now ≡ None)
-        × (key_count (stores_of image.now (Some second.now)) ≤ 65535))
-        (λ fault. IsSecondFault image.now second.now fault) }
+/// What is wrong with the image of a second disk, beside the image of the root's: its first fault, or else that both disks have
+/// more inodes than there are numbers by which the kernel could know them.
+pub fn second_fault(image: &[u8], second: &[u8]) -> Option<SecondFault>
+    ensures { result ≡ second_fault_of image.now second.now }
 {
     if let Err(fault) = accept_second(second) {
         return Some(SecondFault::Image(fault));

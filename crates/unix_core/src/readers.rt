@@ -1,6 +1,6 @@
 //! What a kernel tells of its memory and its disk: the bytes of core and of the swap area, where images stand, and the blocks
 //! that a run leaves.
-ghost use Rattle.std.specs.Prelude.{◌≡◌, ◌<◌, ◌≤◌, ◌+◌, ◌*◌, ◌-◌, ℕ, List, length, slice_index};
+ghost use Rattle.std.specs.Prelude.{◌≡◌, ◌<◌, ◌≤◌, ◌+◌, ◌*◌, ◌-◌, ℕ, List, IsSome, IfSome, length, slice_index};
 ghost use Rattle.fs_codec.specs.declared.layout.TheConstants.{SWAP_START};
 ghost use Rattle.buf_cache.specs.Blocks.{block_at};
 ghost use Rattle.core_mem.specs.Bytes.{part};

@@ -2,7 +2,7 @@
 use Rattle.std.specs.Prelude.{ℕ, Bool, true, false, Option, Some, None}
 use Rattle.v6_port.specs.Outside.{Port, In, Out}
 use Rattle.v6_run.specs.declared.status.Status.{Status}
-use Rattle.v6_run.specs.declared.status.Status.TheVariants.{Done, Usage, ReadFault, WriteFault, CoreSize, ScriptFault, ImageFault, Panic, NoMemory}
+use Rattle.v6_run.specs.declared.status.Status.TheVariants.{Done, Usage, ReadFault, WriteFault, CoreSize, ScriptFault, ImageFault, SecondFault, Panic, NoMemory}
 
 abbrev pub status_number : Status → ℕ
 status_number Done = 0
@@ -14,6 +14,7 @@ status_number (ScriptFault fault) = 5
 status_number (ImageFault fault) = 6
 status_number (Panic kind) = 7
 status_number NoMemory = 8
+status_number (SecondFault fault) = 12
 
 -- the port that is at fault
 abbrev pub fault_port : Status → Option Port
@@ -26,6 +27,7 @@ abbrev pub is_decided : Status → Bool
 is_decided Done = true
 is_decided (ScriptFault fault) = true
 is_decided (ImageFault fault) = true
+is_decided (SecondFault fault) = true
 is_decided (Panic kind) = true
 is_decided _ = false
 

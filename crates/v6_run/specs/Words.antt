@@ -4,6 +4,7 @@ use Rattle.std.specs.declared.alloc.Global.{Global}
 use Rattle.std.specs.Cmp.Lexicographic.{pointwise}
 use Rattle.script_text.specs.Number.{number_of}
 use Rattle.v6_run.specs.declared.words.DiskFiles as disk_files
+use Rattle.v6_run.specs.declared.words.SecondFiles as second_files
 use Rattle.v6_run.specs.declared.words.Outputs as outputs
 use Rattle.v6_run.specs.declared.words.Outputs.TheVariants as output
 use Rattle.v6_run.specs.declared.words.RunWords as words
@@ -16,9 +17,16 @@ pub record DiskFiles : Type 0 where
   pub log : List ℕ
   pub final_disk : List ℕ
 
--- what a run leaves: the files of `run`, or the file of `memory` with the bytes of core and of the swap area
+-- the files of a second disk: its image before the run, and after it
+pub record SecondFiles : Type 0 where
+  pub image : List ℕ
+  pub final_disk : List ℕ
+
+-- what a run leaves: the files of `run`, those of `run2`, with a second disk, or the file of `memory` with the bytes of core and of
+-- the swap area
 pub data Outputs : Type 0 where
   ToDisk : DiskFiles → Outputs
+  ToDisks : DiskFiles → SecondFiles → Outputs
   ToMemory : List ℕ → Outputs
 
 -- the files of a run that are read, the size of core in clicks of 64 bytes, and what is written
@@ -28,7 +36,13 @@ pub record RunWords : Type 0 where
   pub script : List ℕ
   pub outputs : Outputs
 
--- a command: what `run` or `memory` is told, the image that `check` reads, the number and the file of `make`, or the number
+-- the name of the second image, where there is one
+abbrev pub second_image : Outputs → Option (List ℕ)
+second_image (ToDisk files) = None
+second_image (ToDisks files second) = Some second.image
+second_image (ToMemory final) = None
+
+-- a command: what `run`, `run2` or `memory` is told, the image that `check` reads, the number and the file of `make`, or the number
 -- of `demo`
 pub data Command : Type 0 where
   Run : RunWords → Command
@@ -36,7 +50,7 @@ pub data Command : Type 0 where
   Make : ℕ → List ℕ → Command
   Demo : ℕ → Command
 
--- the words of `run` and of `memory` are good where CORE is a number
+-- the words of `run`, of `run2` and of `memory` are good where CORE is a number
 abbrev pub run_words : Bool → Option ℕ → List ℕ → List ℕ → Outputs → Option Command
 run_words true (Some core) image script outputs = Some (Run (record { image = image; core = core; script = script; outputs = outputs }))
 run_words true None image script outputs = None
@@ -65,10 +79,14 @@ abbrev pub short_words : List ℕ → List ℕ → Option Command
 short_words verb word =
     if is_word verb (codes "demo") then demo_words (number_of word) else check_words (is_word verb (codes "check")) word
 
--- run IMAGE CORE SCRIPT TERM LOG FINAL, memory IMAGE CORE SCRIPT FINAL, check IMAGE, make N FINAL, demo N
+-- run IMAGE CORE SCRIPT TERM LOG FINAL, run2 IMAGE CORE SCRIPT TERM LOG FINAL IMAGE2 FINAL2, memory IMAGE CORE SCRIPT FINAL,
+-- check IMAGE, make N FINAL, demo N
 abbrev pub command_of : List (List ℕ) → Option Command
 command_of (verb ∷ image ∷ core ∷ script ∷ term ∷ log ∷ final ∷ []) =
     run_words (is_word verb (codes "run")) (number_of core) image script (ToDisk (record { term = term; log = log; final_disk = final }))
+command_of (verb ∷ image ∷ core ∷ script ∷ term ∷ log ∷ final ∷ second ∷ final_second ∷ []) =
+    run_words (is_word verb (codes "run2")) (number_of core) image script
+    (ToDisks (record { term = term; log = log; final_disk = final }) (record { image = second; final_disk = final_second }))
 command_of (verb ∷ image ∷ core ∷ script ∷ final ∷ []) = run_words (is_word verb (codes "memory")) (number_of core) image script (ToMemory final)
 command_of (verb ∷ word ∷ []) = short_words verb word
 command_of (verb ∷ number ∷ final ∷ []) = make_words (is_word verb (codes "make")) (number_of number) final
@@ -82,8 +100,12 @@ command_in words = command_of (map string_bytes words)
 abbrev pub disk_files_value : disk_files.DiskFiles → DiskFiles
 disk_files_value f = record { term = f.term.now; log = f.log.now; final_disk = f.final_disk.now }
 
+abbrev pub second_files_value : second_files.SecondFiles → SecondFiles
+second_files_value f = record { image = f.image.now; final_disk = f.final_disk.now }
+
 abbrev pub outputs_value : outputs.Outputs → Outputs
 outputs_value (output.Disk files) = ToDisk (disk_files_value files)
+outputs_value (output.Disks files second) = ToDisks (disk_files_value files) (second_files_value second)
 outputs_value (output.Memory final) = ToMemory final.now
 
 abbrev pub run_words_value : words.RunWords → RunWords
@@ -94,3 +116,8 @@ command_value (variant.Run words) = Run (run_words_value words)
 command_value (variant.Check image) = Check image.now
 command_value (variant.Make number final) = Make number final.now
 command_value (variant.Demo number) = Demo number
+
+-- the bytes of a file that is read, where there is one
+abbrev pub bytes_value : Option (Vec ℕ Global) → Option (List ℕ)
+bytes_value None = None
+bytes_value (Some bytes) = Some bytes.items

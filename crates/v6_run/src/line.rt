@@ -5,12 +5,12 @@ ghost use Rattle.v6_run.specs.Report.{line_of};
 
 use arrayvec::ArrayString;
 
-/// A line of at most 128 bytes.
-pub(crate) type Line = ArrayString<128>;
+/// A line of at most 256 bytes.
+pub(crate) type Line = ArrayString<256>;
 
 fn push_digit(line: &mut Line, digit: u32)
     requires digit { digit < 10 }
-    requires room { array_string_len line.old < 128 }
+    requires room { array_string_len line.old < 256 }
     ensures { line.new.bytes ≡ line.old.bytes ++ (48 + digit) ∷ [] }
 {
     line.push(char::from(b'0' + digit as u8));
@@ -18,7 +18,7 @@ fn push_digit(line: &mut Line, digit: u32)
 
 /// Appends the decimal digits of a number, from the first to the last.
 fn push_digits(line: &mut Line, number: u32)
-    requires { array_string_len line.old + length (decimal number) ≤ 128 }
+    requires { array_string_len line.old + length (decimal number) ≤ 256 }
     ensures { line.new.bytes ≡ line.old.bytes ++ decimal number }
 {
     if number < 10 {
