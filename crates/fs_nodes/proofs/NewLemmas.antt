@@ -252,9 +252,9 @@ pub second_ok_outcome : (root second new : disk.FileSystem) (o : Option disk.Fil
 second_ok_outcome root second new o first dev fs mode uid gid time has_room i seen form form' room m =
     subst (λ (f : FileSystem). MakesNode f dev mode uid gid time (first + i) (with_second root new)) seen.view
     ((λ (n k : ℕ) (n_is : 1 ≡ n) (k_is : root.store.count ≡ k).
-      subst (λ (k : ℕ). MakesNode (together (record { root = root; second = Some second })) n mode uid gid time (k + i) (with_second root new)) k_is
-      (subst (λ (n : ℕ). MakesNode (together (record { root = root; second = Some second })) n mode uid gid time (root.store.count + i) (with_second root new)) n_is
-      (second_ok root second new mode uid gid time has_room form form' room i m))) dev first (sym seen.one) (sym seen.first_is))
+    subst (λ (k : ℕ). MakesNode (together (record { root = root; second = Some second })) n mode uid gid time (k + i) (with_second root new)) k_is
+    (subst (λ (n : ℕ). MakesNode (together (record { root = root; second = Some second })) n mode uid gid time (root.store.count + i) (with_second root new)) n_is
+    (second_ok root second new mode uid gid time has_room form form' room i m))) dev first (sym seen.one) (sym seen.first_is))
 
 pub second_err_outcome : (root second new : disk.FileSystem) (o : Option disk.FileSystem) (first dev : ℕ) (fs : FileSystem) (has_room : Bool) (e : Errno)
     → SeenSecond root second o first dev fs → disk.IsFileSystem root → disk.IsFileSystem second → HasRoom has_room (referenced root.references + referenced second.references)

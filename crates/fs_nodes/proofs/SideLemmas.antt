@@ -287,6 +287,7 @@ put_count own new number there does = by (codec.node_numbered own.store number) 
   same s node true true = refl
   same s node true false = refl
   same s node false u = refl
+
   by : (o : Option Node) → codec.node_numbered own.store number ≡ o → IsSome o → new.store.count ≡ own.store.count
   by None e some = absurd (cc)
   by (Some node) e some = ap (λ (x : Store). x.count) (does node e) ∙ same own.store node (slice_index own.references number == 1) ((node.nlink == 0) && not (number == 1))
@@ -388,8 +389,11 @@ module _ {whole : FileSystem} {key : ℕ} {own : disk.FileSystem} {number : ℕ}
       (λ e. (e ≡ ENFILE) × (slice_index own.references number ≡ 0) × (referenced own.references ≡ 100) × (new ≡ own))
       → MatchResult r (λ u. ((0 < slice_index whole.references key) ⊎ (referenced whole.references < 100)) × SameFiles (record whole { references = slice_set whole.references key (slice_index whole.references key + 1) }) (with_own new))
       (λ e. (e ≡ ENFILE) × (slice_index whole.references key ≡ 0) × (referenced whole.references ≡ 100) × (with_own new ≡ whole))
-  takes new (Ok u) room part m = (room, (let same = more side new (slice_index own.references number + 1) m.1 in
-      record { store = same.store; references = same.references ∙ ap (λ n. slice_set whole.references key (n + 1)) (sym side.refs); blocks = same.blocks }))
+  takes new (Ok u) room part m = (
+    room,
+    (let same = more side new (slice_index own.references number + 1) m.1 in
+        record { store = same.store; references = same.references ∙ ap (λ n. slice_set whole.references key (n + 1)) (sym side.refs); blocks = same.blocks }),
+  )
   takes new (Err e) (inl some) part m = let r = side.refs in let z = m.1 in absurd (omega (arith, r, z, some))
   takes new (Err e) (inr few) part m = let z = m.2 in absurd (omega (arith, z, part, few))
 

@@ -219,7 +219,11 @@ impl Nodes {
         ensures { result ≡ nat_lt 0 (held_by self.now dev) }
     {
         see(&self.root, &self.second);
-        if dev == 0 { self.root.held() > 0 } else { held_on(&self.second) > 0 }
+        if dev == 0 {
+            self.root.held() > 0
+        } else {
+            held_on(&self.second) > 0
+        }
     }
 
     /// The file system of a disk without a fault, to whose inodes nobody refers yet.
@@ -435,7 +439,12 @@ impl Nodes {
     {
         see(&self.root, &self.second);
         match &mut self.second {
-            Some(second) if ino > self.first => second.read_kernel(ino - self.first, offset, buf, time),
+            Some(second) if ino > self.first => second.read_kernel(
+                ino - self.first,
+                offset,
+                buf,
+                time,
+            ),
             _ => self.root.read_kernel(ino, offset, buf, time),
         }
     }
@@ -458,7 +467,12 @@ impl Nodes {
     {
         see(&self.root, &self.second);
         match &mut self.second {
-            Some(second) if ino > self.first => second.write_kernel(ino - self.first, offset, buf, time),
+            Some(second) if ino > self.first => second.write_kernel(
+                ino - self.first,
+                offset,
+                buf,
+                time,
+            ),
             _ => self.root.write_kernel(ino, offset, buf, time),
         }
     }

@@ -12,6 +12,7 @@ crosses_of store mounts are root key some = by mounts.covered are.covered where
   at : (t : Bool) → (t ≡ true → IsSome store.second) → IsSome (node_numbered store (cond t (mounts.first + 1) key))
   at true there = let P : ℕ → Type 0 = λ n. IsSome (node_numbered store (n + 1)) in subst P (sym are.first) (root (there refl))
   at false there = some
+
   by : (o : Option ℕ) → (IsSome o → IsSome store.second) → IsSome (node_numbered store (cond (is_the o key) (mounts.first + 1) key))
   by None there = some
   by (Some covered) there = at (covered == key) (λ is. there refl)

@@ -17,8 +17,8 @@ ghost use Rattle.sys_files.specs.Entering.{did_with};
 
 use crate::descriptors::see_entries;
 use crate::entering::make_inode;
-use crate::inodes::ROOT_DISK;
 use crate::files::Files;
+use crate::inodes::ROOT_DISK;
 use fs_codec::IALLOC;
 use fs_tree::{User, let_go, refer_again};
 use open_files::FileKind;

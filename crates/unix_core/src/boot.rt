@@ -81,11 +81,7 @@ fn file_system_of(alloc: Global, image: &[u8]) -> Result<(Nodes, u32), AllocErro
 }
 
 /// The file systems on the disks of two images without a fault, and the time of the first.
-fn file_systems_of(
-    alloc: Global,
-    image: &[u8],
-    second: &[u8],
-) -> Result<(Nodes, u32), AllocError>
+fn file_systems_of(alloc: Global, image: &[u8], second: &[u8]) -> Result<(Nodes, u32), AllocError>
     requires root { image_fault image.now ≡ None }
     requires second { fault_within DISK_BLOCKS second.now ≡ None }
     requires few { key_count (stores_of image.now (Some second.now)) ≤ 65535 }

@@ -40,7 +40,7 @@ pub(crate) fn push_number(line: &mut Line, number: u32)
 
 /// A text and an LF.
 pub(crate) fn plain(text: &str) -> Line
-    requires { length text.now ≤ 120 }
+    requires { length text.now ≤ 240 }
     ensures { result.bytes ≡ line_of text.now }
 {
     let mut line = Line::new();

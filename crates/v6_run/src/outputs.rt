@@ -167,7 +167,7 @@ pub(crate) fn finish_outputs<H: Host>(host: &mut H) -> Result<(), OutPort>
 }
 
 /// Writes the second disk of a kernel whose run has been finished: all its blocks.
-pub(crate) fn leave_second<H: Host>(kernel: &Kernel, host: &mut H) -> Result<(), Failed>
+fn leave_second<H: Host>(kernel: &Kernel, host: &mut H) -> Result<(), Failed>
     requires finished { kernel.now.phase ≡ Finished }
     requires second { IsSome kernel.now.system.unix.store.second }
     requires is_open { IsOpen (H.outside host.old) (Out out_port.Second) }
@@ -184,6 +184,28 @@ pub(crate) fn leave_second<H: Host>(kernel: &Kernel, host: &mut H) -> Result<(),
         write_all(host, OutPort::Second, &kernel.second_block(n))?;
     }
     Ok(())
+}
+
+/// Finishes the run, and writes the two disks that it leaves, or says which could not be written.
+pub(crate) fn leave_both<H: Host>(kernel: &mut Kernel, host: &mut H) -> Result<(), OutPort>
+    requires ended { kernel.old.phase ≡ Started ⊎ kernel.old.phase ≡ Stopped }
+    requires second { IsSome kernel.old.system.unix.store.second }
+    requires is_open { IsOpen (H.outside host.old) (Out out_port.Final) }
+    requires second_is_open { IsOpen (H.outside host.old) (Out out_port.Second) }
+    ensures system { kernel.new.system ≡ finished kernel.old.system }
+    ensures only { OnlyAt is_disks_output (H.outside host.old) (H.outside host.new) }
+    ensures cause { MatchResult result (λ _. Calm (H.outside host.old) (H.outside host.new))
+        (λ port. FaultAt (Out port) true (H.outside host.old) (H.outside host.new)) }
+    ensures named { IfErr result (λ port. is_disks_output (Out port) ≡ true) }
+{
+    match leave_disk(kernel, host) {
+        Ok(()) => {}
+        Err(_) => return Err(OutPort::Final),
+    }
+    match leave_second(kernel, host) {
+        Ok(()) => Ok(()),
+        Err(_) => Err(OutPort::Second),
+    }
 }
 
 /// Finishes the four, in the order in which they were opened.

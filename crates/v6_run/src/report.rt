@@ -66,7 +66,11 @@ fn second_line(fault: SecondFault) -> Line
 {
     match fault {
         SecondFault::Image(ImageFault::NoSwap(blocks)) => {
-            numbered("second image: file system of ", blocks, " blocks is too long")
+            numbered(
+                "second image: file system of ",
+                blocks,
+                " blocks is too long",
+            )
         }
         SecondFault::Image(fault) => {
             let mut line = Line::new();

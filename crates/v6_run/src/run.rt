@@ -27,7 +27,7 @@ ghost use Rattle.v6_run.specs.Steps.{StopsSecond};
 use crate::files::{ReadError, read_file};
 use crate::image::{ImageError, SecondError, read_image, read_second};
 use crate::memory::run_to_memory;
-use crate::outputs::{finish_both, finish_outputs, leave_disk, leave_second, open_both, open_outputs};
+use crate::outputs::{finish_both, finish_outputs, leave_both, leave_disk, open_both, open_outputs};
 use crate::ports::Ports;
 use crate::slots::show_run;
 use crate::words::{DiskFiles, Outputs, RunWords, SecondFiles};
@@ -260,12 +260,7 @@ fn run_to_disks<H: Host>(
 {
     open_both(files, second, host)?;
     let ends = play(kernel, events, host)?;
-    if leave_disk(kernel, host).is_err() {
-        return Err(OutPort::Final);
-    }
-    if leave_second(kernel, host).is_err() {
-        return Err(OutPort::Second);
-    }
+    leave_both(kernel, host)?;
     finish_both(host)?;
     Ok(ends)
 }

@@ -118,7 +118,17 @@ pub(crate) fn command_of(words: &[String]) -> Option<Command<'_>>
     ensures { option_map command_value result ≡ command_in words.now }
 {
     match words {
-        [verb, image, core, script, term, log, final_disk, second, final_second] => run_words(
+        [
+            verb,
+            image,
+            core,
+            script,
+            term,
+            log,
+            final_disk,
+            second,
+            final_second,
+        ] => run_words(
             verb.as_str() == "run2",
             image.as_str(),
             core.as_str(),

@@ -15,7 +15,9 @@ ghost use Rattle.fs_nodes.specs.one_disk.Moves.{file_of, Ends, Moves};
 
 use crate::one_disk::inodes::{see, see_addresses};
 use crate::one_disk::nodes::DiskNodes;
-use crate::one_disk::pieces::{Moved, read_pieces, read_pieces_kernel, write_pieces, write_pieces_kernel};
+use crate::one_disk::pieces::{
+    Moved, read_pieces, read_pieces_kernel, write_pieces, write_pieces_kernel,
+};
 use crate::one_disk::table::{carry_inode, inode_of, place};
 use fs_blocks::Volume;
 use fs_codec::{DiskNode, is_device};
