@@ -47,3 +47,4 @@ pub mod PipeMadeLemmas
 pub mod PartedWrites
 pub mod LoadedLemmas
 pub mod WritingLemmas
+pub mod FrameLemmas

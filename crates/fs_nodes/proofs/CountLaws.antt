@@ -1,0 +1,44 @@
+-- How many inodes each disk has stays, whatever becomes of a node.
+use Rattle.std.proofs.Common.{◌≡◌, ◌==◌, ◌&&◌, ℕ, Bool, true, false, cond, not, Option, Some, None, IsSome, unwrap_or, refl}
+use Rattle.fs_codec.specs.Store.{Node, Store}
+use Rattle.fs_laws.specs.Numbers as numbers
+use Rattle.fs_laws.specs.Numbers.{Draw}
+use Rattle.fs_nodes.specs.Keys.{Stores, counts, store_at, number_of, with_store_at, with_truncated, without_reference}
+use Rattle.fs_nodes.specs.Numbers.{with_draw}
+use Rattle.fs_nodes.proofs.KeyLaws.{stands}
+use Rattle.fs_nodes.proofs.SideLemmas.{cut_count}
+
+pub counts_at : (s : Stores) (key : ℕ) (x : Store) → x.count ≡ (store_at s key).count → counts (with_store_at s key x) ≡ counts s
+counts_at s key x same = (stands s.root s.second key x same).counts
+
+-- a file gives its blocks back
+pub counts_cut : (s : Stores) (key : ℕ) (node : Node) (time : ℕ) → counts (with_truncated s key node time) ≡ counts s
+unfolding with_truncated
+counts_cut s key node time =
+    counts_at s key (numbers.with_truncated (store_at s key) (number_of s key) node time)
+    (cut_count (store_at s key) (number_of s key) node time)
+
+gone_count : (s : Store) (i : ℕ) (node : Node) → (numbers.without_reference s i node).count ≡ s.count
+gone_count s i node = by ((node.nlink == 0) && not (i == 1)) where
+  by : (t : Bool) → (cond t (numbers.without_node s i node) s).count ≡ s.count
+  by true = refl
+  by false = refl
+
+-- the last reference to a node goes
+pub counts_gone : (s : Stores) (key : ℕ) (node : Node) → counts (without_reference s key node) ≡ counts s
+unfolding without_reference
+counts_gone s key node =
+    counts_at s key (numbers.without_reference (store_at s key) (number_of s key) node)
+    (gone_count (store_at s key) (number_of s key) node)
+
+-- a number is drawn on a disk that is there
+pub counts_drawn : (s : Stores) (dev : ℕ) (d : Draw) → ((dev == 0) ≡ false → IsSome s.second) → counts (with_draw s dev d) ≡ counts s
+counts_drawn s dev d there = by s.root s.second (dev == 0) there where
+  by : (root : Store) (o : Option Store) (t : Bool) → (t ≡ false → IsSome o)
+      → counts (cond {A = Stores} t (record { root = numbers.with_draw (cond {A = Store} t root (unwrap_or o root)) d; second = o })
+      (record { root = root; second = Some (numbers.with_draw (cond {A = Store} t root (unwrap_or o root)) d) }))
+      ≡ counts (record { root = root; second = o })
+  by root None true p = refl
+  by root None false p = absurd (p refl)
+  by root (Some s) true p = refl
+  by root (Some s) false p = refl
