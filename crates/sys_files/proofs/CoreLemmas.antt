@@ -102,7 +102,7 @@ module _ (P : Handed → Type 0)
     where
       by : (b : Bool) → OverWith P (cond b (writes_named now h) (fails h EPERM))
       by true =
-          named h (make_in h.inodes h.marks (user_of h.u) h.u.dir core_name) (by_made (writes_over now) (writes_new now))
+          named h (make_in h.inodes h.mounts h.marks (user_of h.u) h.u.dir core_name) (by_made (writes_over now) (writes_new now))
           (making_count h.inodes _) p
           (λ l answer q. made_so now l answer q)
       by false = record { state = p; over = tt }
@@ -115,18 +115,18 @@ core_steady h now =
 
 -- The file of the name is looked for, in the directory of the process.
 module _ (h after : Handed) (now : ℕ) (name : List ℕ) (same : name ≡ core_name)
-    (parts : after ≡ with_inodes h (make_in h.inodes h.marks (user_of h.u) h.u.dir name).inodes)
+    (parts : after ≡ with_inodes h (make_in h.inodes h.mounts h.marks (user_of h.u) h.u.dir name).inodes)
   where
-    named_is : (r : Result Made Errno) → r ≡ (make_in h.inodes h.marks (user_of h.u) h.u.dir name).answer
+    named_is : (r : Result Made Errno) → r ≡ (make_in h.inodes h.mounts h.marks (user_of h.u) h.u.dir name).answer
         → writes_named now h ≡ check after r (by_made (writes_over now) (writes_new now) after)
     named_is r answer =
-        ap (λ b. then_named h (make_in h.inodes h.marks (user_of h.u) h.u.dir b) (by_made (writes_over now) (writes_new now)))
+        ap (λ b. then_named h (make_in h.inodes h.mounts h.marks (user_of h.u) h.u.dir b) (by_made (writes_over now) (writes_new now)))
         (sym same)
         ∙ sym (λ i. check (parts i) (answer i) (by_made (writes_over now) (writes_new now) (parts i)))
 
     -- It isn't there.
     pub named_new : (m : Made) (dir offset : ℕ) (entry : List ℕ) (end : Handed) (r : Result (Unit {0}) Errno) (last : Inodes)
-        → Ok m ≡ (make_in h.inodes h.marks (user_of h.u) h.u.dir name).answer → m ≡ made.Room dir offset entry
+        → Ok m ≡ (make_in h.inodes h.mounts h.marks (user_of h.u) h.u.dir name).answer → m ≡ made.Room dir offset entry
         → writes_new now after dir offset entry ≡ did_of end r → last ≡ put_back end.inodes dir
         → writes_named now h ≡ did_of (with_inodes end last) r
     named_new m dir offset entry end r last answer is did back =

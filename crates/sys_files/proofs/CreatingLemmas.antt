@@ -128,17 +128,17 @@ until_answered after ino d a last did is = ap (until_end ino) did ∙ sym (ap (�
 
 -- what creat comes to, by the parts after the search for the name
 module _ (h after : Handed) (name mode now : ℕ)
-    (parts : after ≡ with_inodes h (make_in h.inodes h.marks (user_of h.u) h.u.dir (name_at h.image name)).inodes) where
-  made_is : (r : Result Made Errno) → r ≡ (make_in h.inodes h.marks (user_of h.u) h.u.dir (name_at h.image name)).answer
+    (parts : after ≡ with_inodes h (make_in h.inodes h.mounts h.marks (user_of h.u) h.u.dir (name_at h.image name)).inodes) where
+  made_is : (r : Result Made Errno) → r ≡ (make_in h.inodes h.mounts h.marks (user_of h.u) h.u.dir (name_at h.image name)).answer
       → creat_file h name mode now ≡ check after r (by_made (opens_again now) (makes_file mode now) after)
   made_is r answer = sym (λ i. check (parts i) (answer i) (by_made (opens_again now) (makes_file mode now) (parts i)))
 
-  pub creat_refused : (e : Errno) → Err e ≡ (make_in h.inodes h.marks (user_of h.u) h.u.dir (name_at h.image name)).answer
+  pub creat_refused : (e : Errno) → Err e ≡ (make_in h.inodes h.mounts h.marks (user_of h.u) h.u.dir (name_at h.image name)).answer
       → creat_file h name mode now ≡ did_with after (Fail e)
   creat_refused e answer = made_is (Err e) answer
 
   module _ (m : Made) (a : Answer) (end : Handed) (last : Inodes)
-      (answer : Ok m ≡ (make_in h.inodes h.marks (user_of h.u) h.u.dir (name_at h.image name)).answer) where
+      (answer : Ok m ≡ (make_in h.inodes h.mounts h.marks (user_of h.u) h.u.dir (name_at h.image name)).answer) where
     pub creat_found : (ino : ℕ) → m ≡ made.Found ino → opens_again now after ino ≡ did_with end a → last ≡ put_back end.inodes ino
         → creat_file h name mode now ≡ did_with (with_inodes end last) a
     creat_found ino is did back =

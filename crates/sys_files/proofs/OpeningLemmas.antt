@@ -163,8 +163,8 @@ open_kept h name mode sound can = kept_ends h _ (kept_finds h h name [] (λ h in
 -- It shows nothing.
 pub open_quiet : (h : Handed) (name mode : ℕ) → (open_file h name mode).items ≡ []
 open_quiet h name mode =
-    let now : Handed = with_inodes h (find_in h.inodes (user_of h.u) h.u.dir (name_at h.image name)).inodes in
-    check_quiet now (find_in h.inodes (user_of h.u) h.u.dir (name_at h.image name)).answer (λ ino. until_end ino (opens_named now ino mode)) (λ ino. named_quiet now ino mode)
+    let now : Handed = with_inodes h (find_in h.inodes h.mounts (user_of h.u) h.u.dir (name_at h.image name)).inodes in
+    check_quiet now (find_in h.inodes h.mounts (user_of h.u) h.u.dir (name_at h.image name)).answer (λ ino. until_end ino (opens_named now ino mode)) (λ ino. named_quiet now ino mode)
 
 -- A search leaves room for one reference more to what it finds.
 pub few_found : (n new : Inodes) (user : User) (dir : ℕ) (bytes : List ℕ) (ino : ℕ) → slice_index n.references ino ≤ 65500 → (find_in n user dir bytes).answer ≡ Ok ino

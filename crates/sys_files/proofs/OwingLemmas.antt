@@ -184,8 +184,8 @@ kept_check old h taken (Err e) next k on = k
 
 -- Where a name is found, its inode is referred to until the call ends.
 abbrev pub CanFind : Handed → ℕ → Type 0
-CanFind h name = (ino : ℕ) → (find_in h.inodes (user_of h.u) h.u.dir (name_at h.image name)).answer ≡ Ok ino
-    → 0 < slice_index (find_in h.inodes (user_of h.u) h.u.dir (name_at h.image name)).inodes.references ino
+CanFind h name = (ino : ℕ) → (find_in h.inodes h.mounts (user_of h.u) h.u.dir (name_at h.image name)).answer ≡ Ok ino
+    → 0 < slice_index (find_in h.inodes h.mounts (user_of h.u) h.u.dir (name_at h.image name)).inodes.references ino
 
 pub can_find : (fs : FileSystem) (h : Handed) (name : ℕ) → h.inodes ≡ inodes_of fs → IsFileSystem fs → IsSound h
     → CanFind h name
@@ -213,7 +213,7 @@ pub kept_finds : (old h : Handed) (name : ℕ) (taken : List ℕ) (next : Handed
     → ((now : Handed) (ino : ℕ) → IsKeptBut old now (ino ∷ taken) → IsKeptBut old (next now ino).state
     (ino ∷ taken)) → IsKeptBut old (finds h name next).state taken
 kept_finds old h name taken next sound k can on =
-    let found = find_in h.inodes (user_of h.u) h.u.dir (name_at h.image name) in
+    let found = find_in h.inodes h.mounts (user_of h.u) h.u.dir (name_at h.image name) in
     let P : Inodes → Type 0 = λ n. IsKeptBut old (with_inodes h n) taken in
     kept_named old h taken found (λ now ino. until_end ino (next now ino))
     (λ e err. subst P (sym (found_none h.inodes (user_of h.u) h.u.dir (name_at h.image name) e err)) k)

@@ -616,7 +616,7 @@ module _ {P : Handed → Type 0} {Q : Did → Type 0} {Few Known : ℕ → Type 
 
     pub walk_unlink : (h : Handed) (name now : ℕ) → P h → Q (unlink_file h name now)
     walk_unlink h name now p =
-        walk_named h (remove_in h.inodes h.marks (user_of h.u) h.u.dir (name_at h.image name)) (removes now)
+        walk_named h (remove_in h.inodes h.mounts h.marks (user_of h.u) h.u.dir (name_at h.image name)) (removes now)
         (removing_count h.inodes _) p (λ l entry q. removed l now entry q)
 
     -- 12, chdir
