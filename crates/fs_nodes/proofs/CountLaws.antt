@@ -1,9 +1,9 @@
 -- How many inodes each disk has stays, whatever becomes of a node.
-use Rattle.std.proofs.Common.{◌≡◌, ◌==◌, ◌&&◌, ℕ, Bool, true, false, cond, not, Option, Some, None, IsSome, unwrap_or, refl}
+use Rattle.std.proofs.Common.{◌≡◌, ◌==◌, ◌&&◌, ℕ, Bool, true, false, cond, not, Option, Some, None, unwrap_or, refl, ap, ◌∙◌}
 use Rattle.fs_codec.specs.Store.{Node, Store}
 use Rattle.fs_laws.specs.Numbers as numbers
 use Rattle.fs_laws.specs.Numbers.{Draw}
-use Rattle.fs_nodes.specs.Keys.{Stores, counts, store_at, number_of, with_store_at, with_truncated, without_reference}
+use Rattle.fs_nodes.specs.Keys.{Stores, counts, store_at, number_of, with_store_at, with_truncated, without_reference, in_place, synced}
 use Rattle.fs_nodes.specs.Numbers.{with_draw}
 use Rattle.fs_nodes.proofs.KeyLaws.{stands}
 use Rattle.fs_nodes.proofs.SideLemmas.{cut_count}
@@ -31,14 +31,29 @@ counts_gone s key node =
     counts_at s key (numbers.without_reference (store_at s key) (number_of s key) node)
     (gone_count (store_at s key) (number_of s key) node)
 
--- a number is drawn on a disk that is there
-pub counts_drawn : (s : Stores) (dev : ℕ) (d : Draw) → ((dev == 0) ≡ false → IsSome s.second) → counts (with_draw s dev d) ≡ counts s
-counts_drawn s dev d there = by s.root s.second (dev == 0) there where
-  by : (root : Store) (o : Option Store) (t : Bool) → (t ≡ false → IsSome o)
+-- a number is drawn on a disk
+pub counts_drawn : (s : Stores) (dev : ℕ) (d : Draw) → counts (with_draw s dev d) ≡ counts s
+counts_drawn s dev d = by s.root s.second (dev == 0) where
+  by : (root : Store) (o : Option Store) (t : Bool)
       → counts (cond {A = Stores} t (record { root = numbers.with_draw (cond {A = Store} t root (unwrap_or o root)) d; second = o })
-      (record { root = root; second = Some (numbers.with_draw (cond {A = Store} t root (unwrap_or o root)) d) }))
+      (record { root = root; second = in_place o (numbers.with_draw (cond {A = Store} t root (unwrap_or o root)) d) }))
       ≡ counts (record { root = root; second = o })
-  by root None true p = refl
-  by root None false p = absurd (p refl)
-  by root (Some s) true p = refl
-  by root (Some s) false p = refl
+  by root None true = refl
+  by root None false = refl
+  by root (Some s) true = refl
+  by root (Some s) false = refl
+
+-- the super-blocks are written
+written_count : (s : Store) (time : ℕ) → (numbers.synced s time).count ≡ s.count
+written_count s time = by s.mark where
+  by : (t : Bool) → (cond {A = Store} t (record s { stamp = time; mark = false }) s).count ≡ s.count
+  by true = refl
+  by false = refl
+
+pub counts_synced : (s : Stores) (time : ℕ) → counts (synced s time) ≡ counts s
+counts_synced s time = by s.root s.second where
+  by : (root : Store) (o : Option Store) → counts (synced (record { root = root; second = o }) time) ≡ counts (record { root = root; second = o })
+  by root None = ap (λ n. record { root = n; second = None }) (written_count root time)
+  by root (Some x) =
+      ap (λ n. record { root = n; second = Some (numbers.synced x time).count }) (written_count root time)
+      ∙ ap (λ n. record { root = root.count; second = Some n }) (written_count x time)

@@ -44,9 +44,13 @@ store_on s dev = if dev == 0 then s.root else unwrap_or s.second s.root
 abbrev pub store_at : Stores → ℕ → Store
 store_at s key = if is_second s key then unwrap_or s.second s.root else s.root
 
--- the same with another store there
+-- the same with another store there, where there is that disk
+abbrev pub in_place : Option Store → Store → Option Store
+in_place None store = None
+in_place (Some old) store = Some store
+
 abbrev pub with_store_on : Stores → ℕ → Store → Stores
-with_store_on s dev store = if dev == 0 then record s { root = store } else record s { second = Some store }
+with_store_on s dev store = if dev == 0 then record s { root = store } else record s { second = in_place s.second store }
 
 abbrev pub with_store_at : Stores → ℕ → Store → Stores
 with_store_at s key store = if is_second s key then record s { second = Some store } else record s { root = store }

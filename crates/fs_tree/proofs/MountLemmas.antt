@@ -1,7 +1,8 @@
 -- Who crosses comes to a node.
-use Rattle.std.proofs.Common.{◌≡◌, ◌+◌, ◌==◌, ℕ, Bool, true, false, cond, Option, Some, None, IsSome, refl, sym, ap, subst}
+use Rattle.std.proofs.Common.{◌≡◌, ◌+◌, ◌==◌, ℕ, Bool, true, false, cond, Option, Some, None, IsSome, refl, sym, ap, ◌∙◌, subst}
 use Rattle.fs_codec.specs.Store.{Store}
-use Rattle.fs_nodes.specs.Keys.{Stores, node_numbered}
+use Rattle.fs_nodes.specs.Disks.{Disks}
+use Rattle.fs_nodes.specs.Keys.{Stores, counts, second_count, node_numbered}
 use Rattle.mount_tab.specs.Mounted.{MountTable, is_the, crossed}
 use Rattle.fs_tree.specs.Mounting.{AreMounts}
 use Rattle.fs_tree.proofs.PathLemmas.{CrossesToNodes}
@@ -16,3 +17,27 @@ crosses_of store mounts are root key some = by mounts.covered are.covered where
   by : (o : Option ℕ) → (IsSome o → IsSome store.second) → IsSome (node_numbered store (cond (is_the o key) (mounts.first + 1) key))
   by None there = some
   by (Some covered) there = at (covered == key) (λ is. there refl)
+
+-- A mount table fits stores with as many inodes.
+or_none : Option ℕ → ℕ
+or_none None = 0
+or_none (Some n) = n
+
+count_is : (root : Store) (o : Option Store) → second_count o ≡ or_none (counts (record { root = root; second = o })).second
+count_is root None = refl
+count_is root (Some s) = refl
+
+there_is : (root : Store) (o : Option Store) (c : Disks ℕ) → counts (record { root = root; second = o }) ≡ c → IsSome c.second → IsSome o
+there_is root None c same some = let P : Disks ℕ → Type 0 = λ d. IsSome d.second in absurd (subst P (sym same) some)
+there_is root (Some s) c same some = tt
+
+is_there : (root : Store) (o : Option Store) → IsSome o → IsSome (counts (record { root = root; second = o })).second
+is_there root None some = some
+is_there root (Some s) some = tt
+
+pub mounts_stay : (mounts : MountTable) (old new : Stores) → counts new ≡ counts old → AreMounts mounts old → AreMounts mounts new
+mounts_stay mounts old new same are = record {
+  first = are.first ∙ ap (λ (c : Disks ℕ). c.root) (sym same);
+  second = are.second ∙ count_is old.root old.second ∙ ap (λ (c : Disks ℕ). or_none c.second) (sym same) ∙ sym (count_is new.root new.second);
+  covered = λ is. there_is new.root new.second (counts old) same (is_there old.root old.second (are.covered is));
+}
