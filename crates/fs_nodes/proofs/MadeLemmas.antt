@@ -29,6 +29,7 @@ free_here s ino is = by (nat_le 1 ino) refl (nat_le ino s.count) refl (codec.nod
 
 pub record IsNewKey (s : Stores) (dev key : ℕ) : Type 0 where
   pub none : node_numbered s key ≡ None
+  pub low : 1 ≤ key
   pub high : key ≤ key_count s
   pub disk : cond {A = ℕ} (nat_le key s.root.count) 0 1 ≡ dev
 
@@ -39,6 +40,7 @@ new_on_root s ino free =
     let below : nat_le ino s.root.count ≡ true = grind (arith, nat_tests) in
     record {
       none = node_root s ino (and_right (is_some s.second) (nat_lt s.root.count ino) not_above) ∙ free.none;
+      low = free.low;
       high = omega (arith, high);
       disk = ap (λ t. cond {A = ℕ} t 0 1) below;
     }
@@ -52,6 +54,7 @@ new_on_second s x ino is free =
     let all : key_count s ≡ s.root.count + x.count = ap (λ (o : Option Store). key_count (record { root = s.root; second = o })) is in
     record {
       none = node_second s x (s.root.count + ino) is (omega (arith, low)) ∙ ap (codec.node_numbered x) number ∙ free.none;
+      low = omega (arith, low);
       high = omega (arith, high, all);
       disk = ap (λ t. cond {A = ℕ} t 0 1) above;
     }

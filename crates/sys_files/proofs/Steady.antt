@@ -148,6 +148,7 @@ confined_walks old slot = record {
     fits = c.fits;
     steady = record { row = c.steady.row; area = c.steady.area; image = c.steady.image; marks = c.steady.marks };
   };
+  named = λ names d c. record { fits = c.fits; steady = c.steady };
   waits = λ h entry at count s. record {
     fits = fits_none slot;
     steady = steady_pending old h LINE_READ (entry ∷ at ∷ count ∷ 0 ∷ 0 ∷ 0 ∷ 0 ∷ 0 ∷ []) s;
@@ -175,6 +176,7 @@ confined_walks old slot = record {
   gone = λ h ino none s. record { row = s.row; area = s.area; image = s.image; marks = s.marks };
   known = λ h entry is s. (tt, tt);
   typewriter = λ h typewriter s. record { row = s.row; area = s.area; image = s.image; marks = s.marks };
+  covered = λ h covered s. record { row = s.row; area = s.area; image = s.image; marks = s.marks };
   enters = λ h dir moves s. steady_moved old h h.files h.u.files dir s;
   terminal = λ h tty s. record {
     row = record { pid = s.row.pid; ppid = s.row.ppid; uid = s.row.uid };
