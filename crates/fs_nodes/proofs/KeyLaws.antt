@@ -6,7 +6,10 @@ use Rattle.fs_codec.specs.Store.{Node, Store}
 use Rattle.fs_codec.specs.Store as codec
 use Rattle.fs_laws.specs.Numbers as numbers
 use Rattle.fs_nodes.specs.Disks.{Disks}
-use Rattle.fs_nodes.specs.Keys.{Stores, counts, is_second, store_at, number_of, node_numbered, room_at, with_store_at, with_node}
+use Rattle.fs_laws.specs.Numbers.{Draw}
+use Rattle.fs_nodes.specs.Keys.{Stores, counts, is_second, store_at, number_of, node_numbered, room_at, in_place, with_store_at, with_node}
+use Rattle.fs_nodes.specs.Numbers.{with_draw}
+use Rattle.fs_nodes.proofs.JoinedLemmas.{above}
 
 -- A store is where it was put, and the numbers of its disk are what they were.
 pub record Stands (s : Stores) (key : ℕ) (x : Store) : Type 0 where
@@ -56,3 +59,79 @@ counts_set s key room new = (stands s.root s.second key (numbers.with_node (stor
 pub room_set : (s : Stores) (key room : ℕ) (new : Node) → room_at (with_node s key new room) key ≡ room
 unfolding with_node room_at
 room_set s key room new = ap (λ (x : Store). x.room) (stands s.root s.second key (numbers.with_node (store_at s key) (number_of s key) new room) refl).store
+
+-- Any other node stays.
+set_apart : (x : Store) (i j room : ℕ) (new : Node) → j ≢ i
+    → codec.node_numbered (numbers.with_node x i new room) j ≡ codec.node_numbered x j
+set_apart x i j room new apart = get_or-set_other x.nodes i j (Some new) None apart
+
+module _ (root x : Store) (key other room : ℕ) (new : Node) (apart : other ≢ key) where
+  in_second : nat_lt root.count key ≡ true → (b : Bool) → nat_lt root.count other ≡ b
+      → codec.node_numbered (cond b (numbers.with_node x (key - root.count) new room) root) (cond b (other - root.count) other)
+      ≡ codec.node_numbered (cond b x root) (cond b (other - root.count) other)
+  in_second is true e =
+      let first = above root.count key is in
+      let second = above root.count other e in
+      set_apart x (key - root.count) (other - root.count) room new (λ same. apart (omega (arith, first, second, same)))
+  in_second is false e = refl
+
+  in_root : (b : Bool)
+      → codec.node_numbered (cond b x (numbers.with_node root key new room)) (cond b (other - root.count) other)
+      ≡ codec.node_numbered (cond b x root) (cond b (other - root.count) other)
+  in_root true = refl
+  in_root false = set_apart root key other room new apart
+
+  set_on : Bool → Stores
+  set_on a =
+      put root x (numbers.with_node (cond {A = Store} a x root) (cond {A = ℕ} a (key - root.count) key) new room) a
+
+  in_either : (a : Bool) → nat_lt root.count key ≡ a
+      → node_numbered (set_on a) other ≡ node_numbered (record { root = root; second = Some x }) other
+  unfolding node_numbered
+  in_either true is = in_second is (nat_lt root.count other) refl
+  in_either false is = in_root (nat_lt root.count other)
+
+  in_both : node_numbered (with_node (record { root = root; second = Some x }) key new room) other
+      ≡ node_numbered (record { root = root; second = Some x }) other
+  unfolding with_node
+  in_both = in_either (nat_lt root.count key) refl
+
+one_apart : (root : Store) (key other room : ℕ) (new : Node) → other ≢ key
+    → node_numbered (with_node (record { root = root; second = None }) key new room) other
+    ≡ node_numbered (record { root = root; second = None }) other
+unfolding node_numbered with_node
+one_apart root key other room new apart = set_apart root key other room new apart
+
+pub node_other : (s : Stores) (key other room : ℕ) (new : Node) → other ≢ key
+    → node_numbered (with_node s key new room) other ≡ node_numbered s other
+node_other s key other room new apart = by s.root s.second where
+  by : (root : Store) (o : Option Store) → node_numbered (with_node (record { root = root; second = o }) key new room) other
+      ≡ node_numbered (record { root = root; second = o }) other
+  by root None = one_apart root key other room new apart
+  by root (Some x) = in_both root x key other room new apart
+
+-- The draw of a number leaves all nodes.
+root_drawn : (root x : Store) (key : ℕ) (d : Draw) (b : Bool)
+    → codec.node_numbered (cond b x (numbers.with_draw root d)) (cond b (key - root.count) key)
+    ≡ codec.node_numbered (cond b x root) (cond b (key - root.count) key)
+root_drawn root x key d true = refl
+root_drawn root x key d false = refl
+
+second_drawn : (root x : Store) (key : ℕ) (d : Draw) (b : Bool)
+    → codec.node_numbered (cond b (numbers.with_draw x d) root) (cond b (key - root.count) key)
+    ≡ codec.node_numbered (cond b x root) (cond b (key - root.count) key)
+second_drawn root x key d true = refl
+second_drawn root x key d false = refl
+
+drawn_by : (root : Store) (o : Option Store) (key : ℕ) (d : Draw) (t : Bool)
+    → node_numbered (cond {A = Stores} t (record { root = numbers.with_draw (cond {A = Store} t root (unwrap_or o root)) d; second = o })
+    (record { root = root; second = in_place o (numbers.with_draw (cond {A = Store} t root (unwrap_or o root)) d) })) key
+    ≡ node_numbered (record { root = root; second = o }) key
+unfolding node_numbered
+drawn_by root None key d true = refl
+drawn_by root None key d false = refl
+drawn_by root (Some x) key d true = root_drawn root x key d (nat_lt root.count key)
+drawn_by root (Some x) key d false = second_drawn root x key d (nat_lt root.count key)
+
+pub node_drawn : (s : Stores) (dev : ℕ) (d : Draw) (key : ℕ) → node_numbered (with_draw s dev d) key ≡ node_numbered s key
+node_drawn s dev d key = drawn_by s.root s.second key d (dev == 0)
