@@ -16,7 +16,7 @@ use Rattle.fs_tree.specs.declared.user.Want.TheVariants.{Write}
 use Rattle.fs_tree.specs.Finding.{Inodes, Finding, make_in, put_back}
 use Rattle.fs_tree.specs.Permission.{access}
 use Rattle.sys_files.specs.Handed.{Handed, r0, node_at, disk_of, user_of, with_inodes, let_go}
-use Rattle.sys_files.specs.Did.{Did, fails, is_done, check, must, until_end, then_named, by_made}
+use Rattle.sys_files.specs.Did.{Did, unnamed, fails, is_done, check, must, until_end, then_named, by_made}
 use Rattle.sys_files.specs.Making.{new_in, entry_written, writes_entry, with_links, enters_new, truncated_in, with_no_blocks}
 use Rattle.sys_files.specs.Entering.{did_of}
 use Rattle.sys_files.specs.Core.{core_name, is_plain, writes_parts, writes_over, writes_new, writes_named, core_file, is_written}
@@ -130,10 +130,10 @@ module _ (h after : Handed) (now : ℕ) (name : List ℕ) (same : name ≡ core_
     -- It isn't there.
     pub named_new : (m : Made) (dir offset : ℕ) (entry : List ℕ) (end : Handed) (r : Result (Unit {0}) Errno) (last : Inodes)
         → Ok m ≡ (make_in h.inodes h.mounts h.marks (user_of h.u) h.u.dir name).answer → m ≡ made.Room dir offset entry
-        → writes_new now after dir offset entry ≡ did_of end r → last ≡ put_back end.inodes dir
-        → writes_named now h ≡ did_of (with_inodes end last) r
+        → unnamed (writes_new now after dir offset entry) ≡ did_of end r → last ≡ put_back end.inodes dir
+        → unnamed (writes_named now h) ≡ did_of (with_inodes end last) r
     named_new m dir offset entry end r last answer is did back =
-        named_is (Ok m) answer ∙ ap (by_made (writes_over now) (writes_new now) after) is
+        ap unnamed (named_is (Ok m) answer ∙ ap (by_made (writes_over now) (writes_new now) after) is)
         ∙ until end dir (writes_new now after dir offset entry) r last did back
 
 -- A process whose effective user is the real one writes the file, and no other.

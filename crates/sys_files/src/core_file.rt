@@ -260,6 +260,7 @@ fn write_over<S: Space>(
         ≡ did_of (handed f.new u.now row (S.image space.now)) result }
     ensures kept { SameReferences f.old.tree.nodes f.new.tree.nodes }
     ensures table { f.new.table ≡ f.old.table }
+    ensures mounts { f.new.tree.mounts ≡ f.old.tree.mounts }
 {
     f.tree.nodes.see();
     test_plain(&f.tree.nodes, ino)?;
@@ -287,6 +288,7 @@ fn enter_core<S: Space>(
         (writes_parts now) ≡ did_of (handed f.new u.now row (S.image space.now)) result }
     ensures kept { SameReferences f.old.tree.nodes f.new.tree.nodes }
     ensures table { f.new.table ≡ f.old.table }
+    ensures mounts { f.new.tree.mounts ≡ f.old.tree.mounts }
 {
     enter_new(f, u, room, ino, now)?;
     write_parts(&mut f.tree.nodes, ino, u, space, now)
@@ -310,6 +312,7 @@ fn write_new<S: Space>(
         ≡ did_of (handed f.new u.now row (S.image space.now)) result }
     ensures kept { SameReferences f.old.tree.nodes f.new.tree.nodes }
     ensures table { f.new.table ≡ f.old.table }
+    ensures mounts { f.new.tree.mounts ≡ f.old.tree.mounts }
 {
     let dev = disk_of(f, room.dir);
     let ino = make_inode(&mut f.tree.nodes, dev, MODE, user_of(u), now)?;
@@ -330,6 +333,7 @@ fn write_named<S: Space>(f: &mut Files, u: &UArea, space: &S, now: u32) -> Resul
         ≡ did_of (handed f.new u.now row (S.image space.now)) result }
     ensures kept { SameReferences f.old.tree.nodes f.new.tree.nodes }
     ensures table { f.new.table ≡ f.old.table }
+    ensures mounts { f.new.tree.mounts ≡ f.old.tree.mounts }
 {
     match find_to_make(&mut f.tree, u, &core_name(), 0)? {
         Made::Found(ino) => {

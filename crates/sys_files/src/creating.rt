@@ -68,6 +68,7 @@ pub(crate) fn truncate(nodes: &mut Nodes, ino: u16, now: u32)
 fn open_to_write(f: &mut Files, u: &mut UArea, row: &mut Row, ino: u16) -> Answer
     requires referenced { 0 < slice_index f.old.tree.nodes.references ino }
     requires few { slice_index f.old.tree.nodes.references ino < 65535 }
+    requires mounts { AreMounts f.old.tree.mounts f.old.tree.nodes.store }
     requires open { AreOpen f.old.table u.old.files }
     requires pipes { ArePipes f.old.table f.old.pipes }
     ensures did { (image : Image) → opens_for_writing (handed f.old u.old row.old image) ino
@@ -84,6 +85,7 @@ fn open_to_write(f: &mut Files, u: &mut UArea, row: &mut Row, ino: u16) -> Answe
 fn open_again(f: &mut Files, u: &mut UArea, row: &mut Row, ino: u16, now: u32) -> Answer
     requires referenced { 0 < slice_index f.old.tree.nodes.references ino }
     requires few { slice_index f.old.tree.nodes.references ino < 65535 }
+    requires mounts { AreMounts f.old.tree.mounts f.old.tree.nodes.store }
     requires open { AreOpen f.old.table u.old.files }
     requires pipes { ArePipes f.old.table f.old.pipes }
     ensures did { (image : Image) → opens_again now (handed f.old u.old row.old image) ino
@@ -110,6 +112,7 @@ fn enter_file(f: &mut Files, u: &mut UArea, row: &mut Row, room: Room, ino: u16,
     requires disk { (split_of f.old.tree.mounts ino).0 ≡ (split_of f.old.tree.mounts room.dir).0 }
     requires referenced { 0 < slice_index f.old.tree.nodes.references ino }
     requires few { slice_index f.old.tree.nodes.references ino < 65535 }
+    requires mounts { AreMounts f.old.tree.mounts f.old.tree.nodes.store }
     requires open { AreOpen f.old.table u.old.files }
     requires pipes { ArePipes f.old.table f.old.pipes }
     ensures did { (image : Image) → enters_new (handed f.old u.old row.old image) room.dir room.offset room.name ino now

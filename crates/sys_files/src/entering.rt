@@ -82,6 +82,7 @@ pub(crate) fn find_room<S: Space>(
     ensures none { IfErr result (λ e. SameReferences f.old.tree.nodes f.new.tree.nodes) }
     ensures table { f.new.table ≡ f.old.table }
     ensures pipes { f.new.pipes ≡ f.old.pipes }
+    ensures mounts { f.new.tree.mounts ≡ f.old.tree.mounts }
 {
     match find_to_make(&mut f.tree, u, space, name)? {
         Made::Found(ino) => {
@@ -176,6 +177,7 @@ pub(crate) fn enter_new(
     ensures kept { SameReferences f.old.tree.nodes f.new.tree.nodes }
     ensures table { f.new.table ≡ f.old.table }
     ensures pipes { f.new.pipes ≡ f.old.pipes }
+    ensures mounts { f.new.tree.mounts ≡ f.old.tree.mounts }
 {
     enter(&mut f.tree, room.dir, room.offset, room.name, ino, now)?;
     set_links(&mut f.tree.nodes, ino, 1, now);

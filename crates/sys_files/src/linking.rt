@@ -75,6 +75,7 @@ fn enter_again(f: &mut Files, u: &UArea, room: Room, ino: u16, now: u32) -> Resu
     ensures kept { SameReferences f.old.tree.nodes f.new.tree.nodes }
     ensures table { f.new.table ≡ f.old.table }
     ensures pipes { f.new.pipes ≡ f.old.pipes }
+    ensures mounts { f.new.tree.mounts ≡ f.old.tree.mounts }
 {
     if !is_one_disk(f, ino, room.dir) {
         return Err(Errno::EXDEV);
@@ -103,6 +104,7 @@ fn link_to<S: Space>(
     ensures kept { SameReferences f.old.tree.nodes f.new.tree.nodes }
     ensures table { f.new.table ≡ f.old.table }
     ensures pipes { f.new.pipes ≡ f.old.pipes }
+    ensures mounts { f.new.tree.mounts ≡ f.old.tree.mounts }
 {
     if links_of(&f.tree.nodes, ino) >= MOST_LINKS {
         return Err(Errno::EMLINK);
@@ -133,6 +135,7 @@ fn link<S: Space>(
     ensures kept { SameReferences f.old.tree.nodes f.new.tree.nodes }
     ensures table { f.new.table ≡ f.old.table }
     ensures pipes { f.new.pipes ≡ f.old.pipes }
+    ensures mounts { f.new.tree.mounts ≡ f.old.tree.mounts }
 {
     let ino = find_name(&mut f.tree, u, space, name)?;
     let result = link_to(f, u, space, ino, new, now);
@@ -185,6 +188,7 @@ fn remove_entry(
     ensures kept { SameReferences f.old.tree.nodes f.new.tree.nodes }
     ensures table { f.new.table ≡ f.old.table }
     ensures pipes { f.new.pipes ≡ f.old.pipes }
+    ensures mounts { f.new.tree.mounts ≡ f.old.tree.mounts }
 {
     if !may_link(f, u, ino) {
         return Err(Errno::EPERM);
@@ -208,6 +212,7 @@ fn unlink<S: Space>(f: &mut Files, u: &UArea, space: &S, name: u16, now: u32) ->
     ensures kept { SameReferences f.old.tree.nodes f.new.tree.nodes }
     ensures table { f.new.table ≡ f.old.table }
     ensures pipes { f.new.pipes ≡ f.old.pipes }
+    ensures mounts { f.new.tree.mounts ≡ f.old.tree.mounts }
 {
     let (dir, offset, ino) = find_to_remove(&mut f.tree, u, space, name)?;
     let result = remove_entry(f, u, dir, offset, ino, now);

@@ -63,6 +63,7 @@ fn enter_any(
     ensures kept { SameReferences f.old.tree.nodes f.new.tree.nodes }
     ensures table { f.new.table ≡ f.old.table }
     ensures pipes { f.new.pipes ≡ f.old.pipes }
+    ensures mounts { f.new.tree.mounts ≡ f.old.tree.mounts }
 {
     enter_new(f, u, room, ino, now)?;
     set_device(&mut f.tree.nodes, ino, device);
@@ -86,6 +87,7 @@ fn make_any(
     ensures kept { SameReferences f.old.tree.nodes f.new.tree.nodes }
     ensures table { f.new.table ≡ f.old.table }
     ensures pipes { f.new.pipes ≡ f.old.pipes }
+    ensures mounts { f.new.tree.mounts ≡ f.old.tree.mounts }
 {
     let dev = disk_of(f, room.dir);
     let ino = make_inode(&mut f.tree.nodes, dev, mode & !ILARG, user_of(u), now)?;
@@ -112,6 +114,7 @@ fn mknod<S: Space>(
     ensures kept { SameReferences f.old.tree.nodes f.new.tree.nodes }
     ensures table { f.new.table ≡ f.old.table }
     ensures pipes { f.new.pipes ≡ f.old.pipes }
+    ensures mounts { f.new.tree.mounts ≡ f.old.tree.mounts }
 {
     if u.uid != 0 {
         return Err(Errno::EPERM);

@@ -9,6 +9,7 @@ returns-clause-did g c = λ row.
     let image = g.S.Space.image c.args.space.now in
     made_told (handed c.args.f.now c.args.u.now row image) c.args.room.dir c.args.room.offset c.args.room.name
     0o666 c.args.now (writes_parts c.args.now) c.user_of.result c.user_of.ensures
+    c.disk_of-dev.result c.disk_of-dev.ensures.disk
     c.in_ok-ino.ino _ _ (handed c.enter_core-result.new.f c.args.u.now row image) c.enter_core-result.result
     c.in_ok-ino.ensures.answer c.make_inode.ensures.inodes
     (c.enter_core-result.ensures.did row) c.let_go.ensures.inodes

@@ -11,7 +11,7 @@ returns-clause-kept c = λ image.
     image)
     (handed c.enter_file-answer.new.f c.enter_file-answer.new.u c.enter_file-answer.new.row image)
     c.args.f.now.tree.nodes c.make_inode.new.nodes c.enter_file-answer.new.f.tree.nodes c.let_go.new.nodes c.in-Ok.ino
-    c.in-Ok.ensures.found (c.enter_file-answer.ensures.kept image) refl refl c.enter_file-answer.ensures.more
+    c.in-Ok.ensures.found (c.enter_file-answer.ensures.kept image) refl refl refl c.enter_file-answer.ensures.more
     c.let_go.ensures.inodes c.let_go.ensures.rest
 
 none : Image
@@ -24,7 +24,7 @@ returns-clause-more c =
     none)
     (handed c.enter_file-answer.new.f c.enter_file-answer.new.u c.enter_file-answer.new.row none)
     c.args.f.now.tree.nodes c.make_inode.new.nodes c.enter_file-answer.new.f.tree.nodes c.let_go.new.nodes c.in-Ok.ino
-    c.in-Ok.ensures.found (c.enter_file-answer.ensures.kept none) refl refl c.enter_file-answer.ensures.more
+    c.in-Ok.ensures.found (c.enter_file-answer.ensures.kept none) refl refl refl c.enter_file-answer.ensures.more
     c.let_go.ensures.inodes c.let_go.ensures.rest
 
 pub returns-clause-blocks : goal.returns-clause-blocks
@@ -34,5 +34,5 @@ returns-clause-blocks c =
     none)
     (handed c.enter_file-answer.new.f c.enter_file-answer.new.u c.enter_file-answer.new.row none)
     c.args.f.now.tree.nodes c.make_inode.new.nodes c.enter_file-answer.new.f.tree.nodes c.let_go.new.nodes c.in-Ok.ino
-    c.in-Ok.ensures.found (c.enter_file-answer.ensures.kept none) refl refl c.enter_file-answer.ensures.more
+    c.in-Ok.ensures.found (c.enter_file-answer.ensures.kept none) refl refl refl c.enter_file-answer.ensures.more
     c.let_go.ensures.inodes c.let_go.ensures.rest c.enter_file-answer.ensures.blocks

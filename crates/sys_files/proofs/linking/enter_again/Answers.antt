@@ -1,5 +1,6 @@
 use Rattle.std.proofs.Common.{◌≡◌, ap, ◌∙◌, arith}
 use Rattle.fs_codec.specs.Bytes.{entry_bytes}
+use Rattle.mount_tab.specs.Mounted.{split_of}
 use Rattle.fs_tree.specs.Finding.{Inodes, inodes_of}
 use Rattle.sys_files.specs.Handed.{node_in}
 use Rattle.sys_files.proofs.LinksLemmas.{entry_written-links}
@@ -13,5 +14,5 @@ overflow_add-nlink c =
     ≡ (node_in c.args.f.now.tree.nodes.store c.args.ino).nlink =
     ap (λ (m : Inodes). (node_in m.store c.args.ino).nlink) c.enter.ensures.inodes
     ∙ entry_written-links n c.args.room.dir c.args.room.offset
-    (entry_bytes (record { ino = c.args.ino; name = c.args.room.name })) c.args.now c.args.ino in
+    (entry_bytes (record { ino = (split_of c.args.f.now.tree.mounts c.args.ino).1; name = c.args.room.name })) c.args.now c.args.ino in
     omega (arith, c.links_of-nlink.ensures, few, same)

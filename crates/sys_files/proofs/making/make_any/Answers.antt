@@ -11,6 +11,7 @@ returns-clause-did c = λ row image.
     made_told (handed c.args.f.now c.args.u.now row image) c.args.room.dir c.args.room.offset c.args.room.name
     (bit_and c.args.mode 0o167777) c.args.now
     (λ (h : Handed) (ino : ℕ). is_done (with_device h ino c.args.device)) c.user_of.result c.user_of.ensures
+    c.disk_of-dev.result c.disk_of-dev.ensures.disk
     c.in_ok-ino.ino _ _ (handed c.enter_any-result.new.f c.args.u.now row image) c.enter_any-result.result
     c.in_ok-ino.ensures.answer c.make_inode.ensures.inodes
     (c.enter_any-result.ensures.did row image) c.let_go.ensures.inodes
