@@ -73,8 +73,9 @@ pending_walks : (slot : ℕ)
     → Walks (λ h. h.u.pending ≡ NOTHING_PENDING) Holds (λ count. Unit {0}) (λ ino. Unit {0}) (Unit {0}) slot
 pending_walks slot = record {
   refused = λ h e free. holds_free (fails h e) free;
-  done = λ h a b free. holds_free (record { answer = Ret a b; state = h; items = [] }) free;
+  done = λ h a b free. holds_free (record { answer = Ret a b; state = h; items = []; named = [] }) free;
   lets_go = λ ino d holds. record { pends = holds.pends; user = holds.user };
+  named = λ names d holds. record { pends = holds.pends; user = holds.user };
   waits = λ h entry at count free. record {
     pends = λ waits. never_in_pipe_for_keys waits;
     user = λ awake. absurd (cc awake);
@@ -95,6 +96,7 @@ pending_walks slot = record {
   gone = λ h ino none free. free;
   known = λ h entry is free. (tt, tt);
   typewriter = λ h typewriter free. free;
+  covered = λ h covered free. free;
   enters = λ h dir moves free. free;
   terminal = λ h tty free. free;
   signalled = λ h free. free;

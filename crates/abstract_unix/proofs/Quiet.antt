@@ -25,7 +25,9 @@ use Rattle.sys_files.specs.Did.{Did}
 use Rattle.sys_files.specs.Descriptors.{Closing, dropped, closes, close_all}
 use Rattle.sys_files.specs.Moving.{without_pending, resumes}
 use Rattle.sys_files.proofs.Bounds.{IsOfFiles, IsLineOf}
-use Rattle.sys_files.proofs.NodeCounts.{put_back_count}
+use Rattle.fs_nodes.specs.Keys.{counts, key_count}
+use Rattle.fs_nodes.proofs.CountLaws.{keys_counted}
+use Rattle.sys_files.proofs.NodeCounts.{put_back_counts}
 use Rattle.sys_files.proofs.Walks.{IsOfPipe, IsAwaiting, Walks, walk_closes, walk_resume, closes_all}
 use Rattle.std.proofs.lemmas.List.Elements.{All-head, All-tail}
 use Rattle.sys_files.specs.Piping.{words_of}
@@ -92,7 +94,7 @@ EndsIn old new (Sleep pri chan) = Waits old new pri chan
 
 -- The numbers of nodes are words, and those of pipes that are open are numbers of inodes.
 pub record HasNumbers (h : Handed) : Type 0 where
-  pub count : h.inodes.store.count ≤ 65535
+  pub count : key_count h.inodes.store ≤ 65535
   pub pipes : HavePipes h.files h.pipes
 
 -- So it is in a call, of a process that waits in a call or not as before,
@@ -108,9 +110,9 @@ same_call_in : {old : UArea} {h : Handed} {numbers : List ℕ} {dir : ℕ} → I
     → SameCall old (record h.u { files = numbers; dir = dir })
 same_call_in p = record { size = record { «data» = p.same.size.data; stack = p.same.size.stack }; pending = p.same.pending }
 
-pub other_inodes : (h : Handed) (inodes : Inodes) → inodes.store.count ≡ h.inodes.store.count → HasNumbers h
+pub other_inodes : (h : Handed) (inodes : Inodes) → counts inodes.store ≡ counts h.inodes.store → HasNumbers h
     → HasNumbers (with_inodes h inodes)
-other_inodes h inodes same n = record { count = subst (λ c. c ≤ 65535) (sym same) n.count; pipes = n.pipes }
+other_inodes h inodes same n = record { count = subst (λ c. c ≤ 65535) (sym (keys_counted inodes.store h.inodes.store same)) n.count; pipes = n.pipes }
 
 dropped_calm : (old : UArea) (h : Handed) (fd : ℕ) → InCalm old h → InCalm old (dropped h fd)
 dropped_calm old h fd p = record {
@@ -183,8 +185,9 @@ calm_walks old s = record {
   lets_go = λ ino d c. record {
     quiet = c.quiet;
     ends = c.ends;
-    numbers = other_inodes d.state (let_go d.state ino).inodes (put_back_count d.state.inodes ino) c.numbers;
+    numbers = other_inodes d.state (let_go d.state ino).inodes (put_back_counts d.state.inodes ino) c.numbers;
   };
+  named = λ names d c. record { quiet = c.quiet; ends = c.ends; numbers = c.numbers };
   waits = λ h entry at count p. record {
     quiet = tt;
     ends = record { size = same_size p; pending = refl; at = λ s. refl; on = tt };
@@ -239,6 +242,7 @@ calm_walks old s = record {
   };
   known = λ h entry is p. end_known h entry p.numbers.pipes is;
   typewriter = λ h t p. record { same = p.same; numbers = record { count = p.numbers.count; pipes = p.numbers.pipes } };
+  covered = λ h covered p. record { same = p.same; numbers = record { count = p.numbers.count; pipes = p.numbers.pipes } };
   enters = λ h dir moves p. record { same = same_call_in p; numbers = record { count = p.numbers.count; pipes = p.numbers.pipes } };
   terminal = λ h tty p. record { same = p.same; numbers = record { count = p.numbers.count; pipes = p.numbers.pipes } };
   signalled = λ h p. record { same = p.same; numbers = record { count = p.numbers.count; pipes = p.numbers.pipes } };

@@ -1,9 +1,10 @@
 -- How many inodes each disk has stays, whatever becomes of a node.
-use Rattle.std.proofs.Common.{◌≡◌, ◌==◌, ◌&&◌, ℕ, Bool, true, false, cond, not, Option, Some, None, unwrap_or, refl, ap, ◌∙◌}
+use Rattle.std.proofs.Common.{◌≡◌, ◌+◌, ◌==◌, ◌&&◌, ℕ, Bool, true, false, cond, not, Option, Some, None, unwrap_or, refl, sym, ap, ◌∙◌}
 use Rattle.fs_codec.specs.Store.{Node, Store}
 use Rattle.fs_laws.specs.Numbers as numbers
 use Rattle.fs_laws.specs.Numbers.{Draw}
-use Rattle.fs_nodes.specs.Keys.{Stores, counts, store_at, number_of, with_store_at, with_truncated, without_reference, in_place, synced}
+use Rattle.fs_nodes.specs.Disks.{Disks}
+use Rattle.fs_nodes.specs.Keys.{Stores, counts, key_count, store_at, number_of, with_store_at, with_truncated, without_reference, in_place, synced}
 use Rattle.fs_nodes.specs.Numbers.{with_draw}
 use Rattle.fs_nodes.proofs.KeyLaws.{stands}
 use Rattle.fs_nodes.proofs.SideLemmas.{cut_count}
@@ -57,3 +58,17 @@ counts_synced s time = by s.root s.second where
   by root (Some x) =
       ap (λ n. record { root = n; second = Some (numbers.synced x time).count }) (written_count root time)
       ∙ ap (λ n. record { root = root.count; second = Some n }) (written_count x time)
+
+-- All keys are counted by the inodes of each disk.
+all_of : Disks ℕ → ℕ
+all_of n = n.root + unwrap_or n.second 0
+
+keys_are : (s : Stores) → key_count s ≡ all_of (counts s)
+keys_are s = by s.root s.second where
+  by : (root : Store) (o : Option Store)
+      → key_count (record { root = root; second = o }) ≡ all_of (counts (record { root = root; second = o }))
+  by root None = refl
+  by root (Some x) = refl
+
+pub keys_counted : (a b : Stores) → counts a ≡ counts b → key_count a ≡ key_count b
+keys_counted a b same = keys_are a ∙ ap all_of same ∙ sym (keys_are b)

@@ -1,7 +1,7 @@
 -- What is so of a key once the node of one has changed.
-use Rattle.std.proofs.Common.{◌≡◌, ◌≢◌, ◌-◌, ◌<◌, ◌≤◌, ◌==◌, ◌&&◌, ℕ, Bool, true, false, cond, nat_lt, List, length, slice_set, slice_index_or, Option, Some, None, IsSome, is_some, unwrap_or, inl, inr, refl, sym, ap, ◌∙◌, subst, arith}
+use Rattle.std.proofs.Common.{◌≡◌, ◌≢◌, ◌⊎◌, ◌-◌, ◌<◌, ◌≤◌, ◌==◌, ◌&&◌, ℕ, Bool, true, false, cond, nat_lt, List, length, slice_set, slice_index_or, Option, Some, None, IsSome, is_some, unwrap_or, inl, inr, refl, sym, ap, ◌∙◌, subst, arith}
 use Rattle.std.proofs.lemmas.Bool.{cases_lt}
-use Rattle.std.proofs.lemmas.List.{get_or_past, get_or-set_same, get_or-set_other}
+use Rattle.std.proofs.lemmas.List.{get_or_past, set_past, get_or-set_same, get_or-set_other}
 use Rattle.fs_codec.specs.Store.{Node, Store}
 use Rattle.fs_codec.specs.Store as codec
 use Rattle.fs_laws.specs.Numbers as numbers
@@ -50,6 +50,21 @@ node_set s key room node new there =
     ∙ elim (cases_lt (number_of s key) (length (store_at s key).nodes)) [
       | inl low ↦ get_or-set_same (store_at s key).nodes (number_of s key) (Some new) None low
       | inr past ↦ (let none : Some node ≡ None = sym there ∙ get_or_past (store_at s key).nodes (number_of s key) None past in absurd (cc))
+    ]
+
+-- the same where there was none: it is set, or there is no place for it
+pub node_put : (s : Stores) (key room : ℕ) (new : Node)
+    → (node_numbered (with_node s key new room) key ≡ Some new) ⊎ (node_numbered (with_node s key new room) key ≡ node_numbered s key)
+unfolding node_numbered with_node
+node_put s key room new =
+    let x : Store = numbers.with_node (store_at s key) (number_of s key) new room in
+    let at = stands s.root s.second key x refl in
+    let here : codec.node_numbered (store_at (with_store_at s key x) key) (number_of (with_store_at s key x) key)
+    ≡ codec.node_numbered x (number_of s key) = (λ j. codec.node_numbered (at.store j) (at.number j)) in
+    elim (cases_lt (number_of s key) (length (store_at s key).nodes)) [
+      | inl low ↦ inl (here ∙ get_or-set_same (store_at s key).nodes (number_of s key) (Some new) None low)
+      | inr past ↦ inr (here
+          ∙ ap (λ l. slice_index_or l (number_of s key) None) (set_past (store_at s key).nodes (number_of s key) (Some new) past))
     ]
 
 pub counts_set : (s : Stores) (key room : ℕ) (new : Node) → counts (with_node s key new room) ≡ counts s

@@ -73,7 +73,13 @@ told_whole : (h : Handed) (r : Result (Unit {0}) Errno) → did_of h r ≡ did_w
 told_whole h (Ok u) = refl
 told_whole h (Err e) = refl
 
--- a call that gives no value and changes no reference, by the part that does its work
+-- a call that gives no value, by the part that does its work
+pub does_whole : (old new : Handed) (r : Result (Unit {0}) Errno) {result : Answer} {t : Taken} {d : Did}
+    → unnamed d ≡ did_of new r → result ≡ (did_of new r).answer → IsKept old new → Does old new result t t d
+does_whole old new r did answer kept =
+    does_unnamed (did ∙ told_whole new r ∙ ap (did_with new) (sym answer)) kept
+
+-- the same where it changes no reference
 pub does_part : (f now : Files) (u : UArea) (row : Row) (image : Image) (r : Result (Unit {0}) Errno) {result : Answer} {t : Taken} {d : Did}
     → IsSound (handed f u row image) → SameReferences f.tree.nodes now.tree.nodes → now.table ≡ f.table → now.pipes ≡ f.pipes
     → now.tree.mounts ≡ f.tree.mounts → unnamed d ≡ did_of (handed now u row image) r

@@ -1,6 +1,6 @@
 -- One walk over the rows of calls on files, for each fact that says what stays, what is shown, and which numbers, entries and
 -- pipes a step changes.
-use Rattle.std.proofs.Common.{◌≡◌, ◌<◌, ◌≤◌, ◌∙◌, ◌+◌, ◌-◌, ◌/◌, ◌%◌, ◌^◌, ◌==◌, ◌&&◌, ℕ, Bool, true, false, not, nat_lt, cond, List, [], ◌∷◌, append-nil, length, slice_index, slice_set, pos, is_some, is_none, IfSome, Option, Some, None, unwrap_or, Result, Ok, Err, if◌then◌else◌, refl, sym, ap, subst, inl, inr, arith, ◌++◌, map, length-append, fold}
+use Rattle.std.proofs.Common.{◌≡◌, ◌<◌, ◌≤◌, ◌∙◌, ◌+◌, ◌-◌, ◌/◌, ◌%◌, ◌^◌, ◌==◌, ◌&&◌, ℕ, Bool, true, false, not, nat_lt, cond, List, [], ◌∷◌, append-nil, length, slice_index, slice_set, pos, is_some, is_none, IfSome, Option, Some, None, Result, Ok, Err, if◌then◌else◌, refl, sym, ap, subst, inl, inr, arith, ◌++◌, map, length-append, fold}
 use Rattle.std.proofs.lemmas.Bool.{eqb-false, eq-eqb}
 use Rattle.v6_base.specs.Image.{Image}
 use Rattle.v6_base.specs.Trace.{Log, sent, Item}
@@ -15,14 +15,13 @@ use Rattle.v6_base.specs.declared.errno.Errno.TheVariants.{EINTR, EPERM, EBADF, 
 use Rattle.v6_base.proofs.Copies.{SameLengths, same_lengths, bytes_lengths}
 use Rattle.fs_codec.specs.Bytes.{bytes_of}
 use Rattle.fs_codec.specs.Modes.{is_device, is_directory}
-use Rattle.fs_codec.specs.Store.{Node, Store}
+use Rattle.fs_codec.specs.Store.{Node}
 use Rattle.fs_codec.specs.declared.modes.TheConstants.{IALLOC}
 use Rattle.u_area.specs.declared.layout.TheConstants.{LINE_READ, PIPE_READ, PIPE_WRITE}
 use Rattle.u_area.specs.Pending.{IsPipeCall}
 use Rattle.fs_laws.specs.Pieces.{Moving}
-use Rattle.fs_nodes.specs.Disks.{Disks}
-use Rattle.fs_nodes.specs.Keys.{Stores, counts, key_count}
-use Rattle.fs_nodes.proofs.CountLaws.{counts_synced}
+use Rattle.fs_nodes.specs.Keys.{counts, key_count}
+use Rattle.fs_nodes.proofs.CountLaws.{counts_synced, keys_counted}
 use Rattle.fs_tree.specs.declared.made.Made.{Made}
 use Rattle.fs_tree.specs.declared.made.Made.TheVariants as made
 use Rattle.fs_tree.specs.declared.user.Want.TheVariants.{Write, Execute}
@@ -181,17 +180,6 @@ named_told Known file named = by (file.count == 1)
     by : (last : Bool) → IsNamedBy Known (cond last (Last (with_fewer file)) (Still (with_fewer file)))
     by true = named
     by false = named
-
--- all keys of disks of so many inodes
-all_of : Disks ℕ → ℕ
-all_of n = n.root + unwrap_or n.second 0
-
-keys_are : (s : Stores) → key_count s ≡ all_of (counts s)
-keys_are s = by s.root s.second where
-  by : (root : Store) (o : Option Store)
-      → key_count (record { root = root; second = o }) ≡ all_of (counts (record { root = root; second = o }))
-  by root None = refl
-  by root (Some x) = refl
 
 module _ {P : Handed → Type 0} {Q : Did → Type 0} {Few Known : ℕ → Type 0} {Moves : Type 0} {slot : ℕ}
     (k : Walks P Q Few Known Moves slot)
@@ -787,7 +775,7 @@ module _ {P : Handed → Type 0} {Q : Did → Type 0} {Few Known : ℕ → Type 
         let within = new_within h.inodes IALLOC (record { uid = 0; gid = 0 }) now ino is in
         k.lets_go ino (opens_ends (with_inodes h found.inodes) ino)
         (opens_pipe (with_inodes h found.inodes) ino within.0
-        (subst (λ n. ino ≤ n) (keys_are h.inodes.store ∙ ap all_of (sym same) ∙ sym (keys_are found.inodes.store)) within.1)
+        (subst (λ n. ino ≤ n) (keys_counted h.inodes.store found.inodes.store (sym same)) within.1)
         moves there)))
 
     -- A call in which a process slept goes on: what it waits for in a pipe is there.

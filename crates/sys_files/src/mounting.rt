@@ -1,5 +1,5 @@
 //! The second disk is mounted on a directory, and unmounted: `smount`, `sumount` and `getmdev` in Lions' Commentary, `sys3.c`.
-ghost use Rattle.std.specs.Prelude.{◌≡◌, ◌≢◌, ◌<◌, ◌≤◌, ℕ, true, slice_index};
+ghost use Rattle.std.specs.Prelude.{◌≡◌, ◌≢◌, ◌<◌, ◌≤◌, ℕ, true, Some, slice_index};
 ghost use Rattle.v6_base.specs.Image.{Image};
 ghost use Rattle.proc_tab.specs.declared.row.Row.{Row};
 ghost use Rattle.fs_nodes.specs.FileSystem.{SameRest};
@@ -160,6 +160,7 @@ pub fn mount_on<S: Space, T: Trace>(
 ///
 /// `EINVAL`: it is the second one, and is mounted nowhere. `EBUSY`: it is the root's, or something refers to an inode of it.
 fn unmount_disk(f: &mut Files, device: u16, now: u32) -> Result<(), Errno>
+    requires { (dir : ℕ) → f.old.tree.mounts.covered ≡ Some dir → 0 < slice_index f.old.tree.nodes.references dir }
     ensures did { (u : UArea) (row : Row) (image : Image) → unnamed (unmounts (handed f.old u row image) device)
         ≡ did_of (handed f.new u row image) result }
     ensures rest { SameRest f.old.tree.nodes f.new.tree.nodes }
