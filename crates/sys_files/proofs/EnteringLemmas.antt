@@ -9,7 +9,7 @@ use Rattle.fs_codec.specs.Store.{Node}
 use Rattle.fs_laws.specs.Numbers.{new_node}
 use Rattle.fs_laws.specs.Pieces.{Moving}
 use Rattle.fs_nodes.specs.Disks.{Disks}
-use Rattle.fs_nodes.specs.Keys.{Stores, counts, node_numbered, room_at, with_node}
+use Rattle.fs_nodes.specs.Keys.{Stores, counts, node_numbered, room_at}
 use Rattle.fs_nodes.specs.FileSystem.{FileSystem, SameRest, SameAroundEach, IsFileSystem}
 use Rattle.fs_nodes.specs.Numbers.{MakesNode, MakesNone, next_draw, with_draw}
 use Rattle.fs_nodes.proofs.CountLaws.{counts_drawn}
