@@ -1,9 +1,10 @@
 -- Who crosses comes to a node.
-use Rattle.std.proofs.Common.{◌≡◌, ◌+◌, ◌==◌, ℕ, Bool, true, false, cond, Option, Some, None, IsSome, refl, sym, ap, ◌∙◌, subst}
+use Rattle.std.proofs.Common.{◌≡◌, ◌≢◌, ◌+◌, ◌-◌, ◌≤◌, ◌==◌, ℕ, nat_le, Bool, true, false, cond, Option, Some, None, IsSome, refl, sym, ap, ◌∙◌, subst, arith}
+use Rattle.std.proofs.lemmas.Bool.Decides.{nat_tests}
 use Rattle.fs_codec.specs.Store.{Store}
 use Rattle.fs_nodes.specs.Disks.{Disks}
-use Rattle.fs_nodes.specs.Keys.{Stores, counts, second_count, node_numbered}
-use Rattle.mount_tab.specs.Mounted.{MountTable, is_the, crossed}
+use Rattle.fs_nodes.specs.Keys.{Stores, counts, second_count, key_count, node_numbered}
+use Rattle.mount_tab.specs.Mounted.{MountTable, split_of, is_the, crossed}
 use Rattle.fs_tree.specs.Mounting.{AreMounts}
 use Rattle.fs_tree.proofs.PathLemmas.{CrossesToNodes}
 
@@ -41,3 +42,25 @@ mounts_stay mounts old new same are = record {
   second = are.second ∙ count_is old.root old.second ∙ ap (λ (c : Disks ℕ). or_none c.second) (sym same) ∙ sym (count_is new.root new.second);
   covered = λ is. there_is new.root new.second (counts old) same (is_there old.root old.second (are.covered is));
 }
+
+-- the disk of a key, as the table tells it
+first_part : (t : Bool) (key d : ℕ) → (cond {A = ℕ × ℕ} t (0, key) (1, d)).0 ≡ cond {A = ℕ} t 0 1
+first_part true key d = refl
+first_part false key d = refl
+
+pub disk_is : (mounts : MountTable) (store : Stores) (key : ℕ) → AreMounts mounts store
+    → (split_of mounts key).0 ≡ cond {A = ℕ} (nat_le key store.root.count) 0 1
+disk_is mounts store key are =
+    first_part (nat_le key mounts.first) key (key - mounts.first) ∙ ap (λ n. cond {A = ℕ} (nat_le key n) 0 1) are.first
+
+-- A key that is no one of the root's disk is one of a second disk.
+pub disk_there : (mounts : MountTable) (store : Stores) (key : ℕ) → AreMounts mounts store → key ≤ key_count store
+    → (split_of mounts key).0 ≢ 0 → IsSome store.second
+disk_there mounts store key are within other = by store.second refl where
+  by : (o : Option Store) → store.second ≡ o → IsSome o
+  by (Some s) is = tt
+  by None is =
+      let none : second_count store.second ≡ 0 = ap second_count is in
+      let first = are.first in
+      let low : nat_le key mounts.first ≡ true = grind (arith, nat_tests) in
+      absurd (other (ap (λ t. (cond {A = ℕ × ℕ} t (0, key) (1, key - mounts.first)).0) low))

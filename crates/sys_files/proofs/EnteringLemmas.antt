@@ -16,9 +16,9 @@ use Rattle.fs_nodes.proofs.CountLaws.{counts_drawn}
 use Rattle.fs_nodes.proofs.KeyLaws.{counts_set, node_other, node_drawn}
 use Rattle.fs_nodes.proofs.MadeLemmas.{IsNewKey, made_key}
 use Rattle.fs_nodes.proofs.RestLemmas.{rest_stays}
-use Rattle.mount_tab.specs.Mounted.{MountTable}
+use Rattle.mount_tab.specs.Mounted.{MountTable, split_of}
 use Rattle.fs_tree.specs.Mounting.{AreMounts}
-use Rattle.fs_tree.proofs.MountLemmas.{crosses_of}
+use Rattle.fs_tree.proofs.MountLemmas.{crosses_of, disk_is, disk_there}
 use Rattle.fs_tree.specs.declared.user.User.{User}
 use Rattle.fs_tree.specs.declared.made.Made.{Made}
 use Rattle.fs_tree.specs.declared.made.Made.TheVariants as made
@@ -28,7 +28,7 @@ use Rattle.fs_tree.specs.Entries.{WritesEntry}
 use Rattle.fs_tree.specs.Finding.{Inodes, Finding, inodes_of, can_refer, with_reference, refused, referring, making, make_in, named_by_made}
 use Rattle.fs_tree.proofs.EntryLemmas.{IsMadePlace, made_at, made_used_at}
 use Rattle.sys_files.proofs.OwingLemmas.{once_more}
-use Rattle.sys_files.specs.Entering.{HasEntry, HasMade, SameReferences, one_to, OneReferenceMore}
+use Rattle.sys_files.specs.Entering.{HasEntry, HasMade, IsOnDisk, SameReferences, one_to, OneReferenceMore}
 
 own : (ino : ℕ) → one_to ino ino ≡ 1
 own ino = ap (λ t. cond t 1 0) (eq-eqb ino ino refl)
@@ -179,6 +179,19 @@ written_keeps old new dir m r some each references blocks =
       counts = ap counts w.store ∙ counts_set old.store dir (m n.0).room (m n.0).node;
       blocks = blocks;
     }
+
+-- The disk of a directory that is referred to is there.
+pub disk_has : (fs : FileSystem) → IsFileSystem fs → (mounts : MountTable) → AreMounts mounts fs.store → (dir : ℕ)
+    → 0 < slice_index fs.references dir → (split_of mounts dir).0 ≢ 0 → IsSome fs.store.second
+disk_has fs form mounts are dir referred other =
+    let low = form.low dir (form.used dir referred) in
+    let long = form.references in
+    disk_there mounts fs.store dir are (omega (arith, low, long)) other
+
+-- An inode that was made on it is of the same disk as the directory.
+pub same_disk : (mounts : MountTable) (store : Stores) (dev dir ino : ℕ) → AreMounts mounts store → dev ≡ (split_of mounts dir).0
+    → IsOnDisk (counts store) dev ino → (split_of mounts ino).0 ≡ (split_of mounts dir).0
+same_disk mounts store dev dir ino are is on = disk_is mounts store ino are ∙ on ∙ is
 
 -- A new inode, on a disk that is there.
 module _ (fs new : FileSystem) (form : IsFileSystem fs) (dev mode uid gid time : ℕ) (small : dev < 2)

@@ -314,6 +314,7 @@ fn write_new<S: Space>(
     ensures table { f.new.table ≡ f.old.table }
     ensures mounts { f.new.tree.mounts ≡ f.old.tree.mounts }
 {
+    f.tree.nodes.see();
     let dev = disk_of(f, room.dir);
     let ino = make_inode(&mut f.tree.nodes, dev, MODE, user_of(u), now)?;
     let result = enter_core(f, u, room, ino, space, now);

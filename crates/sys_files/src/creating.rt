@@ -144,6 +144,7 @@ fn make_file(f: &mut Files, u: &mut UArea, row: &mut Row, room: Room, mode: u16,
         → slice_index f.old.tree.nodes.references i ≤ slice_index f.new.tree.nodes.references i }
     ensures blocks { SameRest f.old.tree.nodes f.new.tree.nodes }
 {
+    f.tree.nodes.see();
     let dev = disk_of(f, room.dir);
     let ino = match make_inode(&mut f.tree.nodes, dev, mode & PERMISSIONS, user_of(u), now) {
         Ok(ino) => ino,

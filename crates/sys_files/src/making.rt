@@ -89,6 +89,7 @@ fn make_any(
     ensures pipes { f.new.pipes ≡ f.old.pipes }
     ensures mounts { f.new.tree.mounts ≡ f.old.tree.mounts }
 {
+    f.tree.nodes.see();
     let dev = disk_of(f, room.dir);
     let ino = make_inode(&mut f.tree.nodes, dev, mode & !ILARG, user_of(u), now)?;
     let result = enter_any(f, u, room, ino, device, now);

@@ -1,8 +1,20 @@
+use Rattle.std.proofs.Common.{◌∙◌}
 use Rattle.sys_files.specs.Handed.{handed}
 use Rattle.sys_files.specs.Core.{writes_parts}
 use Rattle.sys_files.proofs.GivingLemmas.{takes_keeps_gives}
 use Rattle.sys_files.proofs.MakingLemmas.{made_told}
+use Rattle.sys_files.proofs.EnteringLemmas.{disk_has, same_disk}
 use Rattle.sys_files.proofs.core_file.write_new.Goals as goal
+
+pub make_inode-requires-clause-there : goal.make_inode-requires-clause-there
+make_inode-requires-clause-there g c = λ other.
+    disk_has c.args.f.now.tree.nodes c.see.ensures c.args.f.now.tree.mounts c.requires.mounts c.args.room.dir
+    c.requires.entry.referenced (λ none. other (c.disk_of-dev.ensures.disk ∙ none))
+
+pub enter_core-result-requires-clause-disk : goal.enter_core-result-requires-clause-disk
+enter_core-result-requires-clause-disk g c =
+    same_disk c.args.f.now.tree.mounts c.args.f.now.tree.nodes.store c.disk_of-dev.result c.args.room.dir c.in_ok-ino.ino c.requires.mounts
+    c.disk_of-dev.ensures.disk c.in_ok-ino.ensures.disk
 
 pub returns-clause-did : goal.returns-clause-did
 returns-clause-did g c = λ row.

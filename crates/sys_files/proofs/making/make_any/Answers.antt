@@ -1,10 +1,21 @@
-use Rattle.std.proofs.Common.{ℕ, bit_and}
+use Rattle.std.proofs.Common.{◌∙◌, ℕ, bit_and}
 use Rattle.sys_files.specs.Handed.{Handed, handed}
 use Rattle.sys_files.specs.Did.{is_done}
 use Rattle.sys_files.specs.Making.{with_device}
 use Rattle.sys_files.proofs.GivingLemmas.{takes_keeps_gives}
 use Rattle.sys_files.proofs.MakingLemmas.{made_told}
+use Rattle.sys_files.proofs.EnteringLemmas.{disk_has, same_disk}
 use Rattle.sys_files.proofs.making.make_any.Goals as goal
+
+pub make_inode-requires-clause-there : goal.make_inode-requires-clause-there
+make_inode-requires-clause-there c = λ other.
+    disk_has c.args.f.now.tree.nodes c.see.ensures c.args.f.now.tree.mounts c.requires.mounts c.args.room.dir
+    c.requires.entry.referenced (λ none. other (c.disk_of-dev.ensures.disk ∙ none))
+
+pub enter_any-result-requires-clause-disk : goal.enter_any-result-requires-clause-disk
+enter_any-result-requires-clause-disk c =
+    same_disk c.args.f.now.tree.mounts c.args.f.now.tree.nodes.store c.disk_of-dev.result c.args.room.dir c.in_ok-ino.ino c.requires.mounts
+    c.disk_of-dev.ensures.disk c.in_ok-ino.ensures.disk
 
 pub returns-clause-did : goal.returns-clause-did
 returns-clause-did c = λ row image.
