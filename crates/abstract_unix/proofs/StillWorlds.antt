@@ -9,7 +9,8 @@ use Rattle.fs_codec.specs.declared.modes.TheConstants.{ISUID, ISGID}
 use Rattle.fs_tree.specs.Finding.{Finding, with_reference, find_in}
 use Rattle.u_area.specs.declared.area.UArea.{UArea}
 use Rattle.v6_base.specs.declared.errno.Errno.{Errno}
-use Rattle.sys_files.proofs.NodeCounts.{put_back_count, finding_count}
+use Rattle.fs_nodes.specs.Keys.{counts}
+use Rattle.sys_files.proofs.NodeCounts.{put_back_counts, finding_counts}
 use Rattle.sys_procs.specs.declared.program.Program.{Program}
 use Rattle.sys_procs.specs.Process.{Process, no_process, image_of}
 use Rattle.sys_procs.specs.World.{World, process_of, change, without_process, with_inodes, let_go}
@@ -51,7 +52,7 @@ told_same p q files dir dead = λ i. cond (dead i) None (Some (record { files = 
 module _ (base : World) (s : ℕ) where
   -- A world in which all that the counts see is as in another one, and the process of a slot lives.
   pub record IsStill (v : World) : Type 0 where
-    pub count : v.inodes.store.count ≡ base.inodes.store.count
+    pub count : counts v.inodes.store ≡ counts base.inodes.store
     pub told : told_in v.processes ≡ told_in base.processes
     pub there : get_or v.processes s None ≡ Some (process_of v s)
     pub lives : (process_of v s).is_zombie ≡ false
@@ -168,7 +169,7 @@ module _ (base : World) (s : ℕ) where
 
   -- exec: until the new program begins the area of its process is another, but for which all is as it was
   record IsBut (v : World) : Type 0 where
-    count : v.inodes.store.count ≡ base.inodes.store.count
+    count : counts v.inodes.store ≡ counts base.inodes.store
     but : set (told_in v.processes) s None ≡ set (told_in base.processes) s None
     there : get_or v.processes s None ≡ Some (process_of v s)
     lives : (process_of v s).is_zombie ≡ false
@@ -183,7 +184,7 @@ module _ (base : World) (s : ℕ) where
     fifty = k.fifty;
   }
 
-  but_inodes : (v w : World) → w.processes ≡ v.processes → w.inodes.store.count ≡ v.inodes.store.count → IsBut v → IsBut w
+  but_inodes : (v w : World) → w.processes ≡ v.processes → counts w.inodes.store ≡ counts v.inodes.store → IsBut v → IsBut w
   but_inodes v w same count k =
       let is : process_of w s ≡ process_of v s = ap (λ ps. unwrap_or (get_or ps s None) no_process) same in
       record {
@@ -288,7 +289,7 @@ module _ (base : World) (s : ℕ) where
       let begun = but_ends read q own (told_again read q own still) still
       (begun_lives u (process_of read s) (node_at v program.ino) program m.memory.data ∙ still.lives) in
       record {
-        count = put_back_count read.inodes program.ino ∙ begun.count;
+        count = put_back_counts read.inodes program.ino ∙ begun.count;
         told = begun.told;
         there = begun.there;
         lives = begun.lives;
@@ -336,7 +337,7 @@ module _ (base : World) (s : ℕ) where
 
   let_go_still : (b : Bool) (v : World) (ino : ℕ) → IsStill v → IsStill (cond b (let_go v ino) v)
   let_go_still true v ino k = record {
-    count = put_back_count v.inodes ino ∙ k.count;
+    count = put_back_counts v.inodes ino ∙ k.count;
     told = k.told;
     there = k.there;
     lives = k.lives;
@@ -393,7 +394,7 @@ module _ (base : World) (s : ℕ) where
   header_count n now ino args head k =
       let h : Header = header_of head.memory in
       let out : World = let_go now ino in
-      let left : out.inodes.store.count ≡ n = put_back_count now.inodes ino ∙ k in
+      let left : out.inodes.store.count ≡ n = put_back_counts now.inodes ino ∙ k in
       let text : Plan → ℕ = λ plan. exec.text_clicks_in now.texts ino plan in
       let fitting : Plan → Unit {0}
       → exec.Tested = λ plan fits. record {
@@ -419,7 +420,7 @@ module _ (base : World) (s : ℕ) where
       let q : Process = process_of now s in
       let node : Node = node_at now ino in
       let out : World = let_go now ino in
-      let left : out.inodes.store.count ≡ n = put_back_count now.inodes ino ∙ k in
+      let left : out.inodes.store.count ≡ n = put_back_counts now.inodes ino ∙ k in
       let head : Moving (List ℕ) = exec.header_read now ino in
       let read : List (List ℕ) → exec.Tested = λ args. exec.tests_header (exec.with_moved now ino head) ino args head in
       let named : Unit {0} → exec.Tested = λ plain. exec.check out (arguments (image_of now.texts q) list) read in
@@ -429,11 +430,11 @@ module _ (base : World) (s : ℕ) where
       check_count {A = List (List ℕ)} n out (arguments (image_of now.texts q) list) read left (λ args.
       header_count n (exec.with_moved now ino head) ino args head k)))
 
-  tests_count : (v : World) (name list : ℕ) → (exec.tests v s name list).world.inodes.store.count ≡ v.inodes.store.count
+  tests_count : (v : World) (name list : ℕ) → (exec.tests v s name list).counts world.inodes.store ≡ counts v.inodes.store
   tests_count v name list =
       let p : Process = process_of v s in
       let found : Finding ℕ = find_in v.inodes (user_of p) p.u.dir (name_at (image_of v.texts p) name) in
-      let same : found.inodes.store.count ≡ v.inodes.store.count = finding_count v.inodes _ in
+      let same : counts found.inodes.store ≡ counts v.inodes.store = finding_counts v.inodes _ in
       check_count v.inodes.store.count (with_inodes v found.inodes) found.answer
       (λ ino. exec.tests_file (with_inodes v found.inodes) s ino list) same
       (λ ino. file_count v.inodes.store.count (with_inodes v found.inodes) ino list same)
@@ -477,7 +478,7 @@ module _ (base : World) (s : ℕ) where
 
   -- exit: its process is told of no more
   pub record IsGone (v : World) : Type 0 where
-    pub count : v.inodes.store.count ≡ base.inodes.store.count
+    pub count : counts v.inodes.store ≡ counts base.inodes.store
     pub told : told_in v.processes ≡ set (told_in base.processes) s None
     pub fifty : length v.processes ≡ 50
 
@@ -498,7 +499,7 @@ module _ (base : World) (s : ℕ) where
       }
 
   let_go_but : (b : Bool) (v : World) (ino : ℕ) → IsBut v → IsBut (cond b (let_go v ino) v)
-  let_go_but true v ino k = but_inodes v (let_go v ino) refl (put_back_count v.inodes ino) k
+  let_go_but true v ino k = but_inodes v (let_go v ino) refl (put_back_counts v.inodes ino) k
   let_go_but false v ino k = k
 
   but_left : (v : World) (k : ℕ) (sticky : Bool) → IsBut v → IsBut (leaves_text v s k sticky)
@@ -515,7 +516,7 @@ module _ (base : World) (s : ℕ) where
       left = leaves v s status
 
       but : IsBut left
-      but = but_inodes (change v s (ended status)) left refl (put_back_count v.inodes (process_of v s).u.dir)
+      but = but_inodes (change v s (ended status)) left refl (put_back_counts v.inodes (process_of v s).u.dir)
           (but_change v (ended status) refl (but_still v k))
 
       by : (o : Option ℕ) → IsGone (xfree left s o (λ now. dies now s)).state

@@ -9,11 +9,11 @@ use Rattle.bmap_path.specs.declared.BlockName.{BlockName}
 use Rattle.bmap_path.specs.declared.BlockName.TheVariants.{Data, Ind, Dbl}
 use Rattle.bmap_path.specs.Path.{path_of}
 use Rattle.fs_codec.specs.Modes.{is_large, is_device}
-use Rattle.fs_codec.specs.Store.{Node, Store, holds}
+use Rattle.fs_codec.specs.Store.{Node, holds}
 use Rattle.fs_codec.specs.declared.modes.TheConstants.{ISUID, ISGID, ILARG}
 use Rattle.fs_laws.specs.Touch.{Touching, gained, take_names, touching}
 use Rattle.fs_laws.specs.Pieces.{Moving, going_on, reading, read_file, pieces, beginning}
-use Rattle.fs_laws.specs.Keys.{node_numbered, room_at, with_node}
+use Rattle.fs_nodes.specs.Keys.{Stores, node_numbered, room_at, with_node}
 use Rattle.fs_nodes.specs.Copy.{put_kernel}
 use Rattle.sys_procs.specs.declared.program.Program.{Program}
 use Rattle.sys_procs.specs.World.{World}
@@ -119,7 +119,7 @@ some_low nodes i is = elim (cases_lt i (length nodes)) [
     no_some None h e = absurd (cc h)
     no_some (Some node) h e = cc e
 
-pub node_put : (store : Store) (i : ℕ) (node : Node) (room : ℕ) → IsSome (node_numbered store i)
+pub node_put : (store : Stores) (i : ℕ) (node : Node) (room : ℕ) → IsSome (node_numbered store i)
     → node_in (with_node store i node room) i ≡ node
 node_put store i node room is =
     ap (λ o. unwrap_or o no_node) (get_or-set_same store.nodes i (Some node) None (some_low store.nodes i is))

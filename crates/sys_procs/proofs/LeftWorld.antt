@@ -9,9 +9,9 @@ use Rattle.v6_base.specs.Trace.{Log, Taken, Took}
 use Rattle.v6_base.specs.declared.entry.Entry.TheVariants.{Bare}
 use Rattle.v6_base.specs.declared.answer.Answer.{Answer}
 use Rattle.v6_base.specs.declared.entry.PanicKind.{PanicKind}
-use Rattle.fs_codec.specs.Store.{Node, Store}
+use Rattle.fs_codec.specs.Store.{Node}
 use Rattle.fs_laws.specs.Numbers.{without_node}
-use Rattle.fs_laws.specs.Keys.{without_reference}
+use Rattle.fs_nodes.specs.Keys.{Stores, without_reference}
 use Rattle.fs_nodes.specs.FileSystem.{FileSystem}
 use Rattle.fs_tree.specs.Finding.{Inodes, put_in, put_back}
 use Rattle.image_keep.specs.Kept.{text_of}
@@ -69,7 +69,7 @@ some_at l i j some two = elim (cases_eq j i) [
 ]
 
 -- An inode that is still referred to stays as it is.
-node_kept : (store : Store) (i count j : ℕ) (o : Option Node) → (i ≡ j → count ≢ 1) → node_in (put_in store i count o) j
+node_kept : (store : Stores) (i count j : ℕ) (o : Option Node) → (i ≡ j → count ≢ 1) → node_in (put_in store i count o) j
     ≡ node_in store j
 node_kept store i count j None last = refl
 node_kept store i count j (Some node) last = by (count == 1) refl

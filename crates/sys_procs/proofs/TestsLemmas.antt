@@ -8,9 +8,9 @@ use Rattle.v6_base.specs.Access.{then_do}
 use Rattle.v6_base.specs.declared.errno.Errno.{Errno}
 use Rattle.v6_base.specs.declared.errno.Errno.TheVariants.{ENOEXEC, ENOMEM, EACCES, ETXTBSY}
 use Rattle.fs_codec.specs.Modes.{file_type}
-use Rattle.fs_codec.specs.Store.{Node, Store}
+use Rattle.fs_codec.specs.Store.{Node}
 use Rattle.fs_laws.specs.Pieces.{Moving}
-use Rattle.fs_laws.specs.Keys.{node_numbered}
+use Rattle.fs_nodes.specs.Keys.{Stores, node_numbered}
 use Rattle.fs_nodes.specs.FileSystem.{FileSystem}
 use Rattle.fs_tree.specs.declared.user.Want.TheVariants.{Execute}
 use Rattle.fs_tree.specs.Permission.{permission}
@@ -186,7 +186,7 @@ node_by : (o : Option Node) → IsSome o → o ≡ Some (unwrap_or o no_node)
 node_by None used = absurd (cc)
 node_by (Some node) used = refl
 
-pub node_there : (store : Store) (ino : ℕ) → IsSome (node_numbered store ino)
+pub node_there : (store : Stores) (ino : ℕ) → IsSome (node_numbered store ino)
     → node_numbered store ino ≡ Some (node_in store ino)
 node_there store ino used = node_by (node_numbered store ino) used
 

@@ -6,9 +6,9 @@ use Rattle.v6_base.specs.Access.{then_do}
 use Rattle.v6_base.specs.declared.errno.Errno.{Errno}
 use Rattle.v6_base.specs.declared.errno.Errno.TheVariants.{ENOEXEC, ENOMEM, ENFILE, EACCES, ETXTBSY}
 use Rattle.fs_codec.specs.Modes.{file_type}
-use Rattle.fs_codec.specs.Store.{Node, Store}
+use Rattle.fs_codec.specs.Store.{Node}
 use Rattle.fs_laws.specs.Pieces.{Moving}
-use Rattle.fs_laws.specs.Keys.{node_numbered}
+use Rattle.fs_nodes.specs.Keys.{Stores, node_numbered}
 use Rattle.fs_nodes.specs.FileSystem.{IsFileSystem}
 use Rattle.fs_tree.specs.declared.user.User.{User}
 use Rattle.fs_tree.specs.declared.user.Want.TheVariants.{Execute}
@@ -78,7 +78,7 @@ then_gives (Err e) f b is = absurd (cc is)
 pub used_within : (w : World) (d : ℕ) → IsFileSystem w.files.tree.nodes → IsSome (node_numbered w.files.tree.nodes.store d)
     → d < length w.files.tree.nodes.references
 used_within w d form used =
-    let store : Store = w.files.tree.nodes.store in
+    let store : Stores = w.files.tree.nodes.store in
     let there = some_node (node_numbered store d) used in
     let low = some_within store.nodes d there.0 there.1 in
     let nodes = form.nodes in
@@ -157,7 +157,7 @@ module _ (w : World) (s : ℕ) (ready : IsReady w s) (form : IsFileSystem w.file
       by true = form.root
       by false = dir
 
-  abbrev store : Store
+  abbrev store : Stores
   store = base.inodes.store
 
   abbrev user : User

@@ -14,7 +14,7 @@ use Rattle.fs_codec.specs.declared.modes.TheConstants.{ISUID, ISGID}
 use Rattle.fs_nodes.specs.FileSystem.{IsFileSystem}
 use Rattle.fs_laws.specs.Pieces.{Moving}
 use Rattle.v6_base.specs.Image.{Image}
-use Rattle.fs_laws.specs.Keys.{node_numbered}
+use Rattle.fs_nodes.specs.Keys.{node_numbered}
 use Rattle.sys_procs.specs.Stack.{first_stack}
 use Rattle.u_area.specs.declared.area.UArea.{UArea}
 use Rattle.pick_rules.specs.Apply.{applied}

@@ -2,7 +2,7 @@ use Rattle.std.proofs.Common.{◌≡◌, ◌∙◌, sym, ap, subst}
 use Rattle.v6_base.specs.Trace.{Took}
 use Rattle.abstract_unix.specs.Runs.{Slot, event_of}
 use Rattle.fs_laws.specs.Rest.{SameAround}
-use Rattle.fs_laws.proofs.RestLemmas.{rest_stays}
+use Rattle.fs_nodes.proofs.RestLemmas.{rest_stays}
 use Rattle.unix_core.specs.State.{KernelState}
 use Rattle.fs_tree.specs.declared.tree.Tree.{Tree}
 use Rattle.unix_core.proofs.TakenLemmas.{step_counted, taken_started, taken_fresh, taken_answer, taken_next, taken_phase, taken_idle, taken_private, taken_texts}
