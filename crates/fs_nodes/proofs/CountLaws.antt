@@ -19,7 +19,7 @@ counts_cut s key node time =
     counts_at s key (numbers.with_truncated (store_at s key) (number_of s key) node time)
     (cut_count (store_at s key) (number_of s key) node time)
 
-gone_count : (s : Store) (i : ℕ) (node : Node) → (numbers.without_reference s i node).count ≡ s.count
+pub gone_count : (s : Store) (i : ℕ) (node : Node) → (numbers.without_reference s i node).count ≡ s.count
 gone_count s i node = by ((node.nlink == 0) && not (i == 1)) where
   by : (t : Bool) → (cond t (numbers.without_node s i node) s).count ≡ s.count
   by true = refl

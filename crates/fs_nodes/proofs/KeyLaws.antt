@@ -20,7 +20,7 @@ pub record Stands (s : Stores) (key : ℕ) (x : Store) : Type 0 where
 abbrev put : Store → Store → Store → Bool → Stores
 put root s x t = cond {A = Stores} t (record { root = root; second = Some x }) (record { root = x; second = Some s })
 
-stands : (root : Store) (o : Option Store) (key : ℕ) (x : Store) → x.count ≡ (store_at (record { root = root; second = o }) key).count
+pub stands : (root : Store) (o : Option Store) (key : ℕ) (x : Store) → x.count ≡ (store_at (record { root = root; second = o }) key).count
     → Stands (record { root = root; second = o }) key x
 stands root None key x same = record { store = refl; number = refl; counts = ap (λ (n : ℕ). record { root = n; second = None }) same }
 stands root (Some s) key x same = by (nat_lt root.count key) refl where

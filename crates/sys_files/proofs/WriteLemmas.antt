@@ -187,11 +187,11 @@ write_kept h slot at count now sound = kept_found h slot at count now (open_entr
 -- A call that is taken up again keeps all that is counted.
 resumed_took : (h : Handed) (l : ℕ) (r : Reading) (entry at count : ℕ) (took : of_line.Took) → IsSound h
     → IsKept h (takes_line (with_line_read (without_pending h) l r) l entry at count took).state
-resumed_took h l r entry at count (Done n) sound = kept_same h _ sound refl refl refl refl refl refl
+resumed_took h l r entry at count (Done n) sound = kept_same h _ sound refl refl refl refl refl refl refl
 resumed_took h l r entry at count Wait sound =
-    kept_waits h (with_line_read (without_pending h) l r) l entry at count (kept_same h _ sound refl refl refl refl refl refl)
-    (kept_same h _ sound refl refl refl refl refl refl)
-resumed_took h l r entry at count Fault sound = kept_same h _ sound refl refl refl refl refl refl
+    kept_waits h (with_line_read (without_pending h) l r) l entry at count (kept_same h _ sound refl refl refl refl refl refl refl)
+    (kept_same h _ sound refl refl refl refl refl refl refl)
+resumed_took h l r entry at count Fault sound = kept_same h _ sound refl refl refl refl refl refl refl
 
 resumed_wrote : (h : Handed) (l entry at count done : ℕ) → IsSound h → IsKept h (writes_line (without_pending h) l entry at count done).state
 resumed_wrote h l entry at count done sound =
@@ -199,7 +199,7 @@ resumed_wrote h l entry at count done sound =
     let bytes : List ℕ = readable h.image ((at + done) % 65536) (count - done) in
     let n : ℕ = written (line_at rest l) bytes in
     kept_ends h (with_shown rest l (take n bytes)) l entry at count (done + n) (nat_lt n (length bytes)) (done + n == count)
-    (kept_same h _ sound refl refl refl refl refl refl) (kept_same h _ sound refl refl refl refl refl refl)
+    (kept_same h _ sound refl refl refl refl refl refl refl) (kept_same h _ sound refl refl refl refl refl refl refl)
 
 abbrev pub lined_on : Handed → ℕ → List ℕ → Bool → Did
 lined_on h l call reads =
@@ -234,7 +234,7 @@ on_kept h slot now false third false sound = pipe_write_kept h sound NOTHING_PEN
 
 kept_by : (h : Handed) (broken : Bool) (goes : Did) → IsSound h → IsKept h goes.state
     → IsKept h (if broken then fails (without_pending h) EINTR else goes).state
-kept_by h true goes sound kept = kept_same h (without_pending h) sound refl refl refl refl refl refl
+kept_by h true goes sound kept = kept_same h (without_pending h) sound refl refl refl refl refl refl refl
 kept_by h false goes sound kept = kept
 
 pub resumes_kept : (h : Handed) (slot now : ℕ) → IsSound h → IsKept h (resumes h slot now).state

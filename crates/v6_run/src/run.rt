@@ -136,7 +136,7 @@ fn boot2(alloc: Global, image: &[u8], second: &[u8], core: u32) -> Result<Kernel
     requires most { core ≤ 3968 }
     requires good { image_fault image.now ≡ None }
     requires second { second_fault_of image.now second.now ≡ None }
-    ensures system { IfOk result (λ kernel. boots image.now (Some second.now) core ≡ Some kernel.system) }
+    ensures system { IfOk result (λ kernel. boots image.now (Some second.now) core 1 ≡ Some kernel.system) }
     ensures blocks { IfOk result (λ kernel. kernel.blocks ≡ blocks_on image.now (Some second.now)) }
     ensures phase { IfOk result (λ kernel. kernel.phase ≡ New) }
     ensures lawful { IfOk result (λ kernel. HasLawfulLogs kernel.system) }
@@ -156,7 +156,7 @@ fn boot_files(alloc: Global, files: &Files, core: u32) -> Result<Kernel, RunErro
     requires most { core ≤ 3968 }
     requires good { image_fault files.now.image.items ≡ None }
     requires second { IfSome files.now.second (λ second. second_fault_of files.now.image.items second.items ≡ None) }
-    ensures system { IfOk result (λ kernel. boots files.now.image.items (bytes_value files.now.second) core ≡ Some kernel.system) }
+    ensures system { IfOk result (λ kernel. boots files.now.image.items (bytes_value files.now.second) core 1 ≡ Some kernel.system) }
     ensures blocks { IfOk result (λ kernel. kernel.blocks ≡ blocks_on files.now.image.items (bytes_value files.now.second)) }
     ensures phase { IfOk result (λ kernel. kernel.phase ≡ New) }
     ensures lawful { IfOk result (λ kernel. HasLawfulLogs kernel.system) }
