@@ -1,5 +1,5 @@
 -- The log of each run fits, line after line, and that of one that comes to its script's end, or to a panic, is lawful.
-use Rattle.std.proofs.Common.{◌≡◌, ◌∙◌, ◌<◌, ◌≤◌, ◌==◌, ℕ, zero, suc, Bool, true, false, List, [], ◌∷◌, ◌++◌, append-nil, length, if◌then◌else◌, Option, Some, None, is_some, option_map, get_or, slice_index, replicate, refl, sym, ap, subst, inl, inr, arith}
+use Rattle.std.proofs.Common.{◌≡◌, ◌∙◌, ◌<◌, ◌≤◌, ◌==◌, ◌||◌, ℕ, zero, suc, Bool, true, false, List, [], ◌∷◌, ◌++◌, append-nil, length, if◌then◌else◌, Option, Some, None, is_some, option_map, get_or, slice_index, replicate, refl, sym, ap, subst, inl, inr, arith}
 use Rattle.std.proofs.lemmas.Bool.{cases_lt}
 use Rattle.std.proofs.lemmas.Int.{ints}
 use Rattle.std.proofs.lemmas.List.{get_or_past}
@@ -12,7 +12,7 @@ use Rattle.fs_codec.specs.declared.fault.ImageFault.{ImageFault}
 use Rattle.fs_codec.specs.Words.{bytes_from}
 use Rattle.fs_codec.specs.Disk.{disk_of}
 use Rattle.fs_codec.specs.Stands.{store_of}
-use Rattle.fs_nodes.specs.Keys.{Stores}
+use Rattle.fs_nodes.specs.Keys.{Stores, key_count}
 use Rattle.pick_rules.specs.Priority.{pswp}
 use Rattle.pick_rules.specs.Ranges.{IsTime}
 use Rattle.pick_rules.specs.Table.{empty_row, row_at}
@@ -33,7 +33,7 @@ use Rattle.abstract_unix.specs.declared.ends.Ends.TheVariants.{AtEnd}
 use Rattle.abstract_unix.specs.Endings.{is_whole, last_line}
 use Rattle.abstract_unix.specs.Unix.{Unix, System, no_texts}
 use Rattle.abstract_unix.specs.Turn.{Turn, settled_after, passes, pass_of}
-use Rattle.abstract_unix.specs.Runs.{first_unix, system_with, Event, Slot, Tick, Byte, Switch, Disk, Pace, Hangup, event_of, Course, goes_on_by, unless_ended, after_event, course, started, boots}
+use Rattle.abstract_unix.specs.Runs.{first_unix, stores_of, system_with, system_of, is_second_bad, Event, Slot, Tick, Byte, Switch, Disk, Pace, Hangup, event_of, Course, goes_on_by, unless_ended, after_event, course, started, boots}
 use Rattle.abstract_unix.specs.Law.{log_of, LogsAreLawful}
 use Rattle.abstract_unix.proofs.Sitting.{seats_of}
 use Rattle.abstract_unix.proofs.Passing.{only_sleeps, pass_sleeps}
@@ -41,7 +41,7 @@ use Rattle.abstract_unix.proofs.Events.{system_at, Stands, Fine, FineTurn, settl
 use Rattle.abstract_unix.proofs.Outside.{tick_fine, typed_fine, switched_fine, disk_set_fine, paced_fine, hangup_fine}
 use Rattle.abstract_unix.proofs.Tidy.{IsTidy}
 use Rattle.abstract_unix.proofs.TidyEvents.{slot_tidy, event_tidy, start_tidy}
-use Rattle.abstract_unix.proofs.FirstTidy.{few_nodes, first_tidy}
+use Rattle.abstract_unix.proofs.FirstTidy.{few_keys, first_tidy}
 
 get_replicate : {X : Type 0} (x : X) (n k : ℕ) → get_or (replicate n x) k x ≡ x
 get_replicate x zero k = refl

@@ -40,6 +40,23 @@ stands root (Some s) key x same = by (nat_lt root.count key) refl where
         counts = ap (λ t. counts (put root s x t)) is ∙ ap (λ (n : ℕ). record { root = n; second = Some s.count }) count;
       }
 
+-- A store that is put where another was is there alone.
+pub put_twice : (root : Store) (o : Option Store) (key : ℕ) (x y : Store)
+    → x.count ≡ (store_at (record { root = root; second = o }) key).count
+    → with_store_at (with_store_at (record { root = root; second = o }) key x) key y ≡ with_store_at (record { root = root; second = o }) key y
+put_twice root None key x y same = refl
+put_twice root (Some s) key x y same = by (nat_lt root.count key) refl where
+  by : (t : Bool) → nat_lt root.count key ≡ t
+      → with_store_at (put root s x (nat_lt root.count key)) key y ≡ put root s y (nat_lt root.count key)
+  by true is =
+      ap (λ t. with_store_at (put root s x t) key y) is ∙ ap (λ t. put root x y t) is ∙ sym (ap (λ t. put root s y t) is)
+  by false is =
+      let count : x.count ≡ root.count = same ∙ ap (λ t. (cond {A = Store} t s root).count) is in
+      ap (λ t. with_store_at (put root s x t) key y) is
+      ∙ ap (λ n. cond {A = Stores} (nat_lt n key) (record { root = x; second = Some y }) (record { root = y; second = Some s })) count
+      ∙ ap (λ t. cond {A = Stores} t (record { root = x; second = Some y }) (record { root = y; second = Some s })) is
+      ∙ sym (ap (λ t. put root s y t) is)
+
 -- a node that was set
 pub node_set : (s : Stores) (key room : ℕ) (node new : Node) → node_numbered s key ≡ Some node → node_numbered (with_node s key new room) key ≡ Some new
 unfolding node_numbered with_node

@@ -4,7 +4,6 @@ use Rattle.std.proofs.lemmas.List.{get_or-set_other}
 use Rattle.fs_codec.specs.Store.{Node, Store}
 use Rattle.fs_codec.specs.Store as codec
 use Rattle.fs_laws.specs.Numbers as numbers
-use Rattle.fs_nodes.specs.Disks.{Disks}
 use Rattle.fs_nodes.specs.Keys.{Stores, store_at, number_of, node_numbered, with_store_at, without_reference}
 use Rattle.fs_nodes.proofs.JoinedLemmas.{above}
 use Rattle.fs_nodes.proofs.CountLaws.{gone_count}
