@@ -87,7 +87,7 @@ both_ones ino = elim (eqb_tells ino 1) [
 ]
 
 -- The root is referred to twice.
-first_referred : (ino : ℕ) → refer no_files no_texts first_told None ino ≡ (if ino == 1 then 2 else 0)
+first_referred : (ino : ℕ) → refer None no_files no_texts first_told ino ≡ (if ino == 1 then 2 else 0)
 unfolding all_stand
 first_referred ino =
     let files : count_by (is_of ino) no_files ≡ 0 = count_none (is_of ino) 100 None refl in
@@ -277,11 +277,11 @@ module _ (fs : FileSystem) (core count : ℕ) (referred : (ino : ℕ) → slice_
   first_good : IsGood w
   first_good = record {
     agree = begun_agree;
-    owed = subst (λ texts. Owes w.files.tree.nodes.references w.files.table w.files.pipes texts (told_in (unix_of w).processes) w.files.tree.mounts.covered) (sym texts_are)
-        (subst (λ (files : List (Option OpenFile)). Owes w.files.tree.nodes.references files w.files.pipes no_texts (told_in (unix_of w).processes) w.files.tree.mounts.covered) (sym table)
-        (subst (λ ps. Owes w.files.tree.nodes.references no_files ps no_texts (told_in (unix_of w).processes) w.files.tree.mounts.covered) (sym pipes)
-        (subst (λ ts. Owes w.files.tree.nodes.references no_files [] no_texts ts w.files.tree.mounts.covered) (sym (ap told_in processes_are ∙ told_is))
-        (subst (Owes w.files.tree.nodes.references no_files [] no_texts first_told) (sym uncovered) (record {
+    owed = subst (λ covered. Owes covered w.files.tree.nodes.references w.files.table w.files.pipes (unix_of w).texts (told_in (unix_of w).processes)) (sym uncovered)
+        (subst (λ texts. Owes None w.files.tree.nodes.references w.files.table w.files.pipes texts (told_in (unix_of w).processes)) (sym texts_are)
+        (subst (λ (files : List (Option OpenFile)). Owes None w.files.tree.nodes.references files w.files.pipes no_texts (told_in (unix_of w).processes)) (sym table)
+        (subst (λ ps. Owes None w.files.tree.nodes.references no_files ps no_texts (told_in (unix_of w).processes)) (sym pipes)
+        (subst (Owes None w.files.tree.nodes.references no_files [] no_texts) (sym (ap told_in processes_are ∙ told_is)) (record {
           numbers = λ entry. ap numbers_of (none_open entry) ∙ sym (none_named entry);
           referred = λ ino. ap (λ (f : FileSystem). slice_index f.references ino) nodes ∙ referred ino ∙ sym (first_referred ino);
           piped = no_pipes;

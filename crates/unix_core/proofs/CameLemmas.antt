@@ -102,9 +102,9 @@ pub record IsLike (w : World) (x : its.World) : Type 0 where
   pub told : told_in x.processes ≡ told_in (unix_of w).processes
 
 -- What is owed then.
-like_owes : (w : World) (x : its.World) → IsLike w x → IsGood w → Owes x.inodes.references w.files.table w.files.pipes x.texts (told_in x.processes)
+like_owes : (w : World) (x : its.World) → IsLike w x → IsGood w → Owes w.files.tree.mounts.covered x.inodes.references w.files.table w.files.pipes x.texts (told_in x.processes)
 like_owes w x like good =
-    subst (Owes x.inodes.references w.files.table w.files.pipes x.texts) (sym like.told) (record {
+    subst (Owes w.files.tree.mounts.covered x.inodes.references w.files.table w.files.pipes x.texts) (sym like.told) (record {
       numbers = good.owed.numbers;
       referred = λ ino. let before = good.owed.referred ino in let same = like.refs ino in omega (arith, before, same);
       piped = good.owed.piped;
@@ -119,7 +119,7 @@ module _ (w now : World) (s : ℕ) (ready : IsReady w s) (x : its.World) (agree 
 
   moved_owed : Owed now.files.tree.nodes.references (unix_of now)
   moved_owed =
-      let P : its.World → List (Option OpenFile) → List Pipe → Type 0 = λ v files pipes. Owes v.inodes.references files pipes v.texts (told_in v.processes) in
+      let P : its.World → List (Option OpenFile) → List Pipe → Type 0 = λ v files pipes. Owes w.files.tree.mounts.covered v.inodes.references files pipes v.texts (told_in v.processes) in
       subst (P (given now) now.files.table) (sym stays.rests.pipes)
       (subst (λ files. P (given now) files w.files.pipes) (sym stays.table) (subst (λ v. P v w.files.table w.files.pipes) (sym state) (like_owes w x like ready.good)))
 

@@ -124,7 +124,7 @@ module _ (w1 : World) (s : ℕ) (ready : IsReady w1 s) (status : ℕ) where
     abbrev references : List ℕ
     references = w1.files.tree.nodes.references
 
-    away_owes : Owes (away w1 s ready status).inodes.references w1.files.table w1.files.pipes x.texts others
+    away_owes : Owes w1.files.tree.mounts.covered (away w1 s ready status).inodes.references w1.files.table w1.files.pipes x.texts others
     away_owes = end_owes x s w1.files.table w1.files.pipes (slot_is w1 s ready) (is_living w1 s ready) closed ready.good.owed
 
     none_zero : slice_index (away w1 s ready status).inodes.references 0 ≡ 0
@@ -138,7 +138,7 @@ module _ (w1 : World) (s : ℕ) (ready : IsReady w1 s) (status : ℕ) where
     ]
 
     owes_by : (o : Option ℕ)
-        → Owes (left_world w1 s ready status o).inodes.references w1.files.table w1.files.pipes (left_world w1 s ready status o).texts others
+        → Owes w1.files.tree.mounts.covered (left_world w1 s ready status o).inodes.references w1.files.table w1.files.pipes (left_world w1 s ready status o).texts others
     owes_by None = away_owes
     owes_by (Some k) =
         let y : its.World = away w1 s ready status in
@@ -146,7 +146,7 @@ module _ (w1 : World) (s : ℕ) (ready : IsReady w1 s) (status : ℕ) where
         (left_refs y s k (is_sticky y k)
         (λ ino. let all = away_owes.referred ino in omega (arith, all)) none_zero) w1.files.table w1.files.pipes others away_owes
 
-    pub gone_owes : Owes (has_left w1 s ready status).inodes.references w1.files.table w1.files.pipes (has_left w1 s ready status).texts others
+    pub gone_owes : Owes w1.files.tree.mounts.covered (has_left w1 s ready status).inodes.references w1.files.table w1.files.pipes (has_left w1 s ready status).texts others
     gone_owes = owes_by its_own
 
 module _ (w1 now : World) (s : ℕ) (ready : IsReady w1 s) (status : ℕ) (agree : AreProcs now.procs)
@@ -178,12 +178,12 @@ module _ (w1 now : World) (s : ℕ) (ready : IsReady w1 s) (status : ℕ) (agree
     owed : Owed now.files.tree.nodes.references (unix_of now)
     owed =
         let P : its.World → List (Option OpenFile) → List Pipe → Type 0 =
-        λ v files pipes. Owes v.inodes.references files pipes v.texts (told_in v.processes) in
+        λ v files pipes. Owes w1.files.tree.mounts.covered v.inodes.references files pipes v.texts (told_in v.processes) in
         let left : its.World = has_left w1 s ready status in
         subst (P (handed now.procs now.files.tree.nodes) now.files.table) (sym rests.pipes)
         (subst (λ files. P (handed now.procs now.files.tree.nodes) files w1.files.pipes) (sym table)
         (subst (λ v. P v w1.files.table w1.files.pipes) (sym gone_state)
-        (subst (Owes left.inodes.references w1.files.table w1.files.pipes left.texts) (sym (told_gone w1 s ready status))
+        (subst (Owes w1.files.tree.mounts.covered left.inodes.references w1.files.table w1.files.pipes left.texts) (sym (told_gone w1 s ready status))
         (gone_owes w1 s ready status form closed))))
 
     -- who waits in a pipe can go on

@@ -77,17 +77,7 @@ then_gives (Err e) f b is = absurd (cc is)
 -- An inode that is used has its number among the references.
 pub used_within : (w : World) (d : ℕ) → IsFileSystem w.files.tree.nodes → IsSome (node_numbered w.files.tree.nodes.store d)
     → d < length w.files.tree.nodes.references
-used_within w d form used =
-    let store : Stores = w.files.tree.nodes.store in
-    let there = some_node (node_numbered store d) used in
-    let low = some_within store.nodes d there.0 there.1 in
-    let nodes = form.nodes in
-    let references = form.references in
-    omega (arith, low, nodes, references)
-  where
-    some_node : (o : Option Node) → IsSome o → (node : Node) × (o ≡ Some node)
-    some_node None some = absurd (cc)
-    some_node (Some node) some = (node, refl)
+used_within w d form used = form.low d used
 
 module _ (w : World) (s : ℕ) (ready : IsReady w s) (form : IsFileSystem w.files.tree.nodes) where
   abbrev base : its.World
@@ -167,13 +157,13 @@ module _ (w : World) (s : ℕ) (ready : IsReady w s) (form : IsFileSystem w.file
   dir = (its.process_of base s).u.dir
 
   -- what is found is used
-  found_is_used : (bytes : List ℕ) (ino : ℕ) → then_do (way store user dir bytes) (found store) ≡ Ok ino
+  found_is_used : (bytes : List ℕ) (ino : ℕ) → then_do (way store w.files.tree.mounts user dir bytes) (found store w.files.tree.mounts) ≡ Ok ino
       → IsSome (node_numbered store ino)
   found_is_used bytes ino is =
-      let there = then_gives (way store user dir bytes) (found store) ino is in
+      let there = then_gives (way store w.files.tree.mounts user dir bytes) (found store w.files.tree.mounts) ino is in
       found_used store there.0 ino (way_used store user dir bytes there.0 there.1 (start_used bytes)) there.2
 
-  pub leaves_tests : (name list : ℕ) → Leaves base (tests base s name list).world (tests base s name list).answer
+  pub leaves_tests : (name list : ℕ) → Leaves base (tests w.files.tree.mounts base s name list).world (tests w.files.tree.mounts base s name list).answer
   leaves_tests name list =
       let bytes : List ℕ = name_at (image_of base.texts (its.process_of base s)) name in
-      leaves_found list (then_do (way store user dir bytes) (found store)) (found_is_used bytes)
+      leaves_found list (then_do (way store w.files.tree.mounts user dir bytes) (found store w.files.tree.mounts)) (found_is_used bytes)

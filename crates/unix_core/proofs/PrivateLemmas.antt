@@ -161,7 +161,7 @@ module _ (ps : List (Option Process)) (r s : ℕ) (other : r ≢ s) where
     sparing_does long Unknown args = sparing_refuses u (error_number ENOSYS) h
     sparing_does long (OnFiles call) args = sparing_timed _ _ (sparing_did (file_row call (handed_of u (process_of u s)) s args u.clock.time))
     sparing_does long (OnProcesses call) args =
-        sparing_timed _ _ (sparing_came (process_row call (mounts_of u) (world_of u) s args) (sparing_row ps r s other call (world_of u) args long h))
+        sparing_timed _ _ (sparing_came (process_row call (mounts_of u) (world_of u) s args) (sparing_row ps r s other call (mounts_of u) (world_of u) args long h))
 
   -- A signal is delivered: it is caught,
   module _ (u : Unix) (h : Spared ps u.processes r) where

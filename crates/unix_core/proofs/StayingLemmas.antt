@@ -231,7 +231,7 @@ module _ (ts : List (Option Text)) (k s : ℕ) where
       after_row process.Exec a =
           let c : Comes = process_row process.Exec (mounts_of u) (world_of u) s a in
           let now : Unix = with_world u c.state in
-          exec_goes ts k s u b (world_of u) _ _ is (answers now s c.answer).effects (answers now s c.answer).unix
+          exec_goes ts k s u (mounts_of u) b (world_of u) _ _ is (answers now s c.answer).effects (answers now s c.answer).unix
           (carry_answers now c.answer) (answered_texts now c.answer)
       after_row process.Break a =
           after_steps b _ (staying_came u is.stays _ (staying_break ts k s (world_of u) _ is.stays))
@@ -239,7 +239,7 @@ module _ (ts : List (Option Text)) (k s : ℕ) where
           after_steps b _ (staying_came u is.stays _ (staying_kill ts k s (world_of u) _ is.stays))
       after_row call a =
           after_steps b _ (staying_came u is.stays _
-          (staying_plain ts k s (world_of u) _ (plain_row call tt s (world_of u) a) is.stays))
+          (staying_plain ts k s (world_of u) _ (plain_row call tt (mounts_of u) s (world_of u) a) is.stays))
 
       after_refused : (n : ℕ) → StaysAfter b (refuses u s n)
       after_refused n = after_steps b _

@@ -3,7 +3,7 @@ use Rattle.std.proofs.lemmas.Result.{IfOk-at_ok, IfErr-at_err}
 use Rattle.v6_base.specs.Trace.{Took}
 use Rattle.v6_base.specs.declared.answer.Answer.{Answer}
 use Rattle.v6_base.specs.declared.entry.PanicKind.{PanicKind}
-use Rattle.fs_laws.specs.Rest.{SameAround}
+use Rattle.fs_nodes.specs.FileSystem.{SameAroundEach}
 use Rattle.pick_rules.specs.Logged.{logged}
 use Rattle.fs_nodes.specs.FileSystem.{IsFileSystem}
 use Rattle.image_keep.specs.Kept.{IsKept}
@@ -35,7 +35,7 @@ use Rattle.unix_core.proofs.TameRows.{tame_row}
 use Rattle.unix_core.proofs.process.call_processes.Goals as goal
 
 abbrev row : World → ProcessCall → ℕ → List ℕ → Comes
-row w call s args = process_row call (given w) s args
+row w call s args = process_row call w.files.tree.mounts (given w) s args
 
 tame : (w : World) (call : ProcessCall) (s : ℕ) (args : List ℕ) → IsReady w s → IsFileSystem w.files.tree.nodes → IsKept w.procs.images.kept → IsTame w (row w call s args)
 tame w call s args ready form holds = tame_row w s ready form holds call args
@@ -45,7 +45,7 @@ waits : (w : World) (call : ProcessCall) (s : ℕ) (args : List ℕ) → IsReady
     → CanGoOn (with_world (unix_of w) (row w call s args).state)
 waits w call s args ready user =
     world_goes_on (unix_of w) (row w call s args).state ready.good.pending
-    (row_waited (given w) s (none_pending (process_of (unix_of w) s) user) call args)
+    (row_waited (given w) s (none_pending (process_of (unix_of w) s) user) call w.files.tree.mounts args)
 
 -- what is answered is what the row says
 went : (w : World) (call : ProcessCall) (s : ℕ) (args : List ℕ) (a : Answer) (r : Result Answer PanicKind)
@@ -133,8 +133,8 @@ returns-then-has_loaded-clause-frame g c = g.met.T.Trace.goes_on _ _ _ c.do_proc
 
 pub returns-then-has_loaded-clause-rest : goal.returns-then-has_loaded-clause-rest
 returns-then-has_loaded-clause-rest g c =
-    subst (λ (f : Files). SameAround c.args.world.now.files.tree.nodes.blocks f.tree.nodes.blocks) (sym c.wait_for_disk.ensures.files)
-    (subst (λ b. SameAround c.args.world.now.files.tree.nodes.blocks b) (sym c.conclude-ending.ensures.blocks) c.do_process_call.ensures.blocks)
+    subst (λ (f : Files). SameAroundEach c.args.world.now.files.tree.nodes.blocks f.tree.nodes.blocks) (sym c.wait_for_disk.ensures.files)
+    (subst (λ b. SameAroundEach c.args.world.now.files.tree.nodes.blocks b) (sym c.conclude-ending.ensures.blocks) c.do_process_call.ensures.blocks)
 
 pub returns-then-has_loaded-clause-slots : goal.returns-then-has_loaded-clause-slots
 returns-then-has_loaded-clause-slots g c goes =
@@ -191,7 +191,7 @@ returns-else-has_loaded-clause-frame g c = g.met.T.Trace.goes_on _ _ _ c.do_proc
 
 pub returns-else-has_loaded-clause-rest : goal.returns-else-has_loaded-clause-rest
 returns-else-has_loaded-clause-rest g c =
-    subst (λ b. SameAround c.args.world.now.files.tree.nodes.blocks b) (sym c.conclude-ending.ensures.blocks) c.do_process_call.ensures.blocks
+    subst (λ b. SameAroundEach c.args.world.now.files.tree.nodes.blocks b) (sym c.conclude-ending.ensures.blocks) c.do_process_call.ensures.blocks
 
 pub returns-in-Err-clause-come : goal.returns-in-Err-clause-come
 returns-in-Err-clause-come g c =
