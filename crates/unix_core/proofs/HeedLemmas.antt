@@ -79,6 +79,7 @@ module _ (w : World) (s : ℕ) (ready : IsReady w s) (v : Processes) (is : v ≡
           pending = subst CanGoOn (sym changed_unix)
               (going_put (unix_of w) s p (heeding p) (slot_is w s ready) (record { pending = refl; call = refl; files = refl; lives = refl }) ready.good.pending);
           marks = ready.good.marks;
+          mounts = ready.good.mounts;
           rooms = ready.good.rooms;
           core = ready.good.core;
         };

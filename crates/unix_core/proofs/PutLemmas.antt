@@ -49,6 +49,7 @@ module _ (w : World) (x : ImagesState) (same : x.kept ≡ w.procs.images.kept) w
     owed = good.owed;
     pending = good.pending;
     marks = good.marks;
+    mounts = good.mounts;
     rooms = good.rooms;
     core = good.core;
   })
