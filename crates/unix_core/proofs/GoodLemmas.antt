@@ -6,6 +6,7 @@ use Rattle.pick_rules.specs.declared.table.Table.{Table}
 use Rattle.pick_rules.specs.Table.{row_at}
 use Rattle.proc_tab.specs.declared.member.Member.{Member}
 use Rattle.proc_tab.specs.Processes.{member_at}
+use Rattle.fs_tree.specs.Mounting.{AreMounts}
 use Rattle.image_keep.specs.Kept.{Held, Keeping, Nothing, Alive, Grave, Kept, Has, HasImage, keeping, text_of}
 use Rattle.image_keep.specs.Kept as kept
 use Rattle.sys_procs.specs.Process.{Process, no_process, process_by, process_in}
@@ -121,13 +122,14 @@ module _ (w now : World) (rests : Rests w now) (clicks : (board now.procs).core 
       }
 
   pub good_then : IsGood w → AreProcs now.procs → ((s : ℕ) → now.procs.table.running ≡ Some s → 0 < s → HasImage now.procs.images.kept s) → Owed now.files.tree.nodes.references (unix_of now)
-      → CanGoOn (unix_of now) → IsMarked now.procs now.files.tree.marks → IsGood now
-  good_then good agree running owed pending marks = record {
+      → CanGoOn (unix_of now) → IsMarked now.procs now.files.tree.marks → AreMounts now.files.tree.mounts now.files.tree.nodes.store → IsGood now
+  good_then good agree running owed pending marks mounts = record {
     agree = agree;
     running = running;
     owed = owed;
     pending = pending;
     marks = marks;
+    mounts = mounts;
     rooms = (ap (λ t. t.entry_room) rests.tape ∙ good.rooms.0, ap (λ t. t.byte_room) rests.tape ∙ good.rooms.1);
     core = rests.core ∙ good.core ∙ sym clicks;
   }

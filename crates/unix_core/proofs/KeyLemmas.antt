@@ -144,6 +144,7 @@ module _ (w : World) (good : IsGood w) (procs : Procs) (l n : ℕ) (agree : AreP
         (subst (Owes w.files.tree.mounts.covered refs w.files.table w.files.pipes (unix_of w).texts) (sym told_same) good.owed);
     pending = subst CanGoOn (sym key_unix) (line_goes_on l n (unix_of w) good.pending);
     marks = good.marks ∙ sym (ap (λ (x : its.World). marks_of x.texts) (state fs));
+    mounts = good.mounts;
     rooms = good.rooms;
     core = good.core ∙ sym kept.core;
   }

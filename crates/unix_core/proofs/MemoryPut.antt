@@ -69,6 +69,7 @@ module _ (w : World) (x : ImagesState) (s : ℕ) (alive : IsAlive w.procs s) (im
     pending = subst CanGoOn (sym memory_unix)
         (going_put (unix_of w) s p q (alive_slot w s alive) (record { pending = refl; call = refl; files = refl; lives = refl }) good.pending);
     marks = good.marks ∙ ap (λ texts. marks_of (map text_in texts)) (sym (with_image_texts w.procs.images.kept s image).texts);
+    mounts = good.mounts;
     rooms = good.rooms;
     core = good.core ∙ sym (image_core w.procs.images.kept s image);
   }

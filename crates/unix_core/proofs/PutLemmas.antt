@@ -160,6 +160,7 @@ module _ (w : World) (x : ImagesState) (s : ℕ) (u : UArea) (alive : IsAlive w.
           (subst (Owes w.files.tree.mounts.covered refs w.files.table w.files.pipes (unix_of w).texts) (sym told_put) good.owed);
       pending = subst CanGoOn (sym unix_put) going;
       marks = good.marks ∙ ap (λ texts. marks_of (map text_in texts)) (sym (with_area_texts k s u).texts);
+      mounts = good.mounts;
       rooms = good.rooms;
       core = good.core ∙ sym (area_core k s u);
     }

@@ -179,6 +179,7 @@ module _ (w w' : World) (s : ℕ) (ready : IsReady w s) (u : UArea) (row : Row) 
         pending = subst CanGoOn (sym unix_after)
             (file_goes_on w.files.tree.nodes.references (unix_of w) s h ready.good.owed ready.good.pending (slot_is w s ready) (is_living w s ready) after.kept after.pends);
         marks = after.marks ∙ (ready.good.marks ∙ ap (λ texts. marks_of (map text_in texts)) (sym after.texts.texts));
+        mounts = after.kept.mounts;
         rooms = (after.entry_room ∙ ready.good.rooms.0, after.byte_room ∙ ready.good.rooms.1);
         core = after.world_core ∙ (ready.good.core ∙ sym after.core);
       }
