@@ -19,6 +19,7 @@ use Rattle.open_files.specs.Files.{times}
 use Rattle.open_files.specs.declared.file.OpenFile.{OpenFile}
 use Rattle.u_area.specs.declared.layout.TheConstants.{NOTHING_PENDING}
 use Rattle.pipe_ends.specs.declared.ends.Pipe.{Pipe}
+use Rattle.fs_nodes.specs.Keys.{counts}
 use Rattle.sys_files.specs.Handed.{Handed}
 use Rattle.fs_nodes.specs.FileSystem.{IsFileSystem}
 use Rattle.sys_procs.specs.TextTable.{Text, text_of}
@@ -192,13 +193,13 @@ module _ (w1 now : World) (s : ℕ) (ready : IsReady w1 s) (status : ℕ) (agree
         subst CanGoOn (sym ended_unix)
         (world_goes_on (unix_of w1) (ends w1 s ready status).state ready.good.pending (end_waited (handed w1.procs w1.files.tree.nodes) s free status))
 
-    pub ended_good : IsMarked now.procs now.files.tree.marks → IsGood now
-    ended_good marks = good_then w1 now rests clicks ready.good agree (λ r is up. absurd (
+    pub ended_good : IsMarked now.procs now.files.tree.marks → counts now.files.tree.nodes.store ≡ counts w1.files.tree.nodes.store → IsGood now
+    ended_good marks same = good_then w1 now rests clicks ready.good agree (λ r is up. absurd (
         let b = its_board in
         let none : now.procs.table.running ≡ None =
         ap (λ (x : Board). x.table.running) b.1.1 ∙ end_running left_board s b.0 b.1.0 in
         let never : ◌≡◌ {A = Option ℕ} None (Some r) = sym none ∙ is in
-        cc never)) owed waits marks
+        cc never)) owed waits marks same
 
 -- The world where the run stops, since the swap area has no block: the process has left its directory and its text, and still runs.
 module _ (w1 now : World) (s : ℕ) (ready : IsReady w1 s) (status : ℕ) (stop : Stop its.World)
