@@ -5,7 +5,6 @@ use Rattle.std.proofs.lemmas.List.{get_or_past, set_past, get_or-set_same, get_o
 use Rattle.fs_codec.specs.Store.{Node, Store}
 use Rattle.fs_codec.specs.Store as codec
 use Rattle.fs_laws.specs.Numbers as numbers
-use Rattle.fs_nodes.specs.Disks.{Disks}
 use Rattle.fs_laws.specs.Numbers.{Draw}
 use Rattle.fs_nodes.specs.Keys.{Stores, counts, is_second, store_at, number_of, node_numbered, room_at, in_place, with_store_at, with_node}
 use Rattle.fs_nodes.specs.Numbers.{with_draw}

@@ -1,5 +1,5 @@
 -- exec(II): what its tests leave. They refer to the inode of the program once more, where they let it through.
-use Rattle.std.proofs.Common.{◌≡◌, ◌<◌, ◌+◌, ◌==◌, ◌&&◌, ℕ, Bool, true, false, not, cond, if◌then◌else◌, List, length, Option, Some, None, IsSome, slice_index, refl, sym, ap, arith}
+use Rattle.std.proofs.Common.{◌≡◌, ◌<◌, ◌+◌, ◌==◌, ◌&&◌, ℕ, Bool, true, false, not, cond, if◌then◌else◌, List, length, IsSome, slice_index, refl, sym, ap, arith}
 use Rattle.std.specs.Prelude.{Result, Ok, Err}
 use Rattle.std.proofs.lemmas.Bool.{eq-eqb}
 use Rattle.v6_base.specs.Access.{then_do}
@@ -30,7 +30,7 @@ use Rattle.unix_core.specs.declared.world.World.{World}
 use Rattle.unix_core.specs.Parts.{unix_of, IsReady}
 use Rattle.abstract_unix.specs.Whole.{told_in, told_of}
 use Rattle.abstract_unix.specs.Unix.{process_of}
-use Rattle.abstract_unix.proofs.Owing.{dir_referred, some_within}
+use Rattle.abstract_unix.proofs.Owing.{dir_referred}
 use Rattle.abstract_unix.proofs.Dying.{put_refs}
 use Rattle.abstract_unix.proofs.Sharing.{more_within}
 use Rattle.unix_core.proofs.WorldLemmas.{told_here}
