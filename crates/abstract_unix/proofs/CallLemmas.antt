@@ -11,6 +11,7 @@ use Rattle.pick_rules.specs.Effects.{Effect, Show}
 use Rattle.pick_rules.specs.Logged.{Stop, left_by}
 use Rattle.fs_nodes.specs.FileSystem.{FileSystem}
 use Rattle.seg_regs.specs.Sizes.{is_refused}
+use Rattle.mount_tab.specs.Mounted.{MountTable}
 use Rattle.sys_procs.specs.declared.procs.Procs.{Procs}
 use Rattle.sys_procs.specs.World.{World, process_of, change, without_process, texts_in}
 use Rattle.sys_procs.specs.Times.{with_time}
@@ -89,11 +90,12 @@ kill_leaves w s n =
     leaves_if w.texts (length slots == 0) _ _ (record { effects = tt; state = refl })
     (mild_leaves w.texts _ (signal_tamed n slots [] tt) refl)
 
-row_leaves : (call : ProcessCall) → call ≢ process.Exec → (s : ℕ) (w : World) (args : List ℕ) → Leaves w.texts (process_row call w s args)
-row_leaves process.Exec other s w a = absurd (other refl)
-row_leaves process.Break other s w a = break_leaves w s (slice_index a 0)
-row_leaves process.Kill other s w a = kill_leaves w s (slice_index a 0)
-row_leaves call other s w a = plain_leaves s w _ (plain_row call tt s w a)
+row_leaves : (call : ProcessCall) → call ≢ process.Exec → (mounts : MountTable) (s : ℕ) (w : World) (args : List ℕ)
+    → Leaves w.texts (process_row call mounts w s args)
+row_leaves process.Exec other mounts s w a = absurd (other refl)
+row_leaves process.Break other mounts s w a = break_leaves w s (slice_index a 0)
+row_leaves process.Kill other mounts s w a = kill_leaves w s (slice_index a 0)
+row_leaves call other mounts s w a = plain_leaves s w _ (plain_row call tt mounts s w a)
 
 left_so : (old new : Procs) (fs : FileSystem) (texts : List (Option Text)) {r : Result Answer PanicKind} {start end : Taken} (c : Comes) → Leaves texts c
     → HasDone old new fs r start end c → texts_in new.images.kept ≡ texts
@@ -104,8 +106,8 @@ left_so old new fs texts c leaves done = ap (λ (x : World). x.texts) done.state
     by (Some stop) some = (tamed_moves (λ (x : World). x.texts ≡ texts) (board old) c.effects leaves.effects).before stop some
 
 -- The marks after a call that isn't exec.
-pub marks_stay : (call : ProcessCall) → call ≢ process.Exec → (old new : Procs) (was now : FileSystem) (s : ℕ) (args : List ℕ) (before after : List Bool)
-    {r : Result Answer PanicKind} {start end : Taken} → HasDone old new now r start end (process_row call (handed old was) s args)
+pub marks_stay : (call : ProcessCall) → call ≢ process.Exec → (mounts : MountTable) (old new : Procs) (was now : FileSystem) (s : ℕ) (args : List ℕ) (before after : List Bool)
+    {r : Result Answer PanicKind} {start end : Taken} → HasDone old new now r start end (process_row call mounts (handed old was) s args)
     → IsMarked old before → after ≡ before → IsMarked new after
-marks_stay call other old new was now s args before after done marked same =
-    same ∙ marked ∙ ap marks_of (sym (left_so old new now (texts_in old.images.kept) _ (row_leaves call other s (handed old was) args) done))
+marks_stay call other mounts old new was now s args before after done marked same =
+    same ∙ marked ∙ ap marks_of (sym (left_so old new now (texts_in old.images.kept) _ (row_leaves call other mounts s (handed old was) args) done))

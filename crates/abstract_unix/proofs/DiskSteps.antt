@@ -26,7 +26,7 @@ use Rattle.abstract_unix.specs.declared.calls.ProcessCall.{ProcessCall}
 use Rattle.abstract_unix.specs.declared.calls.SystemCall.{SystemCall}
 use Rattle.abstract_unix.specs.declared.calls.SystemCall.TheVariants.{Indirect, Exit, Fork, Unknown, OnFiles, OnProcesses}
 use Rattle.abstract_unix.specs.declared.ending.Ending.TheVariants.{Slept}
-use Rattle.abstract_unix.specs.Unix.{Text, Timing, Unix, process_of, with_process}
+use Rattle.abstract_unix.specs.Unix.{Text, Timing, Unix, process_of, with_process, mounts_of}
 use Rattle.abstract_unix.specs.Errors.{error_number}
 use Rattle.abstract_unix.specs.Steps.{Steps, returns, signals}
 use Rattle.abstract_unix.specs.Calls.{handed_of, with_handed, world_of, with_world, with_area, given_area, refused_area, refuses, answers, file_row, process_row, did_by, came_by, forks, disk_end, waits_for_disk, takes_time, waits_in_call, reads_disk, loads_program, entered_area, words_passed, asked, does_call, does_asked, sysent_of, grows, grown_by, grows_to, exits_with, resumed}
@@ -203,16 +203,16 @@ module _ (P : ℕ → Type 0) (a : List (Option Process)) (s : ℕ) where
       (disk_did u did (row_no_disk call h s args u.clock.time free) d)
 
   pub disk_process_call : (u : Unix) (call : ProcessCall) (args : List ℕ) → (process_of u s).u.pending ≡ NOTHING_PENDING → LivesIn s u
-      → let c : Comes = process_row call (world_of u) s args in
+      → let c : Comes = process_row call (mounts_of u) (world_of u) s args in
       (waits_in_call u s (OnProcesses call) args ≡ true → P (disk_end u.timing)) → D u
       → D (takes_time (loads_program call c.answer) s (came_by u s c)).unix
   disk_process_call u call args free here own d =
-      let c : Comes = process_row call (world_of u) s args in
-      disk_timed (loads_program call c.answer) (came_by u s c) (lives_came s u c (still_row (world_of u) s call (world_of u) args (still_here s u here))).lives
+      let c : Comes = process_row call (mounts_of u) (world_of u) s args in
+      disk_timed (loads_program call c.answer) (came_by u s c) (lives_came s u c (still_row (world_of u) s call (mounts_of u) (world_of u) args (still_here s u here))).lives
       (λ waits. let same : (came_by u s c).unix.timing ≡ u.timing = answers_timing (with_world u c.state) c.answer in
       subst (λ (t : Timing). P (disk_end t)) (sym same)
       (own (ap (λ (t : Timing). loads_program call c.answer && not (t.disk == 0)) (sym same) ∙ waits)))
-      (disk_came u c (row_waited (world_of u) s free call args) d)
+      (disk_came u c (row_waited (world_of u) s free call (mounts_of u) args) d)
 
   pub disk_fork : (u : Unix) → (process_of u s).u.pending ≡ NOTHING_PENDING → D u → D (forks u s).unix
   disk_fork u free d = disk_came u (fork_one (world_of u) s) (fork_waited (world_of u) s free) d

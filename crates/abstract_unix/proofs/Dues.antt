@@ -28,7 +28,7 @@ use Rattle.abstract_unix.specs.declared.calls.SystemCall.{SystemCall}
 use Rattle.abstract_unix.specs.declared.calls.SystemCall.TheVariants.{Indirect, Exit, Fork, Unknown, OnFiles, OnProcesses}
 use Rattle.abstract_unix.specs.declared.ending.Ending.{Ending}
 use Rattle.abstract_unix.specs.declared.ending.Ending.TheVariants as ending
-use Rattle.abstract_unix.specs.Unix.{Timing, Unix, System, process_of, with_process}
+use Rattle.abstract_unix.specs.Unix.{Timing, Unix, System, process_of, with_process, mounts_of}
 use Rattle.abstract_unix.specs.Errors.{error_number}
 use Rattle.abstract_unix.specs.Steps.{Steps, returns, signals}
 use Rattle.abstract_unix.specs.Calls.{handed_of, with_handed, world_of, with_world, with_area, refused_area, entered_area, words_passed, asked, file_row, process_row, refuses, answers, did_by, came_by, grown_by, exits_with, disk_end, waits_for_disk, takes_time, reads_disk, loads_program, does_call, sysent_of, resumed}
@@ -89,7 +89,7 @@ module _ (s : ℕ) where
       let did : Did = file_row call (handed_of u (process_of u s)) s args u.clock.time in
       times_timed u.timing (reads_disk call (handed_of u (process_of u s)) did.answer) (did_by u s did) (times_did u did)
   times_call u (OnProcesses call) args =
-      let c : Comes = process_row call (world_of u) s args in
+      let c : Comes = process_row call (mounts_of u) (world_of u) s args in
       times_timed u.timing (loads_program call c.answer) (came_by u s c) (times_came u c)
 
   times_outcome : (u : Unix) (o : Outcome) → Times u.timing (comes_to u s o)

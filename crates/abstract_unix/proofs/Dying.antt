@@ -119,9 +119,9 @@ told_dead w s =
     ∙ map-set told_by w.processes s (Some z)
 
 -- What is owed where it has left its directory, and is told of no more. Its files are closed.
-pub end_owes : (w : World) (s : ℕ) (files : List (Option OpenFile)) (pipes : List Pipe) → get_or w.processes s None ≡ Some (process_of w s) → (process_of w s).is_zombie ≡ false
-    → ((entry : ℕ) → times (process_of w s).u.files entry ≡ 0) → Owes w.inodes.references files pipes w.texts (told_in w.processes)
-    → Owes (put_back w.inodes (process_of w s).u.dir).references files pipes w.texts (set (told_in w.processes) s None)
+pub end_owes : {covered : Option ℕ} (w : World) (s : ℕ) (files : List (Option OpenFile)) (pipes : List Pipe) → get_or w.processes s None ≡ Some (process_of w s) → (process_of w s).is_zombie ≡ false
+    → ((entry : ℕ) → times (process_of w s).u.files entry ≡ 0) → Owes covered w.inodes.references files pipes w.texts (told_in w.processes)
+    → Owes covered (put_back w.inodes (process_of w s).u.dir).references files pipes w.texts (set (told_in w.processes) s None)
 end_owes w s files pipes is lives closed owed =
     let p : Process = process_of w s in
     let ts : List (Option Told) = told_in w.processes in

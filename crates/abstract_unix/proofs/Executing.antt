@@ -29,6 +29,7 @@ use Rattle.log_laws.proofs.Deaths.{with_own}
 use Rattle.log_laws.proofs.Images.{sized, size_apt, with_text_of, InExec, bare_fits, bare_in, share_apt, text_apt, image_apt}
 use Rattle.log_laws.proofs.Users.{joined_users, free_users}
 use Rattle.seg_regs.specs.Sizes.{is_refused}
+use Rattle.mount_tab.specs.Mounted.{MountTable}
 use Rattle.sys_procs.specs.declared.program.Program.{Program}
 use Rattle.u_area.specs.declared.layout.TheConstants.{NOTHING_PENDING}
 use Rattle.u_area.specs.declared.area.UArea.{UArea}
@@ -232,10 +233,10 @@ module _ (w : World) where
       checked {A = List (List ℕ)} out (arguments (image_of now.texts q) list) read k (λ args g.
       header_tests (exec.with_moved now ino head) ino args head k)))
 
-  all_tests : (s name list : ℕ) → AreTests w (exec.tests w s name list)
-  all_tests s name list =
+  all_tests : (mounts : MountTable) (s name list : ℕ) → AreTests w (exec.tests mounts w s name list)
+  all_tests mounts s name list =
       let q : Process = process_of w s in
-      let found : Finding ℕ = find_in w.inodes (user_of q) q.u.dir (name_at (image_of w.texts q) name) in
+      let found : Finding ℕ = find_in w.inodes mounts (user_of q) q.u.dir (name_at (image_of w.texts q) name) in
       checked {A = ℕ} (with_inodes w found.inodes) found.answer (λ ino. exec.tests_file (with_inodes w found.inodes) s ino list) refl
       (λ ino e. file_tests (with_inodes w found.inodes) s ino list refl)
 
@@ -558,16 +559,16 @@ loads_fine s seen w program i sizes = by (process_of w s).text refl
         (rest_fine s (seen_after seen (line.Leave s k (is_sticky w k))) left program (calling_left s w seen i k) (none_left s w seen i k)
         (subst (λ n. is_refused program.text_clicks (exec.data_clicks program.plan) 20 n ≡ false) (sym limit) sizes)))
 
-module _ (s : ℕ) (seen : Seen) where
-  pub exec_fine : (w : World) (name list : ℕ) → Calling s w seen → FineComes w.limit s seen (exec.exec_file w s name list)
+module _ (mounts : MountTable) (s : ℕ) (seen : Seen) where
+  pub exec_fine : (w : World) (name list : ℕ) → Calling s w seen → FineComes w.limit s seen (exec.exec_file mounts w s name list)
   unfolding exec.exec_file
   exec_fine w name list i = done t.answer refl
     where
       t : exec.Tested
-      t = exec.tests w s name list
+      t = exec.tests mounts w s name list
 
       are : AreTests w t
-      are = all_tests w s name list
+      are = all_tests w mounts s name list
 
       still : Calling s t.world seen
       still = subst (λ x. InCall s false x seen) (sym are.same) i

@@ -5,7 +5,7 @@ use Rattle.lines_eight.specs.Lines.{HasRoom}
 use Rattle.sys_files.specs.Handed.{Handed}
 use Rattle.sys_files.specs.Did.{Did}
 use Rattle.sys_files.proofs.Steady.{Confined, steady_same, confined_walks}
-use Rattle.sys_files.proofs.Walks.{Walks, walk_read, walk_write, walk_open, walk_close, walk_creat, walk_link, walk_unlink, walk_chdir, walk_mknod, walk_chmod, walk_chown, walk_stat, walk_stat_open, walk_seek, walk_stty, walk_gtty, walk_sync, walk_dup, walk_pipe}
+use Rattle.sys_files.proofs.Walks.{Walks, walk_read, walk_write, walk_open, walk_close, walk_creat, walk_link, walk_unlink, walk_chdir, walk_mknod, walk_chmod, walk_chown, walk_stat, walk_stat_open, walk_seek, walk_mount, walk_umount, walk_stty, walk_gtty, walk_sync, walk_dup, walk_pipe}
 use Rattle.abstract_unix.specs.declared.calls.FileCall.{FileCall}
 use Rattle.abstract_unix.specs.declared.calls.FileCall.TheVariants as file
 use Rattle.abstract_unix.specs.Calls.{file_row}
@@ -37,6 +37,8 @@ walk_row k file.Chmod h a now few moves p = walk_chmod k h (slice_index a 0) (sl
 walk_row k file.Chown h a now few moves p = walk_chown k h (slice_index a 0) (slice_index a 1) now p
 walk_row k file.Stat h a now few moves p = walk_stat k h (slice_index a 0) (slice_index a 1) p
 walk_row k file.Seek h a now few moves p = walk_seek k h (slice_index a 0) (slice_index a 1) p
+walk_row k file.Mount h a now few moves p = walk_mount k h (slice_index a 0) (slice_index a 1) p
+walk_row k file.Umount h a now few moves p = walk_umount k h (slice_index a 0) p
 walk_row k file.Fstat h a now few moves p = walk_stat_open k h (slice_index a 0) p
 walk_row k file.Stty h a now few moves p = walk_stty k h (slice_index a 0) p
 walk_row k file.Gtty h a now few moves p = walk_gtty k h (slice_index a 0) p

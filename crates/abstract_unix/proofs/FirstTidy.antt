@@ -5,19 +5,19 @@ use Rattle.std.proofs.lemmas.List.{length-replicate}
 use Rattle.std.proofs.lemmas.List.Elements.{All-from_get_or}
 use Rattle.std.proofs.lemmas.List.Sums.{sum_by-le}
 use Rattle.std.proofs.Math.ListN.{get_or-map}
-use Rattle.fs_codec.specs.Store.{Store}
 use Rattle.fs_codec.specs.Modes.{is_directory}
 use Rattle.fs_codec.specs.Disk.{Disk, disk_of, head, inode, inode_numbers}
 use Rattle.fs_codec.specs.Free.{free_walk}
 use Rattle.fs_codec.specs.Stands.{store_of}
 use Rattle.fs_codec.specs.Faults.{when, first_some, least, is_bad_super, inode_fault, all_blocks, is_twice, super_fault, disk_fault, fault_within, image_fault}
 use Rattle.fs_codec.specs.declared.super_block.SuperBlock.{SuperBlock}
-use Rattle.fs_codec.specs.declared.layout.TheConstants.{DISK_BYTES, SWAP_START, LIST_SIZE}
+use Rattle.fs_codec.specs.declared.layout.TheConstants.{DISK_BYTES, DISK_BLOCKS, SWAP_START, LIST_SIZE}
 use Rattle.fs_codec.specs.declared.fault.ImageFault.{ImageFault}
 use Rattle.fs_codec.specs.declared.fault.ImageFault.TheVariants.{TooLong, BadSuper, NoSwap, BlockTwice, NoRoot}
 use Rattle.tty_line.specs.Terminal.{first_terminal}
 use Rattle.u_area.specs.declared.layout.TheConstants.{NOTHING_PENDING}
 use Rattle.fs_laws.proofs.WholeLemmas.{two, five}
+use Rattle.fs_nodes.specs.Keys.{Stores, key_count}
 use Rattle.open_files.specs.declared.file.OpenFile.{OpenFile}
 use Rattle.open_files.specs.Files.{file_at}
 use Rattle.sys_files.specs.Sound.{numbers_of}
@@ -25,7 +25,7 @@ use Rattle.sys_files.proofs.NumberLemmas.{free_times}
 use Rattle.sys_procs.specs.Process.{Process}
 use Rattle.abstract_unix.specs.Unix.{Unix}
 use Rattle.abstract_unix.specs.Whole.{Told, told_of, told_by, told_in, names, all_names}
-use Rattle.abstract_unix.specs.Runs.{first_unix, first_process}
+use Rattle.abstract_unix.specs.Runs.{first_unix, first_process, stores_of, is_second_bad}
 use Rattle.abstract_unix.proofs.GoingOnLemmas.{none_goes_on}
 use Rattle.abstract_unix.proofs.Tidy.{IsTidy}
 
@@ -65,12 +65,24 @@ few_nodes image none =
     let few = disk_few (disk_of image) whole.0 in
     omega (arith, few)
 
+-- So there are on two disks, where there are no more than there are keys.
+last_of : (a b : Bool) → (a || b) ≡ false → b ≡ false
+last_of true b e = absurd (cc e)
+last_of false b e = e
+
+pub few_keys : (image : List ℕ) (second : Option (List ℕ)) → image_fault image ≡ None → is_second_bad image second ≡ false
+    → key_count (stores_of image second) ≤ 65535
+few_keys image None none fine = let few = few_nodes image none in omega (arith, few)
+few_keys image (Some second) none fine =
+    ltb-false 65535 (key_count (stores_of image (Some second)))
+    (last_of (is_some (fault_within DISK_BLOCKS second)) (nat_lt 65535 (key_count (stores_of image (Some second)))) fine)
+
 get_same : {X : Type 0} (x : X) (n k : ℕ) → get_or (replicate n x) k x ≡ x
 get_same x zero k = refl
 get_same x (suc n) zero = refl
 get_same x (suc n) (suc k) = get_same x n k
 
-module _ (store : Store) (core lines : ℕ) where
+module _ (store : Stores) (core lines : ℕ) where
   abbrev u : Unix
   u = first_unix store core lines
 
@@ -112,7 +124,7 @@ module _ (store : Store) (core lines : ℕ) where
   user_first (suc zero) p e = let same : first_process ≡ p = cc e in ap (λ (x : Process). x.u.pending) (sym same)
   user_first (suc (suc k)) p e = absurd (let none : None ≡ Some p = sym (get_same {X = Option Process} None 48 k) ∙ e in cc none)
 
-  pub first_tidy : store.count ≤ 65535 → lines ≤ 8 → IsTidy u
+  pub first_tidy : key_count store ≤ 65535 → lines ≤ 8 → IsTidy u
   first_tidy few some = record {
     numbers = λ entry.
         let none : numbers_of (file_at u.files entry) ≡ 0 = ap numbers_of (no_file entry) in

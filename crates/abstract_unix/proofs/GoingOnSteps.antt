@@ -29,7 +29,7 @@ use Rattle.abstract_unix.specs.declared.calls.Sysent.{Sysent}
 use Rattle.v6_base.specs.declared.entry.Chan.TheVariants.{Disk}
 use Rattle.pick_rules.specs.Priority.{pribio}
 use Rattle.abstract_unix.specs.declared.ending.Ending.TheVariants.{Trapped, Slept}
-use Rattle.abstract_unix.specs.Unix.{Unix, System, process_of, with_process}
+use Rattle.abstract_unix.specs.Unix.{Unix, System, process_of, with_process, mounts_of}
 use Rattle.abstract_unix.specs.Errors.{error_number}
 use Rattle.abstract_unix.specs.Steps.{Steps, returns, signals}
 use Rattle.abstract_unix.specs.Calls.{handed_of, with_handed, world_of, with_world, with_area, entered_area, given_area, refused_area, words_passed, asked, refuses, answers, did_by, came_by, grown_by, grows_to, file_row, process_row, reads_disk, loads_program, waits_for_disk, takes_time, does_call, does_asked, sysent_of, resumed}
@@ -131,8 +131,8 @@ module _ (s : ℕ) where
       let did : Did = file_row call h s args u.clock.time in
       timed_trap (reads_disk call h did.answer) (did_by u s did) (did_trap u did low (row_user call h s args u.clock.time free)) ends
   call_trap u (OnProcesses call) args low free ends =
-      let c : Comes = process_row call (world_of u) s args in
-      timed_trap (loads_program call c.answer) (came_by u s c) (came_trap u c (process_user (world_of u) s free call args)) ends
+      let c : Comes = process_row call (mounts_of u) (world_of u) s args in
+      timed_trap (loads_program call c.answer) (came_by u s c) (came_trap u c (process_user (world_of u) s free call (mounts_of u) args)) ends
 
   asked_trap : (u : Unix) (a : Asked) (entry : Sysent) → s < length u.processes → IsUserIn u s
       → TrapsUser s (does_asked u s a entry)

@@ -1,5 +1,5 @@
 -- The log of each run fits, line after line, and that of one that comes to its script's end, or to a panic, is lawful.
-use Rattle.std.proofs.Common.{◌≡◌, ◌∙◌, ◌<◌, ◌≤◌, ◌==◌, ℕ, zero, suc, Bool, true, false, List, [], ◌∷◌, ◌++◌, append-nil, length, if◌then◌else◌, Option, Some, None, is_some, option_map, get_or, slice_index, replicate, refl, sym, ap, subst, inl, inr, arith}
+use Rattle.std.proofs.Common.{◌≡◌, ◌∙◌, ◌<◌, ◌≤◌, ◌==◌, ◌||◌, ℕ, zero, suc, Bool, true, false, List, [], ◌∷◌, ◌++◌, append-nil, length, if◌then◌else◌, Option, Some, None, is_some, option_map, get_or, slice_index, replicate, refl, sym, ap, subst, inl, inr, arith}
 use Rattle.std.proofs.lemmas.Bool.{cases_lt}
 use Rattle.std.proofs.lemmas.Int.{ints}
 use Rattle.std.proofs.lemmas.List.{get_or_past}
@@ -7,12 +7,12 @@ use Rattle.v6_base.specs.Image.{AreBytes}
 use Rattle.v6_base.specs.Trace.{Log, entries_of}
 use Rattle.v6_base.specs.declared.entry.Chan.TheVariants.{RunOut}
 use Rattle.v6_base.specs.declared.entry.Entry.TheVariants as line
-use Rattle.fs_codec.specs.Store.{Store}
 use Rattle.fs_codec.specs.Faults.{image_fault}
 use Rattle.fs_codec.specs.declared.fault.ImageFault.{ImageFault}
 use Rattle.fs_codec.specs.Words.{bytes_from}
 use Rattle.fs_codec.specs.Disk.{disk_of}
 use Rattle.fs_codec.specs.Stands.{store_of}
+use Rattle.fs_nodes.specs.Keys.{Stores, key_count}
 use Rattle.pick_rules.specs.Priority.{pswp}
 use Rattle.pick_rules.specs.Ranges.{IsTime}
 use Rattle.pick_rules.specs.Table.{empty_row, row_at}
@@ -33,7 +33,7 @@ use Rattle.abstract_unix.specs.declared.ends.Ends.TheVariants.{AtEnd}
 use Rattle.abstract_unix.specs.Endings.{is_whole, last_line}
 use Rattle.abstract_unix.specs.Unix.{Unix, System, no_texts}
 use Rattle.abstract_unix.specs.Turn.{Turn, settled_after, passes, pass_of}
-use Rattle.abstract_unix.specs.Runs.{first_unix, system_with, Event, Slot, Tick, Byte, Switch, Disk, Pace, Hangup, event_of, Course, goes_on_by, unless_ended, after_event, course, started, boots}
+use Rattle.abstract_unix.specs.Runs.{first_unix, stores_of, system_with, system_of, is_second_bad, Event, Slot, Tick, Byte, Switch, Disk, Pace, Hangup, event_of, Course, goes_on_by, unless_ended, after_event, course, started, boots}
 use Rattle.abstract_unix.specs.Law.{log_of, LogsAreLawful}
 use Rattle.abstract_unix.proofs.Sitting.{seats_of}
 use Rattle.abstract_unix.proofs.Passing.{only_sleeps, pass_sleeps}
@@ -41,7 +41,7 @@ use Rattle.abstract_unix.proofs.Events.{system_at, Stands, Fine, FineTurn, settl
 use Rattle.abstract_unix.proofs.Outside.{tick_fine, typed_fine, switched_fine, disk_set_fine, paced_fine, hangup_fine}
 use Rattle.abstract_unix.proofs.Tidy.{IsTidy}
 use Rattle.abstract_unix.proofs.TidyEvents.{slot_tidy, event_tidy, start_tidy}
-use Rattle.abstract_unix.proofs.FirstTidy.{few_nodes, first_tidy}
+use Rattle.abstract_unix.proofs.FirstTidy.{few_keys, first_tidy}
 
 get_replicate : {X : Type 0} (x : X) (n k : ℕ) → get_or (replicate n x) k x ≡ x
 get_replicate x zero k = refl
@@ -100,14 +100,14 @@ course_fine [] c f = f
 course_fine (e ∷ events) c f = course_fine events (after_event c e) (event_goes c e f)
 
 -- The beginning: two lines, and a choice.
-module _ (store : Store) (core lines : ℕ) (low : 64 ≤ core) (high : core ≤ 3968) where
+module _ (store : Stores) (core lines : ℕ) (low : 64 ≤ core) (high : core ≤ 3968) where
   abbrev u : Unix
   u = first_unix store core lines
 
   abbrev booted_seen : Seen
-  booted_seen = record { stage = Booted; board = first_board core store.stamp }
+  booted_seen = record { stage = Booted; board = first_board core store.root.stamp }
 
-  first_each : (b : Board) → b ≡ applied (first_board core store.stamp) (line.Sleep 0 pswp RunOut) → (r : ℕ) → 0 < r
+  first_each : (b : Board) → b ≡ applied (first_board core store.root.stamp) (line.Sleep 0 pswp RunOut) → (r : ℕ) → 0 < r
       → AgreesAt (r == 0) (seats_of u).most (seat_at (seats_of u) r) (shape_at b.table r)
   unfolding applied fall_asleep
   first_each b e zero h = absurd (omega arith)
@@ -126,13 +126,13 @@ module _ (store : Store) (core lines : ℕ) (low : 64 ≤ core) (high : core ≤
       slots : (k : ℕ) → get_or (seats_of u).slots (suc (suc k)) None ≡ None
       slots k = get_replicate {X = Option Seat} None 48 k
 
-  first_sleeps : (r : ℕ) → Sleeps (row_at (applied (first_board core store.stamp) (line.Sleep 0 pswp RunOut)).table r)
+  first_sleeps : (r : ℕ) → Sleeps (row_at (applied (first_board core store.root.stamp) (line.Sleep 0 pswp RunOut)).table r)
   unfolding applied fall_asleep
   first_sleeps zero = inr refl
   first_sleeps (suc zero) = inl refl
   first_sleeps (suc (suc k)) = rw (get_replicate empty_row 48 k) (inl refl)
 
-  first_agrees : Agrees 0 (seats_of u) (applied (first_board core store.stamp) (line.Sleep 0 pswp RunOut))
+  first_agrees : Agrees 0 (seats_of u) (applied (first_board core store.root.stamp) (line.Sleep 0 pswp RunOut))
   unfolding applied fall_asleep no_texts
   first_agrees =
       record { each = first_each _ refl; sleeps = first_sleeps; rows = refl; seats = refl; time = refl; ticks = refl; texts = refl; forty = refl; core = high; most = refl }
@@ -142,17 +142,17 @@ module _ (store : Store) (core lines : ℕ) (low : 64 ≤ core) (high : core ≤
   first_paused = record { going = tt; agrees = first_agrees; runner = tt }
 
   -- nobody is out of core
-  first_pass : pass (first_board core store.stamp) ≡ only_sleeps (first_board core store.stamp)
+  first_pass : pass (first_board core store.root.stamp) ≡ only_sleeps (first_board core store.root.stamp)
   unfolding least
-  first_pass = pass_sleeps (first_board core store.stamp) refl refl
+  first_pass = pass_sleeps (first_board core store.root.stamp) refl refl
 
   start_fine : FineTurn booted_seen (settled_after (pass_of (system_at u booted_seen)))
   unfolding FitAll
   start_fine = subst (λ (l : Logged (Unit {0})). FineTurn booted_seen (settled_after (passes u (over u l)))) (sym first_pass)
-      (settles_fine u booted_seen (record { items = Log (line.Sleep 0 pswp RunOut) ∷ []; board = applied (first_board core store.stamp) (line.Sleep 0 pswp RunOut); stop = None })
+      (settles_fine u booted_seen (record { items = Log (line.Sleep 0 pswp RunOut) ∷ []; board = applied (first_board core store.root.stamp) (line.Sleep 0 pswp RunOut); stop = None })
       (((omega arith, (omega (arith, ints), omega (arith, ints)), tt), refl), tt) refl first_paused refl)
 
-  started_fine : IsTime store.stamp → store.count ≤ 65535 → lines ≤ 8 → FineCourse (started (system_with store core lines))
+  started_fine : IsTime store.root.stamp → key_count store ≤ 65535 → lines ≤ 8 → FineCourse (started (system_with store core lines))
   unfolding FitAll applied
   started_fine time few some = record {
     fine = record { fit = (((omega (arith, high), time), (low, high)), start_fine.fit); stands = start_fine.stands; over = start_fine.over };
@@ -192,35 +192,39 @@ unfolding store_of disk_of bytes_from
 stamp_in_range image are =
     omega (arith, byte_in image 924 are, byte_in image 925 are, byte_in image 926 are, byte_in image 927 are)
 
--- the system that an image boots
-no_fault : (image : List ℕ) (core lines : ℕ) (m : System) → boots image core lines ≡ Some m → image_fault image ≡ None
-no_fault image core lines m e = by (image_fault image) e
+-- the system that images boot
+fine_images : (image : List ℕ) (second : Option (List ℕ)) (core lines : ℕ) (m : System) → boots image second core lines ≡ Some m
+    → (image_fault image ≡ None) × (is_second_bad image second ≡ false)
+fine_images image second core lines m e = by (image_fault image) (is_second_bad image second) e
   where
-    by : (o : Option ImageFault) → (if is_some o then None else Some (system_with (store_of (disk_of image)) core lines)) ≡ Some m → o ≡ None
-    by None f = refl
-    by (Some fault) f = absurd (cc f)
+    by : (o : Option ImageFault) (bad : Bool) → (if is_some o || bad then None else Some (system_of image second core lines)) ≡ Some m
+        → (o ≡ None) × (bad ≡ false)
+    by None false f = (refl, refl)
+    by None true f = absurd (cc f)
+    by (Some fault) bad f = absurd (cc f)
 
-boots_is : (image : List ℕ) (core lines : ℕ) (m : System) → boots image core lines ≡ Some m
-    → system_with (store_of (disk_of image)) core lines ≡ m
-boots_is image core lines m e = by (is_some (image_fault image)) e
+boots_is : (image : List ℕ) (second : Option (List ℕ)) (core lines : ℕ) (m : System) → boots image second core lines ≡ Some m
+    → system_of image second core lines ≡ m
+boots_is image second core lines m e = by (is_some (image_fault image) || is_second_bad image second) e
   where
-    by : (x : Bool) → (if x then None else Some (system_with (store_of (disk_of image)) core lines)) ≡ Some m
-        → system_with (store_of (disk_of image)) core lines ≡ m
+    by : (x : Bool) → (if x then None else Some (system_of image second core lines)) ≡ Some m
+        → system_of image second core lines ≡ m
     by true f = absurd (cc f)
     by false f = cc f
 
 -- Each line of each log fits what the lines before it give, and the last one ends it.
 pub logs_are_lawful : LogsAreLawful
-logs_are_lawful image core lines events c are low high some e = by (boots image core lines) refl e
+logs_are_lawful image second core lines events c are low high some e = by (boots image second core lines) refl e
   where
-    by : (o : Option System) → boots image core lines ≡ o → option_map (λ m. course (started m) events) o ≡ Some c
+    by : (o : Option System) → boots image second core lines ≡ o → option_map (λ m. course (started m) events) o ≡ Some c
         → FitAll nothing_seen (log_of c) × (is_whole c.ending ≡ true → Lawful (log_of c))
     by None f g = absurd (cc g)
     by (Some m) f g =
-        let store : Store = store_of (disk_of image) in
+        let store : Stores = stores_of image second in
+        let fine_of = fine_images image second core lines m f in
         let is : course (started (system_with store core lines)) events ≡ c =
-        ap (λ n. course (started n) events) (boots_is image core lines m f) ∙ cc g in
+        ap (λ n. course (started n) events) (boots_is image second core lines m f) ∙ cc g in
         let fine : FineCourse (started (system_with store core lines)) =
-        started_fine store core lines low high (stamp_in_range image are) (few_nodes image (no_fault image core lines m f)) some in
+        started_fine store core lines low high (stamp_in_range image are) (few_keys image second fine_of.0 fine_of.1) some in
         subst (λ c. FitAll nothing_seen (log_of c) × (is_whole c.ending ≡ true → Lawful (log_of c))) is
         (log_lawful (course (started (system_with store core lines)) events) (course_fine events (started (system_with store core lines)) fine).fine)

@@ -8,6 +8,8 @@ use Rattle.std.proofs.Math.ListN.{get_or-map}
 use Rattle.open_files.specs.declared.file.OpenFile.{OpenFile}
 use Rattle.open_files.specs.Files.{file_at, times, entry_of, AreOpen}
 use Rattle.pipe_ends.specs.declared.ends.Pipe.{Pipe}
+use Rattle.fs_tree.specs.Mounting.{AreMounts}
+use Rattle.mount_tab.specs.Mounted.{is_the}
 use Rattle.sys_files.specs.Handed.{Handed}
 use Rattle.sys_files.specs.Sound.{is_of, numbers_of, IsSound, IsKept}
 use Rattle.sys_procs.specs.Process.{Process}
@@ -84,10 +86,11 @@ stands_told ino (Some p) = by p.is_zombie
     by true = refl
     by false = refl
 
-pub refer_told : (u : Unix) (ino : ℕ) → refer u.files u.texts (told_in u.processes) ino ≡ referrers u ino
+pub refer_told : (u : Unix) (ino : ℕ) → refer u.covered u.files u.texts (told_in u.processes) ino ≡ referrers u ino
 unfolding all_stand
 refer_told u ino =
-    ap (λ n. count_by (is_of ino) u.files + n + count_by (is_text_of ino) u.texts + (if ino == 1 then 1 else 0))
+    ap (λ n. count_by (is_of ino) u.files + n + count_by (is_text_of ino) u.texts + (if ino == 1 then 1 else 0)
+    + (if is_the u.covered ino then 1 else 0))
     (sym (same_sum (λ o. cond {A = ℕ} (is_in ino o) 1 0) (stands ino) told_by u.processes 0 (stands_told ino)))
 
 -- what one process has of the counts
@@ -153,7 +156,8 @@ few_stand ts ino long =
     let most = sum_by-le (stands ino) 1 ts (All-from_get_or (λ o. stands ino o ≤ 1) ts None (λ i low. stands_once ino (get_or ts i None))) in
     omega (arith, most, long)
 
-module _ (refs : List ℕ) (files : List (Option OpenFile)) (pipes : List Pipe) (texts : List (Option Text)) (ts : List (Option Told)) (owed : Owes refs files pipes texts ts) where
+module _ {covered : Option ℕ} (refs : List ℕ) (files : List (Option OpenFile)) (pipes : List Pipe) (texts : List (Option Text)) (ts : List (Option Told))
+    (owed : Owes covered refs files pipes texts ts) where
   -- a process, and what it names and where it is
   module _ (s : ℕ) (t : Told) (is : get_or ts s None ≡ Some t) where
     pub names_open : AreOpen files t.files
@@ -180,14 +184,15 @@ module _ (refs : List ℕ) (files : List (Option OpenFile)) (pipes : List Pipe) 
         let count : numbers_of (file_at files entry) ≡ file.count = ap numbers_of is in
         omega (arith, few, all, count)
 
-    pub few_references : (ino : ℕ) → length files ≡ 100 → length texts ≡ 40 → slice_index refs ino ≤ 191
+    pub few_references : (ino : ℕ) → length files ≡ 100 → length texts ≡ 40 → slice_index refs ino ≤ 192
     few_references ino entries forty =
         let a = count_by-le-length (is_of ino) files in
         let b = few_stand ts ino fifty in
         let c = count_by-le-length (is_text_of ino) texts in
         let d = at_most_one (ino == 1) in
+        let e = at_most_one (is_the covered ino) in
         let all = owed.referred ino in
-        omega (arith, a, b, c, d, entries, forty, all)
+        omega (arith, a, b, c, d, e, entries, forty, all)
 
 -- each of some slots has fifteen numbers, if the new one has
 pub fifteen_set : (ts : List (Option Told)) (s : ℕ) (o : Option Told) → ((r : ℕ) (t : Told) → get_or ts r None ≡ Some t → length t.files ≡ 15)
@@ -200,9 +205,10 @@ fifteen_set ts s o all own r t is = elim (cases_eq r s) [
 ]
 
 -- What a process is handed for a call on files is sound.
-pub sound_by : (h : Handed) (texts : List (Option Text)) (ts : List (Option Told)) (s : ℕ) → Owes h.inodes.references h.files h.pipes texts ts
+pub sound_by : (h : Handed) (texts : List (Option Text)) (ts : List (Option Told)) (s : ℕ)
+    → Owes h.mounts.covered h.inodes.references h.files h.pipes texts ts → AreMounts h.mounts h.inodes.store
     → get_or ts s None ≡ Some (record { files = h.u.files; dir = h.u.dir }) → length h.files ≡ 100 → length ts ≡ 50 → length texts ≡ 40 → IsSound h
-sound_by h texts ts s owed is entries fifty forty =
+sound_by h texts ts s owed mounts is entries fifty forty =
     let t : Told = record { files = h.u.files; dir = h.u.dir } in
     let refs : List ℕ = h.inodes.references in
     record {
@@ -219,6 +225,7 @@ sound_by h texts ts s owed is entries fifty forty =
           omega (arith, dir, all);
       few = λ ino. let few = few_references refs h.files h.pipes texts ts owed fifty ino entries forty in omega (arith, few);
       pipes = owed.piped;
+      mounts = mounts;
     }
 
 -- A call on files of a process keeps what is owed, whatever it does.
@@ -232,7 +239,7 @@ file_owes refs u s h owed is lives one kept long =
     let low = some_within ts s (told_of p) at in
     let put : told_in (with_handed u s h).processes ≡ set ts s (Some q) =
     map-set told_by u.processes s _ ∙ ap (λ b. set ts s (cond b None (Some q))) lives in
-    subst (λ (l : List (Option Told)). Owes h.inodes.references h.files h.pipes u.texts l) (sym put) (record {
+    subst (λ (l : List (Option Told)). Owes h.mounts.covered h.inodes.references h.files h.pipes u.texts l) (sym put) (record {
       numbers = λ entry.
           let before = owed.numbers entry in
           let counts = kept.numbers entry in

@@ -84,8 +84,9 @@ pending_walks : (slot : ℕ)
     → Walks (λ h. h.u.pending ≡ NOTHING_PENDING) Holds (λ count. Unit {0}) (λ ino. Unit {0}) (λ line. Unit {0}) (Unit {0}) slot
 pending_walks slot = record {
   refused = λ h e free. holds_free (fails h e) free;
-  done = λ h a b free. holds_free (record { answer = Ret a b; state = h; items = [] }) free;
+  done = λ h a b free. holds_free (record { answer = Ret a b; state = h; items = []; named = [] }) free;
   lets_go = λ ino d holds. record { pends = holds.pends; user = holds.user };
+  named = λ names d holds. record { pends = holds.pends; user = holds.user };
   waits = λ h l entry at count calling line free. record {
     pends = λ waits. record { end = file_called h LINE_READ entry count 0 (inl refl) calling; left = calling.few };
     user = λ awake. absurd (cc awake);
@@ -112,6 +113,7 @@ pending_walks slot = record {
   known = λ h entry is free. (tt, tt);
   numbered = λ h l other there free. tt;
   typewriter = λ h l t kept free. free;
+  covered = λ h covered free. free;
   enters = λ h dir moves free. free;
   terminal = λ h tty free. free;
   signalled = λ h free. free;

@@ -25,6 +25,7 @@ use Rattle.u_area.specs.Pending.{is_on_files}
 use Rattle.image_keep.specs.Kept.{clicks_of}
 use Rattle.sig_core.specs.declared.numbers.TheConstants.{SIGKIL}
 use Rattle.sig_core.specs.Signals as signal
+use Rattle.mount_tab.specs.Mounted.{MountTable}
 use Rattle.sys_procs.specs.Process.{Process, member_of, register, is_super}
 use Rattle.sys_procs.specs.World.{World, process_of, change, without_process, members}
 use Rattle.sys_procs.specs.Comes.{Comes, gives_two, fails, sleeps, unless_due, logs}
@@ -153,37 +154,38 @@ IsPlain call = ⊤
 asked_same : (n handler : ℕ) (p : Process) → SameProcess p (asking n handler p)
 asked_same n handler p = record { dead = refl; size = refl; text = refl; files = refl; dir = refl }
 
-pub plain_row : (call : ProcessCall) → IsPlain call → (s : ℕ) (w : World) (args : List ℕ) → Plain s w (process_row call w s args)
+pub plain_row : (call : ProcessCall) → IsPlain call → (mounts : MountTable) (s : ℕ) (w : World) (args : List ℕ)
+    → Plain s w (process_row call mounts w s args)
 unfolding pid_of set_uid get_uid set_gid get_gid switches no_op nice_to signal_set time_now set_time times_to sleep_for
-plain_row process.Wait is s w a = wait_plain s w
-plain_row process.Exec is s w a = absurd is
-plain_row process.Time is s w a = gives w _ _
-plain_row process.Break is s w a = absurd is
-plain_row process.Getpid is s w a = gives w _ _
-plain_row process.Setuid is s w a =
+plain_row process.Wait is mounts s w a = wait_plain s w
+plain_row process.Exec is mounts s w a = absurd is
+plain_row process.Time is mounts s w a = gives w _ _
+plain_row process.Break is mounts s w a = absurd is
+plain_row process.Getpid is mounts s w a = gives w _ _
+plain_row process.Setuid is mounts s w a =
     if_plain s w _ _ _
     (changes w (as_user (id_given (process_of w s))) _ (record { dead = refl; size = refl; text = refl; files = refl; dir = refl }) refl (gives _ _ _))
     (refuses w EPERM)
-plain_row process.Getuid is s w a = gives w _ _
-plain_row process.Stime is s w a =
+plain_row process.Getuid is mounts s w a = gives w _ _
+plain_row process.Stime is mounts s w a =
     let l = mod_below (65536 * register (process_of w s) 0 + register (process_of w s) 1) (2 ^ 32) (omega arith) in
     if_plain s w (is_super (process_of w s)) _ _ (dated w _ _ (omega (arith, l)) (wakes _ Tout _ tt (gives _ _ _))) (refuses w EPERM)
-plain_row process.Smdate is s w a = gives w _ _
-plain_row process.Nice is s w a =
+plain_row process.Smdate is mounts s w a = gives w _ _
+plain_row process.Nice is mounts s w a =
     let value = register (process_of w s) 0 in
     if_plain s w (nat_lt value 32768) _ _ (nice w (int_min (pos 20) (pos value)) _ (at_most_20 value) (gives w _ _))
     (if_plain s w (is_super (process_of w s)) _ _ (nice w (kept_nice value) _ (eight_bits value) (gives w _ _))
     (nice w (pos 0) _ (omega (arith, ints), omega (arith, ints)) (refuses w EPERM)))
-plain_row process.Sleep is s w a = until_plain s w _
-plain_row process.Kill is s w a = absurd is
-plain_row process.Csw is s w a = gives w _ _
-plain_row process.Times is s w a = stored_plain s w _
-plain_row process.Setgid is s w a =
+plain_row process.Sleep is mounts s w a = until_plain s w _
+plain_row process.Kill is mounts s w a = absurd is
+plain_row process.Csw is mounts s w a = gives w _ _
+plain_row process.Times is mounts s w a = stored_plain s w _
+plain_row process.Setgid is mounts s w a =
     if_plain s w _ _ _
     (changes w (as_group (id_given (process_of w s))) _ (record { dead = refl; size = refl; text = refl; files = refl; dir = refl }) refl (gives _ _ _))
     (refuses w EPERM)
-plain_row process.Getgid is s w a = gives w _ _
-plain_row process.Signal is s w a =
+plain_row process.Getgid is mounts s w a = gives w _ _
+plain_row process.Signal is mounts s w a =
     let n = slice_index a 0 in
     if_plain s w (signal.is_signal n && not (n == SIGKIL)) _ _
     (changes w (asking n (slice_index a 1)) _ (asked_same n (slice_index a 1) (process_of w s)) refl (gives _ _ _))

@@ -27,7 +27,9 @@ use Rattle.sys_files.specs.Did.{Did}
 use Rattle.sys_files.specs.Descriptors.{Closing, dropped, closes, close_all}
 use Rattle.sys_files.specs.Moving.{without_pending, resumes}
 use Rattle.sys_files.proofs.Bounds.{IsOfFiles, IsLineOf}
-use Rattle.sys_files.proofs.NodeCounts.{put_back_count}
+use Rattle.fs_nodes.specs.Keys.{counts, key_count}
+use Rattle.fs_nodes.proofs.CountLaws.{keys_counted}
+use Rattle.sys_files.proofs.NodeCounts.{put_back_counts}
 use Rattle.sys_files.proofs.Walks.{IsOfPipe, CanResume, Walks, walk_closes, walk_resume, closes_all}
 use Rattle.std.proofs.lemmas.List.Elements.{All-head, All-tail}
 use Rattle.sys_files.specs.Piping.{words_of}
@@ -94,7 +96,7 @@ EndsIn old new (Sleep pri chan) = Waits old new pri chan
 
 -- The numbers of nodes are words, and those of pipes that are open are numbers of inodes.
 pub record HasNumbers (h : Handed) : Type 0 where
-  pub count : h.inodes.store.count ≤ 65535
+  pub count : key_count h.inodes.store ≤ 65535
   pub eight : length h.lines ≤ 8
   pub pipes : HavePipes h.files h.pipes
 
@@ -111,9 +113,13 @@ same_call_in : {old : UArea} {h : Handed} {numbers : List ℕ} {dir : ℕ} → I
     → SameCall old (record h.u { files = numbers; dir = dir })
 same_call_in p = record { size = record { «data» = p.same.size.data; stack = p.same.size.stack }; pending = p.same.pending }
 
-pub other_inodes : (h : Handed) (inodes : Inodes) → inodes.store.count ≡ h.inodes.store.count → HasNumbers h
+pub other_inodes : (h : Handed) (inodes : Inodes) → counts inodes.store ≡ counts h.inodes.store → HasNumbers h
     → HasNumbers (with_inodes h inodes)
-other_inodes h inodes same n = record { count = subst (λ c. c ≤ 65535) (sym same) n.count; pipes = n.pipes; eight = n.eight }
+other_inodes h inodes same n = record {
+  count = subst (λ c. c ≤ 65535) (sym (keys_counted inodes.store h.inodes.store same)) n.count;
+  pipes = n.pipes;
+  eight = n.eight;
+}
 
 dropped_calm : (old : UArea) (h : Handed) (fd : ℕ) → InCalm old h → InCalm old (dropped h fd)
 dropped_calm old h fd p = record {
@@ -219,8 +225,9 @@ calm_walks old s = record {
   lets_go = λ ino d c. record {
     quiet = c.quiet;
     ends = c.ends;
-    numbers = other_inodes d.state (let_go d.state ino).inodes (put_back_count d.state.inodes ino) c.numbers;
+    numbers = other_inodes d.state (let_go d.state ino).inodes (put_back_counts d.state.inodes ino) c.numbers;
   };
+  named = λ names d c. record { quiet = c.quiet; ends = c.ends; numbers = c.numbers };
   waits = λ h l entry at count calling line p. record {
     quiet = tt;
     ends = waits_for_keys old (record h.u { pending = LINE_READ; call = entry ∷ at ∷ count ∷ 0 ∷ 0 ∷ 0 ∷ 0 ∷ 0 ∷ [] }) l (same_size p) refl line;
@@ -293,6 +300,7 @@ calm_walks old s = record {
       eight = subst (λ n. n ≤ 8) (sym (length-set h.lines l t)) p.numbers.eight;
     };
   };
+  covered = λ h covered p. record { same = p.same; numbers = record { count = p.numbers.count; pipes = p.numbers.pipes; eight = p.numbers.eight } };
   enters = λ h dir moves p. record { same = same_call_in p; numbers = record { count = p.numbers.count; pipes = p.numbers.pipes; eight = p.numbers.eight } };
   terminal = λ h tty p. record { same = p.same; numbers = record { count = p.numbers.count; pipes = p.numbers.pipes; eight = p.numbers.eight } };
   signalled = λ h p. record { same = p.same; numbers = record { count = p.numbers.count; pipes = p.numbers.pipes; eight = p.numbers.eight } };
@@ -314,7 +322,7 @@ pub record CalmClosing (old : UArea) (s : ℕ) (c : Closing) : Type 0 where
 closes_calm : (old : UArea) (s : ℕ) (h : Handed) (fd : ℕ) → 0 < slice_index h.u.files fd → InCalm old h
     → CalmClosing old s (closes h fd)
 closes_calm old s h fd named p =
-    let c : Calm old s (record { answer = Ret 0 0; state = (closes h fd).state; items = (closes h fd).items }) =
+    let c : Calm old s (record { answer = Ret 0 0; state = (closes h fd).state; items = (closes h fd).items; named = [] }) =
     walk_closes (calm_walks old s) h fd 0 0 named tt p in
     record { quiet = c.quiet; calm = record { same = c.ends; numbers = c.numbers } }
 

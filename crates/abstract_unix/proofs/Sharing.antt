@@ -100,9 +100,9 @@ more_refs l d ino some = elim (cases_lt d (length l)) [
 ]
 
 -- One more process, in a slot that is free, and one reference more.
-pub child_owes : (refs : List ℕ) (files : List (Option OpenFile)) (pipes : List Pipe) (texts : List (Option Text)) (ts : List (Option Told)) (s c : ℕ) (t : Told) → Owes refs files pipes texts ts
+pub child_owes : {covered : Option ℕ} (refs : List ℕ) (files : List (Option OpenFile)) (pipes : List Pipe) (texts : List (Option Text)) (ts : List (Option Told)) (s c : ℕ) (t : Told) → Owes covered refs files pipes texts ts
     → get_or ts s None ≡ Some t → get_or ts c None ≡ None → c < length ts
-    → Owes (set refs t.dir (slice_index refs t.dir + 1)) (shared files t.files) pipes texts (set ts c (Some t))
+    → Owes covered (set refs t.dir (slice_index refs t.dir + 1)) (shared files t.files) pipes texts (set ts c (Some t))
 child_owes refs files pipes texts ts s c t owed at free within = record {
   numbers = λ entry.
       let more = shared_numbers files t.files entry (names_open refs files pipes texts ts owed s t at) in

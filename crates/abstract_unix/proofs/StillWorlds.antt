@@ -9,7 +9,10 @@ use Rattle.fs_codec.specs.declared.modes.TheConstants.{ISUID, ISGID}
 use Rattle.fs_tree.specs.Finding.{Finding, with_reference, find_in}
 use Rattle.u_area.specs.declared.area.UArea.{UArea}
 use Rattle.v6_base.specs.declared.errno.Errno.{Errno}
-use Rattle.sys_files.proofs.NodeCounts.{put_back_count, finding_count}
+use Rattle.fs_nodes.specs.Disks.{Disks}
+use Rattle.fs_nodes.specs.Keys.{counts}
+use Rattle.mount_tab.specs.Mounted.{MountTable}
+use Rattle.sys_files.proofs.NodeCounts.{put_back_counts, finding_counts}
 use Rattle.sys_procs.specs.declared.program.Program.{Program}
 use Rattle.sys_procs.specs.Process.{Process, no_process, image_of}
 use Rattle.sys_procs.specs.World.{World, process_of, change, without_process, with_inodes, let_go}
@@ -51,7 +54,7 @@ told_same p q files dir dead = λ i. cond (dead i) None (Some (record { files = 
 module _ (base : World) (s : ℕ) where
   -- A world in which all that the counts see is as in another one, and the process of a slot lives.
   pub record IsStill (v : World) : Type 0 where
-    pub count : v.inodes.store.count ≡ base.inodes.store.count
+    pub count : counts v.inodes.store ≡ counts base.inodes.store
     pub told : told_in v.processes ≡ told_in base.processes
     pub there : get_or v.processes s None ≡ Some (process_of v s)
     pub lives : (process_of v s).is_zombie ≡ false
@@ -168,7 +171,7 @@ module _ (base : World) (s : ℕ) where
 
   -- exec: until the new program begins the area of its process is another, but for which all is as it was
   record IsBut (v : World) : Type 0 where
-    count : v.inodes.store.count ≡ base.inodes.store.count
+    count : counts v.inodes.store ≡ counts base.inodes.store
     but : set (told_in v.processes) s None ≡ set (told_in base.processes) s None
     there : get_or v.processes s None ≡ Some (process_of v s)
     lives : (process_of v s).is_zombie ≡ false
@@ -183,7 +186,7 @@ module _ (base : World) (s : ℕ) where
     fifty = k.fifty;
   }
 
-  but_inodes : (v w : World) → w.processes ≡ v.processes → w.inodes.store.count ≡ v.inodes.store.count → IsBut v → IsBut w
+  but_inodes : (v w : World) → w.processes ≡ v.processes → counts w.inodes.store ≡ counts v.inodes.store → IsBut v → IsBut w
   but_inodes v w same count k =
       let is : process_of w s ≡ process_of v s = ap (λ ps. unwrap_or (get_or ps s None) no_process) same in
       record {
@@ -288,7 +291,7 @@ module _ (base : World) (s : ℕ) where
       let begun = but_ends read q own (told_again read q own still) still
       (begun_lives u (process_of read s) (node_at v program.ino) program m.memory.data ∙ still.lives) in
       record {
-        count = put_back_count read.inodes program.ino ∙ begun.count;
+        count = put_back_counts read.inodes program.ino ∙ begun.count;
         told = begun.told;
         there = begun.there;
         lives = begun.lives;
@@ -336,7 +339,7 @@ module _ (base : World) (s : ℕ) where
 
   let_go_still : (b : Bool) (v : World) (ino : ℕ) → IsStill v → IsStill (cond b (let_go v ino) v)
   let_go_still true v ino k = record {
-    count = put_back_count v.inodes ino ∙ k.count;
+    count = put_back_counts v.inodes ino ∙ k.count;
     told = k.told;
     there = k.there;
     lives = k.lives;
@@ -380,20 +383,20 @@ module _ (base : World) (s : ℕ) where
           record { count = e.count; told = e.told; there = e.there; lives = e.lives; fifty = e.fifty }
 
   -- the tests
-  abbrev HasCount : ℕ → exec.Tested → Type 0
-  HasCount n t = t.world.inodes.store.count ≡ n
+  abbrev HasCount : Disks ℕ → exec.Tested → Type 0
+  HasCount n t = counts t.world.inodes.store ≡ n
 
-  check_count : {A : Type 0} (n : ℕ) (now : World) (r : Result A Errno) (next : A → exec.Tested) → now.inodes.store.count ≡ n
+  check_count : {A : Type 0} (n : Disks ℕ) (now : World) (r : Result A Errno) (next : A → exec.Tested) → counts now.inodes.store ≡ n
       → ((a : A) → HasCount n (next a)) → HasCount n (exec.check now r next)
   check_count n now (Ok a) next k h = h a
   check_count n now (Err e) next k h = k
 
-  header_count : (n : ℕ) (now : World) (ino : ℕ) (args : List (List ℕ)) (head : Moving (List ℕ)) → now.inodes.store.count ≡ n
+  header_count : (n : Disks ℕ) (now : World) (ino : ℕ) (args : List (List ℕ)) (head : Moving (List ℕ)) → counts now.inodes.store ≡ n
       → HasCount n (exec.tests_header now ino args head)
   header_count n now ino args head k =
       let h : Header = header_of head.memory in
       let out : World = let_go now ino in
-      let left : out.inodes.store.count ≡ n = put_back_count now.inodes ino ∙ k in
+      let left : counts out.inodes.store ≡ n = put_back_counts now.inodes ino ∙ k in
       let text : Plan → ℕ = λ plan. exec.text_clicks_in now.texts ino plan in
       let fitting : Plan → Unit {0}
       → exec.Tested = λ plan fits. record {
@@ -414,12 +417,12 @@ module _ (base : World) (s : ℕ) where
       check_count {A = Plan} n out (exec.or_no_memory (plan_of h)) last left (λ plan.
       check_count {A = Unit {0}} n out (fits plan) (fitting plan) left (λ f. k)))))
 
-  file_count : (n : ℕ) (now : World) (ino list : ℕ) → now.inodes.store.count ≡ n → HasCount n (exec.tests_file now s ino list)
+  file_count : (n : Disks ℕ) (now : World) (ino list : ℕ) → counts now.inodes.store ≡ n → HasCount n (exec.tests_file now s ino list)
   file_count n now ino list k =
       let q : Process = process_of now s in
       let node : Node = node_at now ino in
       let out : World = let_go now ino in
-      let left : out.inodes.store.count ≡ n = put_back_count now.inodes ino ∙ k in
+      let left : counts out.inodes.store ≡ n = put_back_counts now.inodes ino ∙ k in
       let head : Moving (List ℕ) = exec.header_read now ino in
       let read : List (List ℕ) → exec.Tested = λ args. exec.tests_header (exec.with_moved now ino head) ino args head in
       let named : Unit {0} → exec.Tested = λ plain. exec.check out (arguments (image_of now.texts q) list) read in
@@ -429,31 +432,31 @@ module _ (base : World) (s : ℕ) where
       check_count {A = List (List ℕ)} n out (arguments (image_of now.texts q) list) read left (λ args.
       header_count n (exec.with_moved now ino head) ino args head k)))
 
-  tests_count : (v : World) (name list : ℕ) → (exec.tests v s name list).world.inodes.store.count ≡ v.inodes.store.count
-  tests_count v name list =
+  tests_count : (mounts : MountTable) (v : World) (name list : ℕ) → counts (exec.tests mounts v s name list).world.inodes.store ≡ counts v.inodes.store
+  tests_count mounts v name list =
       let p : Process = process_of v s in
-      let found : Finding ℕ = find_in v.inodes (user_of p) p.u.dir (name_at (image_of v.texts p) name) in
-      let same : found.inodes.store.count ≡ v.inodes.store.count = finding_count v.inodes _ in
-      check_count v.inodes.store.count (with_inodes v found.inodes) found.answer
+      let found : Finding ℕ = find_in v.inodes mounts (user_of p) p.u.dir (name_at (image_of v.texts p) name) in
+      let same : counts found.inodes.store ≡ counts v.inodes.store = finding_counts v.inodes _ in
+      check_count (counts v.inodes.store) (with_inodes v found.inodes) found.answer
       (λ ino. exec.tests_file (with_inodes v found.inodes) s ino list) same
-      (λ ino. file_count v.inodes.store.count (with_inodes v found.inodes) ino list same)
+      (λ ino. file_count (counts v.inodes.store) (with_inodes v found.inodes) ino list same)
 
-  still_exec : (v : World) (name list : ℕ) → IsStill v → IsStill (exec.exec_file v s name list).state
+  still_exec : (mounts : MountTable) (v : World) (name list : ℕ) → IsStill v → IsStill (exec.exec_file mounts v s name list).state
   unfolding exec.exec_file
-  still_exec v name list k = by t.answer
+  still_exec mounts v name list k = by t.answer
     where
       t : exec.Tested
-      t = exec.tests v s name list
+      t = exec.tests mounts v s name list
 
       same : t.world.processes ≡ v.processes
-      same = tests_processes v s name list
+      same = tests_processes mounts v s name list
 
       is : process_of t.world s ≡ process_of v s
       is = ap (λ ps. unwrap_or (get_or ps s None) no_process) same
 
       tested : IsStill t.world
       tested = record {
-        count = tests_count v name list ∙ k.count;
+        count = tests_count mounts v name list ∙ k.count;
         told = ap told_in same ∙ k.told;
         there = ap (λ ps. get_or ps s None) same ∙ k.there ∙ ap Some (sym is);
         lives = ap (λ (q : Process). q.is_zombie) is ∙ k.lives;
@@ -465,11 +468,11 @@ module _ (base : World) (s : ℕ) where
       by (Err e) = tested
 
   -- each row
-  pub still_row : (call : ProcessCall) (v : World) (args : List ℕ) → IsStill v → IsStill (process_row call v s args).state
-  still_row process.Exec v a k = still_exec v (slice_index a 0) (slice_index a 1) k
-  still_row process.Break v a k = still_break v (slice_index a 0) k
-  still_row process.Kill v a k = still_kill v (slice_index a 0) k
-  still_row call v a k = still_plain v _ (plain_row call tt s v a) k
+  pub still_row : (call : ProcessCall) (mounts : MountTable) (v : World) (args : List ℕ) → IsStill v → IsStill (process_row call mounts v s args).state
+  still_row process.Exec mounts v a k = still_exec mounts v (slice_index a 0) (slice_index a 1) k
+  still_row process.Break mounts v a k = still_break v (slice_index a 0) k
+  still_row process.Kill mounts v a k = still_kill v (slice_index a 0) k
+  still_row call mounts v a k = still_plain v _ (plain_row call tt mounts s v a) k
 
   -- a sleep or a wait that goes on
   pub still_resume : (v : World) → IsStill v → IsStill (resume_proc v s).state
@@ -477,7 +480,7 @@ module _ (base : World) (s : ℕ) where
 
   -- exit: its process is told of no more
   pub record IsGone (v : World) : Type 0 where
-    pub count : v.inodes.store.count ≡ base.inodes.store.count
+    pub count : counts v.inodes.store ≡ counts base.inodes.store
     pub told : told_in v.processes ≡ set (told_in base.processes) s None
     pub fifty : length v.processes ≡ 50
 
@@ -498,7 +501,7 @@ module _ (base : World) (s : ℕ) where
       }
 
   let_go_but : (b : Bool) (v : World) (ino : ℕ) → IsBut v → IsBut (cond b (let_go v ino) v)
-  let_go_but true v ino k = but_inodes v (let_go v ino) refl (put_back_count v.inodes ino) k
+  let_go_but true v ino k = but_inodes v (let_go v ino) refl (put_back_counts v.inodes ino) k
   let_go_but false v ino k = k
 
   but_left : (v : World) (k : ℕ) (sticky : Bool) → IsBut v → IsBut (leaves_text v s k sticky)
@@ -515,7 +518,7 @@ module _ (base : World) (s : ℕ) where
       left = leaves v s status
 
       but : IsBut left
-      but = but_inodes (change v s (ended status)) left refl (put_back_count v.inodes (process_of v s).u.dir)
+      but = but_inodes (change v s (ended status)) left refl (put_back_counts v.inodes (process_of v s).u.dir)
           (but_change v (ended status) refl (but_still v k))
 
       by : (o : Option ℕ) → IsGone (xfree left s o (λ now. dies now s)).state

@@ -1,6 +1,7 @@
 -- What holds of a Unix between two turns, besides who sits where: open files count the numbers that name them, the pipes that are
 -- open have numbers that a channel may have, there are eight lines at most, and who waits in a call on files can go on.
 use Rattle.std.proofs.Common.{◌≡◌, ◌≤◌, ℕ, true, false, length, get_or, Some, None}
+use Rattle.fs_nodes.specs.Keys.{key_count}
 use Rattle.open_files.specs.Files.{file_at}
 use Rattle.u_area.specs.Pending.{is_on_files}
 use Rattle.sys_files.specs.Sound.{numbers_of}
@@ -18,7 +19,7 @@ pub record IsTidy (u : Unix) : Type 0 where
   pub fifty : length u.processes ≡ 50
   pub fifteen : (s : ℕ) (t : Told) → get_or (told_in u.processes) s None ≡ Some t → length t.files ≡ 15
   pub waits : CanGoOn u
-  pub count : u.store.count ≤ 65535
+  pub count : key_count u.store ≤ 65535
   pub eight : length u.lines ≤ 8
   pub pipes : HavePipes u.files u.pipes
 

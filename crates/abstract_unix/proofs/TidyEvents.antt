@@ -2,7 +2,6 @@
 use Rattle.std.proofs.Common.{◌≡◌, ◌∙◌, ◌≤◌, ◌==◌, ℕ, zero, suc, Bool, true, false, not, cond, ◌++◌, ◌&&◌, List, length, map, set, get_or, get_or-set_same, unwrap_or, Option, Some, None, refl, sym, ap, subst, inl, inr}
 use Rattle.std.proofs.lemmas.Bool.{eqb-true, eqb-false}
 use Rattle.std.proofs.lemmas.List.FromFn.{length-map-range_with_len}
-use Rattle.fs_codec.specs.Store.{Store}
 use Rattle.tty_line.specs.declared.line.Keyed.{Keyed}
 use Rattle.tty_line.specs.declared.line.Keyed.TheVariants as key
 use Rattle.tty_line.specs.Input.{Typed, typed}
@@ -27,6 +26,7 @@ use Rattle.tty_line.specs.Terminal.{Terminal}
 use Rattle.tty_line.specs.Said.{Said, flush, sends}
 use Rattle.lines_eight.specs.Told.{AllTold, each_line, told, keys_of, show_of}
 use Rattle.sig_core.specs.declared.numbers.TheConstants.{SIGHUP}
+use Rattle.fs_nodes.specs.Keys.{Stores, key_count}
 use Rattle.pick_rules.specs.Effects.{Effect, Show}
 use Rattle.sys_procs.specs.World.{Clock}
 use Rattle.abstract_unix.specs.Delivery.{delivers_due}
@@ -70,7 +70,7 @@ tidy_clock u v files pipes processes store lines waits tidy = record {
   fifty = ap length processes ∙ tidy.fifty;
   fifteen = λ s t e. tidy.fifteen s t (ap (λ ps. get_or (told_in ps) s None) (sym processes) ∙ e);
   waits = waits;
-  count = subst (λ (s : Store). s.count ≤ 65535) (sym store) tidy.count;
+  count = subst (λ (s : Stores). key_count s ≤ 65535) (sym store) tidy.count;
   eight = subst (λ n. n ≤ 8) (sym lines) tidy.eight;
   pipes = λ entry file at pipe. subst (λ p. HasPipe p file.ino) (sym pipes)
       (tidy.pipes entry file (ap (λ f. file_at f entry) (sym files) ∙ at) pipe);

@@ -48,7 +48,7 @@ use Rattle.abstract_unix.specs.declared.calls.SystemCall.TheVariants.{Indirect, 
 use Rattle.abstract_unix.specs.declared.calls.Sysent.{Sysent}
 use Rattle.abstract_unix.specs.declared.ending.Ending.{Ending}
 use Rattle.abstract_unix.specs.declared.ending.Ending.TheVariants as ending
-use Rattle.abstract_unix.specs.Unix.{Unix, System, process_of, with_process}
+use Rattle.abstract_unix.specs.Unix.{Unix, System, process_of, with_process, mounts_of}
 use Rattle.abstract_unix.specs.Errors.{error_number}
 use Rattle.abstract_unix.specs.Steps.{Steps, returns, signals}
 use Rattle.abstract_unix.specs.Calls.{handed_of, with_handed, world_of, with_world, given_area, refused_area, entered_area, words_passed, with_area, refuses, answers, did_by, came_by, shares, forks, grows, grown_by, grows_to, exits_with, asked, file_row, process_row, reads_disk, loads_program, waiting_until, disk_end, waits_for_disk, takes_time, does_call, sysent_of, does_asked, resumed}
@@ -348,11 +348,11 @@ module _ (s : ℕ) where
       (runs_did s u did (walk_row (counted_walks h s) call h args u.clock.time tt (λ moves. tt) (runs_counted s u r)) calm.numbers
       (row_pends call h s args u.clock.time free) r))
   leaves_call u (OnProcesses call) args free r =
-      let c : Comes = process_row call (world_of u) s args in
+      let c : Comes = process_row call (mounts_of u) (world_of u) s args in
       leaves_runs (takes_time (loads_program call c.answer) s (came_by u s c))
       (runs_timed (loads_program call c.answer) (came_by u s c)
-      (runs_came s u c (still_row (world_of u) s call (world_of u) args (runs_still s u r))
-      (row_waited (world_of u) s free call args) r))
+      (runs_came s u c (still_row (world_of u) s call (mounts_of u) (world_of u) args (runs_still s u r))
+      (row_waited (world_of u) s free call (mounts_of u) args) r))
 
   leaves_asked : (u : Unix) (a : Asked) (entry : Sysent) → (process_of u s).u.pending ≡ NOTHING_PENDING → Runs s u
       → Leaves s (does_asked u s a entry)

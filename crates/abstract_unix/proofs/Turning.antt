@@ -14,6 +14,7 @@ use Rattle.u_area.specs.declared.area.UArea.{UArea}
 use Rattle.u_area.specs.Pending.{is_on_files}
 use Rattle.sys_files.specs.Handed.{Handed}
 use Rattle.sys_files.specs.Moving.{resumes}
+use Rattle.mount_tab.specs.Mounted.{MountTable}
 use Rattle.sys_procs.specs.Process.{Process, register, image_of}
 use Rattle.sys_procs.specs.TextTable.{Text}
 use Rattle.sys_procs.specs.World.{Clock, World, change}
@@ -40,7 +41,7 @@ use Rattle.abstract_unix.specs.declared.calls.ProcessCall.TheVariants as process
 use Rattle.abstract_unix.specs.declared.calls.SystemCall.{SystemCall}
 use Rattle.abstract_unix.specs.declared.calls.SystemCall.TheVariants.{Indirect, Exit, Fork, Unknown, OnFiles, OnProcesses}
 use Rattle.abstract_unix.specs.declared.calls.Sysent.{Sysent}
-use Rattle.abstract_unix.specs.Unix.{Unix, process_of, with_process}
+use Rattle.abstract_unix.specs.Unix.{Unix, process_of, with_process, mounts_of}
 use Rattle.abstract_unix.specs.Steps.{Steps, returns}
 use Rattle.abstract_unix.specs.Calls.{handed_of, world_of, with_area, entered_area, words_passed, asked, did_by, came_by, shares, forks, file_row, process_row, answers, with_handed, with_world, is_read, has_bytes, reads_disk, is_exec, is_done, loads_program, waiting_until, disk_end, waits_for_disk, takes_time, does_call, sysent_of, does_asked, system_call, resumed}
 use Rattle.abstract_unix.specs.Turn.{machine_of, with_machine, faults, comes_to, instruction, is_user, passes_setd, begins_turn, turn}
@@ -64,11 +65,12 @@ calm_row : (call : FileCall) (h : Handed) (s : ℕ) (args : List ℕ) (now : ℕ
 calm_row call h s args now numbers = walk_row (calm_walks h.u s) call h args now tt (λ moves. tt) (record { same = same_call h.u; numbers = numbers })
 
 -- a row of a call on processes
-fine_row : (call : ProcessCall) (s : ℕ) (seen : Seen) (w : World) (args : List ℕ) → Calling s w seen → FineComes w.limit s seen (process_row call w s args)
-fine_row process.Exec s seen w a i = exec_fine s seen w (slice_index a 0) (slice_index a 1) i
-fine_row process.Break s seen w a i = break_fine s seen w (slice_index a 0) i
-fine_row process.Kill s seen w a i = kill_fine s seen w (slice_index a 0) i
-fine_row call s seen w a i = plain_fine s seen w _ (plain_row call tt s w a) i
+fine_row : (call : ProcessCall) (mounts : MountTable) (s : ℕ) (seen : Seen) (w : World) (args : List ℕ) → Calling s w seen
+    → FineComes w.limit s seen (process_row call mounts w s args)
+fine_row process.Exec mounts s seen w a i = exec_fine mounts s seen w (slice_index a 0) (slice_index a 1) i
+fine_row process.Break mounts s seen w a i = break_fine s seen w (slice_index a 0) i
+fine_row process.Kill mounts s seen w a i = kill_fine s seen w (slice_index a 0) i
+fine_row call mounts s seen w a i = plain_fine s seen w _ (plain_row call tt mounts s w a) i
 
 module _ (s : ℕ) (seen : Seen) where
   if_apt : (b : Bool) (x y : Steps) → AptBegun s seen x → AptBegun s seen y → AptBegun s seen (cond b x y)
@@ -156,8 +158,8 @@ module _ (s : ℕ) (seen : Seen) where
       (did_apt s u seen false (process_of u s).u did i (same_call (process_of u s).u).size (no_pending s u seen i)
       (calm_row call h s args u.clock.time numbers))
   call_apt u (OnProcesses call) args numbers i =
-      let c : Comes = process_row call (world_of u) s args in
-      timed_apt (loads_program call c.answer) (came_by u s c) (came_trapped u call c) (came_apt s seen u c (fine_row call s seen (world_of u) args i).fine)
+      let c : Comes = process_row call (mounts_of u) (world_of u) s args in
+      timed_apt (loads_program call c.answer) (came_by u s c) (came_trapped u call c) (came_apt s seen u c (fine_row call (mounts_of u) s seen (world_of u) args i).fine)
 
   asked_apt : (u : Unix) (a : Asked) (entry : Sysent) → HasNumbers (handed_of u (process_of u s)) → Calling s (world_of u) seen → AptBegun s seen (does_asked u s a entry)
   asked_apt u a entry numbers i =

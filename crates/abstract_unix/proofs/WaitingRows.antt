@@ -16,6 +16,7 @@ use Rattle.u_area.specs.Pending.{is_on_files}
 use Rattle.seg_regs.specs.Sizes.{is_refused}
 use Rattle.pick_rules.specs.Effects as effect
 use Rattle.proc_tab.specs.Processes.{lowest}
+use Rattle.mount_tab.specs.Mounted.{MountTable}
 use Rattle.sys_procs.specs.declared.program.Program.{Program}
 use Rattle.sys_procs.specs.Process.{Process, no_process}
 use Rattle.sys_procs.specs.World.{World, process_of, change, without_process, members, let_go}
@@ -218,11 +219,11 @@ module _ (ps : List (Option Process)) (s : ℕ) where
   done_eased w (Ok program) is = loads_eased w program is
   done_eased w (Err e) is = eased _ is
 
-  exec_eased : (w : World) (name list : ℕ) → IsFree w → IsEased (exec_file w s name list)
+  exec_eased : (mounts : MountTable) (w : World) (name list : ℕ) → IsFree w → IsEased (exec_file mounts w s name list)
   unfolding exec_file
-  exec_eased w name list is =
-      let t : Tested = tests w s name list in
-      done_eased t.world t.answer (same_free w t.world (tests_processes w s name list) is)
+  exec_eased mounts w name list is =
+      let t : Tested = tests mounts w s name list in
+      done_eased t.world t.answer (same_free w t.world (tests_processes mounts w s name list) is)
 
   -- break, and the growth of a stack
   expands_eased : (w : World) (d n : ℕ) → IsFree w → IsEased (expands w s d n)
@@ -288,11 +289,12 @@ module _ (ps : List (Option Process)) (s : ℕ) where
       eased_if ps s (length (meant_in who w.processes) == 0) _ _ (eased ps s _ is) (eased ps s _ (signalled_free w who n is))
 
   -- each row
-  row_eased : (call : ProcessCall) (w : World) (args : List ℕ) → IsFree ps s w → IsEased ps s (process_row call w s args)
-  row_eased process.Exec w a is = exec_eased ps s w (slice_index a 0) (slice_index a 1) is
-  row_eased process.Break w a is = break_eased ps s w (slice_index a 0) is
-  row_eased process.Kill w a is = kill_eased w (slice_index a 0) is
-  row_eased call w a is = plain_eased ps s w _ (plain_row call tt s w a) is
+  row_eased : (call : ProcessCall) (mounts : MountTable) (w : World) (args : List ℕ) → IsFree ps s w
+      → IsEased ps s (process_row call mounts w s args)
+  row_eased process.Exec mounts w a is = exec_eased ps s mounts w (slice_index a 0) (slice_index a 1) is
+  row_eased process.Break mounts w a is = break_eased ps s w (slice_index a 0) is
+  row_eased process.Kill mounts w a is = kill_eased w (slice_index a 0) is
+  row_eased call mounts w a is = plain_eased ps s w _ (plain_row call tt mounts s w a) is
 
   -- a sleep or a wait that goes on
   resume_eased : (w : World) → AllWaited ps w.processes → IsEased ps s (resume_proc w s)
@@ -376,12 +378,12 @@ module _ (w : World) (s : ℕ) (free : (process_of w s).u.pending ≡ NOTHING_PE
   begun : IsFree w.processes s w
   begun = record { waited = all_waited_same w.processes; free = free }
 
-  pub row_waited : (call : ProcessCall) (args : List ℕ) → AllWaited w.processes (process_row call w s args).state.processes
-  row_waited call args = (row_eased w.processes s call w args begun).waited
+  pub row_waited : (call : ProcessCall) (mounts : MountTable) (args : List ℕ) → AllWaited w.processes (process_row call mounts w s args).state.processes
+  row_waited call mounts args = (row_eased w.processes s call mounts w args begun).waited
 
-  pub process_user : (call : ProcessCall) (args : List ℕ) → is_sleep (process_row call w s args).answer ≡ false
-      → (process_of (process_row call w s args).state s).u.pending ≡ NOTHING_PENDING
-  process_user call args awake = (row_eased w.processes s call w args begun).user awake
+  pub process_user : (call : ProcessCall) (mounts : MountTable) (args : List ℕ) → is_sleep (process_row call mounts w s args).answer ≡ false
+      → (process_of (process_row call mounts w s args).state s).u.pending ≡ NOTHING_PENDING
+  process_user call mounts args awake = (row_eased w.processes s call mounts w args begun).user awake
 
   pub fork_waited : AllWaited w.processes (fork_one w s).state.processes
   fork_waited = (fork_eased w.processes s w begun).waited

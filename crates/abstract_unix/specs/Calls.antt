@@ -25,6 +25,7 @@ use Rattle.sys_files.specs.Did.{Did}
 use Rattle.sys_files.specs.Descriptors.{Closing, open_entry, dup_file, close_file, close_all}
 use Rattle.sys_files.specs.Making.{creat_file, mknod_at, link_file, unlink_file}
 use Rattle.sys_files.specs.Modes.{stty_set, gtty_get}
+use Rattle.sys_files.specs.Mounting.{mount_on, umount_off}
 use Rattle.sys_files.specs.Moving.{read_file_of, write_file_of, seek_to, resumes}
 use Rattle.sys_files.specs.Names.{chdir_to, chmod_to, chown_to, sync_all}
 use Rattle.sys_files.specs.Opening.{open_file}
@@ -53,7 +54,8 @@ use Rattle.abstract_unix.specs.declared.calls.SystemCall.{SystemCall}
 use Rattle.abstract_unix.specs.declared.calls.SystemCall.TheVariants.{Indirect, Exit, Fork, Unknown, OnFiles, OnProcesses}
 use Rattle.abstract_unix.specs.declared.calls.Sysent.{Sysent}
 use Rattle.abstract_unix.specs.declared.ending.Ending.TheVariants.{Ended, Trapped, Slept}
-use Rattle.abstract_unix.specs.Unix.{Timing, Unix, process_of, with_process}
+use Rattle.mount_tab.specs.Mounted.{MountTable}
+use Rattle.abstract_unix.specs.Unix.{Timing, Unix, mounts_of, process_of, with_process}
 use Rattle.abstract_unix.specs.References.{references_of}
 use Rattle.abstract_unix.specs.Errors.{error_number}
 use Rattle.abstract_unix.specs.Steps.{Steps, returns, sleeps, signals, after_effects}
@@ -62,6 +64,7 @@ use Rattle.abstract_unix.specs.Steps.{Steps, returns, sleeps, signals, after_eff
 abbrev pub handed_of : Unix → Process → Handed
 handed_of u p = record {
   inodes = record { store = u.store; references = references_of u };
+  mounts = mounts_of u;
   marks = marks_of u.texts;
   files = u.files;
   pipes = u.pipes;
@@ -75,6 +78,7 @@ handed_of u p = record {
 abbrev pub with_handed : Unix → ℕ → Handed → Unix
 with_handed u slot h = record u {
   store = h.inodes.store;
+  covered = h.mounts.covered;
   files = h.files;
   pipes = h.pipes;
   lines = h.lines;
@@ -174,6 +178,8 @@ file_row file.Chmod h slot a now = chmod_to h (slice_index a 0) (slice_index a 1
 file_row file.Chown h slot a now = chown_to h (slice_index a 0) (slice_index a 1) now
 file_row file.Stat h slot a now = stat_file h (slice_index a 0) (slice_index a 1)
 file_row file.Seek h slot a now = seek_to h (slice_index a 0) (slice_index a 1)
+file_row file.Mount h slot a now = mount_on h (slice_index a 0) (slice_index a 1)
+file_row file.Umount h slot a now = umount_off h (slice_index a 0)
 file_row file.Fstat h slot a now = stat_open h (slice_index a 0)
 file_row file.Stty h slot a now = stty_set h (slice_index a 0)
 file_row file.Gtty h slot a now = gtty_get h (slice_index a 0)
@@ -181,25 +187,26 @@ file_row file.Sync h slot a now = sync_all h now
 file_row file.Dup h slot a now = dup_file h
 file_row file.Pipe h slot a now = pipe_new h now
 
--- what a call on processes does, by its row, over what it is handed, the slot and its arguments
-abbrev pub process_row : ProcessCall → World → ℕ → List ℕ → Comes
-process_row process.Wait w slot a = wait_child w slot
-process_row process.Exec w slot a = exec_file w slot (slice_index a 0) (slice_index a 1)
-process_row process.Time w slot a = time_now w slot
-process_row process.Break w slot a = break_at w slot (slice_index a 0)
-process_row process.Getpid w slot a = pid_of w slot
-process_row process.Setuid w slot a = set_uid w slot
-process_row process.Getuid w slot a = get_uid w slot
-process_row process.Stime w slot a = set_time w slot
-process_row process.Smdate w slot a = no_op w slot
-process_row process.Nice w slot a = nice_to w slot
-process_row process.Sleep w slot a = sleep_for w slot
-process_row process.Kill w slot a = kill_to w slot (slice_index a 0)
-process_row process.Csw w slot a = switches w slot
-process_row process.Times w slot a = times_to w slot (slice_index a 0)
-process_row process.Setgid w slot a = set_gid w slot
-process_row process.Getgid w slot a = get_gid w slot
-process_row process.Signal w slot a = signal_set w slot (slice_index a 0) (slice_index a 1)
+-- what a call on processes does, by its row, over the mount table, what it is handed, the slot and its
+-- arguments
+abbrev pub process_row : ProcessCall → MountTable → World → ℕ → List ℕ → Comes
+process_row process.Wait mounts w slot a = wait_child w slot
+process_row process.Exec mounts w slot a = exec_file mounts w slot (slice_index a 0) (slice_index a 1)
+process_row process.Time mounts w slot a = time_now w slot
+process_row process.Break mounts w slot a = break_at w slot (slice_index a 0)
+process_row process.Getpid mounts w slot a = pid_of w slot
+process_row process.Setuid mounts w slot a = set_uid w slot
+process_row process.Getuid mounts w slot a = get_uid w slot
+process_row process.Stime mounts w slot a = set_time w slot
+process_row process.Smdate mounts w slot a = no_op w slot
+process_row process.Nice mounts w slot a = nice_to w slot
+process_row process.Sleep mounts w slot a = sleep_for w slot
+process_row process.Kill mounts w slot a = kill_to w slot (slice_index a 0)
+process_row process.Csw mounts w slot a = switches w slot
+process_row process.Times mounts w slot a = times_to w slot (slice_index a 0)
+process_row process.Setgid mounts w slot a = set_gid w slot
+process_row process.Getgid mounts w slot a = get_gid w slot
+process_row process.Signal mounts w slot a = signal_set w slot (slice_index a 0) (slice_index a 1)
 
 -- What a call on files shows goes out when it is done: the bytes of each line, lowest line first, and then the lines of the log.
 abbrev pub bytes_from : ℕ → ℕ → List Item → List Item
@@ -322,7 +329,7 @@ waits_in_call u slot (OnFiles call) args =
     let h : Handed = handed_of u (process_of u slot) in
     reads_disk call h (file_row call h slot args u.clock.time).answer && not (u.timing.disk == 0)
 waits_in_call u slot (OnProcesses call) args =
-    loads_program call (process_row call (world_of u) slot args).answer && not (u.timing.disk == 0)
+    loads_program call (process_row call (mounts_of u) (world_of u) slot args).answer && not (u.timing.disk == 0)
 waits_in_call u slot call args = false
 
 -- A call that has been entered. An indirect call that leads to another does nothing.
@@ -336,7 +343,7 @@ does_call u slot (OnFiles call) args =
     let did : Did = file_row call h slot args u.clock.time in
     takes_time (reads_disk call h did.answer) slot (did_by u slot did)
 does_call u slot (OnProcesses call) args =
-    let c : Comes = process_row call (world_of u) slot args in
+    let c : Comes = process_row call (mounts_of u) (world_of u) slot args in
     takes_time (loads_program call c.answer) slot (came_by u slot c)
 
 -- A line of the table of calls: a number; how many arguments follow the word of its call, and which call it is. What has no
@@ -371,8 +378,8 @@ system_calls =
     ∷ call 18 2 (OnFiles file.Stat)
     ∷ call 19 2 (OnFiles file.Seek)
     ∷ call 20 0 (OnProcesses process.Getpid)
-    ∷ call 21 3 Unknown
-    ∷ call 22 1 Unknown
+    ∷ call 21 3 (OnFiles file.Mount)
+    ∷ call 22 1 (OnFiles file.Umount)
     ∷ call 23 0 (OnProcesses process.Setuid)
     ∷ call 24 0 (OnProcesses process.Getuid)
     ∷ call 25 0 (OnProcesses process.Stime)

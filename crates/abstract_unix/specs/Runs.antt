@@ -1,13 +1,13 @@
 -- A run as a function: from an image, a core size and a list of events to what is shown and how it ends.
-use Rattle.std.specs.Prelude.{ℕ, List, [], ◌∷◌, ◌++◌, min, is_some, replicate, if◌then◌else◌, Option, Some, None}
+use Rattle.std.specs.Prelude.{ℕ, Bool, false, ◌||◌, nat_lt, List, [], ◌∷◌, ◌++◌, min, is_some, replicate, if◌then◌else◌, Option, Some, None}
 use Rattle.std.specs.Option.{option_map}
-use Rattle.fs_codec.specs.Faults.{image_fault}
+use Rattle.fs_codec.specs.Faults.{image_fault, fault_within}
+use Rattle.fs_codec.specs.declared.layout.TheConstants.{DISK_BLOCKS}
 use Rattle.v6_base.specs.Trace.{Item, Log}
 use Rattle.v6_base.specs.declared.entry.Entry.TheVariants.{Boot}
 use Rattle.fs_codec.specs.Disk.{disk_of}
-use Rattle.fs_codec.specs.Store.{Store}
 use Rattle.fs_codec.specs.Stands.{store_of}
-use Rattle.fs_laws.specs.Numbers.{synced}
+use Rattle.fs_nodes.specs.Keys.{Stores, key_count, synced}
 use Rattle.lines_eight.specs.Lines.{first_lines}
 use Rattle.pick_rules.specs.Board.{first_board}
 use Rattle.proc_tab.specs.Processes.{no_row}
@@ -29,17 +29,18 @@ first_process = record no_process {
   «data» = init_data;
 }
 
--- The Unix of a file system with so many clicks of core and so many terminal lines. No file is open, and nobody has opened a
--- line. The time is that of the super-block.
-abbrev pub first_unix : Store → ℕ → ℕ → Unix
+-- The Unix of the file systems of one disk or two, with so many clicks of core and so many terminal lines. No file is open, nobody
+-- has opened a line, and the second disk, where there is one, is mounted nowhere. The time is that of the root's super-block.
+abbrev pub first_unix : Stores → ℕ → ℕ → Unix
 first_unix store core lines = record {
   store = store;
+  covered = None;
   processes = None ∷ Some first_process ∷ replicate 48 None;
   files = replicate 100 None;
   pipes = [];
   texts = no_texts;
   lines = first_lines lines;
-  clock = record { time = store.stamp; ticks = 0; tout = 0 };
+  clock = record { time = store.root.stamp; ticks = 0; tout = 0 };
   switches = 0;
   last_pid = 1;
   limit = min core 2048;
@@ -47,16 +48,30 @@ first_unix store core lines = record {
 }
 
 -- the system before its first turn
-abbrev pub system_with : Store → ℕ → ℕ → System
-system_with store core lines = record { unix = first_unix store core lines; board = first_board core store.stamp }
+abbrev pub system_with : Stores → ℕ → ℕ → System
+system_with store core lines = record { unix = first_unix store core lines; board = first_board core store.root.stamp }
 
--- the system that an image without a fault begins with, with so many clicks of core and so many lines
-abbrev pub system_of : List ℕ → ℕ → ℕ → System
-system_of image core lines = system_with (store_of (disk_of image)) core lines
+-- the file systems of the image of the root's disk, and of that of a second one, where there is one
+abbrev pub stores_of : List ℕ → Option (List ℕ) → Stores
+stores_of image second = record {
+  root = store_of (disk_of image);
+  second = option_map (λ bytes. store_of (disk_of bytes)) second;
+}
 
--- or None where the image has a fault
-abbrev pub boots : List ℕ → ℕ → ℕ → Option System
-boots image core lines = if is_some (image_fault image) then None else Some (system_of image core lines)
+-- the system that images without a fault begin with, with so many clicks of core and so many lines
+abbrev pub system_of : List ℕ → Option (List ℕ) → ℕ → ℕ → System
+system_of image second core lines = system_with (stores_of image second) core lines
+
+-- What is wrong with a second image: its first fault, or that there are more inodes on both disks than there are keys.
+abbrev pub is_second_bad : List ℕ → Option (List ℕ) → Bool
+is_second_bad image None = false
+is_second_bad image (Some second) =
+    is_some (fault_within DISK_BLOCKS second) || nat_lt 65535 (key_count (stores_of image (Some second)))
+
+-- or None where an image has a fault
+abbrev pub boots : List ℕ → Option (List ℕ) → ℕ → ℕ → Option System
+boots image second core lines =
+    if is_some (image_fault image) || is_second_bad image second then None else Some (system_of image second core lines)
 
 -- the system at its end, when all that has changed is on the disk
 abbrev pub finished : System → System
@@ -129,10 +144,10 @@ after_items items c = record c { items = items ++ c.items }
 abbrev pub shown_by : Course → List Item
 shown_by c = c.items ++ last_line c.ending
 
--- the run of an image without a fault, in so much core and with so many lines, over some events
-abbrev pub run_of : List ℕ → ℕ → ℕ → List Event → Course
-run_of image core lines events = course (started (system_of image core lines)) events
+-- the run of images without a fault, in so much core and with so many lines, over some events
+abbrev pub run_of : List ℕ → Option (List ℕ) → ℕ → ℕ → List Event → Course
+run_of image second core lines events = course (started (system_of image second core lines)) events
 
--- or None where the image has a fault
-abbrev pub runs : List ℕ → ℕ → ℕ → List Event → Option Course
-runs image core lines events = option_map (λ m. course (started m) events) (boots image core lines)
+-- or None where an image has a fault
+abbrev pub runs : List ℕ → Option (List ℕ) → ℕ → ℕ → List Event → Option Course
+runs image second core lines events = option_map (λ m. course (started m) events) (boots image second core lines)

@@ -1,8 +1,9 @@
 -- All that programs can see of a system: Lions' Commentary, `proc.h`, `user.h`, `file.h`, `text.h`.
 use Rattle.std.specs.Prelude.{ℕ, List, Option, Some, None, slice_index_or, slice_set}
 use Rattle.std.specs.Option.{unwrap_or}
+use Rattle.fs_nodes.specs.Keys.{Stores, second_count}
+use Rattle.mount_tab.specs.Mounted.{MountTable}
 use Rattle.open_files.specs.declared.file.OpenFile.{OpenFile}
-use Rattle.fs_codec.specs.Store.{Store}
 use Rattle.pipe_ends.specs.declared.ends.Pipe.{Pipe}
 use Rattle.tty_line.specs.Terminal.{Terminal}
 use Rattle.lines_eight.specs.Lines as terminals
@@ -20,7 +21,8 @@ pub record Timing : Type 0 where
   pub since : ℕ  -- so many have been taken since the pace was set
 
 pub record Unix : Type 0 where
-  pub store : Store  -- the file system
+  pub store : Stores  -- the file system of each disk
+  pub covered : Option ℕ  -- the directory that the second disk covers
   pub processes : List (Option Process)  -- by their slots, of which there are 50; slot 0 is the kernel's own
   pub files : List (Option OpenFile)  -- the table of open files, with 100 entries
   pub pipes : List Pipe  -- that are open: how far each has been read, and which of its ends wait
@@ -31,6 +33,10 @@ pub record Unix : Type 0 where
   pub last_pid : ℕ  -- the number that was given last to a process
   pub limit : ℕ  -- the most clicks of an image
   pub timing : Timing
+
+-- the mount table that this makes
+abbrev pub mounts_of : Unix → MountTable
+mounts_of u = record { first = u.store.root.count; second = second_count u.store.second; covered = u.covered }
 
 -- all that a kernel holds: what programs can see, and the board that its log tells, by which it chooses who runs
 pub record System : Type 0 where

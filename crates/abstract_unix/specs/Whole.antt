@@ -4,6 +4,7 @@ use Rattle.std.specs.List.{sum_by}
 use Rattle.open_files.specs.declared.file.OpenFile.{OpenFile}
 use Rattle.open_files.specs.Files.{file_at, times}
 use Rattle.u_area.specs.Pending.{IsPipeCall, IsFileCall}
+use Rattle.mount_tab.specs.Mounted.{is_the}
 use Rattle.pipe_ends.specs.declared.ends.Pipe.{Pipe}
 use Rattle.sys_files.specs.Pipes.{ArePipes}
 use Rattle.sys_files.specs.Sound.{is_of, numbers_of}
@@ -44,20 +45,22 @@ all_names ts entry = sum_by (names entry) ts
 unfoldable pub all_stand : List (Option Told) → ℕ → ℕ
 all_stand ts ino = sum_by (stands ino) ts
 
--- Open files, directories and texts refer to an inode, and the kernel to inode 1 as the root.
-abbrev pub refer : List (Option OpenFile) → List (Option Text) → List (Option Told) → ℕ → ℕ
-refer files texts ts ino =
+-- Open files, directories and texts refer to an inode, and the kernel to inode 1 as the root and to the directory that the second
+-- disk covers.
+abbrev pub refer : Option ℕ → List (Option OpenFile) → List (Option Text) → List (Option Told) → ℕ → ℕ
+refer covered files texts ts ino =
     count_by (is_of ino) files + all_stand ts ino + count_by (is_text_of ino) texts + (if ino == 1 then 1 else 0)
+    + (if is_the covered ino then 1 else 0)
 
 -- The counts of open files and these references are what they have to be, and the pipes are those of the open files.
-pub record Owes (refs : List ℕ) (files : List (Option OpenFile)) (pipes : List Pipe) (texts : List (Option Text)) (ts : List (Option Told)) : Type 0 where
+pub record Owes (covered : Option ℕ) (refs : List ℕ) (files : List (Option OpenFile)) (pipes : List Pipe) (texts : List (Option Text)) (ts : List (Option Told)) : Type 0 where
   pub numbers : (entry : ℕ) → numbers_of (file_at files entry) ≡ all_names ts entry
-  pub referred : (ino : ℕ) → slice_index refs ino ≡ refer files texts ts ino
+  pub referred : (ino : ℕ) → slice_index refs ino ≡ refer covered files texts ts ino
   pub piped : ArePipes files pipes
   pub fifteen : (s : ℕ) (t : Told) → slice_index_or ts s None ≡ Some t → length t.files ≡ 15
 
 abbrev pub Owed : List ℕ → Unix → Type 0
-Owed refs u = Owes refs u.files u.pipes u.texts (told_in u.processes)
+Owed refs u = Owes u.covered refs u.files u.pipes u.texts (told_in u.processes)
 
 -- Who waits in a call on an open file has a number for it. So the file stays open, and the call can go on.
 pub record IsInCall (files : List (Option OpenFile)) (p : Process) : Type 0 where

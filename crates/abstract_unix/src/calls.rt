@@ -3,6 +3,7 @@
 ghost use Rattle.std.specs.Prelude.{◌≡◌, ◌≢◌, ◌<◌, ◌≤◌, ◌⊎◌, Some, None, IfOk, IfErr};
 ghost use Rattle.v6_base.specs.Trace.{Took};
 ghost use Rattle.fs_nodes.specs.FileSystem.{SameRest};
+ghost use Rattle.fs_tree.specs.Mounting.{AreMounts};
 ghost use Rattle.sys_files.specs.Handed as parts;
 ghost use Rattle.sys_files.specs.Sound.{IsSound};
 ghost use Rattle.sys_files.specs.Does.{Does};
@@ -14,8 +15,8 @@ use fs_tree::Tree;
 use proc_tab::Row;
 use sys_files::{
     Files, chdir_to, chmod_to, chown_to, close_file, creat_file, dup_file, gtty_get, link_file,
-    mknod_at, open_file, pipe_new, read_file, seek_to, stat_file, stat_open, stty_set, sync_all,
-    unlink_file, write_file,
+    mknod_at, mount_on, open_file, pipe_new, read_file, seek_to, stat_file, stat_open, stty_set,
+    sync_all, umount_off, unlink_file, write_file,
 };
 use sys_procs::{
     Procs, break_at, exec_file, get_gid, get_uid, kill_to, nice_to, no_op, pid_of, set_gid,
@@ -40,6 +41,8 @@ pub enum FileCall {
     Chown,
     Stat,
     Seek,
+    Mount,
+    Umount,
     Fstat,
     Stty,
     Gtty,
@@ -131,8 +134,8 @@ fn first_sysent_of(number: u8) -> Sysent
         18 => on_files(2, FileCall::Stat),
         19 => on_files(2, FileCall::Seek),
         20 => on_processes(0, ProcessCall::Getpid),
-        21 => entry(3, SystemCall::Unknown),
-        22 => entry(1, SystemCall::Unknown),
+        21 => on_files(3, FileCall::Mount),
+        22 => on_files(1, FileCall::Umount),
         23 => on_processes(0, ProcessCall::Setuid),
         _ => entry(0, SystemCall::Unknown),
     }
@@ -224,6 +227,8 @@ pub fn do_file_call<S: Space, T: Trace>(
         FileCall::Chown => chown_to(files, slot, u, row, space, args, now, trace),
         FileCall::Stat => stat_file(files, slot, u, row, space, args, now, trace),
         FileCall::Seek => seek_to(files, slot, u, row, space, args, now, trace),
+        FileCall::Mount => mount_on(files, slot, u, row, space, args, now, trace),
+        FileCall::Umount => umount_off(files, slot, u, row, space, args, now, trace),
         FileCall::Fstat => stat_open(files, slot, u, row, space, args, now, trace),
         FileCall::Stty => stty_set(files, slot, u, row, space, args, now, trace),
         FileCall::Gtty => gtty_get(files, slot, u, row, space, args, now, trace),
@@ -246,10 +251,11 @@ fn do_other_call<T: Trace>(
     requires other { call ≢ ProcessCall.Exec }
     requires calls { Calls p.old tree.old.nodes s }
     ensures does { HasDone p.old p.new tree.new.nodes result (T.taken trace.old) (T.taken trace.new)
-        (process_row call (handed p.old tree.old.nodes) s args) }
+        (process_row call tree.old.mounts (handed p.old tree.old.nodes) s args) }
     ensures frame { T.leads_to trace.old trace.new }
     ensures agree { AreProcs p.new }
     ensures marks { tree.new.marks ≡ tree.old.marks }
+    ensures mounts { tree.new.mounts ≡ tree.old.mounts }
     ensures blocks { SameRest tree.old.nodes tree.new.nodes }
 {
     match call {
@@ -285,12 +291,14 @@ pub fn do_process_call<T: Trace>(
 ) -> Result<Answer, PanicKind>
     requires calls { Calls p.old tree.old.nodes s }
     requires marks { IsMarked p.old tree.old.marks }
+    requires mounts { AreMounts tree.old.mounts tree.old.nodes.store }
     ensures does { HasDone p.old p.new tree.new.nodes result (T.taken trace.old) (T.taken trace.new)
-        (process_row call (handed p.old tree.old.nodes) s args) }
+        (process_row call tree.old.mounts (handed p.old tree.old.nodes) s args) }
     ensures frame { T.leads_to trace.old trace.new }
     ensures agree { IfOk result (λ answer. AreProcs p.new) }
     ensures left { IfErr result (λ kind. AreProcs p.new ⊎ AreBare p.new s) }
     ensures marks { IsMarked p.new tree.new.marks }
+    ensures mounts { tree.new.mounts ≡ tree.old.mounts }
     ensures blocks { SameRest tree.old.nodes tree.new.nodes }
 {
     match call {

@@ -4,3 +4,4 @@ pub mod PathLemmas
 pub mod FindingLemmas
 pub mod EntryLemmas
 pub mod NamingLemmas
+pub mod MountLemmas

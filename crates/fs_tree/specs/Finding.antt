@@ -4,17 +4,18 @@ use Rattle.std.specs.Prelude.{ℕ, Bool, not, ◌+◌, ◌-◌, ◌||◌, ◌==�
 use Rattle.v6_base.specs.Access.{then_do}
 use Rattle.v6_base.specs.declared.errno.Errno.{Errno}
 use Rattle.v6_base.specs.declared.errno.Errno.TheVariants.{ENFILE}
-use Rattle.fs_codec.specs.Store.{Node, Store}
-use Rattle.fs_laws.specs.Keys.{node_numbered, without_reference}
+use Rattle.fs_codec.specs.Store.{Node}
+use Rattle.fs_nodes.specs.Keys.{Stores, node_numbered, without_reference}
 use Rattle.fs_nodes.specs.FileSystem.{FileSystem, referenced}
+use Rattle.mount_tab.specs.Mounted.{MountTable}
 use Rattle.fs_tree.specs.declared.user.User.{User}
 use Rattle.fs_tree.specs.declared.made.Made.{Made}
 use Rattle.fs_tree.specs.declared.made.Made.TheVariants as made
 use Rattle.fs_tree.specs.Path.{way, found, to_make, to_remove}
 
--- The inodes of a file system: its store, and how often each is referred to, by its number.
+-- The inodes of the file systems: their stores, and how often each is referred to, by its key.
 pub record Inodes : Type 0 where
-  pub store : Store
+  pub store : Stores
   pub references : List ℕ
 
 abbrev pub inodes_of : FileSystem → Inodes
@@ -44,8 +45,8 @@ abbrev pub finding : Inodes → Result ℕ Errno → Finding ℕ
 finding n (Ok ino) = referring n ino ino
 finding n (Err e) = refused n e
 
-abbrev pub find_in : Inodes → User → ℕ → List ℕ → Finding ℕ
-find_in n user dir bytes = finding n (then_do (way n.store user dir bytes) (found n.store))
+abbrev pub find_in : Inodes → MountTable → User → ℕ → List ℕ → Finding ℕ
+find_in n mounts user dir bytes = finding n (then_do (way n.store mounts user dir bytes) (found n.store mounts))
 
 -- The second: its inode is found, or the room for an entry.
 abbrev pub named_by_made : Made → ℕ
@@ -56,11 +57,11 @@ abbrev pub making : Inodes → Result Made Errno → Finding Made
 making n (Ok answer) = referring n (named_by_made answer) answer
 making n (Err e) = refused n e
 
-abbrev pub make_in : Inodes → List Bool → User → ℕ → List ℕ → Finding Made
-make_in n marks user dir bytes = making n (then_do (way n.store user dir bytes) (to_make n.store marks))
+abbrev pub make_in : Inodes → MountTable → List Bool → User → ℕ → List ℕ → Finding Made
+make_in n mounts marks user dir bytes = making n (then_do (way n.store mounts user dir bytes) (to_make n.store mounts marks))
 
 -- the store when a reference to an inode has gone, of so many
-abbrev pub put_in : Store → ℕ → ℕ → Option Node → Store
+abbrev pub put_in : Stores → ℕ → ℕ → Option Node → Stores
 put_in store ino count None = store
 put_in store ino count (Some node) = if count == 1 then without_reference store ino node else store
 
@@ -82,5 +83,5 @@ abbrev pub removing : Inodes → Result (ℕ × ℕ × ℕ) Errno → Finding (�
 removing n (Ok entry) = referring_both n entry
 removing n (Err e) = refused n e
 
-abbrev pub remove_in : Inodes → List Bool → User → ℕ → List ℕ → Finding (ℕ × ℕ × ℕ)
-remove_in n marks user dir bytes = removing n (then_do (way n.store user dir bytes) (to_remove n.store marks))
+abbrev pub remove_in : Inodes → MountTable → List Bool → User → ℕ → List ℕ → Finding (ℕ × ℕ × ℕ)
+remove_in n mounts marks user dir bytes = removing n (then_do (way n.store mounts user dir bytes) (to_remove n.store mounts marks))

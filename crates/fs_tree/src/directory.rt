@@ -3,7 +3,7 @@ ghost use Rattle.std.specs.Prelude.{◌≡◌, ◌≢◌, ◌+◌, ◌*◌, ◌/
 ghost use Rattle.std.specs.Prelude.{IsSome, bytes_eq};
 ghost use Rattle.fs_codec.specs.Fields.{entry_of};
 ghost use Rattle.fs_codec.specs.Store.{Node};
-ghost use Rattle.fs_laws.specs.Keys.{node_numbered};
+ghost use Rattle.fs_nodes.specs.Keys.{node_numbered};
 ghost use Rattle.fs_nodes.specs.FileSystem.{SameFiles};
 ghost use Rattle.fs_tree.specs.Directory.{entry_at, looked, HasBlock};
 ghost use Rattle.fs_tree.specs.declared.directory.TheConstants.{BLOCK_ENTRIES};

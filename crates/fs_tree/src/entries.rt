@@ -2,8 +2,9 @@
 ghost use Rattle.std.specs.Prelude.{◌≡◌, ◌%◌, ◌<◌, ◌≤◌, ℕ, true, [], ◌∷◌, Some, slice_index};
 ghost use Rattle.fs_codec.specs.Bytes.{entry_bytes};
 ghost use Rattle.fs_codec.specs.Modes.{is_directory};
+ghost use Rattle.mount_tab.specs.Mounted.{split_of};
 ghost use Rattle.fs_codec.specs.Store.{Node};
-ghost use Rattle.fs_laws.specs.Keys.{node_numbered};
+ghost use Rattle.fs_nodes.specs.Keys.{node_numbered};
 ghost use Rattle.fs_nodes.specs.FileSystem.{SameRest};
 ghost use Rattle.fs_tree.specs.Entries.{written, answer_to, WritesEntry};
 
@@ -42,7 +43,8 @@ fn answer(moved: Moved) -> Result<(), Errno>
 /// Both calls are for a directory that is referred to, and for a byte of it where an entry begins. They write as `write_kernel`
 /// of `Nodes` does, which sets both times.
 impl Tree {
-    /// Enters an inode under a name, from byte `offset` of a directory on.
+    /// Enters an inode of a directory's own disk under a name, from byte `offset` of the directory on. The entry has its
+    /// number there.
     ///
     /// # Errors
     ///
@@ -60,15 +62,18 @@ impl Tree {
             → is_directory node.mode ≡ true }
         requires begins { offset % 16 ≡ 0 }
         requires small { offset ≤ 65520 }
+        requires disk { (split_of self.old.mounts ino).0 ≡ (split_of self.old.mounts dir).0 }
         ensures entry { (node : Node) → node_numbered self.old.nodes.store dir ≡ Some node
             → WritesEntry self.old.nodes.store dir
-            (written self.old.nodes.store dir node offset (entry_bytes (record { ino = ino; name = name })) time)
+            (written self.old.nodes.store dir node offset
+            (entry_bytes (record { ino = (split_of self.old.mounts ino).1; name = name })) time)
             self.new.nodes.store result }
         ensures references { self.new.nodes.references ≡ self.old.nodes.references }
         ensures marks { self.new.marks ≡ self.old.marks }
+        ensures mounts { self.new.mounts ≡ self.old.mounts }
         ensures rest { SameRest self.old.nodes self.new.nodes }
     {
-        let bytes = spelled(ino, name);
+        let bytes = spelled(self.mounts.split(ino).1, name);
         answer(self.nodes.write_kernel(dir, offset, &bytes, time))
     }
 
@@ -90,6 +95,7 @@ impl Tree {
             self.new.nodes.store result }
         ensures references { self.new.nodes.references ≡ self.old.nodes.references }
         ensures marks { self.new.marks ≡ self.old.marks }
+        ensures mounts { self.new.mounts ≡ self.old.mounts }
         ensures rest { SameRest self.old.nodes self.new.nodes }
     {
         let bytes = [0; 2];

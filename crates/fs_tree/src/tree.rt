@@ -2,7 +2,8 @@
 ghost use Rattle.std.specs.Prelude.{◌≡◌, ◌<◌, ◌≤◌, ℕ, true, false, if◌then◌else◌, Some, IsSome, IfOk, IfErr};
 ghost use Rattle.std.specs.Prelude.{slice_index};
 ghost use Rattle.fs_codec.specs.Store.{Node};
-ghost use Rattle.fs_laws.specs.Keys.{node_numbered};
+ghost use Rattle.fs_nodes.specs.Keys.{node_numbered};
+ghost use Rattle.fs_tree.specs.Mounting.{AreMounts};
 ghost use Rattle.fs_tree.specs.Marks.{no_marks};
 ghost use Rattle.fs_tree.specs.Permission.{access};
 ghost use Rattle.fs_tree.specs.Finding.{find_in, make_in, remove_in, referring_both, can_refer, with_reference};
@@ -16,6 +17,7 @@ use crate::name::NameBytes;
 use crate::user::{User, Want};
 use crate::walk::{found, see_start, to_make, to_remove, walk};
 use fs_nodes::Nodes;
+use mount_tab::Mounts;
 use v6_base::{Errno, Space};
 
 /// A file system whose files have names.
@@ -24,6 +26,8 @@ pub struct Tree {
     pub nodes: Nodes,
     /// The inodes whose text is shared by processes.
     pub marks: Marks,
+    /// Which inodes there are, and the directory that the second disk covers.
+    pub mounts: Mounts,
 }
 
 /// Refers to an inode once more.
@@ -67,14 +71,33 @@ fn take_both(nodes: &mut Nodes, entry: (u16, u32, u16)) -> Result<(u16, u32, u16
 }
 
 impl Tree {
-    /// The tree of names of a file system, of which no text is shared yet.
+    /// The tree of names of the file system of one disk, of which no text is shared yet. Its inodes' numbers are words.
     pub fn new(nodes: Nodes) -> Tree
         ensures nodes { result.nodes ≡ nodes }
         ensures none { result.marks ≡ no_marks }
+        ensures mounts { nodes.store.root.count ≤ 65535
+            → result.mounts ≡ record { first = nodes.store.root.count; second = 0; covered = None } }
+    {
+        let count = nodes.root_count();
+        let first = if count <= 65535 { count as u16 } else { 65535 };
+        Tree {
+            nodes,
+            marks: Marks::new(),
+            mounts: Mounts::new(first, 0),
+        }
+    }
+
+    /// The tree of names of the file systems of two disks, of which no text is shared and nothing is covered yet.
+    pub fn new2(nodes: Nodes, mounts: Mounts) -> Tree
+        requires { AreMounts mounts nodes.store }
+        ensures nodes { result.nodes ≡ nodes }
+        ensures none { result.marks ≡ no_marks }
+        ensures mounts { result.mounts ≡ mounts }
     {
         Tree {
             nodes,
             marks: Marks::new(),
+            mounts,
         }
     }
 
@@ -110,15 +133,17 @@ impl Tree {
     ) -> Result<u16, Errno>
         requires referenced { 0 < slice_index self.old.nodes.references dir }
         requires few { (i : ℕ) → slice_index self.old.nodes.references i ≤ 65530 }
-        ensures answer { result ≡ (find_in (inodes_of self.old.nodes) who dir name.entry).answer }
-        ensures inodes { inodes_of self.new.nodes ≡ (find_in (inodes_of self.old.nodes) who dir name.entry).inodes }
+        requires mounts { AreMounts self.old.mounts self.old.nodes.store }
+        ensures answer { result ≡ (find_in (inodes_of self.old.nodes) self.old.mounts who dir name.entry).answer }
+        ensures inodes { inodes_of self.new.nodes ≡ (find_in (inodes_of self.old.nodes) self.old.mounts who dir name.entry).inodes }
         ensures marks { self.new.marks ≡ self.old.marks }
+        ensures mounts { self.new.mounts ≡ self.old.mounts }
         ensures blocks { self.new.nodes.blocks ≡ self.old.nodes.blocks }
     {
         see_start(&self.nodes, dir);
         let mut name = name;
-        let way = walk(&mut self.nodes, dir, who, &mut name)?;
-        let ino = found(&mut self.nodes, way)?;
+        let way = walk(&mut self.nodes, &self.mounts, dir, who, &mut name)?;
+        let ino = found(&mut self.nodes, &self.mounts, way)?;
         take(&mut self.nodes, ino)?;
         Ok(ino)
     }
@@ -139,15 +164,17 @@ impl Tree {
     ) -> Result<Made, Errno>
         requires referenced { 0 < slice_index self.old.nodes.references dir }
         requires few { (i : ℕ) → slice_index self.old.nodes.references i ≤ 65530 }
-        ensures answer { result ≡ (make_in (inodes_of self.old.nodes) self.old.marks who dir name.entry).answer }
-        ensures inodes { inodes_of self.new.nodes ≡ (make_in (inodes_of self.old.nodes) self.old.marks who dir name.entry).inodes }
+        requires mounts { AreMounts self.old.mounts self.old.nodes.store }
+        ensures answer { result ≡ (make_in (inodes_of self.old.nodes) self.old.mounts self.old.marks who dir name.entry).answer }
+        ensures inodes { inodes_of self.new.nodes ≡ (make_in (inodes_of self.old.nodes) self.old.mounts self.old.marks who dir name.entry).inodes }
         ensures marks { self.new.marks ≡ self.old.marks }
+        ensures mounts { self.new.mounts ≡ self.old.mounts }
         ensures blocks { self.new.nodes.blocks ≡ self.old.nodes.blocks }
     {
         see_start(&self.nodes, dir);
         let mut name = name;
-        let way = walk(&mut self.nodes, dir, who, &mut name)?;
-        let made = to_make(&mut self.nodes, &self.marks, way)?;
+        let way = walk(&mut self.nodes, &self.mounts, dir, who, &mut name)?;
+        let made = to_make(&mut self.nodes, &self.mounts, &self.marks, way)?;
         take(&mut self.nodes, made.number())?;
         Ok(made)
     }
@@ -168,15 +195,17 @@ impl Tree {
     ) -> Result<(u16, u32, u16), Errno>
         requires referenced { 0 < slice_index self.old.nodes.references dir }
         requires few { (i : ℕ) → slice_index self.old.nodes.references i ≤ 65530 }
-        ensures answer { result ≡ (remove_in (inodes_of self.old.nodes) self.old.marks who dir name.entry).answer }
-        ensures inodes { inodes_of self.new.nodes ≡ (remove_in (inodes_of self.old.nodes) self.old.marks who dir name.entry).inodes }
+        requires mounts { AreMounts self.old.mounts self.old.nodes.store }
+        ensures answer { result ≡ (remove_in (inodes_of self.old.nodes) self.old.mounts self.old.marks who dir name.entry).answer }
+        ensures inodes { inodes_of self.new.nodes ≡ (remove_in (inodes_of self.old.nodes) self.old.mounts self.old.marks who dir name.entry).inodes }
         ensures marks { self.new.marks ≡ self.old.marks }
+        ensures mounts { self.new.mounts ≡ self.old.mounts }
         ensures rest { SameRest self.old.nodes self.new.nodes }
     {
         see_start(&self.nodes, dir);
         let mut name = name;
-        let way = walk(&mut self.nodes, dir, who, &mut name)?;
-        let entry = to_remove(&mut self.nodes, &self.marks, way)?;
+        let way = walk(&mut self.nodes, &self.mounts, dir, who, &mut name)?;
+        let entry = to_remove(&mut self.nodes, &self.mounts, &self.marks, way)?;
         take_both(&mut self.nodes, entry)
     }
 }

@@ -8,9 +8,10 @@ use Rattle.v6_base.specs.Copy.{store_bytes}
 use Rattle.v6_base.specs.declared.errno.Errno.{Errno}
 use Rattle.v6_base.proofs.Copies.{load_wraps}
 use Rattle.fs_codec.specs.Modes.{is_device}
-use Rattle.fs_codec.specs.Store.{Node, Store}
+use Rattle.fs_codec.specs.Store.{Node}
 use Rattle.fs_laws.specs.Pieces.{Moving}
-use Rattle.fs_laws.specs.Keys.{node_numbered, room_at, with_node}
+use Rattle.fs_nodes.specs.Keys.{Stores, node_numbered, room_at, with_node}
+use Rattle.fs_nodes.proofs.KeyLaws.{node_set}
 use Rattle.pipe_ends.specs.declared.ends.Pipe.{Pipe}
 use Rattle.pipe_ends.specs.declared.ends.Piped.{Piped}
 use Rattle.pipe_ends.specs.declared.ends.Piped.TheVariants.{Done, Wait, Broken, Error}
@@ -27,29 +28,22 @@ use Rattle.pipe_ends.proofs.RoundLemmas.{done_in, broken_in, waits_in, appends_a
 unwrapped : (o : Option Node) (d node : Node) → o ≡ Some node → unwrap_or o d ≡ node
 unwrapped o d node is = ap (λ x. unwrap_or x d) is
 
-file_is : (store : Store) (p : Pipe) (node : Node) → node_numbered store p.ino ≡ Some node → pipe_file store p ≡ node
+file_is : (store : Stores) (p : Pipe) (node : Node) → node_numbered store p.ino ≡ Some node → pipe_file store p ≡ node
 file_is store p node is = unwrapped (node_numbered store p.ino) _ node is
 
-node_set : (store : Store) (i room : ℕ) (node new : Node) → node_numbered store i ≡ Some node
-    → node_numbered (with_node store i new room) i ≡ Some new
-node_set store i room node new there = elim (cases_lt i (length store.nodes)) [
-  | inl low ↦ get_or-set_same store.nodes i (Some new) None low
-  | inr past ↦ (let none : Some node ≡ None = sym there ∙ get_or_past store.nodes i None past in absurd (cc))
-]
-
 -- the file of a pipe after it was set
-now_file : (store : Store) (p q : Pipe) (new : Node) (room : ℕ) → IsQueue store p → q.ino ≡ p.ino
+now_file : (store : Stores) (p q : Pipe) (new : Node) (room : ℕ) → IsQueue store p → q.ino ≡ p.ino
     → pipe_file (with_node store p.ino new room) q ≡ new
 now_file store p q new room is same =
     file_is (with_node store p.ino new room) q new
     (ap (node_numbered (with_node store p.ino new room)) same ∙ node_set store p.ino room (pipe_file store p) new is.there)
 
 -- A pipe stays a queue with a file that is no device, with each byte up to its end, no longer than a pipe, and read no further.
-queue_stays : (store : Store) (p q : Pipe) (new : Node) (room : ℕ) → IsQueue store p → q.ino ≡ p.ino
+queue_stays : (store : Stores) (p q : Pipe) (new : Node) (room : ℕ) → IsQueue store p → q.ino ≡ p.ino
     → is_device new.mode ≡ false → new.size ≤ length new.body → new.size ≤ PIPSIZ → q.offset ≤ new.size
     → IsQueue (with_node store p.ino new room) q
 queue_stays store p q new room is same plain whole small read =
-    let now : Store = with_node store p.ino new room in
+    let now : Stores = with_node store p.ino new room in
     let file : new ≡ pipe_file now q = sym (now_file store p q new room is same) in
     record {
       there = ap (node_numbered now) same ∙ node_set store p.ino room (pipe_file store p) new is.there ∙ ap Some file;
@@ -203,7 +197,7 @@ rounds_put (suc f) c w enough is = elim (cases_eq w.left 0) [
 ]
 
 -- What is written goes to the end.
-pub writes_queue : (store : Store) (ends : ℕ) (p : Pipe) (image : Image) (at count time : ℕ) → IsQueue store p
+pub writes_queue : (store : Stores) (ends : ℕ) (p : Pipe) (image : Image) (at count time : ℕ) → IsQueue store p
     → GoesToEnd store p image at count (writes store ends p image at count time)
 unfolding writes
 writes_queue store ends p image at count time is =
@@ -224,7 +218,7 @@ told_none ends count n = by (nat_lt ends 2) where
   by true says = let same : 0 ≡ n = cc in sym same
   by false says = absurd (cc)
 
-pub takes_nothing : (store : Store) (ends : ℕ) (p : Pipe) (image : Image) (at count : ℕ) → IsQueue store p
+pub takes_nothing : (store : Stores) (ends : ℕ) (p : Pipe) (image : Image) (at count : ℕ) → IsQueue store p
     → p.offset ≡ (pipe_file store p).size
     → ComesFromFront store p image at count (record {
       store = begun_again store p;
@@ -257,7 +251,7 @@ told_whole : (done : ℕ) (error : Option Errno) (n : ℕ) → ends_with done er
 told_whole done None n says = let same : done ≡ n = cc in (refl, sym same)
 told_whole done (Some e) n says = absurd (cc)
 
-pub takes_some : (store : Store) (p : Pipe) (image : Image) (at count time : ℕ) → IsQueue store p
+pub takes_some : (store : Stores) (p : Pipe) (image : Image) (at count time : ℕ) → IsQueue store p
     → ComesFromFront store p image at count (reads_some store p (read_of store p image at count time))
 takes_some store p image at count time is =
     let file : Node = pipe_file store p in
@@ -290,20 +284,20 @@ takes_some store p image at count time is =
     }
 
 -- the same of a call whose parts are those of what it comes to
-pub same_write : (store : Store) (p : Pipe) (image : Image) (at count : ℕ) (w : PipeWrite) (new : Store) (q : Pipe)
+pub same_write : (store : Stores) (p : Pipe) (image : Image) (at count : ℕ) (w : PipeWrite) (new : Stores) (q : Pipe)
     (answer : Piped) → new ≡ w.store → q ≡ w.pipe → answer ≡ w.answer → GoesToEnd store p image at count w
     → GoesToEnd store p image at count (record { store = new; pipe = q; answer = answer })
 same_write store p image at count w new q answer stores pipes answers goes =
-    let P : Store → Pipe → Piped → Type 0 =
+    let P : Stores → Pipe → Piped → Type 0 =
     λ s x a. GoesToEnd store p image at count (record { store = s; pipe = x; answer = a }) in
     subst (P new q) (sym answers) (subst (λ x. P new x w.answer) (sym pipes) (subst (λ s. P s w.pipe w.answer) (sym stores) goes))
 
-pub same_read : (store : Store) (p : Pipe) (image : Image) (at count : ℕ) (r : PipeRead) (new : Store) (memory : Image) (q : Pipe)
+pub same_read : (store : Stores) (p : Pipe) (image : Image) (at count : ℕ) (r : PipeRead) (new : Stores) (memory : Image) (q : Pipe)
     (answer : Piped) → new ≡ r.store → memory ≡ r.image → q ≡ r.pipe → answer ≡ r.answer
     → ComesFromFront store p image at count r
     → ComesFromFront store p image at count (record { store = new; image = memory; pipe = q; answer = answer })
 same_read store p image at count r new memory q answer stores images pipes answers comes =
-    let P : Store → Image → Pipe → Piped → Type 0 =
+    let P : Stores → Image → Pipe → Piped → Type 0 =
     λ s i x a. ComesFromFront store p image at count (record { store = s; image = i; pipe = x; answer = a }) in
     subst (P new memory q) (sym answers)
     (subst (λ x. P new memory x r.answer) (sym pipes)

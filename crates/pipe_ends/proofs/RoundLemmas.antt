@@ -4,7 +4,7 @@ use Rattle.std.specs.Prelude.{◌==◌, nat_lt, nat_le}
 use Rattle.std.proofs.lemmas.Bool.{lt-ltb, le-ltb, le-leb, lt-leb, eq-eqb, ne_eqb, cases_eq, cases_lt}
 use Rattle.v6_base.specs.Image.{Image}
 use Rattle.v6_base.specs.declared.errno.Errno.{Errno}
-use Rattle.fs_codec.specs.Store.{Store}
+use Rattle.fs_nodes.specs.Keys.{Stores}
 use Rattle.pipe_ends.specs.declared.ends.Pipe.{Pipe}
 use Rattle.pipe_ends.specs.declared.ends.Piped.TheVariants.{Done, Wait, Broken, Error}
 use Rattle.pipe_ends.specs.declared.ends.TheConstants.{PIPSIZ}
@@ -18,7 +18,7 @@ pub record ComesTo (c : WriteCall) (w : Writing) (all : PipeWrite) : Type 0 wher
   pub same : rounds fuel c w ≡ all
 
 -- a write from an address on of which so many bytes are left
-abbrev pub so_far : Store → Pipe → ℕ → ℕ → ℕ → Writing
+abbrev pub so_far : Stores → Pipe → ℕ → ℕ → ℕ → Writing
 so_far store p at count left = record { store = store; pipe = p; at = (at + (count - left)) % 65536; left = left }
 
 -- one of two cases
@@ -121,7 +121,7 @@ ends_tell xs ys i j b t e f h k =
 
 pub same_writing : (w v : Writing) → w.store ≡ v.store → w.pipe ≡ v.pipe → w.at ≡ v.at → w.left ≡ v.left → w ≡ v
 same_writing w v store pipe at left =
-    ap (λ (x : Store). let r : Writing = record { store = x; pipe = w.pipe; at = w.at; left = w.left } in r) store
+    ap (λ (x : Stores). let r : Writing = record { store = x; pipe = w.pipe; at = w.at; left = w.left } in r) store
     ∙ ap (λ (x : Pipe). let r : Writing = record { store = v.store; pipe = x; at = w.at; left = w.left } in r) pipe
     ∙ ap (λ (x : ℕ). let r : Writing = record { store = v.store; pipe = v.pipe; at = x; left = w.left } in r) at
     ∙ ap (λ (x : ℕ). let r : Writing = record { store = v.store; pipe = v.pipe; at = v.at; left = x } in r) left
@@ -172,7 +172,7 @@ some_written c w f is = elim (cases_eq w.left 0) [
   | inr more ↦ omega (arith, more)
 ]
 
-pub broken_where : (store : Store) (ends : ℕ) (p : Pipe) (image : Image) (at count time : ℕ)
+pub broken_where : (store : Stores) (ends : ℕ) (p : Pipe) (image : Image) (at count time : ℕ)
     → ((writes store ends p image at count time).answer ≡ Broken) ↔ ((0 < count) × (ends < 2))
 unfolding writes
 broken_where store ends p image at count time =
@@ -189,7 +189,7 @@ pub record IsFull (ends left : ℕ) (r : PipeWrite) : Type 0 where
   pub full : PIPSIZ ≤ (pipe_file r.store r.pipe).size
   pub marked : r.pipe.writer_waits ≡ true
 
-pub waits_where : (store : Store) (ends : ℕ) (p : Pipe) (image : Image) (at count time left : ℕ)
+pub waits_where : (store : Stores) (ends : ℕ) (p : Pipe) (image : Image) (at count time left : ℕ)
     → (writes store ends p image at count time).answer ≡ Wait left → IsFull ends left (writes store ends p image at count time)
 unfolding writes
 waits_where store ends p image at count time left =

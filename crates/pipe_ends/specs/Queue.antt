@@ -3,8 +3,8 @@ use Rattle.std.specs.Prelude.{◌≡◌, ◌≤◌, ℕ, false, ◌+◌, ◌++�
 use Rattle.v6_base.specs.Image.{Image}
 use Rattle.v6_base.specs.Copy.{load_bytes, store_bytes}
 use Rattle.fs_codec.specs.Modes.{is_device}
-use Rattle.fs_codec.specs.Store.{Node, Store}
-use Rattle.fs_laws.specs.Keys.{node_numbered}
+use Rattle.fs_codec.specs.Store.{Node}
+use Rattle.fs_nodes.specs.Keys.{Stores, node_numbered}
 use Rattle.pipe_ends.specs.declared.ends.Pipe.{Pipe}
 use Rattle.pipe_ends.specs.declared.ends.Piped.TheVariants.{Done, Wait, Broken}
 use Rattle.pipe_ends.specs.declared.ends.TheConstants.{PIPSIZ}
@@ -17,12 +17,12 @@ abbrev pub contents : Node → List ℕ
 contents file = take file.size file.body
 
 -- the bytes that were written and not yet read
-abbrev pub queue : Store → Pipe → List ℕ
+abbrev pub queue : Stores → Pipe → List ℕ
 queue store p = drop p.offset (contents (pipe_file store p))
 
 -- Its file is there and is no device, it has each byte up to its end, it is no longer than a pipe, and no more of it has been
 -- read than there is.
-pub record IsQueue (store : Store) (p : Pipe) : Type 0 where
+pub record IsQueue (store : Stores) (p : Pipe) : Type 0 where
   pub there : node_numbered store p.ino ≡ Some (pipe_file store p)
   pub plain : is_device (pipe_file store p).mode ≡ false
   pub whole : (pipe_file store p).size ≤ length (pipe_file store p).body
@@ -31,7 +31,7 @@ pub record IsQueue (store : Store) (p : Pipe) : Type 0 where
 
 -- What a write puts goes to the end: the first bytes of what it is to write, as they stand in the memory that they come from.
 -- These are all where it is done, all but those that are left where it waits, and none where the pipe is broken.
-pub record GoesToEnd (store : Store) (p : Pipe) (image : Image) (at count : ℕ) (w : PipeWrite) : Type 0 where
+pub record GoesToEnd (store : Stores) (p : Pipe) (image : Image) (at count : ℕ) (w : PipeWrite) : Type 0 where
   pub put : ℕ
   pub few : put ≤ count
   pub done : (n : ℕ) → w.answer ≡ Done n → put ≡ count
@@ -44,7 +44,7 @@ pub record GoesToEnd (store : Store) (p : Pipe) (image : Image) (at count : ℕ)
 
 -- What a read takes comes from the front, into the memory, and the rest is left. Where it is done it has told how many these
 -- are: as many as it may, or all that there are.
-pub record ComesFromFront (store : Store) (p : Pipe) (image : Image) (at count : ℕ) (r : PipeRead) : Type 0 where
+pub record ComesFromFront (store : Stores) (p : Pipe) (image : Image) (at count : ℕ) (r : PipeRead) : Type 0 where
   pub taken : ℕ
   pub few : taken ≤ count
   pub done : (n : ℕ) → r.answer ≡ Done n → (n ≡ taken) × (n ≡ min count (length (queue store p)))

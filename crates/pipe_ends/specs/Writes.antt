@@ -2,9 +2,8 @@
 use Rattle.std.specs.Prelude.{ℕ, zero, suc, true, false, ◌+◌, ◌-◌, ◌%◌, ◌==◌, nat_lt, nat_le, min, if◌then◌else◌, Option, Some, None}
 use Rattle.v6_base.specs.Image.{Image}
 use Rattle.v6_base.specs.declared.errno.Errno.{Errno}
-use Rattle.fs_codec.specs.Store.{Store}
 use Rattle.fs_laws.specs.Pieces.{Moving, write_file}
-use Rattle.fs_laws.specs.Keys.{room_at, with_node}
+use Rattle.fs_nodes.specs.Keys.{Stores, room_at, with_node}
 use Rattle.fs_nodes.specs.Copy.{get_from}
 use Rattle.pipe_ends.specs.declared.ends.Pipe.{Pipe}
 use Rattle.pipe_ends.specs.declared.ends.Piped.{Piped}
@@ -21,14 +20,14 @@ pub record WriteCall : Type 0 where
 
 -- how far a write has come: the file system, the pipe, where the next byte comes from, and how many are left
 pub record Writing : Type 0 where
-  pub store : Store
+  pub store : Stores
   pub pipe : Pipe
   pub at : ℕ
   pub left : ℕ
 
 -- what a write comes to
 pub record PipeWrite : Type 0 where
-  pub store : Store
+  pub store : Stores
   pub pipe : Pipe
   pub answer : Piped
 
@@ -78,6 +77,6 @@ abbrev pub write_call : ℕ → Image → ℕ → ℕ → WriteCall
 write_call ends image count time = record { image = image; count = count; time = time; ends = ends }
 
 -- What a write comes to, of a pipe with so many ends, from this memory from an address on, at a time.
-unfoldable pub writes : Store → ℕ → Pipe → Image → ℕ → ℕ → ℕ → PipeWrite
+unfoldable pub writes : Stores → ℕ → Pipe → Image → ℕ → ℕ → ℕ → PipeWrite
 writes store ends p image at count time =
     rounds (suc count) (write_call ends image count time) (record { store = store; pipe = p; at = at; left = count })

@@ -1,6 +1,6 @@
 //! What a pipe has beside its file.
 ghost use Rattle.std.specs.Prelude.{◌≡◌, ◌<◌, nat_lt, Some};
-ghost use Rattle.fs_laws.specs.Keys.{node_numbered};
+ghost use Rattle.fs_nodes.specs.Keys.{node_numbered};
 ghost use Rattle.pipe_ends.specs.Pipes.{pipe_file, ends_of};
 
 use fs_nodes::Nodes;

@@ -3,13 +3,14 @@ use Rattle.std.proofs.Common.{◌≡◌, ℕ, Bool, true, false, ◌+◌, ◌<�
 use Rattle.std.proofs.lemmas.Bool.{ne_eqb, eq-eqb, eqb-true, false≢true}
 use Rattle.std.proofs.lemmas.List.Quantifiers.{position-Some}
 use Rattle.v6_base.specs.declared.errno.Errno.TheVariants.{EBADF, EMFILE}
-use Rattle.fs_laws.specs.Keys.{node_numbered}
+use Rattle.fs_nodes.specs.Keys.{node_numbered}
 use Rattle.open_files.specs.declared.file.OpenFile.{OpenFile}
 use Rattle.open_files.specs.declared.file.Closed.{Closed}
 use Rattle.open_files.specs.declared.file.Closed.TheVariants.{Still, Last}
 use Rattle.open_files.specs.Files.{file_at, entry_of, times, free_number, changed, with_more, with_fewer, left}
 use Rattle.pipe_ends.specs.declared.ends.Pipe.{Pipe}
 use Rattle.tty_line.specs.Terminal.{Terminal}
+use Rattle.fs_tree.proofs.MountLemmas.{mounts_stay}
 use Rattle.sys_files.specs.Handed.{Handed, r0, file_of, with_number, let_go}
 use Rattle.sys_files.specs.Did.{need, fails}
 use Rattle.sys_files.specs.Pipes.{ArePipes}
@@ -21,7 +22,7 @@ use Rattle.sys_files.proofs.ReleasedLemmas.{roused, gone, released_still, releas
 use Rattle.sys_files.proofs.NumberLemmas.{number_low, given_times, taken_times, numbers_change, open_given, open_taken}
 use Rattle.sys_files.proofs.CheckLemmas.{check_quiet, check_err}
 use Rattle.sys_files.proofs.OwedLemmas.{count_changed, counted, used_low, file_referred}
-use Rattle.sys_files.proofs.OwingLemmas.{IsKeptBut, kept_begins, kept_ends, kept_check, once_less, put_count}
+use Rattle.sys_files.proofs.OwingLemmas.{IsKeptBut, kept_begins, kept_ends, kept_check, once_less, gone}
 use Rattle.sys_files.proofs.DescriptorLemmas.{entry_is, entry_err, need_is, same_file}
 
 -- A number is given to a file that is open.
@@ -53,7 +54,8 @@ kept_given old now taken fd entry file k low none is =
           let was : cond {A = ℕ} (is_of i (file_at now.files entry)) 1 0 ≡ cond (is_of i (Some file)) 1 0 =
           ap (λ o. cond {A = ℕ} (is_of i o) 1 0) is in
           omega (arith, before, change, was);
-      count = k.count;
+      counts = k.counts;
+      mounts = k.mounts;
       pipes = pipes_changed now.files now.pipes entry file (with_more 1 file) is refl refl k.pipes;
       others = stays_then old.files now.files (slice_set now.files entry (Some (with_more 1 file))) old.u.files k.others
           (stays_changed now.files entry file (with_more 1 file) is refl refl);
@@ -109,7 +111,8 @@ kept_still h fd entry file pipes sound named is are =
           let was : cond {A = ℕ} (is_of i (file_at h.files entry)) 1 0 ≡ cond (is_of i (Some file)) 1 0 =
           ap (λ o. cond {A = ℕ} (is_of i o) 1 0) is in
           omega (arith, change, was);
-      count = refl;
+      counts = refl;
+      mounts = sound.mounts;
       pipes = are;
       others = λ e f at fewer. stays_changed h.files entry file (with_fewer file) is refl refl e f at;
     }
@@ -144,8 +147,8 @@ kept_last h fd entry file pipes lines sound named is last are =
           ap (λ o. cond {A = ℕ} (is_of i o) 1 0) is in
           let less = once_less h.inodes.references file.ino i (file_referred h entry file sound is) in
           omega (arith, change, was, less);
-      count = put_count h.inodes.store file.ino (slice_index h.inodes.references file.ino)
-          (node_numbered h.inodes.store file.ino);
+      counts = gone h file.ino;
+      mounts = mounts_stay h.mounts h.inodes.store (let_go h file.ino).inodes.store (gone h file.ino) sound.mounts;
       pipes = are;
       others = stays_freed h.files h.u.files entry file is (omega (arith, last, least));
     }

@@ -54,6 +54,7 @@ sound_after old new sound kept room few = record {
   referred = λ i. let most = sound.referred i in let r = kept.references i in omega (arith, most, r);
   few = few;
   pipes = kept.pipes;
+  mounts = kept.mounts;
 }
 
 pub kept_then : (a b c : Handed) → IsKept a b → IsKept b c → IsKept a c
@@ -61,7 +62,8 @@ kept_then a b c first second = record {
   is_open = second.is_open;
   numbers = λ entry. let f = first.numbers entry in let s = second.numbers entry in omega (arith, f, s);
   references = λ i. let f = first.references i in let s = second.references i in omega (arith, f, s);
-  count = second.count ∙ first.count;
+  counts = second.counts ∙ first.counts;
+  mounts = second.mounts;
   pipes = second.pipes;
   others = stays_after a.files b.files c.files a.u.files b.u.files first.others first.numbers second.others;
 }
@@ -71,7 +73,8 @@ kept_not h sound = record {
   is_open = sound.is_open;
   numbers = λ entry. refl;
   references = λ i. refl;
-  count = refl;
+  counts = refl;
+  mounts = sound.mounts;
   pipes = sound.pipes;
   others = λ entry file is fewer. stays_there h.files entry file is;
 }
@@ -151,7 +154,7 @@ next_sound c fd sound = elim (cases_eq (slice_index c.state.u.files fd) 0) [
 
 -- what close comes to, by what closing the number comes to
 abbrev answering : Closing → Answer → Did
-answering c a = record { answer = a; state = c.state; items = c.items }
+answering c a = record { answer = a; state = c.state; items = c.items; named = [] }
 
 abbrev only : Handed → Closing
 only h = record { state = h; items = [] }
@@ -243,4 +246,5 @@ sound_any f u row other image another sound = record {
   referred = sound.referred;
   few = sound.few;
   pipes = sound.pipes;
+  mounts = sound.mounts;
 }

@@ -9,6 +9,7 @@ use Rattle.v6_base.specs.declared.errno.Errno.TheVariants.{EPERM, EACCES}
 use Rattle.u_area.specs.declared.area.UArea.{UArea}
 use Rattle.u_area.specs.Area.{area_bytes}
 use Rattle.u_area.specs.declared.layout.TheConstants.{AREA_SIZE}
+use Rattle.fs_nodes.specs.Keys.{counts}
 use Rattle.fs_tree.specs.declared.made.Made.{Made}
 use Rattle.fs_tree.specs.declared.made.Made.TheVariants as made
 use Rattle.fs_tree.specs.declared.user.User.{User}
@@ -16,15 +17,15 @@ use Rattle.fs_tree.specs.declared.user.Want.TheVariants.{Write}
 use Rattle.fs_tree.specs.Finding.{Inodes, Finding, make_in, put_back}
 use Rattle.fs_tree.specs.Permission.{access}
 use Rattle.lines_eight.specs.Lines.{HasRoom}
-use Rattle.sys_files.specs.Handed.{Handed, r0, node_at, user_of, with_inodes, let_go}
-use Rattle.sys_files.specs.Did.{Did, fails, is_done, check, must, until_end, then_named, by_made}
+use Rattle.sys_files.specs.Handed.{Handed, r0, node_at, disk_of, user_of, with_inodes, let_go}
+use Rattle.sys_files.specs.Did.{Did, unnamed, fails, is_done, check, must, until_end, then_named, by_made}
 use Rattle.sys_files.specs.Making.{new_in, entry_written, writes_entry, with_links, enters_new, truncated_in, with_no_blocks}
 use Rattle.sys_files.specs.Entering.{did_of}
 use Rattle.sys_files.specs.Core.{core_name, is_plain, writes_parts, writes_over, writes_new, writes_named, core_file, is_written}
 use Rattle.sys_files.specs.Sound.{IsSound, IsKept}
 use Rattle.sys_files.proofs.KeptLemmas.{kept_references}
 use Rattle.sys_files.proofs.PartLemmas.{until}
-use Rattle.sys_files.proofs.NodeCounts.{put_back_count, making_count, numbered_count, truncated_count}
+use Rattle.sys_files.proofs.NodeCounts.{put_back_counts, making_counts, new_counts, entry_counts, links_counts, truncated_counts}
 use Rattle.sys_files.proofs.Steady.{Steady, steady_same}
 
 -- A file that is there is plain and may be written: it gives its blocks back, and is written.
@@ -49,14 +50,14 @@ pub record OverWith (P : Handed → Type 0) (d : Did) : Type 0 where
   pub over : IsOver d.answer
 
 module _ (P : Handed → Type 0)
-    (keeps : (h : Handed) (inodes : Inodes) → inodes.store.count ≡ h.inodes.store.count → P h → P (with_inodes h inodes)) where
+    (keeps : (h : Handed) (inodes : Inodes) → counts inodes.store ≡ counts h.inodes.store → P h → P (with_inodes h inodes)) where
   checks : {A : Type 0} (h : Handed) (test : Result A Errno) (next : A → Did) → P h → ((a : A) → OverWith P (next a))
       → OverWith P (check h test next)
   checks h (Ok a) next p goes = goes a
   checks h (Err e) next p goes = record { state = p; over = tt }
 
   named : {A : Type 0} (h : Handed) (found : Finding A) (next : Handed → A → Did)
-      → found.inodes.store.count ≡ h.inodes.store.count → P h
+      → counts found.inodes.store ≡ counts h.inodes.store → P h
       → ((now : Handed) (a : A) → P now → OverWith P (next now a)) → OverWith P (then_named h found next)
   named h found next same p goes =
       let now : P (with_inodes h found.inodes) = keeps h found.inodes same p in
@@ -65,12 +66,13 @@ module _ (P : Handed → Type 0)
 
   lets_go : (ino : ℕ) (d : Did) → OverWith P d → OverWith P (until_end ino d)
   lets_go ino d k =
-      record { state = keeps d.state (let_go d.state ino).inodes (put_back_count d.state.inodes ino) k.state; over = k.over }
+      record { state = keeps d.state (let_go d.state ino).inodes (put_back_counts d.state.inodes ino) k.state; over = k.over }
 
   writes : (h : Handed) (dir offset : ℕ) (bytes : List ℕ) (now : ℕ) (next : Handed → Did) → P h
       → ((l : Handed) → P l → OverWith P (next l))
       → OverWith P (writes_entry h dir offset bytes now next)
-  writes h dir offset bytes now next p goes = named h (entry_written h.inodes dir offset bytes now) (λ l done. next l) refl p
+  writes h dir offset bytes now next p goes = named h (entry_written h.inodes dir offset bytes now) (λ l done. next l)
+      (entry_counts h.inodes dir offset bytes now) p
       (λ l done q. goes l q)
 
   parts : (now : ℕ) (h : Handed) (ino : ℕ) → P h → OverWith P (writes_parts now h ino)
@@ -85,14 +87,15 @@ module _ (P : Handed → Type 0)
   over_file now h ino p =
       checks h (must EACCES (is_plain (node_at h ino).mode)) _ p (λ plain.
       checks h (access h.marks ino (node_at h ino) (user_of h.u) Write) _ p (λ may.
-      parts now (with_no_blocks h ino now) ino (keeps h (with_no_blocks h ino now).inodes (truncated_count h.inodes ino now) p)))
+      parts now (with_no_blocks h ino now) ino (keeps h (with_no_blocks h ino now).inodes (truncated_counts h.inodes ino now) p)))
 
   new_file : (now : ℕ) (h : Handed) (dir offset : ℕ) (name : List ℕ) → P h → OverWith P (writes_new now h dir offset name)
   new_file now h dir offset name p =
-      named h (new_in h.inodes 0o666 (user_of h.u) now) _ (numbered_count h.inodes 0o666 (user_of h.u) now _ _) p (λ l ino q.
+      named h (new_in h.inodes (disk_of h dir) 0o666 (user_of h.u) now) _
+      (new_counts h.inodes (disk_of h dir) 0o666 (user_of h.u) now) p (λ l ino q.
       lets_go ino (enters_new l dir offset name ino now (writes_parts now))
       (writes l dir offset _ now (λ m. writes_parts now (with_links m ino 1 now) ino) q (λ m r.
-      parts now (with_links m ino 1 now) ino (keeps m (with_links m ino 1 now).inodes refl r))))
+      parts now (with_links m ino 1 now) ino (keeps m (with_links m ino 1 now).inodes (links_counts m.inodes ino 1 now) r))))
 
   made_so : (now : ℕ) (h : Handed) (answer : Made) → P h → OverWith P (by_made (writes_over now) (writes_new now) h answer)
   made_so now h (made.Found ino) p = lets_go ino (writes_over now h ino) (over_file now h ino p)
@@ -104,8 +107,8 @@ module _ (P : Handed → Type 0)
     where
       by : (b : Bool) → OverWith P (cond b (writes_named now h) (fails h EPERM))
       by true =
-          named h (make_in h.inodes h.marks (user_of h.u) h.u.dir core_name) (by_made (writes_over now) (writes_new now))
-          (making_count h.inodes _) p
+          named h (make_in h.inodes h.mounts h.marks (user_of h.u) h.u.dir core_name) (by_made (writes_over now) (writes_new now))
+          (making_counts h.inodes _) p
           (λ l answer q. made_so now l answer q)
       by false = record { state = p; over = tt }
 
@@ -118,22 +121,22 @@ core_steady h now room =
 
 -- The file of the name is looked for, in the directory of the process.
 module _ (h after : Handed) (now : ℕ) (name : List ℕ) (same : name ≡ core_name)
-    (parts : after ≡ with_inodes h (make_in h.inodes h.marks (user_of h.u) h.u.dir name).inodes)
+    (parts : after ≡ with_inodes h (make_in h.inodes h.mounts h.marks (user_of h.u) h.u.dir name).inodes)
   where
-    named_is : (r : Result Made Errno) → r ≡ (make_in h.inodes h.marks (user_of h.u) h.u.dir name).answer
+    named_is : (r : Result Made Errno) → r ≡ (make_in h.inodes h.mounts h.marks (user_of h.u) h.u.dir name).answer
         → writes_named now h ≡ check after r (by_made (writes_over now) (writes_new now) after)
     named_is r answer =
-        ap (λ b. then_named h (make_in h.inodes h.marks (user_of h.u) h.u.dir b) (by_made (writes_over now) (writes_new now)))
+        ap (λ b. then_named h (make_in h.inodes h.mounts h.marks (user_of h.u) h.u.dir b) (by_made (writes_over now) (writes_new now)))
         (sym same)
         ∙ sym (λ i. check (parts i) (answer i) (by_made (writes_over now) (writes_new now) (parts i)))
 
     -- It isn't there.
     pub named_new : (m : Made) (dir offset : ℕ) (entry : List ℕ) (end : Handed) (r : Result (Unit {0}) Errno) (last : Inodes)
-        → Ok m ≡ (make_in h.inodes h.marks (user_of h.u) h.u.dir name).answer → m ≡ made.Room dir offset entry
-        → writes_new now after dir offset entry ≡ did_of end r → last ≡ put_back end.inodes dir
-        → writes_named now h ≡ did_of (with_inodes end last) r
+        → Ok m ≡ (make_in h.inodes h.mounts h.marks (user_of h.u) h.u.dir name).answer → m ≡ made.Room dir offset entry
+        → unnamed (writes_new now after dir offset entry) ≡ did_of end r → last ≡ put_back end.inodes dir
+        → unnamed (writes_named now h) ≡ did_of (with_inodes end last) r
     named_new m dir offset entry end r last answer is did back =
-        named_is (Ok m) answer ∙ ap (by_made (writes_over now) (writes_new now) after) is
+        ap unnamed (named_is (Ok m) answer ∙ ap (by_made (writes_over now) (writes_new now) after) is)
         ∙ until end dir (writes_new now after dir offset entry) r last did back
 
 -- A process whose effective user is the real one writes the file, and no other.
@@ -159,17 +162,19 @@ record SameTables (old new : Handed) : Type 0 where
   pub files : new.files ≡ old.files
   pub pipes : new.pipes ≡ old.pipes
   pub u : new.u ≡ old.u
+  pub mounts : new.mounts ≡ old.mounts
 
 -- What every call keeps the writing of the file keeps too.
 pub core_kept : (old new : Handed) (now : ℕ) → IsSound old → new ≡ (core_file old now).state
     → ((i : ℕ) → slice_index new.inodes.references i ≡ slice_index old.inodes.references i)
-    → new.inodes.store.count ≡ old.inodes.store.count
+    → counts new.inodes.store ≡ counts old.inodes.store
     → IsKept old new
-core_kept old new now sound state references count =
+core_kept old new now sound state references same_counts =
     let same : SameTables old (core_file old now).state =
-    (core_keeps (SameTables old) (λ h inodes count_is k. record { files = k.files; pipes = k.pipes; u = k.u }) old now
-    (record { files = refl; pipes = refl; u = refl })).state in
+    (core_keeps (SameTables old) (λ h inodes count_is k. record { files = k.files; pipes = k.pipes; u = k.u; mounts = k.mounts }) old now
+    (record { files = refl; pipes = refl; u = refl; mounts = refl })).state in
     kept_references old new sound (ap (λ (h : Handed). h.files) state ∙ same.files)
     (ap (λ (h : Handed). h.pipes) state ∙ same.pipes)
     (ap (λ (h : Handed). h.u.files) state ∙ ap (λ (u : UArea). u.files) same.u)
-    (ap (λ (h : Handed). h.u.dir) state ∙ ap (λ (u : UArea). u.dir) same.u) references count
+    (ap (λ (h : Handed). h.u.dir) state ∙ ap (λ (u : UArea). u.dir) same.u)
+    (ap (λ (h : Handed). h.mounts) state ∙ same.mounts) references same_counts

@@ -5,9 +5,11 @@ use Rattle.v6_base.specs.declared.answer.Answer.TheVariants.{Fail}
 use Rattle.v6_base.specs.declared.errno.Errno.{Errno}
 use Rattle.v6_base.specs.declared.errno.Errno.TheVariants.{EMFILE, ENFILE, ENXIO}
 use Rattle.fs_codec.specs.Modes.{is_device}
-use Rattle.fs_codec.specs.Store.{Node, Store}
-use Rattle.fs_laws.proofs.RestLemmas.{rest_then}
-use Rattle.fs_laws.specs.Keys.{with_truncated}
+use Rattle.fs_codec.specs.Store.{Node}
+use Rattle.fs_nodes.proofs.RestLemmas.{rest_then}
+use Rattle.fs_nodes.specs.Keys.{counts}
+use Rattle.fs_tree.specs.Mounting.{AreMounts}
+use Rattle.fs_tree.proofs.MountLemmas.{mounts_stay}
 use Rattle.fs_nodes.specs.FileSystem.{FileSystem, SameRest}
 use Rattle.open_files.specs.declared.file.FileKind.{FileKind}
 use Rattle.open_files.specs.Files.{AreOpen, free_number, free_entry}
@@ -16,7 +18,7 @@ use Rattle.fs_tree.specs.declared.made.Made.TheVariants as made
 use Rattle.fs_tree.specs.Name.{name_at}
 use Rattle.fs_tree.specs.Finding.{Inodes, inodes_of, make_in, put_back}
 use Rattle.sys_files.specs.Handed.{Handed, node_at, user_of, with_inodes}
-use Rattle.sys_files.specs.Did.{Did, check, must, need, until_end, by_made}
+use Rattle.sys_files.specs.Did.{Did, unnamed, check, must, need, until_end, by_made}
 use Rattle.sys_files.specs.Pipes.{ArePipes}
 use Rattle.sys_files.specs.Sound.{owed, IsKept}
 use Rattle.sys_files.specs.Opening.{can_open, opens}
@@ -28,26 +30,18 @@ use Rattle.sys_files.proofs.EnteringLemmas.{taken}
 use Rattle.sys_files.proofs.GivingLemmas.{OneReferenceLess, gives}
 use Rattle.sys_files.proofs.OpeningLemmas.{opens_kept}
 
--- A file that gives its blocks back is one of as many.
-truncated_when : (t : Bool) (store other : Store) → other.count ≡ store.count → (cond t store other).count ≡ store.count
-truncated_when true store other same = refl
-truncated_when false store other same = same
-
-pub truncated_count : (store : Store) (ino : ℕ) (node : Node) (now : ℕ)
-    → (with_truncated store ino node now).count ≡ store.count
-truncated_count store ino node now = truncated_when (is_device node.mode) store _ refl
-
 -- The opening itself keeps what a call keeps.
 pub opened_kept : (h new : Handed) (ino : ℕ) (kind : FileKind) → kind.pipe ≡ false → AreOpen h.files h.u.files
-    → ArePipes h.files h.pipes → 0 < slice_index h.inodes.references ino
+    → ArePipes h.files h.pipes → AreMounts h.mounts h.inodes.store → 0 < slice_index h.inodes.references ino
     → new ≡ (opens h ino kind).state → IsKept h new
-opened_kept h new ino kind plain open_ pipes referred is =
+opened_kept h new ino kind plain open_ pipes mounts referred is =
     let begins : IsKeptBut h h [] =
     record {
       is_open = open_;
       numbers = λ entry. refl;
       references = λ i. omega arith;
-      count = refl;
+      counts = refl;
+      mounts = mounts;
       pipes = pipes;
       others = λ entry file is fewer. stays_there h.files entry file is;
     } in
@@ -78,17 +72,18 @@ opened_more h new ino kind i referred is =
     (opens_more h ino kind i referred)
 
 -- a part of a call after which another one is kept
-pub kept_after : (h m new : Handed) → m.files ≡ h.files → m.u ≡ h.u
+pub kept_after : (h m new : Handed) → m.files ≡ h.files → m.u ≡ h.u → m.mounts ≡ h.mounts
     → ((i : ℕ) → slice_index m.inodes.references i ≡ slice_index h.inodes.references i)
-    → m.inodes.store.count ≡ h.inodes.store.count
+    → counts m.inodes.store ≡ counts h.inodes.store
     → IsKept m new → IsKept h new
-kept_after h m new files u same count k =
-    let owes : (i : ℕ) → owed m i ≡ owed h i = λ i. rw (files, u) refl in
+kept_after h m new files u mounts same all k =
+    let owes : (i : ℕ) → owed m i ≡ owed h i = λ i. rw (files, u, mounts) refl in
     record {
       is_open = k.is_open;
       numbers = rw (files, u) at k.numbers;
       references = λ i. (let r = k.references i in let s = same i in let o = owes i in omega (arith, r, s, o));
-      count = k.count ∙ count;
+      counts = k.counts ∙ all;
+      mounts = k.mounts;
       pipes = k.pipes;
       others = rw (files, u) at k.others;
     }
@@ -96,7 +91,7 @@ kept_after h m new files u same count k =
 -- a reference that is taken before a part and goes after it
 module _ (old mid last : Handed) (a b c d : FileSystem) (ino : ℕ) (takes : OneReferenceMore a ino b)
     (k : IsKept (with_inodes mid (inodes_of b)) (with_inodes last (inodes_of c)))
-    (files : mid.files ≡ old.files) (u : mid.u ≡ old.u)
+    (files : mid.files ≡ old.files) (u : mid.u ≡ old.u) (mounts : mid.mounts ≡ old.mounts)
     (more : (i : ℕ) → slice_index b.references i ≤ slice_index c.references i)
     (back : inodes_of d ≡ put_back (inodes_of c) ino) (rest : SameRest c d) where
   less : OneReferenceLess c ino d
@@ -104,13 +99,14 @@ module _ (old mid last : Handed) (a b c d : FileSystem) (ino : ℕ) (takes : One
 
   pub between_kept : IsKept (with_inodes old (inodes_of a)) (with_inodes last (inodes_of d))
   between_kept =
-      let owes : (i : ℕ) → owed mid i ≡ owed old i = λ i. rw (files, u) refl in
+      let owes : (i : ℕ) → owed mid i ≡ owed old i = λ i. rw (files, u, mounts) refl in
       record {
         is_open = k.is_open;
         numbers = rw (files, u) at k.numbers;
         references = λ i. (let t = takes.references i in let r = k.references i in let l = less.references i in let o =
             owes i in omega (arith, t, r, l, o));
-        count = less.count ∙ k.count ∙ takes.count;
+        counts = less.counts ∙ k.counts ∙ takes.counts;
+        mounts = mounts_stay last.mounts c.store d.store less.counts k.mounts;
         pipes = k.pipes;
         others = rw (files, u) at k.others;
       }
@@ -122,30 +118,30 @@ module _ (old mid last : Handed) (a b c d : FileSystem) (ino : ℕ) (takes : One
   between_blocks same =
       rest_then a.blocks b.blocks d.blocks takes.blocks (rest_then b.blocks c.blocks d.blocks same rest)
 
-until_answered : (after : Handed) (ino : ℕ) (d : Did) (a : Answer) (last : Inodes) → d ≡ did_with after a
-    → last ≡ put_back after.inodes ino → until_end ino d ≡ did_with (with_inodes after last) a
-until_answered after ino d a last did is = ap (until_end ino) did ∙ sym (ap (λ m. did_with (with_inodes after m) a) is)
+until_answered : (after : Handed) (ino : ℕ) (d : Did) (a : Answer) (last : Inodes) → unnamed d ≡ did_with after a
+    → last ≡ put_back after.inodes ino → unnamed (until_end ino d) ≡ did_with (with_inodes after last) a
+until_answered after ino d a last did is = ap (λ (x : Did). unnamed (until_end ino x)) did ∙ sym (ap (λ m. did_with (with_inodes after m) a) is)
 
 -- what creat comes to, by the parts after the search for the name
 module _ (h after : Handed) (name mode now : ℕ)
-    (parts : after ≡ with_inodes h (make_in h.inodes h.marks (user_of h.u) h.u.dir (name_at h.image name)).inodes) where
-  made_is : (r : Result Made Errno) → r ≡ (make_in h.inodes h.marks (user_of h.u) h.u.dir (name_at h.image name)).answer
+    (parts : after ≡ with_inodes h (make_in h.inodes h.mounts h.marks (user_of h.u) h.u.dir (name_at h.image name)).inodes) where
+  made_is : (r : Result Made Errno) → r ≡ (make_in h.inodes h.mounts h.marks (user_of h.u) h.u.dir (name_at h.image name)).answer
       → creat_file h name mode now ≡ check after r (by_made (opens_again now) (makes_file mode now) after)
   made_is r answer = sym (λ i. check (parts i) (answer i) (by_made (opens_again now) (makes_file mode now) (parts i)))
 
-  pub creat_refused : (e : Errno) → Err e ≡ (make_in h.inodes h.marks (user_of h.u) h.u.dir (name_at h.image name)).answer
+  pub creat_refused : (e : Errno) → Err e ≡ (make_in h.inodes h.mounts h.marks (user_of h.u) h.u.dir (name_at h.image name)).answer
       → creat_file h name mode now ≡ did_with after (Fail e)
   creat_refused e answer = made_is (Err e) answer
 
   module _ (m : Made) (a : Answer) (end : Handed) (last : Inodes)
-      (answer : Ok m ≡ (make_in h.inodes h.marks (user_of h.u) h.u.dir (name_at h.image name)).answer) where
-    pub creat_found : (ino : ℕ) → m ≡ made.Found ino → opens_again now after ino ≡ did_with end a → last ≡ put_back end.inodes ino
-        → creat_file h name mode now ≡ did_with (with_inodes end last) a
+      (answer : Ok m ≡ (make_in h.inodes h.mounts h.marks (user_of h.u) h.u.dir (name_at h.image name)).answer) where
+    pub creat_found : (ino : ℕ) → m ≡ made.Found ino → unnamed (opens_again now after ino) ≡ did_with end a → last ≡ put_back end.inodes ino
+        → unnamed (creat_file h name mode now) ≡ did_with (with_inodes end last) a
     creat_found ino is did back =
-        made_is (Ok m) answer ∙ ap (by_made (opens_again now) (makes_file mode now) after) is ∙ until_answered end ino _ a last did back
+        ap unnamed (made_is (Ok m) answer ∙ ap (by_made (opens_again now) (makes_file mode now) after) is) ∙ until_answered end ino _ a last did back
 
     pub creat_new : (dir offset : ℕ) (entry : List ℕ) → m ≡ made.Room dir offset entry
-        → makes_file mode now after dir offset entry ≡ did_with end a → last ≡ put_back end.inodes dir
-        → creat_file h name mode now ≡ did_with (with_inodes end last) a
+        → unnamed (makes_file mode now after dir offset entry) ≡ did_with end a → last ≡ put_back end.inodes dir
+        → unnamed (creat_file h name mode now) ≡ did_with (with_inodes end last) a
     creat_new dir offset entry is did back =
-        made_is (Ok m) answer ∙ ap (by_made (opens_again now) (makes_file mode now) after) is ∙ until_answered end dir _ a last did back
+        ap unnamed (made_is (Ok m) answer ∙ ap (by_made (opens_again now) (makes_file mode now) after) is) ∙ until_answered end dir _ a last did back

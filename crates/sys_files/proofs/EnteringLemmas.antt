@@ -1,21 +1,24 @@
 -- What is found, made and entered is referred to, and what stays.
-use Rattle.std.proofs.Common.{◌≡◌, ◌≢◌, ◌+◌, ◌<◌, ◌≤◌, ◌&&◌, inl, inr, ℕ, Bool, true, false, cond, List, length, nat_lt, nat_le, slice_index, slice_set, Option, Some, None, IsSome, Result, Ok, Err, IfOk, IfErr, refl, sym, ap, ◌∙◌, subst, arith}
+use Rattle.std.proofs.Common.{◌≡◌, ◌≢◌, ◌+◌, ◌<◌, inl, inr, ℕ, Bool, true, false, cond, List, length, slice_index, slice_set, Option, Some, None, IsSome, Result, Ok, Err, IfOk, IfErr, refl, sym, ap, ◌∙◌, subst, arith}
 use Rattle.std.proofs.lemmas.Bool.{cases_lt, eq-eqb}
-use Rattle.std.proofs.lemmas.Bool.Decides.{nat_tests}
-use Rattle.std.proofs.lemmas.List.{get_or_past, get_or-set_other}
-use Rattle.std.specs.Option.{is_none}
+use Rattle.std.proofs.lemmas.List.{get_or-set_other}
 use Rattle.v6_base.specs.Access.{then_do}
 use Rattle.v6_base.specs.declared.errno.Errno.{Errno}
 use Rattle.v6_base.specs.declared.errno.Errno.TheVariants.{ENFILE}
-use Rattle.fs_codec.specs.Store.{Node, Store}
-use Rattle.fs_laws.specs.Numbers.{is_free_number, new_node}
+use Rattle.fs_codec.specs.Store.{Node}
+use Rattle.fs_laws.specs.Numbers.{new_node}
 use Rattle.fs_laws.specs.Pieces.{Moving}
-use Rattle.fs_laws.proofs.RestLemmas.{rest_stays}
-use Rattle.fs_laws.specs.Keys.{node_numbered}
-use Rattle.fs_laws.specs.Rest.{SameAround}
-use Rattle.fs_nodes.specs.FileSystem.{FileSystem, SameRest, IsFileSystem}
-use Rattle.fs_nodes.specs.Numbers.{MakesNode, MakesNone}
-use Rattle.fs_nodes.proofs.NumbersMake.{draw_free}
+use Rattle.fs_nodes.specs.Disks.{Disks}
+use Rattle.fs_nodes.specs.Keys.{Stores, counts, node_numbered, room_at}
+use Rattle.fs_nodes.specs.FileSystem.{FileSystem, SameRest, SameAroundEach, IsFileSystem}
+use Rattle.fs_nodes.specs.Numbers.{MakesNode, MakesNone, next_draw, with_draw}
+use Rattle.fs_nodes.proofs.CountLaws.{counts_drawn}
+use Rattle.fs_nodes.proofs.KeyLaws.{counts_set, node_other, node_drawn}
+use Rattle.fs_nodes.proofs.MadeLemmas.{IsNewKey, made_key}
+use Rattle.fs_nodes.proofs.RestLemmas.{rest_stays}
+use Rattle.mount_tab.specs.Mounted.{MountTable, split_of}
+use Rattle.fs_tree.specs.Mounting.{AreMounts}
+use Rattle.fs_tree.proofs.MountLemmas.{crosses_of, disk_is, disk_there}
 use Rattle.fs_tree.specs.declared.user.User.{User}
 use Rattle.fs_tree.specs.declared.made.Made.{Made}
 use Rattle.fs_tree.specs.declared.made.Made.TheVariants as made
@@ -25,7 +28,7 @@ use Rattle.fs_tree.specs.Entries.{WritesEntry}
 use Rattle.fs_tree.specs.Finding.{Inodes, Finding, inodes_of, can_refer, with_reference, refused, referring, making, make_in, named_by_made}
 use Rattle.fs_tree.proofs.EntryLemmas.{IsMadePlace, made_at, made_used_at}
 use Rattle.sys_files.proofs.OwingLemmas.{once_more}
-use Rattle.sys_files.specs.Entering.{HasEntry, HasMade, SameReferences, one_to, OneReferenceMore}
+use Rattle.sys_files.specs.Entering.{HasEntry, HasMade, IsOnDisk, SameReferences, one_to, OneReferenceMore}
 
 own : (ino : ℕ) → one_to ino ino ≡ 1
 own ino = ap (λ t. cond t 1 0) (eq-eqb ino ino refl)
@@ -49,20 +52,17 @@ none_some : (o : Option Node) → IsSome o → o ≡ None → ⊥
 none_some None some is = absurd (cc)
 none_some (Some node) some is = absurd (cc)
 
-started : (store : Store) (t : Bool) (dir : ℕ) → IsSome (node_numbered store 1) → IsSome (node_numbered store dir)
+started : (store : Stores) (t : Bool) (dir : ℕ) → IsSome (node_numbered store 1) → IsSome (node_numbered store dir)
     → IsSome (node_numbered store (cond t 1 dir))
 started store true dir root some = root
 started store false dir root some = some
 
-pub rest_same : (old new : List (List ℕ)) → new ≡ old → SameAround old new
-rest_same old new is = subst (λ (l : List (List ℕ)). SameAround old l) (sym is) (rest_stays old)
+pub rest_same : (old new : Disks (List (List ℕ))) → new ≡ old → SameAroundEach old new
+rest_same old new is = subst (λ (l : Disks (List (List ℕ))). SameAroundEach old l) (sym is) (rest_stays old)
 
 module _ (fs : FileSystem) (form : IsFileSystem fs) where
   pub used_low : (ino : ℕ) → IsSome (node_numbered fs.store ino) → ino < length fs.references
-  used_low ino some = elim (cases_lt ino (length fs.store.nodes)) [
-    | inl low ↦ omega (arith, low, form.nodes, form.references)
-    | inr past ↦ absurd (none_some (node_numbered fs.store ino) some (get_or_past fs.store.nodes ino None past))
-  ]
+  used_low ino some = form.low ino some
 
   pub start_used : (dir : ℕ) (bytes : List ℕ) → 0 < slice_index fs.references dir
       → IsSome (node_numbered fs.store (start_of dir bytes))
@@ -73,7 +73,7 @@ module _ (fs : FileSystem) (form : IsFileSystem fs) where
   takes_one new ino some is blocks = record {
     references = λ i. ap (λ (n : Inodes). slice_index n.references i) is
         ∙ once_more fs.references ino i (used_low ino some);
-    count = ap (λ (n : Inodes). n.store.count) is;
+    counts = ap (λ (n : Inodes). counts n.store) is;
     blocks = blocks;
   }
 
@@ -119,22 +119,22 @@ making_none n (Ok a) e err =
     referring_none n (can_refer n (named_by_made a)) a e (referring n (named_by_made a) a) refl err
 making_none n (Err x) e err = refl
 
-module _ (fs new : FileSystem) (marks : List Bool) (user : User) (dir : ℕ) (bytes : List ℕ) (r : Result Made Errno) (form : IsFileSystem fs)
-    (referred : 0 < slice_index fs.references dir)
-    (answer : r ≡ (make_in (inodes_of fs) marks user dir bytes).answer)
-    (inodes : inodes_of new ≡ (make_in (inodes_of fs) marks user dir bytes).inodes) (blocks : new.blocks ≡ fs.blocks)
+module _ (fs new : FileSystem) (mounts : MountTable) (are : AreMounts mounts fs.store) (marks : List Bool) (user : User) (dir : ℕ)
+    (bytes : List ℕ) (r : Result Made Errno) (form : IsFileSystem fs) (referred : 0 < slice_index fs.references dir)
+    (answer : r ≡ (make_in (inodes_of fs) mounts marks user dir bytes).answer)
+    (inodes : inodes_of new ≡ (make_in (inodes_of fs) mounts marks user dir bytes).inodes) (blocks : new.blocks ≡ fs.blocks)
   where
     made_is : (m : Made) → r ≡ Ok m
-        → Makes (inodes_of fs) m (then_do (way fs.store user dir bytes) (to_make fs.store marks))
-        (make_in (inodes_of fs) marks user dir bytes).inodes
+        → Makes (inodes_of fs) m (then_do (way fs.store mounts user dir bytes) (to_make fs.store mounts marks))
+        (make_in (inodes_of fs) mounts marks user dir bytes).inodes
     made_is m ok =
-        making_ok (inodes_of fs) (then_do (way fs.store user dir bytes) (to_make fs.store marks)) m (sym answer ∙ ok)
+        making_ok (inodes_of fs) (then_do (way fs.store mounts user dir bytes) (to_make fs.store mounts marks)) m (sym answer ∙ ok)
 
     made_one : (m : Made) → r ≡ Ok m → OneReferenceMore fs (named_by_made m) new
     made_one m ok =
         let is = made_is m ok in
         takes_one fs form new (named_by_made m)
-        (made_used_at fs.store marks user dir bytes m (start_used fs form dir bytes referred) is.made) (inodes ∙ is.inodes)
+        (made_used_at fs.store mounts (crosses_of fs.store mounts are form.second_root) marks user dir bytes m (start_used fs form dir bytes referred) is.made) (inodes ∙ is.inodes)
         (rest_same fs.blocks new.blocks blocks)
 
     pub made_takes : IfOk r (λ m. OneReferenceMore fs (named_by_made m) new)
@@ -145,7 +145,7 @@ module _ (fs new : FileSystem) (marks : List Bool) (user : User) (dir : ℕ) (by
     has_made (made.Found ino) takes same place = taken fs new ino takes
     has_made (made.Room at offset name) takes same place = record {
       referenced = taken fs new at takes;
-      directory = λ node is. place.directory node (ap (λ (s : Store). node_numbered s at) (sym same) ∙ is);
+      directory = λ node is. place.directory node (ap (λ (s : Stores). node_numbered s at) (sym same) ∙ is);
       begins = place.begins;
       small = place.small;
     }
@@ -154,15 +154,15 @@ module _ (fs new : FileSystem) (marks : List Bool) (user : User) (dir : ℕ) (by
     made_has = if_ok r (λ m. HasMade new m) (λ m ok.
         let is = made_is m ok in
         has_made m (made_one m ok) (ap (λ (n : Inodes). n.store) (inodes ∙ is.inodes))
-        (made_at fs.store marks user dir bytes m is.made))
+        (made_at fs.store mounts marks user dir bytes m is.made))
 
     pub made_none : IfErr r (λ e. SameReferences fs new)
     made_none = if_err r (SameReferences fs new) (λ e err.
-        let same = inodes ∙ making_none (inodes_of fs) (then_do (way fs.store user dir bytes) (to_make fs.store marks)) e
+        let same = inodes ∙ making_none (inodes_of fs) (then_do (way fs.store mounts user dir bytes) (to_make fs.store mounts marks)) e
         (sym answer ∙ err) in
         record {
           references = λ i. ap (λ (n : Inodes). slice_index n.references i) same;
-          count = ap (λ (n : Inodes). n.store.count) same;
+          counts = ap (λ (n : Inodes). counts n.store) same;
           blocks = rest_same fs.blocks new.blocks blocks;
         })
 
@@ -176,52 +176,52 @@ written_keeps old new dir m r some each references blocks =
     let w = each n.0 n.1 in
     record {
       references = λ i. ap (λ l. slice_index l i) references;
-      count =
-          ap (λ (s : Store). s.count) w.store;
+      counts = ap counts w.store ∙ counts_set old.store dir (m n.0).room (m n.0).node;
       blocks = blocks;
     }
 
--- A new inode.
-record IsNew (fs : FileSystem) (ino : ℕ) : Type 0 where
-  pub high : ino ≤ fs.store.count
-  pub none : node_numbered fs.store ino ≡ None
+-- The disk of a directory that is referred to is there.
+pub disk_has : (fs : FileSystem) → IsFileSystem fs → (mounts : MountTable) → AreMounts mounts fs.store → (dir : ℕ)
+    → 0 < slice_index fs.references dir → (split_of mounts dir).0 ≢ 0 → IsSome fs.store.second
+disk_has fs form mounts are dir referred other =
+    let low = form.low dir (form.used dir referred) in
+    let long = form.references in
+    disk_there mounts fs.store dir are (omega (arith, low, long)) other
 
-free_is : (a b : Bool) (o : Option Node) → a && b && is_none o ≡ true → (b ≡ true) × (o ≡ None)
-free_is true true None is = (refl, refl)
-free_is true true (Some node) is = absurd (cc)
-free_is true false o is = absurd (cc)
-free_is false b o is = absurd (cc)
+-- An inode that was made on it is of the same disk as the directory.
+pub same_disk : (mounts : MountTable) (store : Stores) (dev dir ino : ℕ) → AreMounts mounts store → dev ≡ (split_of mounts dir).0
+    → IsOnDisk (counts store) dev ino → (split_of mounts ino).0 ≡ (split_of mounts dir).0
+same_disk mounts store dev dir ino are is on = disk_is mounts store ino are ∙ on ∙ is
 
-new_is : (fs : FileSystem) (ino : ℕ) → is_free_number fs.store ino ≡ true → IsNew fs ino
-new_is fs ino is =
-    let both = free_is (nat_le 1 ino) (nat_le ino fs.store.count) (node_numbered fs.store ino) is in
-    let le = both.0 in
-    record { high = grind (arith, nat_tests); none = both.1 }
+-- A new inode, on a disk that is there.
+module _ (fs new : FileSystem) (form : IsFileSystem fs) (dev mode uid gid time : ℕ) (small : dev < 2)
+    (is_disk : dev ≢ 0 → IsSome fs.store.second) where
+  makes_new : (ino : ℕ) → MakesNode fs dev mode uid gid time ino new → IsNewKey fs.store dev ino
+  makes_new ino made = made_key fs new dev mode uid gid time ino small is_disk made
 
-module _ (fs new : FileSystem) (form : IsFileSystem fs) (mode uid gid time : ℕ) where
-  makes_new : (ino : ℕ) → MakesNode fs mode uid gid time ino new → IsNew fs ino
-  makes_new ino made = new_is fs ino (draw_free fs.store (λ i. nat_lt 0 (slice_index fs.references i)) ino made.number)
-
-  pub new_takes : (ino : ℕ) → SameRest fs new → MakesNode fs mode uid gid time ino new
+  pub new_takes : (ino : ℕ) → SameRest fs new → MakesNode fs dev mode uid gid time ino new
       → OneReferenceMore fs ino new
   new_takes ino blocks made =
       let is = makes_new ino made in
+      let high = is.high in
       let none : slice_index fs.references ino ≡ 0 = free_unreferred fs form ino is.none in
-      let low : ino < length fs.references = omega (arith, is.high, form.references) in
+      let low : ino < length fs.references = omega (arith, high, form.references) in
       record {
         references = λ i. ap (λ l. slice_index l i) made.references
             ∙ ap (λ n. slice_index (slice_set fs.references ino (n + 1)) i) (sym none)
             ∙ once_more fs.references ino i low;
-        count = ap (λ (s : Store). s.count) made.store;
+        counts = ap counts made.store
+            ∙ counts_set (with_draw fs.store dev (next_draw fs dev)) ino (room_at fs.store ino) (new_node mode uid gid time)
+            ∙ counts_drawn fs.store dev (next_draw fs dev);
         blocks = blocks;
       }
 
   -- Nobody referred to it.
-  pub new_fresh : (ino : ℕ) → MakesNode fs mode uid gid time ino new → slice_index fs.references ino ≡ 0
+  pub new_fresh : (ino : ℕ) → MakesNode fs dev mode uid gid time ino new → slice_index fs.references ino ≡ 0
   new_fresh ino made = free_unreferred fs form ino (makes_new ino made).none
 
   -- A directory stays one.
-  pub new_keeps_entry : (ino dir offset : ℕ) → MakesNode fs mode uid gid time ino new → HasEntry fs dir offset
+  pub new_keeps_entry : (ino dir offset : ℕ) → MakesNode fs dev mode uid gid time ino new → HasEntry fs dir offset
       → HasEntry new dir offset
   new_keeps_entry ino dir offset made at =
       let is = makes_new ino made in
@@ -233,8 +233,9 @@ module _ (fs new : FileSystem) (form : IsFileSystem fs) (mode uid gid time : ℕ
       let kept : slice_index new.references dir ≡ slice_index fs.references dir =
       ap (λ l. slice_index l dir) made.references ∙ get_or-set_other fs.references ino dir 1 0 other in
       let node_kept : node_numbered new.store dir ≡ node_numbered fs.store dir =
-      ap (λ (s : Store). node_numbered s dir) made.store
-      ∙ get_or-set_other fs.store.nodes ino dir (Some (new_node mode uid gid time)) None other in
+      ap (λ (s : Stores). node_numbered s dir) made.store
+      ∙ node_other (with_draw fs.store dev (next_draw fs dev)) ino dir (room_at fs.store ino) (new_node mode uid gid time) other
+      ∙ node_drawn fs.store dev (next_draw fs dev) dir in
       record {
         referenced = omega (arith, kept, some);
         directory = λ node there_is. at.directory node (sym node_kept ∙ there_is);
@@ -242,12 +243,13 @@ module _ (fs new : FileSystem) (form : IsFileSystem fs) (mode uid gid time : ℕ
         small = at.small;
       }
 
-  pub none_keeps_entry : (dir offset : ℕ) (e : Errno) → MakesNone fs e new → HasEntry fs dir offset
+  pub none_keeps_entry : (dir offset : ℕ) (e : Errno) → MakesNone fs dev e new → HasEntry fs dir offset
       → HasEntry new dir offset
   none_keeps_entry dir offset e made at = record {
     referenced = subst (λ (l : List ℕ). 0 < slice_index l dir) (sym made.references) at.referenced;
     directory = λ node there_is.
-        at.directory node (ap (λ (s : Store). node_numbered s dir) (sym made.store) ∙ there_is);
+        at.directory node
+        (sym (node_drawn fs.store dev (next_draw fs dev) dir) ∙ ap (λ (s : Stores). node_numbered s dir) (sym made.store) ∙ there_is);
     begins = at.begins;
     small = at.small;
   }
@@ -264,15 +266,14 @@ making_store n (Ok a) = referring_store n (can_refer n (named_by_made a)) a
 making_store n (Err e) = refl
 
 -- A node that is changed keeps references and numbers.
-pub changed_keeps : (old new : FileSystem) (ino : ℕ) (f : Node → Store) → IsSome (node_numbered old.store ino)
+pub changed_keeps : (old new : FileSystem) (ino : ℕ) (f : Node → Stores) → IsSome (node_numbered old.store ino)
     → ((node : Node) → node_numbered old.store ino ≡ Some node → new.store ≡ f node)
-    → ((node : Node) → (f node).count ≡ old.store.count) → new.references ≡ old.references
+    → ((node : Node) → counts (f node) ≡ counts old.store) → new.references ≡ old.references
     → SameRest old new → SameReferences old new
 changed_keeps old new ino f some each same references blocks =
     let n = there (node_numbered old.store ino) some in
     record {
       references = λ i. ap (λ l. slice_index l i) references;
-      count =
-          ap (λ (s : Store). s.count) (each n.0 n.1) ∙ same n.0;
+      counts = ap counts (each n.0 n.1) ∙ same n.0;
       blocks = blocks;
     }

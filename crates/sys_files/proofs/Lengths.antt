@@ -7,7 +7,7 @@ use Rattle.v6_base.proofs.Copies.{SameLengths, same_lengths, byte_lengths, bytes
 use Rattle.fs_codec.specs.Modes.{is_device}
 use Rattle.fs_codec.specs.Store.{Node}
 use Rattle.fs_laws.specs.Pieces.{Moving, going_on, reading, read_file, pieces, beginning}
-use Rattle.fs_laws.specs.Keys.{room_at}
+use Rattle.fs_nodes.specs.Keys.{room_at}
 use Rattle.fs_nodes.specs.Copy.{put_into}
 use Rattle.tty_line.specs.Terminal.{Terminal}
 use Rattle.tty_line.specs.declared.line.Took.TheVariants.{Wait}

@@ -48,3 +48,4 @@ pub mod PipeMadeLemmas
 pub mod PartedWrites
 pub mod LoadedLemmas
 pub mod WritingLemmas
+pub mod FrameLemmas

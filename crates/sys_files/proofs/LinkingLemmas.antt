@@ -1,12 +1,12 @@
 -- The tests of link, one after another.
-use Rattle.std.proofs.Common.{◌≡◌, ◌<◌, ◌-◌, ℕ, true, false, [], ◌∷◌, Ok, Err, sym, ap, ◌∙◌}
+use Rattle.std.proofs.Common.{◌≡◌, ◌<◌, ◌+◌, ◌-◌, ◌==◌, ℕ, true, false, not, List, [], ◌∷◌, Ok, Err, sym, ap, ◌∙◌}
 use Rattle.std.proofs.lemmas.Bool.{lt-ltb}
 use Rattle.v6_base.specs.declared.errno.Errno.{Errno}
-use Rattle.v6_base.specs.declared.errno.Errno.TheVariants.{EPERM, EMLINK}
+use Rattle.v6_base.specs.declared.errno.Errno.TheVariants.{EPERM, EBUSY, EXDEV, EMLINK}
 use Rattle.fs_tree.specs.Finding.{Inodes}
-use Rattle.sys_files.specs.Handed.{Handed, node_in, node_at, with_inodes}
-use Rattle.sys_files.specs.Did.{fails, is_done, check, must}
-use Rattle.sys_files.specs.Making.{entry_written, writes_entry, links_in, with_links, may_link, makes_new, enters_again, links_to, empties}
+use Rattle.sys_files.specs.Handed.{Handed, node_in, node_at, disk_of, with_inodes}
+use Rattle.sys_files.specs.Did.{Did, fails, is_done, check, must}
+use Rattle.sys_files.specs.Making.{entry_written, writes_entry, enters, links_in, with_links, may_link, is_covered, makes_new, enters_again, links_to, empties}
 use Rattle.sys_files.proofs.PartLemmas.{passes, stops, named, not_named}
 
 module _ (h : Handed) (new now ino : ℕ) (few : (node_at h ino).nlink < 127) where
@@ -22,34 +22,54 @@ module _ (h : Handed) (new now ino : ℕ) (few : (node_at h ino).nlink < 127) wh
   pub link_goes : may_link h ino ≡ true → links_to new now h ino ≡ makes_new h new (enters_again ino now)
   link_goes may = few_links ∙ ap (λ t. check h (must EPERM t) (λ may. makes_new h new (enters_again ino now))) may
 
+-- An inode has another name on its own disk.
+module _ (h : Handed) (ino now dir offset : ℕ) (name : List ℕ) where
+  writes_again : Did
+  writes_again = enters h dir offset name ino now (λ h. is_done (with_links h ino ((node_at h ino).nlink + 1) now))
+
+  pub again_refused : (disk_of h ino == disk_of h dir) ≡ false → enters_again ino now h dir offset name ≡ fails h EXDEV
+  again_refused other = stops h EXDEV (disk_of h ino == disk_of h dir) (λ same. writes_again) other
+
+  pub again_goes : (disk_of h ino == disk_of h dir) ≡ true → enters_again ino now h dir offset name ≡ writes_again
+  again_goes is = passes h EXDEV (disk_of h ino == disk_of h dir) (λ same. writes_again) is
+
 -- The tests of unlink, and what it does after them.
 module _ (h : Handed) (dir offset ino now : ℕ) where
+  writes_none : Did
+  writes_none = writes_entry h dir offset (0 ∷ 0 ∷ []) now
+      (λ h. is_done (with_links h ino ((node_at h ino).nlink - 1) now))
+
   pub unlink_refused : may_link h ino ≡ false → empties now h dir offset ino ≡ fails h EPERM
   unlink_refused may = stops h EPERM (may_link h ino)
-      (λ may. writes_entry h dir offset (0 ∷ 0 ∷ []) now
-      (λ h. is_done (with_links h ino ((node_at h ino).nlink - 1) now))) may
+      (λ may. check h (must EBUSY (not (is_covered h ino))) (λ free. writes_none)) may
 
-  unlink_goes : may_link h ino ≡ true
-      → empties now h dir offset ino
-      ≡ writes_entry h dir offset (0 ∷ 0 ∷ []) now (λ h. is_done (with_links h ino ((node_at h ino).nlink - 1) now))
-  unlink_goes may = passes h EPERM (may_link h ino)
-      (λ may. writes_entry h dir offset (0 ∷ 0 ∷ []) now
-      (λ h. is_done (with_links h ino ((node_at h ino).nlink - 1) now))) may
+  may_goes : may_link h ino ≡ true
+      → empties now h dir offset ino ≡ check h (must EBUSY (not (is_covered h ino))) (λ free. writes_none)
+  may_goes may = passes h EPERM (may_link h ino)
+      (λ may. check h (must EBUSY (not (is_covered h ino))) (λ free. writes_none)) may
 
-  pub unlink_unwritten : (e : Errno) (n : Inodes) → may_link h ino ≡ true
+  pub unlink_busy : may_link h ino ≡ true → is_covered h ino ≡ true → empties now h dir offset ino ≡ fails h EBUSY
+  unlink_busy may covered =
+      may_goes may ∙ stops h EBUSY (not (is_covered h ino)) (λ free. writes_none) (ap not covered)
+
+  unlink_goes : may_link h ino ≡ true → is_covered h ino ≡ false → empties now h dir offset ino ≡ writes_none
+  unlink_goes may free =
+      may_goes may ∙ passes h EBUSY (not (is_covered h ino)) (λ free. writes_none) (ap not free)
+
+  pub unlink_unwritten : (e : Errno) (n : Inodes) → may_link h ino ≡ true → is_covered h ino ≡ false
       → Err e ≡ (entry_written h.inodes dir offset (0 ∷ 0 ∷ []) now).answer
       → n ≡ (entry_written h.inodes dir offset (0 ∷ 0 ∷ []) now).inodes
       → empties now h dir offset ino ≡ fails (with_inodes h n) e
-  unlink_unwritten e n may answer inodes =
-      unlink_goes may ∙ not_named h (entry_written h.inodes dir offset (0 ∷ 0 ∷ []) now) e n
+  unlink_unwritten e n may free answer inodes =
+      unlink_goes may free ∙ not_named h (entry_written h.inodes dir offset (0 ∷ 0 ∷ []) now) e n
       (λ h done. is_done (with_links h ino ((node_at h ino).nlink - 1) now)) answer inodes
 
-  pub unlink_written : (u : Unit {0}) (n last : Inodes) (links fewer : ℕ) → may_link h ino ≡ true
+  pub unlink_written : (u : Unit {0}) (n last : Inodes) (links fewer : ℕ) → may_link h ino ≡ true → is_covered h ino ≡ false
       → Ok u ≡ (entry_written h.inodes dir offset (0 ∷ 0 ∷ []) now).answer
       → n ≡ (entry_written h.inodes dir offset (0 ∷ 0 ∷ []) now).inodes → links ≡ (node_in n.store ino).nlink
       → fewer ≡ links - 1 → last ≡ links_in n ino fewer now
       → empties now h dir offset ino ≡ is_done (with_inodes h last)
-  unlink_written u n last links fewer may answer inodes are less is =
-      unlink_goes may ∙ named h (entry_written h.inodes dir offset (0 ∷ 0 ∷ []) now) u n
+  unlink_written u n last links fewer may free answer inodes are less is =
+      unlink_goes may free ∙ named h (entry_written h.inodes dir offset (0 ∷ 0 ∷ []) now) u n
       (λ h done. is_done (with_links h ino ((node_at h ino).nlink - 1) now)) answer inodes
       ∙ sym (ap (λ m. is_done (with_inodes h m)) (is ∙ ap (λ k. links_in n ino k now) (less ∙ ap (λ k. k - 1) are)))

@@ -1,12 +1,11 @@
 -- A write keeps the links of a file.
-use Rattle.std.proofs.Common.{◌≡◌, ◌+◌, ◌-◌, ◌/◌, ◌==◌, ℕ, Bool, true, false, not, cond, List, [], ◌∷◌, nat_lt, length, slice_index_or, slice_set, inl, inr, Option, Some, None, refl, sym, ap, ◌∙◌}
+use Rattle.std.proofs.Common.{◌≡◌, ◌+◌, ◌-◌, ◌/◌, ◌==◌, ℕ, Bool, true, false, not, cond, List, [], ◌∷◌, nat_lt, length, inl, inr, Option, Some, None, refl, sym, ap, ◌∙◌}
 use Rattle.bmap_path.specs.declared.BlockName.{BlockName}
 use Rattle.bmap_path.specs.Path.{path_of}
 use Rattle.v6_base.specs.declared.errno.Errno.TheVariants.{EFBIG, ENOSPC, EFAULT}
 use Rattle.fs_codec.specs.Modes.{is_large, is_device}
 use Rattle.std.specs.Option.{unwrap_or}
-use Rattle.std.proofs.lemmas.Bool.{cases_lt, cases_eq}
-use Rattle.std.proofs.lemmas.List.{set_past, get_or-set_same, get_or-set_other}
+use Rattle.std.proofs.lemmas.Bool.{cases_eq}
 use Rattle.fs_codec.specs.Store.{Node, holds}
 use Rattle.fs_nodes.specs.Copy.{get_kernel}
 use Rattle.fs_tree.specs.Entries.{written}
@@ -15,7 +14,8 @@ use Rattle.sys_files.specs.Handed.{no_node, node_in}
 use Rattle.sys_files.specs.Making.{entry_written}
 use Rattle.fs_laws.specs.Touch.{Touching, touching, take_names, gained}
 use Rattle.fs_laws.specs.Pieces.{pieces, Moving, stopped, going_on, writing, size_limit, with_bytes, beginning, write_file}
-use Rattle.fs_laws.specs.Keys.{room_at}
+use Rattle.fs_nodes.specs.Keys.{Stores, room_at, with_node}
+use Rattle.fs_nodes.proofs.KeyLaws.{node_put, node_other}
 
 taken_links : (names : List BlockName) (node : Node) (room : ℕ) → (take_names names node room).node.nlink ≡ node.nlink
 taken_links [] node room = refl
@@ -83,25 +83,24 @@ module _ {Memory : Type 0} (get : ℕ → ℕ → Option (List ℕ)) where
       file_links (is_device node.mode) (pieces at (at + count)) (beginning begun room memory)
       ∙ begun_links (count == 0) node time
 
--- A store where one node has changed, but not its links.
-changed_links : (nodes : List (Option Node)) (dir ino : ℕ) (node : Node)
-    → node.nlink ≡ (unwrap_or (slice_index_or nodes dir None) no_node).nlink
-    → (unwrap_or (slice_index_or (slice_set nodes dir (Some node)) ino None) no_node).nlink
-    ≡ (unwrap_or (slice_index_or nodes ino None) no_node).nlink
-changed_links nodes dir ino node same = elim (cases_lt dir (length nodes)) [
-  | inr past ↦ ap (λ l. (unwrap_or (slice_index_or l ino None) no_node).nlink) (set_past nodes dir (Some node) past)
-  | inl low ↦ elim (cases_eq ino dir) [
-    | inl here ↦
-        ap (λ i. (unwrap_or (slice_index_or (slice_set nodes dir (Some node)) i None) no_node).nlink) here
-        ∙ (ap (λ o. (unwrap_or o no_node).nlink) (get_or-set_same nodes dir (Some node) None low)
-        ∙ (same ∙ ap (λ i. (unwrap_or (slice_index_or nodes i None) no_node).nlink) (sym here)))
-    | inr other ↦ ap (λ o. (unwrap_or o no_node).nlink) (get_or-set_other nodes dir ino (Some node) None other)
-  ]
+-- A node has changed, but not its links.
+changed_links : (s : Stores) (dir ino room : ℕ) (node : Node) → node.nlink ≡ (node_in s dir).nlink
+    → (node_in (with_node s dir node room) ino).nlink ≡ (node_in s ino).nlink
+changed_links s dir ino room node same = elim (cases_eq ino dir) [
+  | inl here ↦
+      (let at : (node_in (with_node s dir node room) dir).nlink ≡ (node_in s dir).nlink =
+      elim (node_put s dir room node) [
+        | inl put ↦ ap (λ o. (unwrap_or o no_node).nlink) put ∙ same
+        | inr stays ↦ ap (λ o. (unwrap_or o no_node).nlink) stays
+      ] in
+      ap (λ i. (node_in (with_node s dir node room) i).nlink) here ∙ at ∙ ap (λ i. (node_in s i).nlink) (sym here))
+  | inr other ↦ ap (λ o. (unwrap_or o no_node).nlink) (node_other s dir ino room node other)
 ]
 
 -- Where bytes of a directory are written, the links of an inode stay.
 pub entry_written-links : (n : Inodes) (dir offset : ℕ) (bytes : List ℕ) (now ino : ℕ)
     → (node_in (entry_written n dir offset bytes now).inodes.store ino).nlink ≡ (node_in n.store ino).nlink
 entry_written-links n dir offset bytes now ino =
-    changed_links n.store.nodes dir ino (written n.store dir (node_in n.store dir) offset bytes now).node
+    let m : Moving (Unit {0}) = written n.store dir (node_in n.store dir) offset bytes now in
+    changed_links n.store dir ino m.room m.node
     (write_file-links (get_kernel bytes) (node_in n.store dir) (room_at n.store dir) tt offset (length bytes) now)

@@ -7,9 +7,9 @@ use Rattle.proc_tab.specs.declared.row.Row.{Row}
 use Rattle.u_area.specs.declared.layout.TheConstants.{LINE_READ, LINE_WRITE}
 use Rattle.u_area.specs.declared.area.UArea.{UArea}
 use Rattle.u_area.proofs.AreaLemmas.{one_area}
-use Rattle.fs_codec.specs.Store.{Node, Store}
+use Rattle.fs_codec.specs.Store.{Node}
 use Rattle.fs_laws.specs.Pieces.{Moving}
-use Rattle.fs_laws.specs.Keys.{node_numbered, with_node}
+use Rattle.fs_nodes.specs.Keys.{Stores, node_numbered, with_node}
 use Rattle.fs_nodes.specs.FileSystem.{FileSystem}
 use Rattle.open_files.specs.declared.file.OpenFile.{OpenFile}
 use Rattle.open_files.specs.Files.{with_change, with_offset}
@@ -58,7 +58,7 @@ node_by None used = absurd (cc)
 node_by (Some node) used = refl
 
 -- the node of a number that is used
-pub node_there : (store : Store) (ino : ℕ) → IsSome (node_numbered store ino) → node_numbered store ino ≡ Some (node_in store ino)
+pub node_there : (store : Stores) (ino : ℕ) → IsSome (node_numbered store ino) → node_numbered store ino ≡ Some (node_in store ino)
 node_there store ino used = node_by (node_numbered store ino) used
 
 -- the inode and the open file, by what was moved

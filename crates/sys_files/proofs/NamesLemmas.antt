@@ -10,6 +10,9 @@ use Rattle.fs_codec.specs.declared.modes.TheConstants.{IALLOC, IFMT, ILARG}
 use Rattle.fs_codec.specs.declared.node.DiskNode.{DiskNode}
 use Rattle.fs_codec.specs.Store.{Node}
 use Rattle.fs_nodes.specs.FileSystem.{ShowsNode}
+use Rattle.fs_nodes.specs.Keys.{room_at}
+use Rattle.fs_nodes.proofs.KeyLaws.{counts_set}
+use Rattle.mount_tab.specs.Mounted.{MountTable}
 use Rattle.fs_tree.specs.declared.user.User.{User}
 use Rattle.fs_tree.proofs.NamingLemmas.{found_few}
 use Rattle.fs_tree.specs.declared.user.Want.TheVariants.{Execute}
@@ -30,7 +33,8 @@ directory_moved old now ino taken k = record {
   numbers = k.numbers;
   references = λ i. let r = k.references i in let more = taken_more ino taken i in
       let other = taken_more now.u.dir taken i in omega (arith, r, more, other);
-  count = k.count;
+  counts = k.counts;
+  mounts = k.mounts;
   pipes = k.pipes;
   others = k.others;
 }
@@ -58,6 +62,7 @@ changed_kept : (old now : Handed) (ino : ℕ) (node : Node) (taken : List ℕ) �
     → IsKeptBut old (with_changed now ino node) taken
 changed_kept old now ino node taken k =
     kept_goes_on old now (with_changed now ino node) taken k refl refl refl refl refl refl
+    (counts_set now.inodes.store ino (room_at now.inodes.store ino) node)
 
 pub chmod_kept : (h : Handed) (name mode time : ℕ) → IsSound h → CanFind h name
     → IsKept h (chmod_to h name mode time).state
@@ -129,10 +134,10 @@ kind_stays o inode t mode new node shows is found =
     )
 
 -- What has been found can be referred to once more.
-pub can_be_more : (n new : Inodes) (user : User) (dir : ℕ) (bytes : List ℕ) (ino : ℕ) → ((i : ℕ)
+pub can_be_more : (n new : Inodes) (mounts : MountTable) (user : User) (dir : ℕ) (bytes : List ℕ) (ino : ℕ) → ((i : ℕ)
     → slice_index n.references i ≤ 65500)
-    → new ≡ (find_in n user dir bytes).inodes → slice_index new.references ino < 65535
-can_be_more n new user dir bytes ino few is =
+    → new ≡ (find_in n mounts user dir bytes).inodes → slice_index new.references ino < 65535
+can_be_more n new mounts user dir bytes ino few is =
     let P : Inodes → Type 0 = λ m. slice_index m.references ino ≤ 65501 in
-    let most = subst P (sym is) (found_few n user dir bytes 65500 few ino) in
+    let most = subst P (sym is) (found_few n mounts user dir bytes 65500 few ino) in
     omega (arith, most)

@@ -3,6 +3,11 @@ use Rattle.std.proofs.Common.{◌≡◌, ◌<◌, ◌-◌, ℕ, Bool, List, leng
 use Rattle.std.proofs.lemmas.Bool.{cases_lt, cases_eq}
 use Rattle.std.proofs.lemmas.List.{get_or-set_same, get_or-set_other, set_past}
 use Rattle.v6_base.specs.Image.{Image}
+use Rattle.fs_laws.specs.Pieces.{Moving}
+use Rattle.fs_nodes.specs.Keys.{counts}
+use Rattle.fs_nodes.proofs.KeyLaws.{counts_set}
+use Rattle.sys_files.proofs.KeptLemmas.{still_mounts}
+use Rattle.sys_files.specs.Moving.{with_moved}
 use Rattle.proc_tab.specs.declared.row.Row.{Row}
 use Rattle.u_area.specs.declared.area.UArea.{UArea}
 use Rattle.open_files.specs.declared.file.OpenFile.{OpenFile}
@@ -78,14 +83,21 @@ is_file_of f u row image entry file sound used is = record {
 -- Each open file may have moved on.
 pub kept_moved : (old new : Handed) (entry n : ℕ) → IsSound old → new.files ≡ with_change old.files entry (with_offset n)
     → new.pipes ≡ old.pipes → new.u.files ≡ old.u.files
-    → new.u.dir ≡ old.u.dir → new.inodes.references ≡ old.inodes.references → new.inodes.store.count ≡ old.inodes.store.count → IsKept old new
-kept_moved old new entry n sound files pipes numbers dir references count = record {
+    → new.u.dir ≡ old.u.dir → new.mounts ≡ old.mounts → new.inodes.references ≡ old.inodes.references
+    → counts new.inodes.store ≡ counts old.inodes.store → IsKept old new
+kept_moved old new entry n sound files pipes numbers dir mounts references same = record {
   is_open = rw (files, numbers) (λ fd some. entry_same is_some old.files entry n (slice_index old.u.files fd - 1) (used_same n) ∙ sound.is_open fd some);
   numbers = λ e. rw (files, numbers, entry_same numbers_of old.files entry n e (numbers_same n)) refl;
-  references = λ ino. rw (files, dir, references, count_same (is_of ino) old.files entry n (of_same ino n)) refl;
-  count = count;
+  references = λ ino. rw (files, dir, mounts, references, count_same (is_of ino) old.files entry n (of_same ino n)) refl;
+  counts = same;
+  mounts = still_mounts old.mounts new.mounts old.inodes.store new.inodes.store mounts same sound.mounts;
   pipes = rw (files, pipes) (pipes_with_change old.files old.pipes entry (with_offset n) (λ file. refl)
       (λ file. refl) sound.pipes);
   others = rw files (λ e file is fewer.
       stays_with_change old.files entry (with_offset n) (λ file. refl) (λ file. refl) e file is);
 }
+
+-- what a read or a write of a file has come to leaves as many inodes
+pub moved_counts : {Memory : Type 0} (h : Handed) (entry : ℕ) (m : Moving Memory)
+    → counts (with_moved h entry m).inodes.store ≡ counts h.inodes.store
+moved_counts h entry m = counts_set h.inodes.store (file_of h entry).ino m.room m.node

@@ -16,6 +16,7 @@ use Rattle.open_files.specs.declared.file.Closed.TheVariants.{Still, Last}
 use Rattle.open_files.specs.Files.{file_at, entry_of, free_number, free_entry, opened, with_fewer, closed, left, Adds, Drops}
 use Rattle.pipe_ends.specs.declared.ends.Pipe.{Pipe}
 use Rattle.sys_files.specs.Handed.{Handed, node_at, user_of, with_inodes}
+use Rattle.mount_tab.specs.Mounted.{MountTable}
 use Rattle.sys_files.specs.Did.{must, need, until_end, fails, returns}
 use Rattle.sys_files.specs.Pipes.{ArePipes}
 use Rattle.sys_files.specs.Piping.{with_end}
@@ -106,7 +107,8 @@ kept_end old now taken ino fd entry kind pipes are low number free k =
           let was : cond {A = ℕ} (is_of i (file_at now.files entry)) 1 0 ≡ 0 = ap (λ o. cond {A = ℕ} (is_of i o) 1 0) room.1 in
           let more = once_more now.inodes.references ino i low in
           omega (arith, before, change, was, more);
-      count = k.count;
+      counts = k.counts;
+      mounts = k.mounts;
       pipes = are;
       others = stays_then old.files now.files (slice_set now.files entry (Some (opened ino kind))) old.u.files k.others
           (stays_opened now.files entry (Some (opened ino kind)) room.1);
@@ -124,7 +126,8 @@ kept_opened old now taken ino fd entry kind plain low number free k =
       is_open = e.is_open;
       numbers = e.numbers;
       references = e.references;
-      count = e.count;
+      counts = e.counts;
+      mounts = e.mounts;
       pipes = e.pipes;
       others = e.others;
     }
@@ -163,14 +166,14 @@ open_kept h name mode sound can = kept_ends h _ (kept_finds h h name [] (λ h in
 -- It shows nothing.
 pub open_quiet : (h : Handed) (name mode : ℕ) → (open_file h name mode).items ≡ []
 open_quiet h name mode =
-    let now : Handed = with_inodes h (find_in h.inodes (user_of h.u) h.u.dir (name_at h.image name)).inodes in
-    check_quiet now (find_in h.inodes (user_of h.u) h.u.dir (name_at h.image name)).answer (λ ino. until_end ino (opens_named now ino mode)) (λ ino. named_quiet now ino mode)
+    let now : Handed = with_inodes h (find_in h.inodes h.mounts (user_of h.u) h.u.dir (name_at h.image name)).inodes in
+    check_quiet now (find_in h.inodes h.mounts (user_of h.u) h.u.dir (name_at h.image name)).answer (λ ino. until_end ino (opens_named now ino mode)) (λ ino. named_quiet now ino mode)
 
 -- A search leaves room for one reference more to what it finds.
-pub few_found : (n new : Inodes) (user : User) (dir : ℕ) (bytes : List ℕ) (ino : ℕ) → slice_index n.references ino ≤ 65500 → (find_in n user dir bytes).answer ≡ Ok ino
-    → new ≡ (find_in n user dir bytes).inodes → slice_index new.references ino < 65535
-few_found n new user dir bytes ino few found is =
-    let after : new ≡ with_reference n ino = is ∙ found_more n user dir bytes ino found in
+pub few_found : (n new : Inodes) (mounts : MountTable) (user : User) (dir : ℕ) (bytes : List ℕ) (ino : ℕ) → slice_index n.references ino ≤ 65500
+    → (find_in n mounts user dir bytes).answer ≡ Ok ino → new ≡ (find_in n mounts user dir bytes).inodes → slice_index new.references ino < 65535
+few_found n new mounts user dir bytes ino few found is =
+    let after : new ≡ with_reference n ino = is ∙ found_more n mounts user dir bytes ino found in
     let more : slice_index new.references ino ≤ slice_index n.references ino + 1 = subst (λ (m : Inodes). slice_index m.references ino ≤ slice_index n.references ino + 1) (sym after) (at_most n.references ino) in
     omega (arith, few, more)
   where

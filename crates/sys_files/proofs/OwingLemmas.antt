@@ -1,12 +1,14 @@
 -- What a call keeps while it refers to inodes itself, which it lets go at its end.
-use Rattle.std.proofs.Common.{◌≡◌, ℕ, Bool, true, false, ◌+◌, ◌-◌, ◌<◌, List, [], ◌∷◌, length, cond, eqb, count_by, Option, None, Some, Result, Ok, Err, slice_index, slice_set, refl, sym, ap, ◌∙◌, subst, inl, inr, arith}
+use Rattle.std.proofs.Common.{◌≡◌, ℕ, Bool, true, false, ◌+◌, ◌-◌, ◌<◌, ◌==◌, List, [], ◌∷◌, length, cond, eqb, count_by, Option, None, Some, Result, Ok, Err, slice_index, slice_set, refl, sym, ap, ◌∙◌, subst, inl, inr, arith}
 use Rattle.std.proofs.lemmas.Bool.{eq-eqb, ne_eqb, cases_lt, cases_eq}
 use Rattle.std.proofs.lemmas.List.{get_or_past, set_past, get_or-set_same, get_or-set_other}
 use Rattle.std.proofs.lemmas.List.Sums.{sum_by-cons}
 use Rattle.v6_base.specs.declared.errno.Errno.{Errno}
-use Rattle.fs_codec.specs.Store.{Node, Store}
-use Rattle.fs_laws.specs.Numbers.{without_node}
-use Rattle.fs_laws.specs.Keys.{node_numbered}
+use Rattle.fs_codec.specs.Store.{Node}
+use Rattle.fs_nodes.specs.Keys.{Stores, counts, node_numbered, without_reference}
+use Rattle.fs_nodes.proofs.CountLaws.{counts_gone}
+use Rattle.fs_tree.specs.Mounting.{AreMounts}
+use Rattle.fs_tree.proofs.MountLemmas.{mounts_stay}
 use Rattle.open_files.specs.Files.{file_at, times, AreOpen}
 use Rattle.fs_nodes.specs.FileSystem.{FileSystem, IsFileSystem}
 use Rattle.fs_tree.specs.Name.{name_at}
@@ -17,6 +19,7 @@ use Rattle.sys_files.specs.Pipes.{ArePipes}
 use Rattle.sys_files.specs.Sound.{owed, numbers_of, IsSound, IsKept}
 use Rattle.fs_tree.proofs.NamingLemmas.{found_more, found_none, found_referred}
 use Rattle.sys_files.proofs.OwedLemmas.{directory_referred}
+use Rattle.sys_files.proofs.KeptLemmas.{still_mounts}
 use Rattle.sys_files.proofs.StayingLemmas.{Stay, stays_there}
 
 -- how many of the references that a call has taken are to an inode
@@ -35,7 +38,8 @@ pub record IsKeptBut (old new : Handed) (taken : List ℕ) : Type 0 where
   pub references : (ino : ℕ)
       → slice_index new.inodes.references ino + owed old ino
       ≡ slice_index old.inodes.references ino + owed new ino + taken_of taken ino
-  pub count : new.inodes.store.count ≡ old.inodes.store.count
+  pub counts : counts new.inodes.store ≡ counts old.inodes.store
+  pub mounts : AreMounts new.mounts new.inodes.store
   pub pipes : ArePipes new.files new.pipes
   pub others : Stay old.files old.u.files new.files
 
@@ -91,7 +95,8 @@ kept_begins h sound = record {
   is_open = sound.is_open;
   numbers = λ entry. refl;
   references = λ ino. omega arith;
-  count = refl;
+  counts = refl;
+  mounts = sound.mounts;
   pipes = sound.pipes;
   others = λ entry file is few. stays_there h.files entry file is;
 }
@@ -101,21 +106,23 @@ kept_ends old new k = record {
   is_open = k.is_open;
   numbers = k.numbers;
   references = λ ino. let r = k.references ino in omega (arith, r);
-  count = k.count;
+  counts = k.counts;
+  mounts = k.mounts;
   pipes = k.pipes;
   others = k.others;
 }
 
 -- Nothing changes that counts numbers and references.
 pub kept_goes_on : (old now new : Handed) (taken : List ℕ) → IsKeptBut old now taken → new.files ≡ now.files
-    → new.pipes ≡ now.pipes → new.u.files ≡ now.u.files → new.u.dir ≡ now.u.dir
-    → new.inodes.references ≡ now.inodes.references → new.inodes.store.count ≡ now.inodes.store.count → IsKeptBut old
+    → new.pipes ≡ now.pipes → new.u.files ≡ now.u.files → new.u.dir ≡ now.u.dir → new.mounts ≡ now.mounts
+    → new.inodes.references ≡ now.inodes.references → counts new.inodes.store ≡ counts now.inodes.store → IsKeptBut old
     new taken
-kept_goes_on old now new taken k files pipes numbers dir references count = record {
+kept_goes_on old now new taken k files pipes numbers dir mounts references same = record {
   is_open = rw (files, numbers) k.is_open;
   numbers = λ entry. rw (files, numbers) (k.numbers entry);
-  references = λ ino. rw (files, dir, references) (k.references ino);
-  count = count ∙ k.count;
+  references = λ ino. rw (files, dir, mounts, references) (k.references ino);
+  counts = same ∙ k.counts;
+  mounts = still_mounts now.mounts new.mounts now.inodes.store new.inodes.store mounts same k.mounts;
   pipes = rw (files, pipes) k.pipes;
   others = rw files k.others;
 }
@@ -138,25 +145,25 @@ kept_takes old now ino taken low k = record {
   numbers = k.numbers;
   references = λ i. let r = k.references i in let at = once_more now.inodes.references ino i low in
       let more = taken_more ino taken i in omega (arith, r, at, more);
-  count = k.count;
+  counts = k.counts;
+  mounts = k.mounts;
   pipes = k.pipes;
   others = k.others;
 }
 
--- The number of nodes stays where a reference goes.
-freed_count : (t : Bool) (store : Store) (ino : ℕ) (node : Node)
-    → (cond t (without_node store ino node) store).count ≡ store.count
-freed_count true store ino node = refl
-freed_count false store ino node = refl
+-- The numbers of nodes stay where a reference goes.
+put_if : (t : Bool) (store : Stores) (ino : ℕ) (node : Node)
+    → counts (cond {A = Stores} t (without_reference store ino node) store) ≡ counts store
+put_if true store ino node = counts_gone store ino node
+put_if false store ino node = refl
 
-gone_count : (t u : Bool) (store : Store) (ino : ℕ) (node : Node)
-    → (cond t (cond u (without_node store ino node) store) store).count ≡ store.count
-gone_count true u store ino node = freed_count u store ino node
-gone_count false u store ino node = refl
+pub put_counts : (store : Stores) (ino n : ℕ) (o : Option Node) → counts (put_in store ino n o) ≡ counts store
+put_counts store ino n None = refl
+put_counts store ino n (Some node) = put_if (n == 1) store ino node
 
-pub put_count : (store : Store) (ino n : ℕ) (o : Option Node) → (put_in store ino n o).count ≡ store.count
-put_count store ino n None = refl
-put_count store ino n (Some node) = gone_count _ _ store ino node
+-- as many where a reference of the parts goes
+pub gone : (now : Handed) (ino : ℕ) → counts (let_go now ino).inodes.store ≡ counts now.inodes.store
+gone now ino = put_counts now.inodes.store ino (slice_index now.inodes.references ino) (node_numbered now.inodes.store ino)
 
 -- A reference that was taken goes.
 pub kept_lets_go : (old now : Handed) (ino : ℕ) (taken : List ℕ) → IsSound old → IsKeptBut old now (ino ∷ taken)
@@ -169,8 +176,8 @@ kept_lets_go old now ino taken sound k = record {
       (eqb ino i) 1 0 ≡ slice_index now.inodes.references i =
       once_less now.inodes.references ino i (is_referred old now ino taken sound k) in
       let more = taken_more ino taken i in omega (arith, r, at, more);
-  count = put_count now.inodes.store ino (slice_index now.inodes.references ino)
-      (node_numbered now.inodes.store ino) ∙ k.count;
+  counts = gone now ino ∙ k.counts;
+  mounts = mounts_stay now.mounts now.inodes.store (let_go now ino).inodes.store (gone now ino) k.mounts;
   pipes = k.pipes;
   others = k.others;
 }
@@ -184,19 +191,20 @@ kept_check old h taken (Err e) next k on = k
 
 -- Where a name is found, its inode is referred to until the call ends.
 abbrev pub CanFind : Handed → ℕ → Type 0
-CanFind h name = (ino : ℕ) → (find_in h.inodes (user_of h.u) h.u.dir (name_at h.image name)).answer ≡ Ok ino
-    → 0 < slice_index (find_in h.inodes (user_of h.u) h.u.dir (name_at h.image name)).inodes.references ino
+CanFind h name = (ino : ℕ) → (find_in h.inodes h.mounts (user_of h.u) h.u.dir (name_at h.image name)).answer ≡ Ok ino
+    → 0 < slice_index (find_in h.inodes h.mounts (user_of h.u) h.u.dir (name_at h.image name)).inodes.references ino
 
 pub can_find : (fs : FileSystem) (h : Handed) (name : ℕ) → h.inodes ≡ inodes_of fs → IsFileSystem fs → IsSound h
     → CanFind h name
 can_find fs h name same is sound ino ok =
     let P : Inodes → Type 0 = λ n. 0 < slice_index n.references h.u.dir in
     let Q : Inodes → Type 0 =
-    λ n. 0 < slice_index (find_in n (user_of h.u) h.u.dir (name_at h.image name)).inodes.references ino in
-    let found : (find_in (inodes_of fs) (user_of h.u) h.u.dir (name_at h.image name)).answer ≡ Ok ino =
-    ap (λ (n : Inodes). (find_in n (user_of h.u) h.u.dir (name_at h.image name)).answer) (sym same) ∙ ok in
-    subst Q (sym same) (found_referred fs (user_of h.u) h.u.dir (name_at h.image name) ino is (subst P same
-    (directory_referred h sound)) found)
+    λ n. 0 < slice_index (find_in n h.mounts (user_of h.u) h.u.dir (name_at h.image name)).inodes.references ino in
+    let R : Inodes → Type 0 = λ n. AreMounts h.mounts n.store in
+    let found : (find_in (inodes_of fs) h.mounts (user_of h.u) h.u.dir (name_at h.image name)).answer ≡ Ok ino =
+    ap (λ (n : Inodes). (find_in n h.mounts (user_of h.u) h.u.dir (name_at h.image name)).answer) (sym same) ∙ ok in
+    subst Q (sym same) (found_referred fs h.mounts (user_of h.u) h.u.dir (name_at h.image name) ino is
+    (subst R same sound.mounts) (subst P same (directory_referred h sound)) found)
 
 pub kept_named : {A : Type 0} (old h : Handed) (taken : List ℕ) (found : Finding A) (next : Handed → A → Did)
     → ((e : Errno) → found.answer ≡ Err e → IsKeptBut old (with_inodes h found.inodes) taken)
@@ -213,12 +221,12 @@ pub kept_finds : (old h : Handed) (name : ℕ) (taken : List ℕ) (next : Handed
     → ((now : Handed) (ino : ℕ) → IsKeptBut old now (ino ∷ taken) → IsKeptBut old (next now ino).state
     (ino ∷ taken)) → IsKeptBut old (finds h name next).state taken
 kept_finds old h name taken next sound k can on =
-    let found = find_in h.inodes (user_of h.u) h.u.dir (name_at h.image name) in
+    let found = find_in h.inodes h.mounts (user_of h.u) h.u.dir (name_at h.image name) in
     let P : Inodes → Type 0 = λ n. IsKeptBut old (with_inodes h n) taken in
     kept_named old h taken found (λ now ino. until_end ino (next now ino))
-    (λ e err. subst P (sym (found_none h.inodes (user_of h.u) h.u.dir (name_at h.image name) e err)) k)
+    (λ e err. subst P (sym (found_none h.inodes h.mounts (user_of h.u) h.u.dir (name_at h.image name) e err)) k)
     (λ ino ok.
-    let more = found_more h.inodes (user_of h.u) h.u.dir (name_at h.image name) ino ok in
+    let more = found_more h.inodes h.mounts (user_of h.u) h.u.dir (name_at h.image name) ino ok in
     let Q : Inodes → Type 0 = λ n. 0 < slice_index n.references ino in
     let R : Inodes → Type 0 = λ n. IsKeptBut old (with_inodes h n) (ino ∷ taken) in
     let low = taken_low h.inodes.references ino (subst Q more (can ino ok)) in

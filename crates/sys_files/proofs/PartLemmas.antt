@@ -3,7 +3,7 @@ use Rattle.std.proofs.Common.{◌≡◌, ℕ, Bool, true, false, Result, Ok, Err
 use Rattle.v6_base.specs.declared.errno.Errno.{Errno}
 use Rattle.fs_tree.specs.Finding.{Inodes, Finding, put_back}
 use Rattle.sys_files.specs.Handed.{Handed, with_inodes}
-use Rattle.sys_files.specs.Did.{Did, fails, is_done, check, must, until_end, then_named}
+use Rattle.sys_files.specs.Did.{Did, unnamed, fails, is_done, check, must, until_end, then_named}
 use Rattle.sys_files.specs.Entering.{did_of}
 
 -- a test that holds, and one that fails
@@ -30,10 +30,10 @@ not_named h found e n next answer inodes =
 
 -- a reference that goes at the end of a part
 pub until_told : (h : Handed) (ino : ℕ) (r : Result (Unit {0}) Errno) (n : Inodes) → n ≡ put_back h.inodes ino
-    → until_end ino (did_of h r) ≡ did_of (with_inodes h n) r
+    → unnamed (until_end ino (did_of h r)) ≡ did_of (with_inodes h n) r
 until_told h ino (Ok u) n is = sym (ap (λ m. is_done (with_inodes h m)) is)
 until_told h ino (Err e) n is = sym (ap (λ m. fails (with_inodes h m) e) is)
 
-pub until : (h : Handed) (ino : ℕ) (d : Did) (r : Result (Unit {0}) Errno) (n : Inodes) → d ≡ did_of h r
-    → n ≡ put_back h.inodes ino → until_end ino d ≡ did_of (with_inodes h n) r
-until h ino d r n did is = ap (until_end ino) did ∙ until_told h ino r n is
+pub until : (h : Handed) (ino : ℕ) (d : Did) (r : Result (Unit {0}) Errno) (n : Inodes) → unnamed d ≡ did_of h r
+    → n ≡ put_back h.inodes ino → unnamed (until_end ino d) ≡ did_of (with_inodes h n) r
+until h ino d r n did is = ap (λ (x : Did). unnamed (until_end ino x)) did ∙ until_told h ino r n is

@@ -4,6 +4,8 @@ use Rattle.v6_base.specs.declared.entry.Chan.{Chan}
 use Rattle.v6_base.specs.declared.entry.Chan.TheVariants.{Read, Write}
 use Rattle.v6_base.specs.declared.answer.Answer.TheVariants.{Sleep}
 use Rattle.v6_base.specs.declared.errno.Errno.TheVariants.{EINTR}
+use Rattle.fs_nodes.specs.Keys.{counts}
+use Rattle.sys_files.proofs.KeptLemmas.{still_mounts}
 use Rattle.u_area.specs.declared.layout.TheConstants.{PIPE_READ, PIPE_WRITE}
 use Rattle.pipe_ends.specs.declared.ends.Pipe.{Pipe}
 use Rattle.pipe_ends.specs.declared.ends.Piped.{Piped}
@@ -24,13 +26,14 @@ use Rattle.sys_files.proofs.PipedLemmas.{read_leaves, write_leaves}
 -- A pipe has changed, and nothing else that is counted.
 pub kept_with_pipe : (old new : Handed) (p : Pipe) → IsSound old → new.files ≡ old.files → new.pipes ≡ with_pipe old.pipes p
     → new.u.files ≡ old.u.files
-    → new.u.dir ≡ old.u.dir → new.inodes.references ≡ old.inodes.references → new.inodes.store.count ≡ old.inodes.store.count
-    → IsKept old new
-kept_with_pipe old new p sound files pipes numbers dir references count = record {
+    → new.u.dir ≡ old.u.dir → new.mounts ≡ old.mounts → new.inodes.references ≡ old.inodes.references
+    → counts new.inodes.store ≡ counts old.inodes.store → IsKept old new
+kept_with_pipe old new p sound files pipes numbers dir mounts references same = record {
   is_open = rw (files, numbers) sound.is_open;
   numbers = λ entry. rw (files, numbers) refl;
-  references = λ i. rw (files, dir, references) refl;
-  count = count;
+  references = λ i. rw (files, dir, mounts, references) refl;
+  counts = same;
+  mounts = still_mounts old.mounts new.mounts old.inodes.store new.inodes.store mounts same sound.mounts;
   pipes = rw (files, pipes) (pipes_marked old.files old.pipes p sound.pipes);
   others = rw files (λ entry file is few. stays_there old.files entry file is);
 }
@@ -48,6 +51,7 @@ module _ (P : Handed → Type 0) (h : Handed) (leaves : LeavesParts P h) where
       answer = Sleep (pos 1) chan;
       state = record h { u = record h.u { pending = pending; call = words } };
       items = [];
+      named = [];
     })).state
     by true = leaves.same
     by false = leaves.waits pending words
@@ -73,13 +77,13 @@ module _ (old : Handed) (sound : IsSound old) (pending : ℕ) (words : List ℕ)
   pipe_read_kept entry at count now =
       let r : PipeRead = pipe_read begun entry at count now in
       let after : Handed = with_pipe_read begun r in
-      let left = (read_leaves begun.inodes.store (ends_at begun entry) (pipe_at begun entry) begun.image at count now).count in
+      let left = (read_leaves begun.inodes.store (ends_at begun entry) (pipe_at begun entry) begun.image at count now).counts in
       read_ends (IsKept old) after (record {
-        same = kept_with_pipe old after r.pipe sound refl refl refl refl refl left;
+        same = kept_with_pipe old after r.pipe sound refl refl refl refl refl refl left;
         waits = λ pending words. kept_with_pipe old
-            (record after { u = record after.u { pending = pending; call = words } }) r.pipe sound refl refl refl refl refl left;
+            (record after { u = record after.u { pending = pending; call = words } }) r.pipe sound refl refl refl refl refl refl left;
         signalled = kept_with_pipe old
-            (record after { row = posted after.row SIGPIPE }) r.pipe sound refl refl refl refl refl left;
+            (record after { row = posted after.row SIGPIPE }) r.pipe sound refl refl refl refl refl refl left;
       }) (pipe_at begun entry).ino entry at count r.answer
 
   pub pipe_write_kept : (slot entry at count left now : ℕ) → IsKept old (writes_pipe begun slot entry at count left now).state
@@ -87,12 +91,12 @@ module _ (old : Handed) (sound : IsSound old) (pending : ℕ) (words : List ℕ)
       let w : PipeWrite = pipe_write begun entry at count left now in
       let after : Handed = with_pipe_write begun w in
       let leaves = (write_leaves begun.inodes.store (ends_at begun entry) (pipe_at begun entry) begun.image
-      ((at + (count - left)) % 65536) left now).leaves.count in
+      ((at + (count - left)) % 65536) left now).leaves.counts in
       write_ends (IsKept old) after (record {
-        same = kept_with_pipe old after w.pipe sound refl refl refl refl refl leaves;
+        same = kept_with_pipe old after w.pipe sound refl refl refl refl refl refl leaves;
         waits = λ pending words. kept_with_pipe old
-            (record after { u = record after.u { pending = pending; call = words } }) w.pipe sound refl refl refl refl refl
+            (record after { u = record after.u { pending = pending; call = words } }) w.pipe sound refl refl refl refl refl refl
             leaves;
         signalled = kept_with_pipe old
-            (record after { row = posted after.row SIGPIPE }) w.pipe sound refl refl refl refl refl leaves;
+            (record after { row = posted after.row SIGPIPE }) w.pipe sound refl refl refl refl refl refl leaves;
       }) slot (pipe_at begun entry).ino entry at count w.answer

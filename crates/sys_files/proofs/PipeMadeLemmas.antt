@@ -6,6 +6,8 @@ use Rattle.fs_nodes.specs.FileSystem.{FileSystem}
 use Rattle.fs_tree.specs.Finding.{inodes_of, put_back}
 use Rattle.open_files.specs.Files.{free_number, free_entry, opened}
 use Rattle.pipe_ends.specs.declared.ends.Pipe.{Pipe}
+use Rattle.fs_nodes.specs.Keys.{counts}
+use Rattle.fs_tree.proofs.MountLemmas.{mounts_stay}
 use Rattle.sys_files.specs.Handed.{Handed, with_inodes, let_go}
 use Rattle.sys_files.specs.Did.{need}
 use Rattle.sys_files.specs.Entering.{OneReferenceMore}
@@ -66,6 +68,7 @@ module _ (old h : Handed) (held : List ℕ) (ino : ℕ) (referred : 0 < slice_in
 made_kept : (h : Handed) (a b : FileSystem) (ino : ℕ) → IsSound h → h.inodes ≡ inodes_of a → OneReferenceMore a ino b
     → IsKeptBut h (with_inodes h (inodes_of b)) (ino ∷ [])
 made_kept h a b ino sound same takes =
+    let all : counts b.store ≡ counts h.inodes.store = takes.counts ∙ ap (λ n. counts n.store) (sym same) in
     record {
       is_open = sound.is_open;
       numbers = λ entry. refl;
@@ -75,7 +78,8 @@ made_kept h a b ino sound same takes =
           let was : slice_index h.inodes.references i ≡ slice_index a.references i =
           ap (λ n. slice_index n.references i) same in
           omega (arith, t, more, was);
-      count = takes.count ∙ ap (λ n. n.store.count) (sym same);
+      counts = all;
+      mounts = mounts_stay h.mounts h.inodes.store b.store all sound.mounts;
       pipes = sound.pipes;
       others = λ entry file is fewer. stays_there h.files entry file is;
     }

@@ -5,8 +5,8 @@ use Rattle.v6_base.specs.Image.{Image}
 use Rattle.v6_base.specs.Trace.{Item}
 use Rattle.v6_base.specs.declared.answer.Answer.{Answer}
 use Rattle.u_area.specs.declared.area.UArea.{UArea}
-use Rattle.fs_codec.specs.Store.{Store}
 use Rattle.fs_nodes.specs.FileSystem.{FileSystem}
+use Rattle.fs_nodes.specs.Keys.{Stores}
 use Rattle.fs_tree.specs.Finding.{inodes_of}
 use Rattle.open_files.specs.declared.file.OpenFile.{OpenFile}
 use Rattle.pipe_ends.specs.declared.ends.Pipe.{Pipe}
@@ -28,8 +28,8 @@ file_there (Some file) used = (file, refl)
 
 -- what is shown before the answer, and nothing else
 quietly_after : (items : List Item) (h : Handed) (a : Answer)
-    → after items (did_with h a) ≡ record { answer = a; state = h; items = items }
-quietly_after items h a = ap (λ (l : List Item). let d : Did = record { answer = a; state = h; items = l } in d)
+    → after items (did_with h a) ≡ record { answer = a; state = h; items = items; named = [] }
+quietly_after items h a = ap (λ (l : List Item). let d : Did = record { answer = a; state = h; items = l; named = [] } in d)
     (append-nil items)
 
 -- what a read comes to, of this pipe
@@ -54,6 +54,7 @@ pub read_comes : (h : Handed) (entry at count now : ℕ) (old new : Pipe) (fs : 
       answer = result;
       state = record h { inodes = inodes_of fs; image = image; pipes = pipes; u = u };
       items = woken_by_read old new;
+      named = [];
     }
 read_comes h entry at count now old new fs image pipes piped u result same store references image_is pipe pipes_is piped_is
     ends =
@@ -74,6 +75,7 @@ read_comes h entry at count now old new fs image pipes piped u result same store
         u = u;
       };
       items = woken_by_read old (pipe i);
+      named = [];
     })
 
 -- what a write comes to, of this pipe
@@ -105,13 +107,13 @@ write_comes h slot entry at count left now old new fs pipes piped same store ref
     entry at count (piped_is i)))
 
 -- The pipe after a read is of the same inode.
-pub read_ino : (store : Store) (ends : ℕ) (p now : Pipe) (image : Image) (at count time : ℕ)
+pub read_ino : (store : Stores) (ends : ℕ) (p now : Pipe) (image : Image) (at count time : ℕ)
     → now ≡ (reads store ends p image at count time).pipe → now.ino ≡ p.ino
 read_ino store ends p now image at count time is =
     ap (λ (x : Pipe). x.ino) is ∙ (read_leaves store ends p image at count time).ino
 
 -- The pipe after a write is of the same inode.
-pub written_ino : (store : Store) (ends : ℕ) (p now : Pipe) (image : Image) (at count time : ℕ)
+pub written_ino : (store : Stores) (ends : ℕ) (p now : Pipe) (image : Image) (at count time : ℕ)
     → now ≡ (writes store ends p image at count time).pipe → now.ino ≡ p.ino
 written_ino store ends p now image at count time is =
     ap (λ (x : Pipe). x.ino) is ∙ (write_leaves store ends p image at count time).leaves.ino

@@ -24,7 +24,7 @@ use Rattle.sys_files.specs.Piping.{reads_pipe}
 use Rattle.sys_files.specs.Sound.{IsSound, IsKept}
 use Rattle.sys_files.specs.Entering.{did_with}
 use Rattle.sys_files.proofs.KeptLemmas.{kept_same}
-use Rattle.sys_files.proofs.OffsetLemmas.{kept_moved}
+use Rattle.sys_files.proofs.OffsetLemmas.{kept_moved, moved_counts}
 use Rattle.sys_files.proofs.PipeKeptLemmas.{pipe_read_kept}
 
 -- a count, or an error, leaves the parts as they are, and shows nothing
@@ -119,6 +119,7 @@ kept_waits old h l entry at count same waits = by (is_some (due h.row h.u))
       answer = Sleep (pos 10) (keys_of l);
       state = record h { u = record h.u { pending = LINE_READ; call = entry ∷ at ∷ count ∷ 0 ∷ 0 ∷ 0 ∷ 0 ∷ 0 ∷ [] } };
       items = [];
+      named = [];
     })).state
     by true = same
     by false = waits
@@ -127,12 +128,16 @@ kept_took : (h : Handed) (l entry at count now : ℕ) (r : Reading) (took : Took
     → IsKept h (takes_line (with_line_read (with_read h entry (read_of h entry at count now)) l r) l entry at count took).state
 kept_took h l entry at count now r (Done n) sound =
     kept_moved h _ entry (read_place h entry at count now) sound refl refl refl refl refl refl
+    (moved_counts h entry (read_of h entry at count now))
 kept_took h l entry at count now r Wait sound =
     kept_waits h (with_line_read (with_read h entry (read_of h entry at count now)) l r) l entry at count
-    (kept_moved h _ entry (read_place h entry at count now) sound refl refl refl refl refl refl)
-    (kept_moved h _ entry (read_place h entry at count now) sound refl refl refl refl refl refl)
+    (kept_moved h _ entry (read_place h entry at count now) sound refl refl refl refl refl refl
+    (moved_counts h entry (read_of h entry at count now)))
+    (kept_moved h _ entry (read_place h entry at count now) sound refl refl refl refl refl refl
+    (moved_counts h entry (read_of h entry at count now)))
 kept_took h l entry at count now r Fault sound =
     kept_moved h _ entry (read_place h entry at count now) sound refl refl refl refl refl refl
+    (moved_counts h entry (read_of h entry at count now))
 
 kept_as : (h : Handed) (entry at count now : ℕ) (line : Option ℕ) → IsSound h → IsKept h (read_as h entry at count now line).state
 kept_as h entry at count now (Some l) sound =
@@ -141,7 +146,8 @@ kept_as h entry at count now (Some l) sound =
 kept_as h entry at count now None sound =
     let m : Moving Image = read_of h entry at count now in
     subst (IsKept h) (sym (gives_state (with_read h entry m) m.done m.error))
-    (kept_moved h (with_read h entry m) entry (read_place h entry at count now) sound refl refl refl refl refl refl)
+    (kept_moved h (with_read h entry m) entry (read_place h entry at count now) sound refl refl refl refl refl refl
+    (moved_counts h entry m))
 
 kept_any : (h : Handed) (entry at count now : ℕ) (pipe : Bool) → IsSound h → IsKept h (read_any h entry at count now pipe).state
 kept_any h entry at count now true sound = pipe_read_kept h sound h.u.pending h.u.call entry at count now
@@ -149,11 +155,11 @@ kept_any h entry at count now false sound = kept_as h entry at count now (line_o
 
 kept_if : (h : Handed) (entry at count now : ℕ) (reading : Bool) → IsSound h → IsKept h (read_if h entry at count now reading).state
 kept_if h entry at count now true sound = kept_any h entry at count now (file_of h entry).kind.pipe sound
-kept_if h entry at count now false sound = kept_same h h sound refl refl refl refl refl refl
+kept_if h entry at count now false sound = kept_same h h sound refl refl refl refl refl refl refl
 
 kept_found : (h : Handed) (at count now : ℕ) (found : Result ℕ Errno) → IsSound h → IsKept h (read_found h at count now found).state
 kept_found h at count now (Ok entry) sound = kept_if h entry at count now (file_of h entry).kind.reading sound
-kept_found h at count now (Err e) sound = kept_same h h sound refl refl refl refl refl refl
+kept_found h at count now (Err e) sound = kept_same h h sound refl refl refl refl refl refl refl
 
 pub read_kept : (h : Handed) (at count now : ℕ) → IsSound h → IsKept h (read_file_of h at count now).state
 read_kept h at count now sound = kept_found h at count now (open_entry h (r0 h)) sound

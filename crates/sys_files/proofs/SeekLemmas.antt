@@ -37,14 +37,14 @@ seek_done h offset mode entry file found is pipe =
     ap (of_pipe h entry offset mode) (sym pipe ∙ ap (λ (x : OpenFile). x.kind.pipe) is) ∙ ap (of_entry h offset mode) found
 
 kept_of_pipe : (h : Handed) (entry offset mode : ℕ) (pipe : Bool) → IsSound h → IsKept h (of_pipe h entry offset mode pipe).state
-kept_of_pipe h entry offset mode true sound = kept_same h h sound refl refl refl refl refl refl
+kept_of_pipe h entry offset mode true sound = kept_same h h sound refl refl refl refl refl refl refl
 kept_of_pipe h entry offset mode false sound =
     kept_moved h (seen_from h entry offset mode) entry
-    (sought (file_of h entry) (node_at h (file_of h entry).ino) offset (seek_mode mode)) sound refl refl refl refl refl refl
+    (sought (file_of h entry) (node_at h (file_of h entry).ino) offset (seek_mode mode)) sound refl refl refl refl refl refl refl
 
 kept_of_entry : (h : Handed) (offset mode : ℕ) (found : Result ℕ Errno) → IsSound h → IsKept h (of_entry h offset mode found).state
 kept_of_entry h offset mode (Ok entry) sound = kept_of_pipe h entry offset mode (file_of h entry).kind.pipe sound
-kept_of_entry h offset mode (Err e) sound = kept_same h h sound refl refl refl refl refl refl
+kept_of_entry h offset mode (Err e) sound = kept_same h h sound refl refl refl refl refl refl refl
 
 pub seek_kept : (h : Handed) (offset mode : ℕ) → IsSound h → IsKept h (seek_to h offset mode).state
 seek_kept h offset mode sound = kept_of_entry h offset mode (open_entry h (r0 h)) sound

@@ -14,7 +14,7 @@ use Rattle.fs_codec.proofs.FieldsLemmas.{one_inode}
 use Rattle.fs_nodes.specs.FileSystem.{Shows}
 use Rattle.v6_base.specs.Image.{Image}
 use Rattle.v6_base.specs.Copy.{store_bytes}
-use Rattle.sys_files.specs.Handed.{Handed, r0, node_at, file_of}
+use Rattle.sys_files.specs.Handed.{Handed, r0, node_at, disk_of, number_of, file_of}
 use Rattle.sys_files.specs.Descriptors.{open_entry}
 use Rattle.sys_files.specs.Sound.{IsSound, IsKept}
 use Rattle.sys_files.specs.Status.{status_bytes, with_stored, tells_status, stat_file, stat_open}
@@ -36,9 +36,9 @@ told_of file = record {
   modtime = file.modtime;
 }
 
-status_is : (ino : ℕ) (file : Node) → status_bytes ino file ≡ bytes_of (0 ∷ ino ∷ []) ++ inode_bytes (told_of file)
+status_is : (dev ino : ℕ) (file : Node) → status_bytes dev ino file ≡ bytes_of (dev ∷ ino ∷ []) ++ inode_bytes (told_of file)
 unfolding bytes_of inode_bytes
-status_is ino file = refl
+status_is dev ino file = refl
 
 first_same : (t : Bool) (a b : ℕ) → (t ≡ true → a ≡ b) → cond t a 0 ≡ cond t b 0
 first_same true a b is = is refl
@@ -63,35 +63,35 @@ beside head tail rest h r =
     ∙ ap (λ l. head ++ l) (append-nil tail)
 
 -- what is told, from its two parts
-pub told_bytes : (ino : ℕ) (inode : DiskNode) (file : Node) (told : Inode) (head tail rest : List ℕ) → Shows inode file
+pub told_bytes : (dev ino : ℕ) (inode : DiskNode) (file : Node) (told : Inode) (head tail rest : List ℕ) → Shows inode file
     → told ≡ record (fields_of inode) { addr = first_of inode.mode (slice_index inode.addr 0) }
-    → head ≡ bytes_of (0 ∷ ino ∷ []) → tail ≡ inode_bytes told → length rest ≡ 32 → put_mid 4 32
-    (head ++ rest) tail ≡ status_bytes ino file
-told_bytes ino inode file told head tail rest shows is first last r =
-    let four : length head ≡ 4 = ap length first ∙ length-bytes_of (0 ∷ ino ∷ []) in
+    → head ≡ bytes_of (dev ∷ ino ∷ []) → tail ≡ inode_bytes told → length rest ≡ 32 → put_mid 4 32
+    (head ++ rest) tail ≡ status_bytes dev ino file
+told_bytes dev ino inode file told head tail rest shows is first last r =
+    let four : length head ≡ 4 = ap length first ∙ length-bytes_of (dev ∷ ino ∷ []) in
     let node : tail ≡ inode_bytes (told_of file) = last ∙ ap inode_bytes (is ∙ told_is inode file shows) in
-    beside head tail rest four r ∙ ap (λ l. l ++ tail) first ∙ ap (λ l. bytes_of (0 ∷ ino ∷ []) ++ l) node
-    ∙ sym (status_is ino file)
+    beside head tail rest four r ∙ ap (λ l. l ++ tail) first ∙ ap (λ l. bytes_of (dev ∷ ino ∷ []) ++ l) node
+    ∙ sym (status_is dev ino file)
 
-pub number_bytes_are : (ino : ℕ) (b : List ℕ) → length b ≡ 4 → ((k : ℕ) → slice_index b k < 256)
-    → words b 0 2 ≡ 0 ∷ ino ∷ [] → b ≡ bytes_of (0 ∷ ino ∷ [])
-number_bytes_are ino b long fits here =
+pub number_bytes_are : (dev ino : ℕ) (b : List ℕ) → length b ≡ 4 → ((k : ℕ) → slice_index b k < 256)
+    → words b 0 2 ≡ dev ∷ ino ∷ [] → b ≡ bytes_of (dev ∷ ino ∷ [])
+number_bytes_are dev ino b long fits here =
     sym (ap bytes_of (sym here) ∙ bytes_of_words b 0 2 (omega (arith, long)) fits ∙ part_whole b 4 long)
 
 -- what stat and fstat keep
 stored_same : (h : Handed) (o : Option Image) (taken : List ℕ) (old : Handed) → IsKeptBut old h taken
     → IsKeptBut old (with_stored h o).state taken
-stored_same h (Some image) taken old k = kept_goes_on old h _ taken k refl refl refl refl refl refl
+stored_same h (Some image) taken old k = kept_goes_on old h _ taken k refl refl refl refl refl refl refl
 stored_same h None taken old k = k
 
 pub stat_kept : (h : Handed) (name at : ℕ) → IsSound h → CanFind h name → IsKept h (stat_file h name at).state
 stat_kept h name at sound can =
     kept_ends h _ (kept_finds h h name [] (λ h ino. tells_status h ino at) sound (kept_begins h sound) can (λ now ino k.
-    stored_same now (store_bytes now.image at (status_bytes ino (node_at now ino))) (ino ∷ []) h k))
+    stored_same now (store_bytes now.image at (status_bytes (disk_of now ino) (number_of now ino) (node_at now ino))) (ino ∷ []) h k))
 
 pub stat_open_kept : (h : Handed) (at : ℕ) → IsSound h → IsKept h (stat_open h at).state
 stat_open_kept h at sound =
     kept_ends h _ (kept_check h h [] (open_entry h (r0 h)) (λ entry. tells_status h (file_of h entry).ino at)
     (kept_begins h sound) (λ entry is.
-    stored_same h (store_bytes h.image at (status_bytes (file_of h entry).ino (node_at h
-    (file_of h entry).ino))) [] h (kept_begins h sound)))
+    stored_same h (store_bytes h.image at (status_bytes (disk_of h (file_of h entry).ino) (number_of h (file_of h entry).ino)
+    (node_at h (file_of h entry).ino))) [] h (kept_begins h sound)))

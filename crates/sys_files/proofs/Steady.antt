@@ -158,6 +158,7 @@ confined_walks old slot = record {
     fits = c.fits;
     steady = record { row = c.steady.row; area = c.steady.area; image = c.steady.image; marks = c.steady.marks; room = c.steady.room };
   };
+  named = λ names d c. record { fits = c.fits; steady = c.steady };
   waits = λ h l entry at count calling line s. record {
     fits = fits_none slot;
     steady = steady_pending old h LINE_READ (entry ∷ at ∷ count ∷ 0 ∷ 0 ∷ 0 ∷ 0 ∷ 0 ∷ []) s;
@@ -202,6 +203,7 @@ confined_walks old slot = record {
     marks = s.marks;
     room = All-set HasRoom h.lines l t (kept (room_any h.lines l s.room)) s.room;
   };
+  covered = λ h covered s. record { row = s.row; area = s.area; image = s.image; marks = s.marks; room = s.room };
   enters = λ h dir moves s. steady_moved old h h.files h.u.files dir s;
   terminal = λ h tty s. record {
     row = record { pid = s.row.pid; ppid = s.row.ppid; uid = s.row.uid };

@@ -11,6 +11,7 @@ use Rattle.v6_base.specs.declared.errno.Errno.TheVariants.{EBADF}
 use Rattle.v6_base.proofs.Copies.{SameLengths}
 use Rattle.u_area.specs.declared.layout.TheConstants.{LINE_READ, LINE_WRITE}
 use Rattle.u_area.specs.Pending.{IsPipeCall}
+use Rattle.fs_nodes.specs.Keys.{counts, key_count}
 use Rattle.fs_tree.specs.Finding.{Inodes}
 use Rattle.open_files.specs.declared.file.OpenFile.{OpenFile}
 use Rattle.open_files.specs.declared.file.FileKind.{FileKind}
@@ -27,6 +28,7 @@ use Rattle.pipe_ends.specs.declared.ends.Pipe.{Pipe}
 use Rattle.sys_files.specs.Handed.{Handed, no_file, file_of, line_at, with_line, with_inodes, with_number}
 use Rattle.sys_files.specs.Did.{Did, fails, must, need, until_end}
 use Rattle.sys_files.specs.Descriptors.{open_entry, dropped}
+use Rattle.sys_files.specs.Mounting.{with_covered}
 use Rattle.sys_files.specs.Pipes.{with_pipe, without_pipe, has_end}
 use Rattle.sys_files.specs.Piping.{reading_end, with_end, with_ends, words_of, pipe_at}
 use Rattle.std.specs.List.{All}
@@ -42,6 +44,7 @@ asleep_for_keys h l entry at count = record {
   answer = Sleep (pos 10) (keys_of l);
   state = record h { u = record h.u { pending = LINE_READ; call = entry ∷ at ∷ count ∷ 0 ∷ 0 ∷ 0 ∷ 0 ∷ 0 ∷ [] } };
   items = [];
+  named = [];
 }
 
 -- A write sleeps until there is room: how many bytes are done is kept too.
@@ -50,6 +53,7 @@ asleep_for_room h l entry at count done = record {
   answer = Sleep (pos 20) (show_of l);
   state = record h { u = record h.u { pending = LINE_WRITE; call = entry ∷ at ∷ count ∷ done ∷ 0 ∷ 0 ∷ 0 ∷ 0 ∷ [] } };
   items = [];
+  named = [];
 }
 
 -- It sleeps in a pipe: what it needs to go on is kept.
@@ -58,6 +62,7 @@ asleep_in_pipe h chan pending words = record {
   answer = Sleep (pos 1) chan;
   state = record h { u = record h.u { pending = pending; call = words } };
   items = [];
+  named = [];
 }
 
 -- a channel of a pipe whose inode is known
@@ -90,8 +95,9 @@ pub record CanResume (Few : ℕ → Type 0) (h : Handed) : Type 0 where
 -- numbers and the directory of the process change in calls that may move them.
 pub record Walks (P : Handed → Type 0) (Q : Did → Type 0) (Few Known Line : ℕ → Type 0) (Moves : Type 0) (slot : ℕ) : Type 0 where
   pub refused : (h : Handed) (e : Errno) → P h → Q (fails h e)
-  pub done : (h : Handed) (a b : ℕ) → P h → Q (record { answer = Ret a b; state = h; items = [] })
+  pub done : (h : Handed) (a b : ℕ) → P h → Q (record { answer = Ret a b; state = h; items = []; named = [] })
   pub lets_go : (ino : ℕ) (d : Did) → Q d → Q (until_end ino d)
+  pub named : (names : List ℕ) (d : Did) → Q d → Q (record d { named = names })
   pub waits : (h : Handed) (l entry at count : ℕ) → IsCalling h entry count 0 → (l ≢ 0 → Line l) → P h → Q (asleep_for_keys h l entry at count)
   pub waits_for_room : (h : Handed) (l entry at count done : ℕ) → IsCalling h entry count done → (l ≢ 0 → Line l) → P h
       → Q (asleep_for_room h l entry at count done)
@@ -105,11 +111,11 @@ pub record Walks (P : Handed → Type 0) (Q : Did → Type 0) (Few Known Line : 
       → Q (record d { items = map Log front ++ (sent l (line_at h l).output ++ map Log back) })
   pub showing : (l : ℕ) (line : Terminal) (bytes : List ℕ) (count : ℕ) (d : Did) → length bytes ≤ count → Few count → Q d
       → Q (record d { items = sent l (shows line bytes) })
-  pub inodes : (h : Handed) (inodes : Inodes) → inodes.store.count ≡ h.inodes.store.count → P h → P (with_inodes h inodes)
+  pub inodes : (h : Handed) (inodes : Inodes) → counts inodes.store ≡ counts h.inodes.store → P h → P (with_inodes h inodes)
   pub opened : (h : Handed) (ino : ℕ) (kind : FileKind) (fd entry : ℕ) → kind.pipe ≡ false → free_number h.u.files ≡ Some fd
       → free_entry h.files ≡ Some entry
       → Moves → P h → P (record h { files = slice_set h.files entry (Some (files.opened ino kind)); u = with_number h.u fd (entry + 1) })
-  pub ends : (h : Handed) (ino fd entry next_fd next_entry : ℕ) → 1 ≤ ino → ino ≤ h.inodes.store.count
+  pub ends : (h : Handed) (ino fd entry next_fd next_entry : ℕ) → 1 ≤ ino → ino ≤ key_count h.inodes.store
       → free_number h.u.files ≡ Some fd → free_entry h.files ≡ Some entry
       → free_number (with_end h ino reading_end fd entry).u.files ≡ Some next_fd
       → free_entry (with_end h ino reading_end fd entry).files ≡ Some next_entry
@@ -127,6 +133,7 @@ pub record Walks (P : Handed → Type 0) (Q : Did → Type 0) (Few Known Line : 
       → Known (file_of h entry).ino × Known (pipe_at h entry).ino
   pub numbered : (h : Handed) (l : ℕ) → l ≢ 0 → l < length h.lines → P h → Line l
   pub typewriter : (h : Handed) (l : ℕ) (t : Terminal) → (HasRoom (line_at h l) → HasRoom t) → P h → P (with_line h l t)
+  pub covered : (h : Handed) (covered : Option ℕ) → P h → P (with_covered h covered)
   pub enters : (h : Handed) (dir : ℕ) → Moves → P h → P (record h { u = record h.u { dir = dir } })
   pub terminal : (h : Handed) (tty : ℕ) → P h → P (record h { row = record h.row { tty = tty } })
   pub signalled : (h : Handed) → P h → P (record h { row = posted h.row SIGPIPE })

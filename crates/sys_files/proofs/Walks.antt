@@ -1,6 +1,6 @@
 -- One walk over the rows of calls on files, for each fact that says what stays, what is shown, and which numbers, entries and
 -- pipes a step changes.
-use Rattle.std.proofs.Common.{◌≡◌, ◌≢◌, ◌<◌, ◌≤◌, ◌∙◌, ◌+◌, ◌-◌, ◌/◌, ◌%◌, ◌^◌, ◌==◌, ◌&&◌, ◌||◌, ℕ, Bool, true, false, not, nat_lt, cond, List, [], ◌∷◌, append-nil, length, take, slice_index, slice_set, is_some, IfSome, Option, Some, None, Result, Ok, Err, refl, sym, ap, subst, inl, inr, arith, ◌++◌, map, length-append, fold}
+use Rattle.std.proofs.Common.{◌≡◌, ◌≢◌, ◌<◌, ◌≤◌, ◌∙◌, ◌+◌, ◌-◌, ◌/◌, ◌%◌, ◌^◌, ◌==◌, ◌&&◌, ◌||◌, ℕ, Bool, true, false, not, nat_lt, cond, List, [], ◌∷◌, append-nil, length, take, slice_index, slice_set, is_some, is_none, IfSome, Option, Some, None, Result, Ok, Err, refl, sym, ap, subst, inl, inr, arith, ◌++◌, map, length-append, fold}
 use Rattle.std.proofs.lemmas.Bool.{eqb-false}
 use Rattle.v6_base.specs.Image.{Image}
 use Rattle.v6_base.specs.Trace.{Log, sent, Item}
@@ -10,7 +10,7 @@ use Rattle.v6_base.specs.declared.entry.Chan.{Chan}
 use Rattle.v6_base.specs.declared.entry.Chan.TheVariants as chan
 use Rattle.v6_base.specs.declared.entry.Entry.TheVariants.{Wake, Signal}
 use Rattle.v6_base.specs.declared.errno.Errno.{Errno}
-use Rattle.v6_base.specs.declared.errno.Errno.TheVariants.{EINTR, EPERM, EBADF, EFAULT, EEXIST, ENOTDIR, EISDIR, ENFILE, EMFILE, ENXIO, ESPIPE, EMLINK, EPIPE}
+use Rattle.v6_base.specs.declared.errno.Errno.TheVariants.{EINTR, EPERM, EBADF, EFAULT, EEXIST, ENOTDIR, EISDIR, ENFILE, EMFILE, ENXIO, ESPIPE, EMLINK, EPIPE, EXDEV, EBUSY, EINVAL}
 use Rattle.v6_base.proofs.Copies.{SameLengths, same_lengths, bytes_lengths}
 use Rattle.fs_codec.specs.Bytes.{bytes_of}
 use Rattle.fs_codec.specs.Words.{word}
@@ -20,11 +20,13 @@ use Rattle.fs_codec.specs.declared.modes.TheConstants.{IALLOC}
 use Rattle.u_area.specs.declared.layout.TheConstants.{LINE_READ, LINE_WRITE, PIPE_READ, PIPE_WRITE}
 use Rattle.u_area.specs.Pending.{IsPipeCall}
 use Rattle.fs_laws.specs.Pieces.{Moving}
+use Rattle.fs_nodes.specs.Keys.{counts, key_count}
+use Rattle.fs_nodes.proofs.CountLaws.{counts_synced, keys_counted}
 use Rattle.fs_tree.specs.declared.made.Made.{Made}
 use Rattle.fs_tree.specs.declared.made.Made.TheVariants as made
 use Rattle.fs_tree.specs.declared.user.Want.TheVariants.{Write, Execute}
 use Rattle.fs_tree.specs.Name.{name_at, readable}
-use Rattle.fs_tree.specs.Finding.{Finding, with_reference, remove_in}
+use Rattle.fs_tree.specs.Finding.{Finding, with_reference, find_in, remove_in}
 use Rattle.fs_tree.specs.Permission.{permission, access}
 use Rattle.open_files.specs.declared.file.OpenFile.{OpenFile}
 use Rattle.open_files.specs.declared.file.FileKind.{FileKind}
@@ -49,11 +51,12 @@ use Rattle.pipe_ends.specs.declared.ends.Piped.{Piped}
 use Rattle.pipe_ends.specs.declared.ends.Piped.TheVariants as piped
 use Rattle.pipe_ends.specs.Reads.{PipeRead}
 use Rattle.pipe_ends.specs.Writes.{PipeWrite}
-use Rattle.sys_files.specs.Handed.{Handed, r0, r1, node_at, file_of, user_of, line_of, line_at, with_line, with_inodes, with_store, with_changed, with_number, let_go}
-use Rattle.sys_files.specs.Did.{Did, fails, returns, is_done, check, must, need, unless_due, until_end, then_named, finds, by_made, makes}
+use Rattle.sys_files.specs.Handed.{Handed, r0, r1, node_at, disk_of, number_of, file_of, user_of, line_of, line_at, with_line, with_inodes, with_store, with_changed, with_number, let_go}
+use Rattle.sys_files.specs.Did.{Did, fails, returns, is_done, check, must, need, unless_due, until_end, names, then_named, finds, by_made, makes}
 use Rattle.sys_files.specs.Descriptors.{open_entry, dup_file, is_line_open, closes_line, without_marks, with_roused, pipe_roused, with_gone, released, told_by, dropped, closes, close_file, Closing, then_closes, close_all}
 use Rattle.sys_files.specs.Opening.{last_failure, open_tests, can_open, with_tty, lines_opened, with_opened, opens, opens_named, open_file}
-use Rattle.sys_files.specs.Making.{new_in, entry_written, writes_entry, with_links, enters_new, makes_node, opens_for_writing, with_no_blocks, opens_again, makes_file, creat_file, with_device, is_super_user, makes_any, mknod_at, may_link, enters_again, links_to, link_file, empties, removes, unlink_file}
+use Rattle.sys_files.specs.Making.{new_in, entry_written, writes_entry, with_links, enters_new, makes_node, opens_for_writing, with_no_blocks, opens_again, makes_file, creat_file, with_device, is_super_user, makes_any, mknod_at, may_link, is_covered, enters_again, links_to, link_file, empties, removes, unlink_file}
+use Rattle.sys_files.specs.Mounting.{disk_named, can_cover, with_covered, covers, mounts_disk, mount_on, is_held, uncovers, unmounts, unmounts_named, umount_off}
 use Rattle.sys_files.specs.Moving.{with_moved, gives_count, read_of, with_read, line_read, with_line_read, takes_line, reads_line, reads_by, reads_from, read_file_of, without_pending, line_kept, resumes, writes_line, writes_by, write_of, writes_to, write_file_of, seek_to}
 use Rattle.sys_files.specs.Pipes.{pipe_of, with_pipe, without_pipe, has_end}
 use Rattle.sys_files.specs.Piping.{reading_end, with_end, opens_ends, pipe_new, after, words_of, pipe_at, ends_at, pipe_read, with_pipe_read, ends_read, reads_pipe, pipe_write, with_pipe_write, ends_write, writes_pipe, waits_in_pipe, breaks}
@@ -71,8 +74,8 @@ use Rattle.std.proofs.lemmas.List.Elements.{All-nil, All-cons, All-append}
 use Rattle.v6_base.specs.declared.entry.Entry.{Entry}
 use Rattle.sig_core.specs.declared.numbers.TheConstants.{SIGPIPE}
 use Rattle.sys_files.proofs.Bounds.{IsOfFiles, IsLineOf, keys_of_files, show_of_files, few_readable}
-use Rattle.sys_files.proofs.OffsetLemmas.{entry_same}
-use Rattle.sys_files.proofs.NodeCounts.{put_back_count, finding_count, making_count, removing_count, numbered_count, truncated_count, device_count, synced_when, new_within}
+use Rattle.sys_files.proofs.OffsetLemmas.{entry_same, moved_counts}
+use Rattle.sys_files.proofs.NodeCounts.{put_back_counts, finding_counts, making_counts, removing_counts, new_counts, entry_counts, links_counts, fields_counts, truncated_counts, device_counts, new_within}
 pub use Rattle.sys_files.proofs.WalkSteps.{asleep_for_keys, asleep_for_room, asleep_in_pipe, IsOfPipe, IsCalling, IsAwaiting, CanResume, Walks}
 use Rattle.sys_files.proofs.WalkSteps.{need_some, entry_named, is_named, must_true, file_there, IsNamedBy, named_told}
 
@@ -91,7 +94,7 @@ module _ {P : Handed → Type 0} {Q : Did → Type 0} {Few Known Line : ℕ → 
     checks_so h (Err e) next p goes = k.refused h e p
 
     walk_named : {A : Type 0} (h : Handed) (found : Finding A) (next : Handed → A → Did)
-        → found.inodes.store.count ≡ h.inodes.store.count → P h
+        → counts found.inodes.store ≡ counts h.inodes.store → P h
         → ((now : Handed) (a : A) → P now → Q (next now a)) → Q (then_named h found next)
     walk_named h found next same p goes =
         let now : P (with_inodes h found.inodes) = k.inodes h found.inodes same p in
@@ -100,7 +103,7 @@ module _ {P : Handed → Type 0} {Q : Did → Type 0} {Few Known Line : ℕ → 
 
     walk_finds : (h : Handed) (name : ℕ) (next : Handed → ℕ → Did) → P h → ((now : Handed) (ino : ℕ) → P now → Q (next now ino))
         → Q (finds h name next)
-    walk_finds h name next p goes = walk_named h _ _ (finding_count h.inodes _) p
+    walk_finds h name next p goes = walk_named h _ _ (finding_counts h.inodes _) p
         (λ now ino q. k.lets_go ino (next now ino) (goes now ino q))
 
     walk_made : (h : Handed) (answer : Made) (there : Handed → ℕ → Did) (new : Handed → ℕ → ℕ → List ℕ → Did) → P h
@@ -113,21 +116,22 @@ module _ {P : Handed → Type 0} {Q : Did → Type 0} {Few Known Line : ℕ → 
         → ((now : Handed) (ino : ℕ) → P now → Q (there now ino))
         → ((now : Handed) (dir offset : ℕ) (name : List ℕ) → P now → Q (new now dir offset name)) → Q (makes h name there new)
     walk_makes h name there new p one two =
-        walk_named h _ (by_made there new) (making_count h.inodes _) p (λ now answer q. walk_made now answer there new q one two)
+        walk_named h _ (by_made there new) (making_counts h.inodes _) p (λ now answer q. walk_made now answer there new q one two)
 
     walk_writes : (h : Handed) (dir offset : ℕ) (bytes : List ℕ) (now : ℕ) (next : Handed → Did) → P h
         → ((l : Handed) → P l → Q (next l))
         → Q (writes_entry h dir offset bytes now next)
     walk_writes h dir offset bytes now next p goes = walk_named h (entry_written h.inodes dir offset bytes now)
-        (λ l done. next l) refl p (λ l done q. goes l q)
+        (λ l done. next l) (entry_counts h.inodes dir offset bytes now) p (λ l done q. goes l q)
 
     walk_node : (h : Handed) (dir offset : ℕ) (name : List ℕ) (mode now : ℕ) (next : Handed → ℕ → Did) → P h
         → ((l : Handed) (ino : ℕ) → P l → Q (next l ino)) → Q (makes_node h dir offset name mode now next)
     walk_node h dir offset name mode now next p goes =
-        walk_named h (new_in h.inodes mode (user_of h.u) now) _ (numbered_count h.inodes mode (user_of h.u) now _ _) p (λ l ino q.
+        walk_named h (new_in h.inodes (disk_of h dir) mode (user_of h.u) now) _
+        (new_counts h.inodes (disk_of h dir) mode (user_of h.u) now) p (λ l ino q.
         k.lets_go ino (enters_new l dir offset name ino now next)
         (walk_writes l dir offset _ now (λ m. next (with_links m ino 1 now) ino) q (λ m r.
-        goes (with_links m ino 1 now) ino (k.inodes m (with_links m ino 1 now).inodes refl r))))
+        goes (with_links m ino 1 now) ino (k.inodes m (with_links m ino 1 now).inodes (links_counts m.inodes ino 1 now) r))))
 
     -- An inode is opened.
     opened : (h : Handed) (ino : ℕ) (kind : FileKind) (fd entry : ℕ) → kind.pipe ≡ false → free_number h.u.files ≡ Some fd
@@ -174,7 +178,7 @@ module _ {P : Handed → Type 0} {Q : Did → Type 0} {Few Known Line : ℕ → 
     -- Bytes are read, and written.
     after_moved : {Memory : Type 0} (h : Handed) (entry : ℕ) (m : Moving Memory) → P h → P (with_moved h entry m)
     after_moved h entry m p =
-        k.offset _ entry (((file_of h entry).offset + m.done) % 2 ^ 32) (k.inodes h (with_moved h entry m).inodes refl p)
+        k.offset _ entry (((file_of h entry).offset + m.done) % 2 ^ 32) (k.inodes h (with_moved h entry m).inodes (moved_counts h entry m) p)
 
     walk_count : (h : Handed) (count : ℕ) (e : Option Errno) → P h → Q (gives_count h count e)
     walk_count h count None p = k.done h count (r1 h) p
@@ -269,7 +273,8 @@ module _ {P : Handed → Type 0} {Q : Did → Type 0} {Few Known Line : ℕ → 
 
     walk_status : (h : Handed) (ino at : ℕ) → P h → Q (tells_status h ino at)
     walk_status h ino at p =
-        walk_stored h _ (bytes_lengths h.image h.image at (status_bytes ino (node_at h ino)) (same_lengths h.image)) p
+        walk_stored h _ (bytes_lengths h.image h.image at (status_bytes (disk_of h ino) (number_of h ino) (node_at h ino))
+        (same_lengths h.image)) p
 
     walk_told : (h : Handed) (l at : ℕ) (odd : Bool) → P h → Q
         (with_stored h (cond odd None (store_bytes h.image at (bytes_of (line_at h l).modes))))
@@ -291,15 +296,16 @@ module _ {P : Handed → Type 0} {Q : Did → Type 0} {Few Known Line : ℕ → 
     no_line = All-nil (IsLineOf Known Line slot)
 
     answers : (h : Handed) (a b : ℕ) (entries : List Entry) → length entries ≤ 3 → All (IsLineOf Known Line slot) entries → P h
-        → Q (record { answer = Ret a b; state = h; items = map Log entries })
+        → Q (record { answer = Ret a b; state = h; items = map Log entries; named = [] })
     answers h a b entries few all p =
-        k.tells entries (record { answer = Ret a b; state = h; items = [] }) few all refl (k.done h a b p)
+        k.tells entries (record { answer = Ret a b; state = h; items = []; named = [] }) few all refl (k.done h a b p)
 
     closes_by : (h : Handed) (a b ino : ℕ) (pipe : Bool) → (pipe ≡ true → Known ino) → P h
         → Q (record {
           answer = Ret a b;
           state = h;
           items = cond pipe (Log (Wake (chan.Write ino)) ∷ Log (Wake (chan.Read ino)) ∷ []) [];
+          named = [];
         })
     closes_by h a b ino true named p =
         answers h a b (Wake (chan.Write ino) ∷ Wake (chan.Read ino) ∷ []) (omega arith)
@@ -313,11 +319,12 @@ module _ {P : Handed → Type 0} {Q : Did → Type 0} {Few Known Line : ℕ → 
           state = rest;
           items = cond pipe (Log (Wake (chan.Write ino)) ∷ Log (Wake (chan.Read ino)) ∷ []) []
               ++ (sent l (line_at h l).output ++ (wakes_if true (keys_of l) ++ wakes_if show (show_of l)));
+          named = [];
         })
     told_by_line h rest a b ino l pipe show named there p q = by pipe show named
       where
         told : Did
-        told = record { answer = Ret a b; state = rest; items = [] }
+        told = record { answer = Ret a b; state = rest; items = []; named = [] }
 
         line : l ≢ 0 → Line l
         line other = k.numbered h l other (there other) p
@@ -339,6 +346,7 @@ module _ {P : Handed → Type 0} {Q : Did → Type 0} {Few Known Line : ℕ → 
           state = rest;
           items = cond pipe (Log (Wake (chan.Write ino)) ∷ Log (Wake (chan.Read ino)) ∷ []) []
               ++ (sent l (line_at h l).output ++ (wakes_if true (keys_of l) ++ wakes_if show (show_of l)));
+          named = [];
         })
         by true true name =
             k.lets_out h l ends (Wake (keys_of l) ∷ Wake (show_of l) ∷ []) told (omega arith) (roused (name refl)) both p refl (k.done rest a b q)
@@ -369,7 +377,7 @@ module _ {P : Handed → Type 0} {Q : Did → Type 0} {Few Known Line : ℕ → 
         → Q (after (cond woken (Log (Wake chan) ∷ []) []) d)
     quiet_woken woken chan d named none q =
         told_woken woken chan [] d named (omega arith) no_line none
-        (subst Q (ap (λ (l : List Item). record { answer = d.answer; state = d.state; items = l }) none) q)
+        (subst Q (ap (λ (l : List Item). record { answer = d.answer; state = d.state; items = l; named = d.named }) none) q)
 
     waits_woken : (woken : Bool) (on chan : Chan) (h : Handed) (pending entry at count left : ℕ) → IsPipeCall pending
         → IsOfFiles Known Line on → IsOfPipe Known chan → IsAwaiting h entry count left → P h
@@ -415,7 +423,7 @@ module _ {P : Handed → Type 0} {Q : Did → Type 0} {Few Known Line : ℕ → 
         let q : Pipe = pipe_at h entry in
         let known : Known q.ino = (k.known h entry is p).1 in
         let read : P (with_store h r.store) = k.inodes h (record h.inodes { store = r.store })
-        (read_leaves h.inodes.store (ends_at h entry) q h.image at count now).count p in
+        (read_leaves h.inodes.store (ends_at h entry) q h.image at count now).counts p in
         let stored : P (record (with_store h r.store) { image = r.image }) =
         k.stored (with_store h r.store) r.image (pipe_lengths h.inodes.store (ends_at h entry) q h.image at count now) read in
         read_ends (q.writer_waits && not r.pipe.writer_waits) (with_pipe_read h r) q.ino entry at count r.answer known
@@ -430,7 +438,7 @@ module _ {P : Handed → Type 0} {Q : Did → Type 0} {Few Known Line : ℕ → 
         let known : Known q.ino = (k.known h entry is p).1 in
         let leaves = write_leaves h.inodes.store (ends_at h entry) q h.image ((at + (count - left)) % 65536) left now in
         let few = leaves.few in
-        let written : P (with_store h w.store) = k.inodes h (record h.inodes { store = w.store }) leaves.leaves.count p in
+        let written : P (with_store h w.store) = k.inodes h (record h.inodes { store = w.store }) leaves.leaves.counts p in
         write_ends (q.reader_waits && not w.pipe.reader_waits) (with_pipe_write h w) q.ino entry at count w.answer known
         (record { pipe = is; named = named; few = omega (arith, few, less) }) (k.marked (with_store h w.store) w.pipe written)
 
@@ -457,36 +465,39 @@ module _ {P : Handed → Type 0} {Q : Did → Type 0} {Few Known Line : ℕ → 
           answer = Ret a b;
           state = let_go (closes_line h line).state file.ino;
           items = pipe_roused file ++ (closes_line h line).items;
+          named = [];
         })
     line_closes h a b file line there known p = by line there
       where
-        stays : Q (record { answer = Ret a b; state = let_go h file.ino; items = pipe_roused file ++ [] })
-        stays = subst (λ (items : List Item). Q (record { answer = Ret a b; state = let_go h file.ino; items = items }))
+        stays : Q (record { answer = Ret a b; state = let_go h file.ino; items = pipe_roused file ++ []; named = [] })
+        stays = subst (λ (items : List Item). Q (record { answer = Ret a b; state = let_go h file.ino; items = items; named = [] }))
             (sym (append-nil (pipe_roused file)))
             (closes_by (let_go h file.ino) a b file.ino file.kind.pipe known
-            (k.inodes h (let_go h file.ino).inodes (put_back_count h.inodes file.ino) p))
+            (k.inodes h (let_go h file.ino).inodes (put_back_counts h.inodes file.ino) p))
 
         either : (l : ℕ) (used : Bool) → l < length h.lines → Q (record {
           answer = Ret a b;
           state = let_go (cond {A = Closing} used (record { state = h; items = [] }) (shut h l)).state file.ino;
           items = pipe_roused file ++ (cond {A = Closing} used (record { state = h; items = [] }) (shut h l)).items;
+          named = [];
         })
         either l true there = stays
         either l false there =
             told_by_line h (let_go (shut h l).state file.ino) a b file.ino l file.kind.pipe (said.closed (line_at h l)).show known (λ other. there) p
-            (k.inodes (shut h l).state (let_go h file.ino).inodes (put_back_count h.inodes file.ino)
+            (k.inodes (shut h l).state (let_go h file.ino).inodes (put_back_counts h.inodes file.ino)
             (k.typewriter h l (said.closed (line_at h l)).terminal (λ room. omega arith) p))
 
         by : (line : Option ℕ) → ((l : ℕ) → line ≡ Some l → l < length h.lines) → Q (record {
           answer = Ret a b;
           state = let_go (closes_line h line).state file.ino;
           items = pipe_roused file ++ (closes_line h line).items;
+          named = [];
         })
         by None there = stays
         by (Some l) there = either l (is_line_open h l) (there l refl)
 
     walk_released : (h : Handed) (a b : ℕ) (told : Closed) → IsNamedBy Known told → P h
-        → Q (record { answer = Ret a b; state = (released h told).state; items = (released h told).items })
+        → Q (record { answer = Ret a b; state = (released h told).state; items = (released h told).items; named = [] })
     walk_released h a b (Still file) known p =
         closes_by (with_roused h file) a b file.ino file.kind.pipe known (roused h file file.kind.pipe p)
     walk_released h a b (Last file) known p =
@@ -496,7 +507,7 @@ module _ {P : Handed → Type 0} {Q : Did → Type 0} {Few Known Line : ℕ → 
         line_closes rest a b file (line_of rest (node_at rest file.ino)) (line_there rest (node_at rest file.ino)) known here
 
     pub walk_closes : (h : Handed) (fd a b : ℕ) → 0 < slice_index h.u.files fd → Moves → P h
-        → Q (record { answer = Ret a b; state = (closes h fd).state; items = (closes h fd).items })
+        → Q (record { answer = Ret a b; state = (closes h fd).state; items = (closes h fd).items; named = [] })
     walk_closes h fd a b named moves p =
         let file : OpenFile = file_of h (entry_of h.u.files fd) in
         walk_released (dropped h fd) a b (told_by h fd)
@@ -541,7 +552,7 @@ module _ {P : Handed → Type 0} {Q : Did → Type 0} {Few Known Line : ℕ → 
         checks h (access h.marks ino (node_at h ino) (user_of h.u) Write) _ p (λ may.
         checks h (must EISDIR (not (is_directory (node_at h ino).mode))) _ p (λ file.
         walk_opens (with_no_blocks h ino now) ino _ refl moves (k.inodes h (with_no_blocks h ino now).inodes
-        (truncated_count h.inodes ino now) p)))
+        (truncated_counts h.inodes ino now) p)))
 
     pub walk_creat : (h : Handed) (name mode now : ℕ) → Moves → P h → Q (creat_file h name mode now)
     walk_creat h name mode now moves p =
@@ -550,12 +561,15 @@ module _ {P : Handed → Type 0} {Q : Did → Type 0} {Few Known Line : ℕ → 
 
     -- 9, link
     linked : (h : Handed) (ino links now : ℕ) → P h → Q (is_done (with_links h ino links now))
-    linked h ino links now p = k.done (with_links h ino links now) (r0 h) (r1 h) (k.inodes h (with_links h ino links now).inodes refl p)
+    linked h ino links now p =
+        k.done (with_links h ino links now) (r0 h) (r1 h)
+        (k.inodes h (with_links h ino links now).inodes (links_counts h.inodes ino links now) p)
 
     entered : (h : Handed) (ino now dir offset : ℕ) (name : List ℕ) → P h → Q (enters_again ino now h dir offset name)
     entered h ino now dir offset name p =
+        checks h (must EXDEV (disk_of h ino == disk_of h dir)) _ p (λ same.
         walk_writes h dir offset _ now (λ l. is_done (with_links l ino ((node_at l ino).nlink + 1) now)) p
-        (λ l q. linked l ino _ now q)
+        (λ l q. linked l ino _ now q))
 
     pub walk_link : (h : Handed) (name new now : ℕ) → P h → Q (link_file h name new now)
     walk_link h name new now p =
@@ -569,8 +583,9 @@ module _ {P : Handed → Type 0} {Q : Did → Type 0} {Few Known Line : ℕ → 
     emptied : (h : Handed) (dir offset ino now : ℕ) → P h → Q (empties now h dir offset ino)
     emptied h dir offset ino now p =
         checks h (must EPERM (may_link h ino)) _ p (λ may.
+        checks h (must EBUSY (not (is_covered h ino))) _ p (λ free.
         walk_writes h dir offset (0 ∷ 0 ∷ []) now (λ l. is_done (with_links l ino ((node_at l ino).nlink - 1) now)) p
-        (λ l q. linked l ino _ now q))
+        (λ l q. linked l ino _ now q)))
 
     removed : (h : Handed) (now : ℕ) (entry : ℕ × ℕ × ℕ) → P h → Q (removes now h entry)
     removed h now (dir, offset, ino) p =
@@ -579,8 +594,8 @@ module _ {P : Handed → Type 0} {Q : Did → Type 0} {Few Known Line : ℕ → 
 
     pub walk_unlink : (h : Handed) (name now : ℕ) → P h → Q (unlink_file h name now)
     walk_unlink h name now p =
-        walk_named h (remove_in h.inodes h.marks (user_of h.u) h.u.dir (name_at h.image name)) (removes now)
-        (removing_count h.inodes _) p (λ l entry q. removed l now entry q)
+        walk_named h (remove_in h.inodes h.mounts h.marks (user_of h.u) h.u.dir (name_at h.image name)) (removes now)
+        (removing_counts h.inodes _) p (λ l entry q. removed l now entry q)
 
     -- 12, chdir
     pub walk_chdir : (h : Handed) (name : ℕ) → Moves → P h → Q (chdir_to h name)
@@ -589,7 +604,7 @@ module _ {P : Handed → Type 0} {Q : Did → Type 0} {Few Known Line : ℕ → 
         checks l (must ENOTDIR (is_directory (node_at l ino).mode)) _ q (λ is.
         checks l (permission (node_at l ino) (user_of l.u) Execute) _ q (λ may.
         k.done (with_directory l ino) (r0 l) (r1 l)
-        (k.inodes _ (with_directory l ino).inodes (put_back_count (with_reference l.inodes ino) l.u.dir) (k.enters l ino moves q)))))
+        (k.inodes _ (with_directory l ino).inodes (put_back_counts (with_reference l.inodes ino) l.u.dir) (k.enters l ino moves q)))))
 
     -- 14, mknod
     pub walk_mknod : (h : Handed) (name mode device now : ℕ) → P h → Q (mknod_at h name mode device now)
@@ -599,11 +614,11 @@ module _ {P : Handed → Type 0} {Q : Did → Type 0} {Few Known Line : ℕ → 
         (λ l dir offset bytes q.
         walk_node l dir offset bytes _ now (λ m ino. is_done (with_device m ino device)) q (λ m ino r.
         k.done (with_device m ino device) (r0 m) (r1 m) (k.inodes m (with_device m ino device).inodes
-        (device_count m.inodes ino device) r))))
+        (device_counts m.inodes ino device) r))))
 
     -- 15, chmod, and 16, chown
     changed : (h : Handed) (ino : ℕ) (node : Node) → P h → Q (is_done (with_changed h ino node))
-    changed h ino node p = k.done (with_changed h ino node) (r0 h) (r1 h) (k.inodes h (with_changed h ino node).inodes refl p)
+    changed h ino node p = k.done (with_changed h ino node) (r0 h) (r1 h) (k.inodes h (with_changed h ino node).inodes (fields_counts h.inodes.store ino node) p)
 
     pub walk_chmod : (h : Handed) (name mode now : ℕ) → P h → Q (chmod_to h name mode now)
     walk_chmod h name mode now p =
@@ -630,6 +645,44 @@ module _ {P : Handed → Type 0} {Q : Did → Type 0} {Few Known Line : ℕ → 
         checks h (must ESPIPE (not (file_of h entry).kind.pipe)) _ p (λ may.
         k.done _ (r0 h) (r1 h) (k.offset h entry _ p)))
 
+    -- 21, mount, and 22, umount
+    covered : (h : Handed) (device dir : ℕ) → P h → Q (covers device h dir)
+    covered h device dir p = by (can_cover h device dir)
+      where
+        by : (b : Bool) → Q (cond b (names dir (is_done (with_covered h (Some dir)))) (until_end dir (fails h EBUSY)))
+        by true =
+            k.named (dir ∷ []) (is_done (with_covered h (Some dir)))
+            (k.done (with_covered h (Some dir)) (r0 h) (r1 h) (k.covered h (Some dir) p))
+        by false = k.lets_go dir (fails h EBUSY) (k.refused h EBUSY p)
+
+    pub walk_mount : (h : Handed) (special name : ℕ) → P h → Q (mount_on h special name)
+    walk_mount h special name p =
+        walk_finds h special (λ l node. check l (disk_named l node) (mounts_disk name l)) p (λ l node q.
+        checks l (disk_named l node) (mounts_disk name l) q (λ device.
+        walk_named l (find_in l.inodes l.mounts (user_of l.u) l.u.dir (name_at l.image name)) (covers device)
+        (finding_counts l.inodes _) q (λ m dir r. covered m device dir r)))
+
+    uncovered : (h : Handed) (dir : Option ℕ) → P h → Q (uncovers h dir)
+    uncovered h None p = k.refused h EINVAL p
+    uncovered h (Some dir) p =
+        k.lets_go dir (is_done (with_covered h None)) (k.done (with_covered h None) (r0 h) (r1 h) (k.covered h None p))
+
+    unmounted : (h : Handed) (device : ℕ) → P h → Q (unmounts h device)
+    unmounted h device p =
+        checks h (must EINVAL (not ((device == 1) && is_none h.mounts.covered))) _ p (λ mounted.
+        checks h (must EBUSY (not (device == 0) && not (is_held h))) _ p (λ free.
+        uncovered h h.mounts.covered p))
+
+    pub walk_umount : (h : Handed) (special : ℕ) → P h → Q (umount_off h special)
+    walk_umount h special p =
+        walk_named h (find_in h.inodes h.mounts (user_of h.u) h.u.dir (name_at h.image special)) unmounts_named
+        (finding_counts h.inodes _) p (λ l node q.
+        let rest : Handed = let_go l node in
+        k.named (unmounts_named l node).named (check rest (disk_named rest node) (unmounts rest))
+        (checks rest (disk_named rest node) (unmounts rest)
+        (k.inodes l rest.inodes (put_back_counts l.inodes node) q) (λ device.
+        unmounted rest device (k.inodes l rest.inodes (put_back_counts l.inodes node) q))))
+
     -- 31, stty, and 32, gtty
     pub walk_stty : (h : Handed) (at : ℕ) → P h → Q (stty_set h at)
     walk_stty h at p =
@@ -643,8 +696,9 @@ module _ {P : Handed → Type 0} {Q : Did → Type 0} {Few Known Line : ℕ → 
 
     -- 36, sync
     pub walk_sync : (h : Handed) (now : ℕ) → P h → Q (sync_all h now)
-    walk_sync h now p = k.done (sync_all h now).state (r0 h) (r1 h)
-        (k.inodes h (sync_all h now).state.inodes (synced_when h.inodes.store.mark h.inodes.store _ refl) p)
+    walk_sync h now p =
+        k.named (sync_all h now).named (is_done (sync_all h now).state)
+        (k.done (sync_all h now).state (r0 h) (r1 h) (k.inodes h (sync_all h now).state.inodes (counts_synced h.inodes.store now) p))
 
     -- 41, dup
     pub walk_dup : (h : Handed) → Moves → P h → Q (dup_file h)
@@ -657,7 +711,7 @@ module _ {P : Handed → Type 0} {Q : Did → Type 0} {Few Known Line : ℕ → 
         (k.done _ fd (r1 h) (k.given h (r0 h) fd named.0 (need_some EMFILE (free_number h.u.files) fd number) moves p))))
 
     -- 42, pipe
-    opens_pipe : (h : Handed) (ino : ℕ) → 1 ≤ ino → ino ≤ h.inodes.store.count → Moves → P h → Q (opens_ends h ino)
+    opens_pipe : (h : Handed) (ino : ℕ) → 1 ≤ ino → ino ≤ key_count h.inodes.store → Moves → P h → Q (opens_ends h ino)
     opens_pipe h ino above within moves p =
         checks_so h (need EMFILE (free_number h.u.files)) _ p (λ fd number.
         checks_so h (need ENFILE (free_entry h.files)) _ p (λ entry free.
@@ -671,14 +725,18 @@ module _ {P : Handed → Type 0} {Q : Did → Type 0} {Few Known Line : ℕ → 
 
     pub walk_pipe : (h : Handed) (now : ℕ) → Moves → P h → Q (pipe_new h now)
     walk_pipe h now moves p =
-        let found : Finding ℕ = new_in h.inodes IALLOC (record { uid = 0; gid = 0 }) now in
-        let same : found.inodes.store.count ≡ h.inodes.store.count =
-        numbered_count h.inodes IALLOC (record { uid = 0; gid = 0 }) now _ _ in
+        let found : Finding ℕ = new_in h.inodes 0 IALLOC (record { uid = 0; gid = 0 }) now in
+        let same : counts found.inodes.store ≡ counts h.inodes.store =
+        new_counts h.inodes 0 IALLOC (record { uid = 0; gid = 0 }) now in
         let there : P (with_inodes h found.inodes) = k.inodes h found.inodes same p in
-        checks_so (with_inodes h found.inodes) found.answer _ there (λ ino is.
+        let made : Handed → ℕ → Did = λ l ino. until_end ino (opens_ends l ino) in
+        k.named (pipe_new h now).named (then_named h found made)
+        (checks_so (with_inodes h found.inodes) found.answer _ there (λ ino is.
         let within = new_within h.inodes IALLOC (record { uid = 0; gid = 0 }) now ino is in
         k.lets_go ino (opens_ends (with_inodes h found.inodes) ino)
-        (opens_pipe (with_inodes h found.inodes) ino within.0 (subst (λ n. ino ≤ n) (sym same) within.1) moves there))
+        (opens_pipe (with_inodes h found.inodes) ino within.0
+        (subst (λ n. ino ≤ n) (keys_counted h.inodes.store found.inodes.store (sym same)) within.1)
+        moves there)))
 
     -- A call in which a process slept goes on: its file is there, and in a pipe an end.
     pub walk_resume : (h : Handed) (now : ℕ) → CanResume Few h → P (without_pending h) → Q (resumes h slot now)

@@ -24,7 +24,7 @@ use Rattle.sys_files.specs.Moving.{without_pending, line_kept, goes_on_line, goe
 use Rattle.sys_files.specs.Piping.{reads_pipe, writes_pipe}
 use Rattle.sys_files.specs.Sound.{IsSound, IsKept}
 use Rattle.sys_files.proofs.KeptLemmas.{kept_same}
-use Rattle.sys_files.proofs.OffsetLemmas.{kept_moved}
+use Rattle.sys_files.proofs.OffsetLemmas.{kept_moved, moved_counts}
 use Rattle.sys_files.proofs.PipeKeptLemmas.{pipe_read_kept, pipe_write_kept}
 use Rattle.sys_files.proofs.ReadLemmas.{gives_state, gives_items, kept_waits}
 
@@ -73,6 +73,7 @@ kept_room old h l entry at count done same waits = by (is_some (due h.row h.u))
       answer = Sleep (pos 20) (show_of l);
       state = record h { u = record h.u { pending = LINE_WRITE; call = entry ∷ at ∷ count ∷ done ∷ 0 ∷ 0 ∷ 0 ∷ 0 ∷ [] } };
       items = [];
+      named = [];
     })).state
     by true = same
     by false = waits
@@ -155,12 +156,15 @@ kept_as h entry at count now (Some l) sound =
     let bytes : List ℕ = readable after.image ((at + 0) % 65536) (count - 0) in
     let n : ℕ = written (line_at after l) bytes in
     kept_ends h (with_shown after l (take n bytes)) l entry at count (0 + n) (nat_lt n (length bytes)) (0 + n == count)
-    (kept_moved h _ entry (write_place h entry at count now) sound refl refl refl refl refl refl)
-    (kept_moved h _ entry (write_place h entry at count now) sound refl refl refl refl refl refl)
+    (kept_moved h _ entry (write_place h entry at count now) sound refl refl refl refl refl refl
+    (moved_counts h entry (write_of h entry at count now)))
+    (kept_moved h _ entry (write_place h entry at count now) sound refl refl refl refl refl refl
+    (moved_counts h entry (write_of h entry at count now)))
 kept_as h entry at count now None sound =
     let m : Moving (Unit {0}) = write_of h entry at count now in
     subst (IsKept h) (sym (gives_state (with_moved h entry m) (if is_device (node_at h (file_of h entry).ino).mode then count else m.done) m.error))
-    (kept_moved h (with_moved h entry m) entry (write_place h entry at count now) sound refl refl refl refl refl refl)
+    (kept_moved h (with_moved h entry m) entry (write_place h entry at count now) sound refl refl refl refl refl refl
+    (moved_counts h entry m))
 
 kept_any : (h : Handed) (slot entry at count now : ℕ) (pipe : Bool) → IsSound h
     → IsKept h (write_any h slot entry at count now pipe).state
@@ -170,12 +174,12 @@ kept_any h slot entry at count now false sound = kept_as h entry at count now (l
 kept_if : (h : Handed) (slot entry at count now : ℕ) (writing : Bool) → IsSound h
     → IsKept h (write_if h slot entry at count now writing).state
 kept_if h slot entry at count now true sound = kept_any h slot entry at count now (file_of h entry).kind.pipe sound
-kept_if h slot entry at count now false sound = kept_same h h sound refl refl refl refl refl refl
+kept_if h slot entry at count now false sound = kept_same h h sound refl refl refl refl refl refl refl
 
 kept_found : (h : Handed) (slot at count now : ℕ) (found : Result ℕ Errno) → IsSound h
     → IsKept h (write_found h slot at count now found).state
 kept_found h slot at count now (Ok entry) sound = kept_if h slot entry at count now (file_of h entry).kind.writing sound
-kept_found h slot at count now (Err e) sound = kept_same h h sound refl refl refl refl refl refl
+kept_found h slot at count now (Err e) sound = kept_same h h sound refl refl refl refl refl refl refl
 
 pub write_kept : (h : Handed) (slot at count now : ℕ) → IsSound h → IsKept h (write_file_of h slot at count now).state
 write_kept h slot at count now sound = kept_found h slot at count now (open_entry h (r0 h)) sound
@@ -183,11 +187,11 @@ write_kept h slot at count now sound = kept_found h slot at count now (open_entr
 -- A call that is taken up again keeps all that is counted.
 resumed_took : (h : Handed) (l : ℕ) (r : Reading) (entry at count : ℕ) (took : of_line.Took) → IsSound h
     → IsKept h (takes_line (with_line_read (without_pending h) l r) l entry at count took).state
-resumed_took h l r entry at count (Done n) sound = kept_same h _ sound refl refl refl refl refl refl
+resumed_took h l r entry at count (Done n) sound = kept_same h _ sound refl refl refl refl refl refl refl
 resumed_took h l r entry at count Wait sound =
-    kept_waits h (with_line_read (without_pending h) l r) l entry at count (kept_same h _ sound refl refl refl refl refl refl)
-    (kept_same h _ sound refl refl refl refl refl refl)
-resumed_took h l r entry at count Fault sound = kept_same h _ sound refl refl refl refl refl refl
+    kept_waits h (with_line_read (without_pending h) l r) l entry at count (kept_same h _ sound refl refl refl refl refl refl refl)
+    (kept_same h _ sound refl refl refl refl refl refl refl)
+resumed_took h l r entry at count Fault sound = kept_same h _ sound refl refl refl refl refl refl refl
 
 resumed_wrote : (h : Handed) (l entry at count done : ℕ) → IsSound h → IsKept h (writes_line (without_pending h) l entry at count done).state
 resumed_wrote h l entry at count done sound =
@@ -195,7 +199,7 @@ resumed_wrote h l entry at count done sound =
     let bytes : List ℕ = readable h.image ((at + done) % 65536) (count - done) in
     let n : ℕ = written (line_at rest l) bytes in
     kept_ends h (with_shown rest l (take n bytes)) l entry at count (done + n) (nat_lt n (length bytes)) (done + n == count)
-    (kept_same h _ sound refl refl refl refl refl refl) (kept_same h _ sound refl refl refl refl refl refl)
+    (kept_same h _ sound refl refl refl refl refl refl refl) (kept_same h _ sound refl refl refl refl refl refl refl)
 
 abbrev pub lined_on : Handed → ℕ → List ℕ → Bool → Did
 lined_on h l call reads =
@@ -230,7 +234,7 @@ on_kept h slot now false third false sound = pipe_write_kept h sound NOTHING_PEN
 
 kept_by : (h : Handed) (broken : Bool) (goes : Did) → IsSound h → IsKept h goes.state
     → IsKept h (if broken then fails (without_pending h) EINTR else goes).state
-kept_by h true goes sound kept = kept_same h (without_pending h) sound refl refl refl refl refl refl
+kept_by h true goes sound kept = kept_same h (without_pending h) sound refl refl refl refl refl refl refl
 kept_by h false goes sound kept = kept
 
 pub resumes_kept : (h : Handed) (slot now : ℕ) → IsSound h → IsKept h (resumes h slot now).state

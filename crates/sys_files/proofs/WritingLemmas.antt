@@ -1,14 +1,16 @@
 -- Bytes of a memory that are written into a file, in one write or in two.
-use Rattle.std.proofs.Common.{◌≡◌, ◌⊎◌, ◌+◌, ◌-◌, ◌%◌, ◌<◌, ◌≤◌, ◌==◌, ◌||◌, ℕ, Bool, true, false, not, List, length, min, Option, Some, None, IsSome, unwrap_or, Result, Ok, Err, inl, inr, refl, sym, ap, ◌∙◌, subst, arith}
-use Rattle.std.proofs.lemmas.Bool.{cases_lt, cases_eq, eq-eqb, ne_eqb}
-use Rattle.std.proofs.lemmas.List.{get_or_past, get_or-set_same, set-set}
+use Rattle.std.proofs.Common.{◌≡◌, ◌⊎◌, ◌+◌, ◌-◌, ◌%◌, ◌≤◌, ◌==◌, ◌||◌, ℕ, Bool, true, false, not, List, min, Option, Some, None, IsSome, unwrap_or, Result, Ok, Err, inl, inr, refl, sym, ap, ◌∙◌, subst, arith}
+use Rattle.std.proofs.lemmas.Bool.{cases_eq, eq-eqb, ne_eqb}
+use Rattle.std.proofs.lemmas.List.{set-set}
 use Rattle.v6_base.specs.Image.{Image}
 use Rattle.v6_base.specs.Copy.{load_bytes}
 use Rattle.v6_base.specs.declared.errno.Errno.{Errno}
 use Rattle.v6_base.proofs.Copies.{load_wraps}
 use Rattle.fs_codec.specs.Store.{Node, Store}
 use Rattle.fs_laws.specs.Pieces.{Moving, write_file}
-use Rattle.fs_laws.specs.Keys.{node_numbered, room_at, with_node}
+use Rattle.fs_laws.specs.Numbers as numbers
+use Rattle.fs_nodes.specs.Keys.{Stores, store_at, number_of, node_numbered, room_at, with_store_at, with_node}
+use Rattle.fs_nodes.proofs.KeyLaws.{stands, put_twice, node_set}
 use Rattle.fs_nodes.specs.Copy.{get_from, get_kernel}
 use Rattle.fs_nodes.specs.FileSystem.{FileSystem}
 use Rattle.fs_tree.specs.Entries.{written, answer_to, WritesEntry}
@@ -20,19 +22,12 @@ use Rattle.pipe_ends.proofs.QueueWrites.{bytes_long}
 use Rattle.sys_files.proofs.LoadedLemmas.{loaded_part}
 
 -- a node that is there
-pub node_there : (store : Store) (ino : ℕ) → IsSome (node_numbered store ino) → node_numbered store ino ≡ Some (node_in store ino)
+pub node_there : (store : Stores) (ino : ℕ) → IsSome (node_numbered store ino) → node_numbered store ino ≡ Some (node_in store ino)
 node_there store ino some = by (node_numbered store ino) some
   where
     by : (o : Option Node) → IsSome o → o ≡ Some (unwrap_or o no_node)
     by (Some node) some = refl
     by None some = absurd (cc)
-
--- a number of a store that has a node
-numbered_low : (store : Store) (ino : ℕ) (node : Node) → node_numbered store ino ≡ Some node → ino < length store.nodes
-numbered_low store ino node is = elim (cases_lt ino (length store.nodes)) [
-  | inl low ↦ low
-  | inr past ↦ (let none : node_numbered store ino ≡ None = get_or_past store.nodes ino None past in absurd (cc))
-]
 
 -- Where the number of free blocks falls twice, it differs in the end if it ever did.
 mark_twice : (mark : Bool) (r s t : ℕ) → s ≤ r → t ≤ s → (mark || not (s == r)) || not (t == s) ≡ mark || not (t == r)
@@ -49,15 +44,27 @@ mark_twice mark r s t less least = by mark (cases_eq s r) (cases_eq t s)
         ∙ sym (ap not (ne_eqb t r (λ e. other (omega (arith, e, less, least)))))
 
 -- A node is set twice, and the free blocks do not become more.
-node_twice : (store : Store) (ino : ℕ) (a b : Node) (r s : ℕ) → r ≤ room_at store ino → s ≤ r
+store_twice : (store : Store) (i : ℕ) (a b : Node) (r s : ℕ) → r ≤ store.room → s ≤ r
+    → numbers.with_node (numbers.with_node store i a r) i b s ≡ numbers.with_node store i b s
+store_twice store i a b r s less least =
+    ap (λ nodes. record (numbers.with_node (numbers.with_node store i a r) i b s) { nodes = nodes })
+    (set-set store.nodes i (Some a) (Some b))
+    ∙ ap (λ mark. record (numbers.with_node store i b s) { mark = mark }) (mark_twice store.mark store.room r s less least)
+
+node_twice : (store : Stores) (ino : ℕ) (a b : Node) (r s : ℕ) → r ≤ room_at store ino → s ≤ r
     → with_node (with_node store ino a r) ino b s ≡ with_node store ino b s
+unfolding with_node room_at
 node_twice store ino a b r s less least =
-    ap (λ nodes. record (with_node (with_node store ino a r) ino b s) { nodes = nodes })
-    (set-set store.nodes ino (Some a) (Some b))
-    ∙ ap (λ mark. record (with_node store ino b s) { mark = mark }) (mark_twice store.mark store.room r s less least)
+    let own : Store = store_at store ino in
+    let i : ℕ = number_of store ino in
+    let x : Store = numbers.with_node own i a r in
+    let at = stands store.root store.second ino x refl in
+    (λ j. with_store_at (with_store_at store ino x) ino (numbers.with_node (at.store j) (at.number j) b s))
+    ∙ put_twice store.root store.second ino x (numbers.with_node x i b s) refl
+    ∙ ap (λ (y : Store). with_store_at store ino y) (store_twice own i a b r s less least)
 
 -- what one write leaves that is alike to another
-alike_leaves : (store : Store) (ino : ℕ) (m x : Moving (Unit {0})) (last : Store) (r : Result (Unit {0}) Errno) → Alike m x
+alike_leaves : (store : Stores) (ino : ℕ) (m x : Moving (Unit {0})) (last : Stores) (r : Result (Unit {0}) Errno) → Alike m x
     → WritesEntry store ino x last r
     → WritesEntry store ino m last r
 alike_leaves store ino m x last r same w = record {
@@ -86,7 +93,7 @@ done_by None u is = refl
 done_by (Some x) u is = absurd (cc)
 
 -- Bytes of a memory are written, in two writes that meet at a block's end.
-module _ (store middle last : Store) (ino : ℕ) (image : Image) (at rest offset count k now : ℕ) (bytes : List ℕ)
+module _ (store middle last : Stores) (ino : ℕ) (image : Image) (at rest offset count k now : ℕ) (bytes : List ℕ)
     (loaded : load_bytes image at count ≡ Some bytes) (cut : k ≡ min count (32768 - offset % 512))
     (onward : rest ≡ (at + k) % 65536)
     (there : node_numbered store ino ≡ Some (node_in store ino))
@@ -141,11 +148,10 @@ module _ (store middle last : Store) (ino : ℕ) (image : Image) (at rest offset
         → WritesEntry middle ino (write_file (get_from image rest) node (room_at middle ino) (tt {0}) (offset + k) n now) last r)
         → WritesEntry store ino whole last r
     second_written u r w each =
-        let low : ino < length store.nodes = numbered_low store ino (node_in store ino) there in
         let found : node_numbered middle ino ≡ Some first.node =
-        ap (λ (s : Store). node_numbered s ino) w.store ∙ get_or-set_same store.nodes ino (Some first.node) None low in
+        ap (λ (s : Stores). node_numbered s ino) w.store ∙ node_set store ino first.room (node_in store ino) first.node there in
         let wrote : WritesEntry (with_node store ino first.node first.room) ino second last r =
-        subst (λ (s : Store). WritesEntry s ino
+        subst (λ (s : Stores). WritesEntry s ino
         (write_file (get_from image rest) first.node (room_at s ino) (tt {0}) (offset + k) n now) last r) w.store
         (each first.node found) in
         let twice : last ≡ with_node store ino second.node second.room =

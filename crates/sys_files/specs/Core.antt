@@ -42,7 +42,8 @@ writes_new now h dir offset name = makes_node h dir offset name 0o666 now (write
 
 abbrev pub writes_named : ℕ → Handed → Did
 writes_named now h =
-    then_named h (make_in h.inodes h.marks (user_of h.u) h.u.dir core_name) (by_made (writes_over now) (writes_new now))
+    then_named h (make_in h.inodes h.mounts h.marks (user_of h.u) h.u.dir core_name)
+    (by_made (writes_over now) (writes_new now))
 
 -- Where the effective user isn't the real one nothing is written. Nobody is told the error with which the writing ends.
 unfoldable pub core_file : Handed → ℕ → Did

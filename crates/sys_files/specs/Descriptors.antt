@@ -109,7 +109,7 @@ abbrev pub close_file : Handed → Did
 close_file h =
     check h (open_entry h (r0 h)) (λ entry.
     let c : Closing = closes h (r0 h) in
-    record { answer = Ret (r0 h) (r1 h); state = c.state; items = c.items })
+    record { answer = Ret (r0 h) (r1 h); state = c.state; items = c.items; named = [] })
 
 -- all numbers of a process let their files go, in order
 abbrev pub then_closes : Closing → ℕ → Closing

@@ -4,8 +4,9 @@ use Rattle.v6_base.specs.Image.{Image}
 use Rattle.proc_tab.specs.declared.row.Row.{Row}
 use Rattle.u_area.specs.declared.area.UArea.{UArea}
 use Rattle.fs_codec.specs.Modes.{is_character_device}
-use Rattle.fs_codec.specs.Store.{Node, Store}
-use Rattle.fs_laws.specs.Keys.{with_fields}
+use Rattle.fs_codec.specs.Store.{Node}
+use Rattle.fs_nodes.specs.Keys.{Stores, with_fields}
+use Rattle.mount_tab.specs.Mounted.{MountTable, split_of}
 use Rattle.open_files.specs.declared.file.OpenFile.{OpenFile}
 use Rattle.open_files.specs.Files.{file_at}
 use Rattle.pipe_ends.specs.declared.ends.Pipe.{Pipe}
@@ -17,7 +18,8 @@ use Rattle.lines_eight.specs.Lines.{terminal_at, with_terminal}
 use Rattle.sys_files.specs.declared.files.Files.{Files}
 
 pub record Handed : Type 0 where
-  pub inodes : Inodes  -- the store, and how often its inodes are referred to
+  pub inodes : Inodes  -- the stores of the disks, and how often their inodes are referred to
+  pub mounts : MountTable  -- how many inodes each disk has, and the directory that the second one covers
   pub marks : List Bool  -- which inodes have a text that is shared
   pub files : List (Option OpenFile)  -- the table of open files
   pub pipes : List Pipe  -- that are open
@@ -31,6 +33,7 @@ abbrev pub handed : Files → UArea → Row → Image → Handed
 handed f u row image =
     record {
       inodes = inodes_of f.tree.nodes;
+      mounts = f.tree.mounts;
       marks = f.tree.marks;
       files = f.table;
       pipes = f.pipes;
@@ -52,6 +55,13 @@ user_of u = record { uid = u.uid; gid = u.gid }
 
 abbrev pub node_at : Handed → ℕ → Node
 node_at h ino = node_in h.inodes.store ino
+
+-- the disk of an inode, and its number there
+abbrev pub disk_of : Handed → ℕ → ℕ
+disk_of h ino = (split_of h.mounts ino).0
+
+abbrev pub number_of : Handed → ℕ → ℕ
+number_of h ino = (split_of h.mounts ino).1
 
 -- what stands for an open file where an entry is free
 abbrev pub no_file : OpenFile
@@ -78,7 +88,7 @@ is_null node = is_character_device node.mode && (node.device == 2050)
 abbrev pub with_inodes : Handed → Inodes → Handed
 with_inodes h inodes = record h { inodes = inodes }
 
-abbrev pub with_store : Handed → Store → Handed
+abbrev pub with_store : Handed → Stores → Handed
 with_store h store = with_inodes h (record h.inodes { store = store })
 
 -- a node is changed, and holds no other blocks

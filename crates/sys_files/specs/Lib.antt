@@ -13,3 +13,5 @@ pub mod Names
 pub mod Sound
 pub mod Does
 pub mod Entering
+pub mod Mounting
+pub mod Frame

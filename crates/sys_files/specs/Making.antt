@@ -1,40 +1,46 @@
 -- Files are made, linked and unlinked: creat(II), mknod(II), link(II), unlink(II); Lions' Commentary, `creat` and `maknode` in
 -- `sys2.c` and `iget.c`, `unlink` in `sys4.c`.
 use Rattle.std.specs.Prelude.{ℕ, Bool, true, false, not, ◌+◌, ◌-◌, ◌==◌, ◌||◌, nat_lt, if◌then◌else◌, List, [], ◌∷◌, Option, Some, None, Ok, slice_index, slice_set, bit_and}
-use Rattle.v6_base.specs.declared.errno.Errno.TheVariants.{EPERM, EEXIST, EISDIR, ENFILE, ENOSPC, EMLINK}
+use Rattle.v6_base.specs.declared.errno.Errno.TheVariants.{EPERM, EBUSY, EEXIST, EXDEV, EISDIR, ENFILE, ENOSPC, EMLINK}
 use Rattle.fs_codec.specs.Bytes.{entry_bytes}
 use Rattle.fs_codec.specs.Modes.{is_device, is_directory}
 use Rattle.fs_codec.specs.Store.{Node}
-use Rattle.fs_laws.specs.Numbers.{Draw, draw, with_draw, new_node}
+use Rattle.fs_laws.specs.Numbers.{Draw, draw, new_node}
 use Rattle.fs_laws.specs.Pieces.{Moving}
-use Rattle.fs_laws.specs.Keys.{room_at, with_node, with_fields, with_truncated}
+use Rattle.fs_nodes.specs.Keys.{store_on, key_on, references_on, room_at, with_node, with_fields, with_truncated}
 use Rattle.fs_nodes.specs.FileSystem.{referenced}
+use Rattle.fs_nodes.specs.Numbers.{with_draw}
+use Rattle.mount_tab.specs.Mounted.{is_the}
 use Rattle.fs_tree.specs.declared.user.User.{User}
 use Rattle.fs_tree.specs.declared.user.Want.TheVariants.{Write}
 use Rattle.fs_tree.specs.Name.{name_at}
 use Rattle.fs_tree.specs.Permission.{access}
 use Rattle.fs_tree.specs.Entries.{written, answer_to}
 use Rattle.fs_tree.specs.Finding.{Inodes, Finding, refused, remove_in}
-use Rattle.sys_files.specs.Handed.{Handed, node_in, node_at, user_of, with_inodes}
+use Rattle.sys_files.specs.Handed.{Handed, node_in, node_at, disk_of, number_of, user_of, with_inodes}
 use Rattle.sys_files.specs.Did.{Did, fails, is_done, check, must, until_end, then_named, finds, makes}
 use Rattle.sys_files.specs.Opening.{opens}
 
--- A new inode, to which the call refers. Its number stays out of the list of free ones where a hundred are referred to already.
-abbrev pub new_numbered : Inodes → ℕ → User → ℕ → Draw → Option ℕ → Finding ℕ
-new_numbered n mode user now d None = refused (record n { store = with_draw n.store d }) ENOSPC
-new_numbered n mode user now d (Some ino) =
+-- A new inode on a disk, to which the call refers. Its number stays out of that disk's list of free ones where a hundred are
+-- referred to already.
+abbrev pub new_known : Inodes → ℕ → ℕ → User → ℕ → Draw → ℕ → Finding ℕ
+new_known n dev mode user now d key =
     if nat_lt (referenced n.references) 100 then record {
-      answer = Ok ino;
+      answer = Ok key;
       inodes = record {
-        store = with_node (with_draw n.store d) ino (new_node mode user.uid user.gid now) (room_at n.store ino);
-        references = slice_set n.references ino 1;
+        store = with_node (with_draw n.store dev d) key (new_node mode user.uid user.gid now) (room_at n.store key);
+        references = slice_set n.references key 1;
       };
-    } else refused (record n { store = with_draw n.store d }) ENFILE
+    } else refused (record n { store = with_draw n.store dev d }) ENFILE
 
-abbrev pub new_in : Inodes → ℕ → User → ℕ → Finding ℕ
-new_in n mode user now =
-    let d : Draw = draw n.store (λ i. nat_lt 0 (slice_index n.references i)) in
-    new_numbered n mode user now d d.number
+abbrev pub new_numbered : Inodes → ℕ → ℕ → User → ℕ → Draw → Option ℕ → Finding ℕ
+new_numbered n dev mode user now d None = refused (record n { store = with_draw n.store dev d }) ENOSPC
+new_numbered n dev mode user now d (Some ino) = new_known n dev mode user now d (key_on n.store dev ino)
+
+abbrev pub new_in : Inodes → ℕ → ℕ → User → ℕ → Finding ℕ
+new_in n dev mode user now =
+    let d : Draw = draw (store_on n.store dev) (λ i. nat_lt 0 (slice_index (references_on n.store n.references dev) i)) in
+    new_numbered n dev mode user now d d.number
 
 -- Bytes of a directory are written.
 abbrev pub entry_written : Inodes → ℕ → ℕ → List ℕ → ℕ → Finding (Unit {0})
@@ -46,9 +52,10 @@ entry_written n dir offset bytes now =
 abbrev pub writes_entry : Handed → ℕ → ℕ → List ℕ → ℕ → (Handed → Did) → Did
 writes_entry h dir offset bytes now next = then_named h (entry_written h.inodes dir offset bytes now) (λ h done. next h)
 
--- An inode is entered under a name.
+-- An inode of a directory's own disk is entered under a name, by its number there.
 abbrev pub enters : Handed → ℕ → ℕ → List ℕ → ℕ → ℕ → (Handed → Did) → Did
-enters h dir offset name ino now next = writes_entry h dir offset (entry_bytes (record { ino = ino; name = name })) now next
+enters h dir offset name ino now next =
+    writes_entry h dir offset (entry_bytes (record { ino = number_of h ino; name = name })) now next
 
 -- an inode has so many links from now on
 abbrev pub links_in : Inodes → ℕ → ℕ → ℕ → Inodes
@@ -63,10 +70,10 @@ with_links h ino links now = with_inodes h (links_in h.inodes ino links now)
 abbrev pub enters_new : Handed → ℕ → ℕ → List ℕ → ℕ → ℕ → (Handed → ℕ → Did) → Did
 enters_new h dir offset name ino now next = enters h dir offset name ino now (λ h. next (with_links h ino 1 now) ino)
 
--- A new inode is made and entered. Where it cannot be entered it goes again, since it has no link.
+-- A new inode is made on the disk of its directory, and entered. Where it cannot be entered it goes again, since it has no link.
 abbrev pub makes_node : Handed → ℕ → ℕ → List ℕ → ℕ → ℕ → (Handed → ℕ → Did) → Did
 makes_node h dir offset name mode now next =
-    then_named h (new_in h.inodes mode (user_of h.u) now) (λ h ino.
+    then_named h (new_in h.inodes (disk_of h dir) mode (user_of h.u) now) (λ h ino.
     until_end ino (enters_new h dir offset name ino now next))
 
 -- A file that is there gives its blocks back, where the user may write it and it is no directory, and is opened for writing.
@@ -124,11 +131,12 @@ mknod_at h name mode device now =
 abbrev pub may_link : Handed → ℕ → Bool
 may_link h ino = not (is_directory (node_at h ino).mode) || is_super_user h
 
--- an inode has another name
+-- An inode has another name, in a directory of its own disk.
 abbrev pub enters_again : ℕ → ℕ → Handed → ℕ → ℕ → List ℕ → Did
 enters_again ino now h dir offset name =
+    check h (must EXDEV (disk_of h ino == disk_of h dir)) (λ same.
     enters h dir offset name ino now (λ h.
-    is_done (with_links h ino ((node_at h ino).nlink + 1) now))
+    is_done (with_links h ino ((node_at h ino).nlink + 1) now)))
 
 abbrev pub links_to : ℕ → ℕ → Handed → ℕ → Did
 links_to new now h ino =
@@ -140,12 +148,17 @@ links_to new now h ino =
 abbrev pub link_file : Handed → ℕ → ℕ → ℕ → Did
 link_file h name new now = finds h name (links_to new now)
 
+-- A directory that the second disk covers keeps its name.
+abbrev pub is_covered : Handed → ℕ → Bool
+is_covered h ino = is_the h.mounts.covered ino
+
 -- an entry is empty when its inode number is 0
 abbrev pub empties : ℕ → Handed → ℕ → ℕ → ℕ → Did
 empties now h dir offset ino =
     check h (must EPERM (may_link h ino)) (λ may.
+    check h (must EBUSY (not (is_covered h ino))) (λ free.
     writes_entry h dir offset (0 ∷ 0 ∷ []) now (λ h.
-    is_done (with_links h ino ((node_at h ino).nlink - 1) now)))
+    is_done (with_links h ino ((node_at h ino).nlink - 1) now))))
 
 -- The reference to the directory goes first.
 abbrev pub removes : ℕ → Handed → ℕ × ℕ × ℕ → Did
@@ -153,4 +166,5 @@ removes now h (dir, offset, ino) = until_end ino (until_end dir (empties now h d
 
 -- 10, unlink: a name. The inode goes with its last link and its last reference.
 abbrev pub unlink_file : Handed → ℕ → ℕ → Did
-unlink_file h name now = then_named h (remove_in h.inodes h.marks (user_of h.u) h.u.dir (name_at h.image name)) (removes now)
+unlink_file h name now =
+    then_named h (remove_in h.inodes h.mounts h.marks (user_of h.u) h.u.dir (name_at h.image name)) (removes now)

@@ -9,7 +9,7 @@ use Rattle.fs_codec.specs.Modes.{is_device}
 use Rattle.fs_codec.specs.Store.{Node}
 use Rattle.u_area.specs.declared.layout.TheConstants.{NOTHING_PENDING, LINE_READ, LINE_WRITE, PIPE_READ}
 use Rattle.fs_laws.specs.Pieces.{Moving, read_file, write_file}
-use Rattle.fs_laws.specs.Keys.{room_at, with_node}
+use Rattle.fs_nodes.specs.Keys.{room_at, with_node}
 use Rattle.fs_nodes.specs.Copy.{put_into, get_from}
 use Rattle.fs_tree.specs.Name.{readable}
 use Rattle.open_files.specs.declared.file.OpenFile.{OpenFile}
@@ -51,6 +51,7 @@ waits_for_keys h l entry at count = unless_due h (record {
   answer = Sleep (pos 10) (keys_of l);
   state = record h { u = record h.u { pending = LINE_READ; call = entry ∷ at ∷ count ∷ 0 ∷ 0 ∷ 0 ∷ 0 ∷ 0 ∷ [] } };
   items = [];
+  named = [];
 })
 
 -- The call waits for room on a line, at the priority of terminal output, unless a signal is due: how many bytes are done is kept too.
@@ -59,6 +60,7 @@ waits_for_room h l entry at count done = unless_due h (record {
   answer = Sleep (pos 20) (show_of l);
   state = record h { u = record h.u { pending = LINE_WRITE; call = entry ∷ at ∷ count ∷ done ∷ 0 ∷ 0 ∷ 0 ∷ 0 ∷ [] } };
   items = [];
+  named = [];
 })
 
 -- what a read of an entry comes to, and what the parts are then

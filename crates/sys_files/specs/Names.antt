@@ -1,10 +1,10 @@
 -- A directory is entered, a file's permissions and its owner are changed: chdir(II), chmod(II), chown(II), sync(II).
 -- Lions' Commentary, `sys4.c`.
-use Rattle.std.specs.Prelude.{ℕ, Bool, ◌/◌, ◌%◌, ◌==◌, ◌||◌, if◌then◌else◌, bit_and, bit_or}
+use Rattle.std.specs.Prelude.{ℕ, Bool, [], ◌∷◌, ◌/◌, ◌%◌, ◌==◌, ◌||◌, if◌then◌else◌, bit_and, bit_or}
 use Rattle.v6_base.specs.declared.errno.Errno.TheVariants.{EPERM, ENOTDIR}
 use Rattle.fs_codec.specs.Modes.{is_directory}
 use Rattle.fs_codec.specs.declared.modes.TheConstants.{IALLOC}
-use Rattle.fs_laws.specs.Numbers.{synced}
+use Rattle.fs_nodes.specs.Keys.{key_on, synced}
 use Rattle.fs_tree.specs.declared.user.Want.TheVariants.{Execute}
 use Rattle.fs_tree.specs.Permission.{permission}
 use Rattle.fs_tree.specs.Finding.{with_reference}
@@ -55,6 +55,7 @@ chown_to h name owner now =
     finds h name (λ h ino.
     is_done (with_changed h ino (record (node_at h ino) { uid = owner % 256; gid = owner / 256; modtime = now }))))
 
--- 36, sync: the super-block goes to the disk, where it has changed
+-- 36, sync: the super-block of each disk goes to it, where it has changed. It names the roots of both.
 abbrev pub sync_all : Handed → ℕ → Did
-sync_all h now = is_done (with_store h (synced h.inodes.store now))
+sync_all h now =
+    record (is_done (with_store h (synced h.inodes.store now))) { named = 1 ∷ key_on h.inodes.store 1 1 ∷ [] }

@@ -20,7 +20,7 @@ use Rattle.pipe_ends.specs.Pipes.{ends_of}
 use Rattle.pipe_ends.specs.Reads.{PipeRead, reads}
 use Rattle.pipe_ends.specs.Writes.{PipeWrite, writes}
 use Rattle.sys_files.specs.Handed.{Handed, file_of, with_number, with_store}
-use Rattle.sys_files.specs.Did.{Did, fails, returns, check, need, unless_due, until_end, then_named}
+use Rattle.sys_files.specs.Did.{Did, fails, returns, check, need, unless_due, names, until_end, then_named}
 use Rattle.sys_files.specs.Making.{new_in}
 use Rattle.sys_files.specs.Pipes.{new_pipe, pipe_of, with_pipe}
 
@@ -53,7 +53,7 @@ with_ends h ino fd entry next_fd next_entry =
 
 abbrev pub has_opened : Handed → ℕ → ℕ → ℕ → ℕ → ℕ → Did
 has_opened h ino fd entry next_fd next_entry =
-    record { answer = Ret fd next_fd; state = with_ends h ino fd entry next_fd next_entry; items = [] }
+    record { answer = Ret fd next_fd; state = with_ends h ino fd entry next_fd next_entry; items = []; named = [] }
 
 abbrev pub opens_ends : Handed → ℕ → Did
 opens_ends h ino =
@@ -61,10 +61,12 @@ opens_ends h ino =
     finds_place h (with_end h ino reading_end fd entry) (λ next_fd next_entry.
     has_opened h ino fd entry next_fd next_entry))
 
--- 42, pipe: its inode is a plain file without a name, of user 0 and group 0. It goes again where an end can't be opened.
+-- 42, pipe: its inode is a plain file without a name on the root's disk, of user 0 and group 0. It goes again where an end
+-- can't be opened. The call names the root.
 abbrev pub pipe_new : Handed → ℕ → Did
 pipe_new h now =
-    then_named h (new_in h.inodes IALLOC (record { uid = 0; gid = 0 }) now) (λ h ino. until_end ino (opens_ends h ino))
+    names 1 (then_named h (new_in h.inodes 0 IALLOC (record { uid = 0; gid = 0 }) now) (λ h ino.
+    until_end ino (opens_ends h ino)))
 
 -- what a call shows before the rest
 abbrev pub after : List Item → Did → Did
@@ -76,6 +78,7 @@ waits_in_pipe h chan pending words = unless_due h (record {
   answer = Sleep (pos 1) chan;
   state = record h { u = record h.u { pending = pending; call = words } };
   items = [];
+  named = [];
 })
 
 -- the entry, the address and the count as the call gave them, and how many bytes are left
@@ -123,6 +126,7 @@ breaks h slot = record {
   answer = Fail EPIPE;
   state = record h { row = posted h.row SIGPIPE };
   items = Log (Signal slot SIGPIPE) ∷ [];
+  named = [];
 }
 
 -- what a write comes to, of which so many bytes are left

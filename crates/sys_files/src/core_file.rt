@@ -8,14 +8,16 @@ ghost use Rattle.proc_tab.specs.declared.row.Row.{Row};
 ghost use Rattle.u_area.specs.Area.{area_bytes};
 ghost use Rattle.fs_codec.specs.Store.{Node};
 ghost use Rattle.fs_laws.specs.Pieces.{write_file};
-ghost use Rattle.fs_laws.specs.Keys.{node_numbered, room_at};
+ghost use Rattle.fs_nodes.specs.Keys.{node_numbered, room_at};
 ghost use Rattle.fs_nodes.specs.Copy.{get_from};
 ghost use Rattle.fs_nodes.specs.FileSystem.{SameRest};
 ghost use Rattle.fs_tree.specs.Finding.{inodes_of};
 ghost use Rattle.fs_tree.specs.Name.{name_at};
 ghost use Rattle.fs_tree.specs.Entries.{answer_to, WritesEntry};
+ghost use Rattle.fs_tree.specs.Mounting.{AreMounts};
+ghost use Rattle.mount_tab.specs.Mounted.{split_of};
 ghost use Rattle.sys_files.specs.Handed.{Handed, handed, node_in, with_inodes};
-ghost use Rattle.sys_files.specs.Did.{must};
+ghost use Rattle.sys_files.specs.Did.{must, unnamed};
 ghost use Rattle.sys_files.specs.Sound.{IsSound, IsKept};
 ghost use Rattle.sys_files.specs.Entering.{HasEntry, SameReferences, did_of};
 ghost use Rattle.sys_files.specs.Making.{entry_written, enters_new};
@@ -25,7 +27,7 @@ ghost use Rattle.sys_files.specs.Core.{core_file, is_written};
 use crate::creating::truncate;
 use crate::entering::{Room, enter_new, find_to_make, make_inode};
 use crate::files::Files;
-use crate::inodes::inode_of;
+use crate::inodes::{disk_of, inode_of};
 use crate::naming::user_of;
 use fs_codec::file_type;
 use fs_nodes::{Moved, Nodes};
@@ -258,6 +260,7 @@ fn write_over<S: Space>(
         ≡ did_of (handed f.new u.now row (S.image space.now)) result }
     ensures kept { SameReferences f.old.tree.nodes f.new.tree.nodes }
     ensures table { f.new.table ≡ f.old.table }
+    ensures mounts { f.new.tree.mounts ≡ f.old.tree.mounts }
 {
     f.tree.nodes.see();
     test_plain(&f.tree.nodes, ino)?;
@@ -276,6 +279,7 @@ fn enter_core<S: Space>(
     now: u32,
 ) -> Result<(), Errno>
     requires entry { HasEntry f.old.tree.nodes room.dir room.offset }
+    requires disk { (split_of f.old.tree.mounts ino).0 ≡ (split_of f.old.tree.mounts room.dir).0 }
     requires referenced { 0 < slice_index f.old.tree.nodes.references ino }
     requires text { length (S.image space.now).text ≡ CLICK * u.now.text_size }
     requires data { length (S.image space.now).data ≡ CLICK * u.now.data_size }
@@ -284,6 +288,7 @@ fn enter_core<S: Space>(
         (writes_parts now) ≡ did_of (handed f.new u.now row (S.image space.now)) result }
     ensures kept { SameReferences f.old.tree.nodes f.new.tree.nodes }
     ensures table { f.new.table ≡ f.old.table }
+    ensures mounts { f.new.tree.mounts ≡ f.old.tree.mounts }
 {
     enter_new(f, u, room, ino, now)?;
     write_parts(&mut f.tree.nodes, ino, u, space, now)
@@ -298,15 +303,20 @@ fn write_new<S: Space>(
     now: u32,
 ) -> Result<(), Errno>
     requires entry { HasEntry f.old.tree.nodes room.dir room.offset }
+    requires mounts { AreMounts f.old.tree.mounts f.old.tree.nodes.store }
     requires text { length (S.image space.now).text ≡ CLICK * u.now.text_size }
     requires data { length (S.image space.now).data ≡ CLICK * u.now.data_size }
     requires stack { length (S.image space.now).stack ≡ CLICK * u.now.stack_size }
-    ensures did { (row : Row) → writes_new now (handed f.old u.now row (S.image space.now)) room.dir room.offset room.name
+    ensures did { (row : Row)
+        → unnamed (writes_new now (handed f.old u.now row (S.image space.now)) room.dir room.offset room.name)
         ≡ did_of (handed f.new u.now row (S.image space.now)) result }
     ensures kept { SameReferences f.old.tree.nodes f.new.tree.nodes }
     ensures table { f.new.table ≡ f.old.table }
+    ensures mounts { f.new.tree.mounts ≡ f.old.tree.mounts }
 {
-    let ino = make_inode(&mut f.tree.nodes, MODE, user_of(u), now)?;
+    f.tree.nodes.see();
+    let dev = disk_of(f, room.dir);
+    let ino = make_inode(&mut f.tree.nodes, dev, MODE, user_of(u), now)?;
     let result = enter_core(f, u, room, ino, space, now);
     let_go(&mut f.tree.nodes, ino, now);
     result
@@ -316,13 +326,15 @@ fn write_new<S: Space>(
 fn write_named<S: Space>(f: &mut Files, u: &UArea, space: &S, now: u32) -> Result<(), Errno>
     requires directory { 0 < slice_index f.old.tree.nodes.references u.now.dir }
     requires few { (i : ℕ) → slice_index f.old.tree.nodes.references i ≤ 65530 }
+    requires mounts { AreMounts f.old.tree.mounts f.old.tree.nodes.store }
     requires text { length (S.image space.now).text ≡ CLICK * u.now.text_size }
     requires data { length (S.image space.now).data ≡ CLICK * u.now.data_size }
     requires stack { length (S.image space.now).stack ≡ CLICK * u.now.stack_size }
-    ensures did { (row : Row) → writes_named now (handed f.old u.now row (S.image space.now))
+    ensures did { (row : Row) → unnamed (writes_named now (handed f.old u.now row (S.image space.now)))
         ≡ did_of (handed f.new u.now row (S.image space.now)) result }
     ensures kept { SameReferences f.old.tree.nodes f.new.tree.nodes }
     ensures table { f.new.table ≡ f.old.table }
+    ensures mounts { f.new.tree.mounts ≡ f.old.tree.mounts }
 {
     match find_to_make(&mut f.tree, u, &core_name(), 0)? {
         Made::Found(ino) => {

@@ -6,17 +6,19 @@ ghost use Rattle.open_files.specs.Files.{AreOpen};
 ghost use Rattle.fs_codec.specs.Modes.{is_directory};
 ghost use Rattle.fs_nodes.specs.FileSystem.{SameRest};
 ghost use Rattle.fs_tree.specs.Finding.{inodes_of};
+ghost use Rattle.fs_tree.specs.Mounting.{AreMounts};
+ghost use Rattle.mount_tab.specs.Mounted.{split_of};
 ghost use Rattle.sys_files.specs.Handed.{handed, node_in, user_of};
 ghost use Rattle.sys_files.specs.Pipes.{ArePipes};
 ghost use Rattle.sys_files.specs.Sound.{IsSound, IsKept};
 ghost use Rattle.sys_files.specs.Does.{Does};
-ghost use Rattle.sys_files.specs.Did.{must};
+ghost use Rattle.sys_files.specs.Did.{must, unnamed};
 ghost use Rattle.sys_files.specs.Making.{truncated_in, opens_for_writing, opens_again, enters_new, makes_file, creat_file};
 ghost use Rattle.sys_files.specs.Entering.{HasEntry, SameReferences, did_with};
 
 use crate::entering::{Room, enter_new, find_to_make, make_inode};
 use crate::files::Files;
-use crate::inodes::inode_of;
+use crate::inodes::{disk_of, inode_of};
 use crate::naming::user_of;
 use crate::opening::open_found;
 use fs_codec::is_directory;
@@ -66,6 +68,7 @@ pub(crate) fn truncate(nodes: &mut Nodes, ino: u16, now: u32)
 fn open_to_write(f: &mut Files, u: &mut UArea, row: &mut Row, ino: u16) -> Answer
     requires referenced { 0 < slice_index f.old.tree.nodes.references ino }
     requires few { slice_index f.old.tree.nodes.references ino < 65535 }
+    requires mounts { AreMounts f.old.tree.mounts f.old.tree.nodes.store }
     requires open { AreOpen f.old.table u.old.files }
     requires pipes { ArePipes f.old.table f.old.pipes }
     ensures did { (image : Image) → opens_for_writing (handed f.old u.old row.old image) ino
@@ -82,6 +85,7 @@ fn open_to_write(f: &mut Files, u: &mut UArea, row: &mut Row, ino: u16) -> Answe
 fn open_again(f: &mut Files, u: &mut UArea, row: &mut Row, ino: u16, now: u32) -> Answer
     requires referenced { 0 < slice_index f.old.tree.nodes.references ino }
     requires few { slice_index f.old.tree.nodes.references ino < 65535 }
+    requires mounts { AreMounts f.old.tree.mounts f.old.tree.nodes.store }
     requires open { AreOpen f.old.table u.old.files }
     requires pipes { ArePipes f.old.table f.old.pipes }
     ensures did { (image : Image) → opens_again now (handed f.old u.old row.old image) ino
@@ -105,8 +109,10 @@ fn open_again(f: &mut Files, u: &mut UArea, row: &mut Row, ino: u16, now: u32) -
 /// Enters a new file, and opens it for writing.
 fn enter_file(f: &mut Files, u: &mut UArea, row: &mut Row, room: Room, ino: u16, now: u32) -> Answer
     requires entry { HasEntry f.old.tree.nodes room.dir room.offset }
+    requires disk { (split_of f.old.tree.mounts ino).0 ≡ (split_of f.old.tree.mounts room.dir).0 }
     requires referenced { 0 < slice_index f.old.tree.nodes.references ino }
     requires few { slice_index f.old.tree.nodes.references ino < 65535 }
+    requires mounts { AreMounts f.old.tree.mounts f.old.tree.nodes.store }
     requires open { AreOpen f.old.table u.old.files }
     requires pipes { ArePipes f.old.table f.old.pipes }
     ensures did { (image : Image) → enters_new (handed f.old u.old row.old image) room.dir room.offset room.name ino now
@@ -127,17 +133,20 @@ fn enter_file(f: &mut Files, u: &mut UArea, row: &mut Row, room: Room, ino: u16,
 fn make_file(f: &mut Files, u: &mut UArea, row: &mut Row, room: Room, mode: u16, now: u32) -> Answer
     requires entry { HasEntry f.old.tree.nodes room.dir room.offset }
     requires few { (i : ℕ) → slice_index f.old.tree.nodes.references i ≤ 65530 }
+    requires mounts { AreMounts f.old.tree.mounts f.old.tree.nodes.store }
     requires open { AreOpen f.old.table u.old.files }
     requires pipes { ArePipes f.old.table f.old.pipes }
     ensures did { (image : Image)
-        → makes_file mode now (handed f.old u.old row.old image) room.dir room.offset room.name
+        → unnamed (makes_file mode now (handed f.old u.old row.old image) room.dir room.offset room.name)
         ≡ did_with (handed f.new u.new row.new image) result }
     ensures kept { (image : Image) → IsKept (handed f.old u.old row.old image) (handed f.new u.new row.new image) }
     ensures more { (i : ℕ)
         → slice_index f.old.tree.nodes.references i ≤ slice_index f.new.tree.nodes.references i }
     ensures blocks { SameRest f.old.tree.nodes f.new.tree.nodes }
 {
-    let ino = match make_inode(&mut f.tree.nodes, mode & PERMISSIONS, user_of(u), now) {
+    f.tree.nodes.see();
+    let dev = disk_of(f, room.dir);
+    let ino = match make_inode(&mut f.tree.nodes, dev, mode & PERMISSIONS, user_of(u), now) {
         Ok(ino) => ino,
         Err(e) => return Answer::Fail(e),
     };

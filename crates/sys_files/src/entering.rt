@@ -1,14 +1,17 @@
 //! Names that a call finds, enters and removes: `nami.c` and `iget.c` in Lions' Commentary.
-ghost use Rattle.std.specs.Prelude.{◌≡◌, ◌<◌, ◌≤◌, ℕ, List, [], ◌∷◌, IfOk, IfErr, slice_index};
+ghost use Rattle.std.specs.Prelude.{◌≡◌, ◌≢◌, ◌<◌, ◌≤◌, ℕ, List, [], ◌∷◌, IsSome, IfOk, IfErr, slice_index};
 ghost use Rattle.v6_base.specs.Image.{Image};
 ghost use Rattle.proc_tab.specs.declared.row.Row.{Row};
 ghost use Rattle.fs_codec.specs.Bytes.{entry_bytes};
+ghost use Rattle.fs_nodes.specs.Keys.{counts};
+ghost use Rattle.fs_tree.specs.Mounting.{AreMounts};
 ghost use Rattle.fs_tree.specs.Name.{name_at};
+ghost use Rattle.mount_tab.specs.Mounted.{split_of};
 ghost use Rattle.fs_tree.specs.Finding.{inodes_of, make_in, remove_in, named_by_made};
 ghost use Rattle.sys_files.specs.Handed.{Handed, handed, user_of, node_in};
 ghost use Rattle.sys_files.specs.Did.{Did, check, until_end};
 ghost use Rattle.sys_files.specs.Making.{entry_written, new_in, makes_new, enters_new, links_in};
-ghost use Rattle.sys_files.specs.Entering.{HasEntry, HasMade, SameReferences, OneReferenceMore, TwoReferencesMore};
+ghost use Rattle.sys_files.specs.Entering.{HasEntry, HasMade, IsOnDisk, SameReferences, OneReferenceMore, TwoReferencesMore};
 
 use crate::files::Files;
 use crate::inodes::inode_of;
@@ -27,11 +30,15 @@ pub(crate) fn find_to_make<S: Space>(
 ) -> Result<Made, Errno>
     requires directory { 0 < slice_index tree.old.nodes.references u.now.dir }
     requires few { (i : ℕ) → slice_index tree.old.nodes.references i ≤ 65530 }
+    requires mounts { AreMounts tree.old.mounts tree.old.nodes.store }
     ensures answer { result
-        ≡ (make_in (inodes_of tree.old.nodes) tree.old.marks (user_of u.now) u.now.dir (name_at (S.image space.now) name)).answer }
+        ≡ (make_in (inodes_of tree.old.nodes) tree.old.mounts tree.old.marks (user_of u.now) u.now.dir
+        (name_at (S.image space.now) name)).answer }
     ensures inodes { inodes_of tree.new.nodes
-        ≡ (make_in (inodes_of tree.old.nodes) tree.old.marks (user_of u.now) u.now.dir (name_at (S.image space.now) name)).inodes }
+        ≡ (make_in (inodes_of tree.old.nodes) tree.old.mounts tree.old.marks (user_of u.now) u.now.dir
+        (name_at (S.image space.now) name)).inodes }
     ensures marks { tree.new.marks ≡ tree.old.marks }
+    ensures mounts { tree.new.mounts ≡ tree.old.mounts }
     ensures made { IfOk result (λ made. HasMade tree.new.nodes made) }
     ensures found { IfOk result (λ made. OneReferenceMore tree.old.nodes (named_by_made made) tree.new.nodes) }
     ensures same { tree.new.nodes.store ≡ tree.old.nodes.store }
@@ -63,6 +70,7 @@ pub(crate) fn find_room<S: Space>(
 ) -> Result<Room, Errno>
     requires directory { 0 < slice_index f.old.tree.nodes.references u.now.dir }
     requires few { (i : ℕ) → slice_index f.old.tree.nodes.references i ≤ 65530 }
+    requires mounts { AreMounts f.old.tree.mounts f.old.tree.nodes.store }
     ensures did { (row : Row) (next : Handed → ℕ → ℕ → List ℕ → Did)
         → makes_new (handed f.old u.now row (S.image space.now)) name next
         ≡ check (handed f.new u.now row (S.image space.now)) result
@@ -74,6 +82,7 @@ pub(crate) fn find_room<S: Space>(
     ensures none { IfErr result (λ e. SameReferences f.old.tree.nodes f.new.tree.nodes) }
     ensures table { f.new.table ≡ f.old.table }
     ensures pipes { f.new.pipes ≡ f.old.pipes }
+    ensures mounts { f.new.tree.mounts ≡ f.old.tree.mounts }
 {
     match find_to_make(&mut f.tree, u, space, name)? {
         Made::Found(ino) => {
@@ -94,11 +103,15 @@ pub(crate) fn find_to_remove<S: Space>(
 ) -> Result<(u16, u32, u16), Errno>
     requires directory { 0 < slice_index tree.old.nodes.references u.now.dir }
     requires few { (i : ℕ) → slice_index tree.old.nodes.references i ≤ 65530 }
+    requires mounts { AreMounts tree.old.mounts tree.old.nodes.store }
     ensures answer { result
-        ≡ (remove_in (inodes_of tree.old.nodes) tree.old.marks (user_of u.now) u.now.dir (name_at (S.image space.now) name)).answer }
+        ≡ (remove_in (inodes_of tree.old.nodes) tree.old.mounts tree.old.marks (user_of u.now) u.now.dir
+        (name_at (S.image space.now) name)).answer }
     ensures inodes { inodes_of tree.new.nodes
-        ≡ (remove_in (inodes_of tree.old.nodes) tree.old.marks (user_of u.now) u.now.dir (name_at (S.image space.now) name)).inodes }
+        ≡ (remove_in (inodes_of tree.old.nodes) tree.old.mounts tree.old.marks (user_of u.now) u.now.dir
+        (name_at (S.image space.now) name)).inodes }
     ensures marks { tree.new.marks ≡ tree.old.marks }
+    ensures mounts { tree.new.mounts ≡ tree.old.mounts }
     ensures entry { IfOk result (λ entry. HasEntry tree.new.nodes entry.0 entry.1) }
     ensures found { IfOk result (λ entry. TwoReferencesMore tree.old.nodes entry.0 entry.2 tree.new.nodes) }
     ensures none { IfErr result (λ e. SameReferences tree.old.nodes tree.new.nodes) }
@@ -107,17 +120,26 @@ pub(crate) fn find_to_remove<S: Space>(
     tree.find_to_remove(u.dir, user_of(u), NameBytes::at(space, name))
 }
 
-/// Makes an inode, and refers to it.
-pub(crate) fn make_inode(nodes: &mut Nodes, mode: u16, user: User, now: u32) -> Result<u16, Errno>
-    ensures answer { result ≡ (new_in (inodes_of nodes.old) mode user now).answer }
-    ensures inodes { inodes_of nodes.new ≡ (new_in (inodes_of nodes.old) mode user now).inodes }
+/// Makes an inode on a disk that is there, and refers to it.
+pub(crate) fn make_inode(
+    nodes: &mut Nodes,
+    dev: u8,
+    mode: u16,
+    user: User,
+    now: u32,
+) -> Result<u16, Errno>
+    requires device { dev < 2 }
+    requires there { dev ≢ 0 → IsSome nodes.old.store.second }
+    ensures answer { result ≡ (new_in (inodes_of nodes.old) dev mode user now).answer }
+    ensures inodes { inodes_of nodes.new ≡ (new_in (inodes_of nodes.old) dev mode user now).inodes }
     ensures found { IfOk result (λ ino. OneReferenceMore nodes.old ino nodes.new) }
     ensures fresh { IfOk result (λ ino. slice_index nodes.old.references ino ≡ 0) }
+    ensures disk { IfOk result (λ ino. IsOnDisk (counts nodes.old.store) dev ino) }
     ensures entries { (dir offset : ℕ) → HasEntry nodes.old dir offset → HasEntry nodes.new dir offset }
     ensures none { IfErr result (λ e. SameReferences nodes.old nodes.new) }
 {
     nodes.see();
-    nodes.new_node(mode, user.uid, user.gid, now)
+    nodes.new_node(dev, mode, user.uid, user.gid, now)
 }
 
 /// How many links an inode has.
@@ -147,6 +169,7 @@ pub(crate) fn enter_new(
     now: u32,
 ) -> Result<(), Errno>
     requires entry { HasEntry f.old.tree.nodes room.dir room.offset }
+    requires disk { (split_of f.old.tree.mounts ino).0 ≡ (split_of f.old.tree.mounts room.dir).0 }
     requires referenced { 0 < slice_index f.old.tree.nodes.references ino }
     ensures did { (row : Row) (image : Image) (next : Handed → ℕ → Did)
         → enters_new (handed f.old u.now row image) room.dir room.offset room.name ino now next
@@ -154,13 +177,14 @@ pub(crate) fn enter_new(
     ensures kept { SameReferences f.old.tree.nodes f.new.tree.nodes }
     ensures table { f.new.table ≡ f.old.table }
     ensures pipes { f.new.pipes ≡ f.old.pipes }
+    ensures mounts { f.new.tree.mounts ≡ f.old.tree.mounts }
 {
     enter(&mut f.tree, room.dir, room.offset, room.name, ino, now)?;
     set_links(&mut f.tree.nodes, ino, 1, now);
     Ok(())
 }
 
-/// Enters an inode under a name in a directory, from byte `offset` on.
+/// Enters an inode under a name in a directory of its own disk, from byte `offset` on.
 pub(crate) fn enter(
     tree: &mut Tree,
     dir: u16,
@@ -169,12 +193,14 @@ pub(crate) fn enter(
     ino: u16,
     now: u32,
 ) -> Result<(), Errno>
-    requires { HasEntry tree.old.nodes dir offset }
+    requires entry { HasEntry tree.old.nodes dir offset }
+    requires disk { (split_of tree.old.mounts ino).0 ≡ (split_of tree.old.mounts dir).0 }
     ensures answer { result ≡ (entry_written (inodes_of tree.old.nodes) dir offset
-        (entry_bytes (record { ino = ino; name = name })) now).answer }
+        (entry_bytes (record { ino = (split_of tree.old.mounts ino).1; name = name })) now).answer }
     ensures inodes { inodes_of tree.new.nodes ≡ (entry_written (inodes_of tree.old.nodes) dir offset
-        (entry_bytes (record { ino = ino; name = name })) now).inodes }
+        (entry_bytes (record { ino = (split_of tree.old.mounts ino).1; name = name })) now).inodes }
     ensures marks { tree.new.marks ≡ tree.old.marks }
+    ensures mounts { tree.new.mounts ≡ tree.old.mounts }
     ensures kept { SameReferences tree.old.nodes tree.new.nodes }
 {
     tree.nodes.see();
@@ -188,6 +214,7 @@ pub(crate) fn empty(tree: &mut Tree, dir: u16, offset: u32, now: u32) -> Result<
     ensures inodes { inodes_of tree.new.nodes
         ≡ (entry_written (inodes_of tree.old.nodes) dir offset (0 ∷ 0 ∷ []) now).inodes }
     ensures marks { tree.new.marks ≡ tree.old.marks }
+    ensures mounts { tree.new.mounts ≡ tree.old.mounts }
     ensures kept { SameReferences tree.old.nodes tree.new.nodes }
 {
     tree.nodes.see();

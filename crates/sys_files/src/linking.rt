@@ -1,13 +1,17 @@
 //! Files get other names, and lose them: `link` in Lions' Commentary, `sys2.c`, and `unlink` in `sys4.c`.
-ghost use Rattle.std.specs.Prelude.{◌≡◌, ◌<◌, ◌≤◌, ℕ, slice_index};
+ghost use Rattle.std.specs.Prelude.{◌≡◌, ◌<◌, ◌≤◌, ◌==◌, ℕ, true, slice_index};
 ghost use Rattle.v6_base.specs.Image.{Image};
 ghost use Rattle.proc_tab.specs.declared.row.Row.{Row};
 ghost use Rattle.fs_codec.specs.Modes.{is_directory};
 ghost use Rattle.fs_nodes.specs.FileSystem.{SameRest};
-ghost use Rattle.sys_files.specs.Handed.{handed, node_in};
+ghost use Rattle.fs_tree.specs.Mounting.{AreMounts};
+ghost use Rattle.mount_tab.specs.Mounted.{split_of};
+ghost use Rattle.u_area.specs.declared.area.UArea.{UArea};
+ghost use Rattle.sys_files.specs.Handed.{handed, disk_of, node_in};
 ghost use Rattle.sys_files.specs.Sound.{IsSound};
+ghost use Rattle.sys_files.specs.Did.{unnamed};
 ghost use Rattle.sys_files.specs.Does.{Does};
-ghost use Rattle.sys_files.specs.Making.{may_link, enters_again, links_to, link_file, empties, unlink_file};
+ghost use Rattle.sys_files.specs.Making.{may_link, is_covered, enters_again, links_to, link_file, empties, unlink_file};
 ghost use Rattle.sys_files.specs.Entering.{HasEntry, SameReferences, did_of};
 
 use crate::answers::answer_of;
@@ -41,6 +45,25 @@ fn may_link(f: &Files, u: &UArea, ino: u16) -> bool
     !is_directory_at(&f.tree.nodes, ino) || u.uid == 0
 }
 
+/// Whether two inodes are of one disk.
+fn is_one_disk(f: &Files, ino: u16, dir: u16) -> bool
+    ensures same { result ≡ true → (split_of f.now.tree.mounts ino).0 ≡ (split_of f.now.tree.mounts dir).0 }
+    ensures is { (u : UArea) (row : Row) (image : Image)
+        → result ≡ (disk_of (handed f.now u row image) ino == disk_of (handed f.now u row image) dir) }
+{
+    f.tree.mounts.split(ino).0 == f.tree.mounts.split(dir).0
+}
+
+/// Whether the second disk covers a directory.
+fn is_covered(f: &Files, ino: u16) -> bool
+    ensures { (u : UArea) (row : Row) (image : Image) → result ≡ is_covered (handed f.now u row image) ino }
+{
+    match f.tree.mounts.covered() {
+        Some(covered) => covered == ino,
+        None => false,
+    }
+}
+
 /// Enters an inode under a name that it does not have yet.
 fn enter_again(f: &mut Files, u: &UArea, room: Room, ino: u16, now: u32) -> Result<(), Errno>
     requires entry { HasEntry f.old.tree.nodes room.dir room.offset }
@@ -52,7 +75,11 @@ fn enter_again(f: &mut Files, u: &UArea, room: Room, ino: u16, now: u32) -> Resu
     ensures kept { SameReferences f.old.tree.nodes f.new.tree.nodes }
     ensures table { f.new.table ≡ f.old.table }
     ensures pipes { f.new.pipes ≡ f.old.pipes }
+    ensures mounts { f.new.tree.mounts ≡ f.old.tree.mounts }
 {
+    if !is_one_disk(f, ino, room.dir) {
+        return Err(Errno::EXDEV);
+    }
     enter(&mut f.tree, room.dir, room.offset, room.name, ino, now)?;
     let nlink = links_of(&f.tree.nodes, ino);
     set_links(&mut f.tree.nodes, ino, nlink + 1, now);
@@ -71,11 +98,13 @@ fn link_to<S: Space>(
     requires referenced { 0 < slice_index f.old.tree.nodes.references ino }
     requires directory { 0 < slice_index f.old.tree.nodes.references u.now.dir }
     requires few { (i : ℕ) → slice_index f.old.tree.nodes.references i ≤ 65530 }
-    ensures did { (row : Row) → links_to name now (handed f.old u.now row (S.image space.now)) ino
+    requires mounts { AreMounts f.old.tree.mounts f.old.tree.nodes.store }
+    ensures did { (row : Row) → unnamed (links_to name now (handed f.old u.now row (S.image space.now)) ino)
         ≡ did_of (handed f.new u.now row (S.image space.now)) result }
     ensures kept { SameReferences f.old.tree.nodes f.new.tree.nodes }
     ensures table { f.new.table ≡ f.old.table }
     ensures pipes { f.new.pipes ≡ f.old.pipes }
+    ensures mounts { f.new.tree.mounts ≡ f.old.tree.mounts }
 {
     if links_of(&f.tree.nodes, ino) >= MOST_LINKS {
         return Err(Errno::EMLINK);
@@ -100,11 +129,13 @@ fn link<S: Space>(
 ) -> Result<(), Errno>
     requires directory { 0 < slice_index f.old.tree.nodes.references u.now.dir }
     requires few { (i : ℕ) → slice_index f.old.tree.nodes.references i ≤ 65500 }
-    ensures did { (row : Row) → link_file (handed f.old u.now row (S.image space.now)) name new now
+    requires mounts { AreMounts f.old.tree.mounts f.old.tree.nodes.store }
+    ensures did { (row : Row) → unnamed (link_file (handed f.old u.now row (S.image space.now)) name new now)
         ≡ did_of (handed f.new u.now row (S.image space.now)) result }
     ensures kept { SameReferences f.old.tree.nodes f.new.tree.nodes }
     ensures table { f.new.table ≡ f.old.table }
     ensures pipes { f.new.pipes ≡ f.old.pipes }
+    ensures mounts { f.new.tree.mounts ≡ f.old.tree.mounts }
 {
     let ino = find_name(&mut f.tree, u, space, name)?;
     let result = link_to(f, u, space, ino, new, now);
@@ -117,8 +148,8 @@ fn link<S: Space>(
 /// # Errors
 ///
 /// Those of the first name. `EMLINK`: the file has 127 links already. `EPERM`: it is a directory, and the user is not
-/// user 0. Then those of a name that may be new. `EEXIST`: there is a file of the second name. `EFBIG`: its directory
-/// would grow past 65,520 bytes. `ENOSPC`: no block is free for its entry.
+/// user 0. Then those of a name that may be new. `EEXIST`: there is a file of the second name. `EXDEV`: its directory
+/// is on the other disk. `EFBIG`: its directory would grow past 65,520 bytes. `ENOSPC`: no block is free for its entry.
 pub fn link_file<S: Space, T: Trace>(
     f: &mut Files,
     _slot: Slot,
@@ -157,9 +188,13 @@ fn remove_entry(
     ensures kept { SameReferences f.old.tree.nodes f.new.tree.nodes }
     ensures table { f.new.table ≡ f.old.table }
     ensures pipes { f.new.pipes ≡ f.old.pipes }
+    ensures mounts { f.new.tree.mounts ≡ f.old.tree.mounts }
 {
     if !may_link(f, u, ino) {
         return Err(Errno::EPERM);
+    }
+    if is_covered(f, ino) {
+        return Err(Errno::EBUSY);
     }
     empty(&mut f.tree, dir, offset, now)?;
     let nlink = links_of(&f.tree.nodes, ino);
@@ -171,11 +206,13 @@ fn remove_entry(
 fn unlink<S: Space>(f: &mut Files, u: &UArea, space: &S, name: u16, now: u32) -> Result<(), Errno>
     requires directory { 0 < slice_index f.old.tree.nodes.references u.now.dir }
     requires few { (i : ℕ) → slice_index f.old.tree.nodes.references i ≤ 65530 }
-    ensures did { (row : Row) → unlink_file (handed f.old u.now row (S.image space.now)) name now
+    requires mounts { AreMounts f.old.tree.mounts f.old.tree.nodes.store }
+    ensures did { (row : Row) → unnamed (unlink_file (handed f.old u.now row (S.image space.now)) name now)
         ≡ did_of (handed f.new u.now row (S.image space.now)) result }
     ensures kept { SameReferences f.old.tree.nodes f.new.tree.nodes }
     ensures table { f.new.table ≡ f.old.table }
     ensures pipes { f.new.pipes ≡ f.old.pipes }
+    ensures mounts { f.new.tree.mounts ≡ f.old.tree.mounts }
 {
     let (dir, offset, ino) = find_to_remove(&mut f.tree, u, space, name)?;
     let result = remove_entry(f, u, dir, offset, ino, now);
@@ -190,6 +227,7 @@ fn unlink<S: Space>(f: &mut Files, u: &UArea, space: &S, name: u16, now: u32) ->
 ///
 /// Those of a name, but for its last component: where it is found, `EACCES`, where the user may not write the
 /// directory, and then `ENOENT`, where its inode is free. `EPERM`: the file is a directory, and the user is not user 0.
+/// `EBUSY`: it is the directory that the second disk covers.
 pub fn unlink_file<S: Space, T: Trace>(
     f: &mut Files,
     _slot: Slot,

@@ -4,17 +4,19 @@ ghost use Rattle.v6_base.specs.Image.{Image};
 ghost use Rattle.fs_codec.specs.Modes.{is_device};
 ghost use Rattle.fs_nodes.specs.FileSystem.{SameRest};
 ghost use Rattle.fs_tree.specs.Finding.{inodes_of};
+ghost use Rattle.fs_tree.specs.Mounting.{AreMounts};
+ghost use Rattle.mount_tab.specs.Mounted.{split_of};
 ghost use Rattle.sys_files.specs.Handed.{handed, node_in};
 ghost use Rattle.sys_files.specs.Sound.{IsSound};
 ghost use Rattle.sys_files.specs.Does.{Does};
-ghost use Rattle.sys_files.specs.Did.{is_done};
+ghost use Rattle.sys_files.specs.Did.{is_done, unnamed};
 ghost use Rattle.sys_files.specs.Making.{device_in, with_device, enters_new, makes_any, mknod_at};
 ghost use Rattle.sys_files.specs.Entering.{HasEntry, SameReferences, did_of};
 
 use crate::answers::answer_of;
 use crate::entering::{Room, enter_new, find_room, make_inode};
 use crate::files::Files;
-use crate::inodes::inode_of;
+use crate::inodes::{disk_of, inode_of};
 use crate::naming::user_of;
 use fs_codec::{ILARG, is_device};
 use fs_nodes::Nodes;
@@ -53,6 +55,7 @@ fn enter_any(
     now: u32,
 ) -> Result<(), Errno>
     requires entry { HasEntry f.old.tree.nodes room.dir room.offset }
+    requires disk { (split_of f.old.tree.mounts ino).0 ≡ (split_of f.old.tree.mounts room.dir).0 }
     requires referenced { 0 < slice_index f.old.tree.nodes.references ino }
     ensures did { (row : Row) (image : Image)
         → enters_new (handed f.old u.now row image) room.dir room.offset room.name ino now
@@ -60,6 +63,7 @@ fn enter_any(
     ensures kept { SameReferences f.old.tree.nodes f.new.tree.nodes }
     ensures table { f.new.table ≡ f.old.table }
     ensures pipes { f.new.pipes ≡ f.old.pipes }
+    ensures mounts { f.new.tree.mounts ≡ f.old.tree.mounts }
 {
     enter_new(f, u, room, ino, now)?;
     set_device(&mut f.tree.nodes, ino, device);
@@ -75,15 +79,19 @@ fn make_any(
     device: u16,
     now: u32,
 ) -> Result<(), Errno>
-    requires { HasEntry f.old.tree.nodes room.dir room.offset }
+    requires entry { HasEntry f.old.tree.nodes room.dir room.offset }
+    requires mounts { AreMounts f.old.tree.mounts f.old.tree.nodes.store }
     ensures did { (row : Row) (image : Image)
-        → makes_any mode device now (handed f.old u.now row image) room.dir room.offset room.name
+        → unnamed (makes_any mode device now (handed f.old u.now row image) room.dir room.offset room.name)
         ≡ did_of (handed f.new u.now row image) result }
     ensures kept { SameReferences f.old.tree.nodes f.new.tree.nodes }
     ensures table { f.new.table ≡ f.old.table }
     ensures pipes { f.new.pipes ≡ f.old.pipes }
+    ensures mounts { f.new.tree.mounts ≡ f.old.tree.mounts }
 {
-    let ino = make_inode(&mut f.tree.nodes, mode & !ILARG, user_of(u), now)?;
+    f.tree.nodes.see();
+    let dev = disk_of(f, room.dir);
+    let ino = make_inode(&mut f.tree.nodes, dev, mode & !ILARG, user_of(u), now)?;
     let result = enter_any(f, u, room, ino, device, now);
     let_go(&mut f.tree.nodes, ino, now);
     result
@@ -101,11 +109,13 @@ fn mknod<S: Space>(
 ) -> Result<(), Errno>
     requires directory { 0 < slice_index f.old.tree.nodes.references u.now.dir }
     requires few { (i : ℕ) → slice_index f.old.tree.nodes.references i ≤ 65530 }
-    ensures did { (row : Row) → mknod_at (handed f.old u.now row (S.image space.now)) name mode device now
+    requires mounts { AreMounts f.old.tree.mounts f.old.tree.nodes.store }
+    ensures did { (row : Row) → unnamed (mknod_at (handed f.old u.now row (S.image space.now)) name mode device now)
         ≡ did_of (handed f.new u.now row (S.image space.now)) result }
     ensures kept { SameReferences f.old.tree.nodes f.new.tree.nodes }
     ensures table { f.new.table ≡ f.old.table }
     ensures pipes { f.new.pipes ≡ f.old.pipes }
+    ensures mounts { f.new.tree.mounts ≡ f.old.tree.mounts }
 {
     if u.uid != 0 {
         return Err(Errno::EPERM);

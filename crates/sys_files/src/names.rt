@@ -1,14 +1,11 @@
 //! A directory is entered, a file's permissions and its owner are changed: chdir(II), chmod(II), chown(II), sync(II).
 //! Lions' Commentary, `sys4.c`.
 ghost use Rattle.std.specs.Prelude.{◌≡◌, ◌+◌, ◌/◌, ◌%◌, ◌<◌, ◌≤◌, ◌==◌, ◌||◌, if◌then◌else◌, ℕ, [], slice_index};
-ghost use Rattle.buf_cache.specs.Blocks.{block_at};
-ghost use Rattle.fs_codec.specs.Stands.{StandsFor};
-ghost use Rattle.fs_codec.specs.declared.layout.TheConstants.{DISK_BLOCKS};
-ghost use Rattle.fs_nodes.specs.FileSystem.{SameRest};
+ghost use Rattle.fs_nodes.specs.FileSystem.{SameRest, AllStand};
 ghost use Rattle.fs_tree.specs.Finding.{inodes_of, with_reference, put_back};
 ghost use Rattle.proc_tab.specs.declared.row.Row.{Row};
 ghost use Rattle.v6_base.specs.Image.{Image};
-ghost use Rattle.fs_laws.specs.Keys.{with_fields};
+ghost use Rattle.fs_nodes.specs.Keys.{with_fields};
 ghost use Rattle.sys_files.specs.Handed.{handed, node_in};
 ghost use Rattle.sys_files.specs.Names.{enters_directory, chdir_to, changed_mode, changes_mode, chmod_to};
 ghost use Rattle.sys_files.specs.Names.{chown_to, sync_all};
@@ -262,8 +259,8 @@ pub fn chown_to<S: Space, T: Trace>(
     done(u)
 }
 
-/// 36, sync(II): writes to the disk what has changed, and the super-block with the time where that has. The blocks of the disk
-/// stand for the file system then. R0 stays.
+/// 36, sync(II): writes to the disks what has changed, and each super-block with the time where that has. The blocks of each disk
+/// stand for its file system then. R0 stays.
 #[tactic(auto, using(v6_base::proofs::Took::takes))]
 pub fn sync_all<S: Space, T: Trace>(
     f: &mut Files,
@@ -283,7 +280,7 @@ pub fn sync_all<S: Space, T: Trace>(
     ensures memory { S.rest space.new ≡ S.rest space.old }
     ensures blocks { SameRest f.old.tree.nodes f.new.tree.nodes }
     ensures stored { f.new.tree.nodes.stored ≡ f.new.tree.nodes.blocks }
-    ensures stands { StandsFor DISK_BLOCKS (block_at f.new.tree.nodes.stored) f.new.tree.nodes.store }
+    ensures stands { AllStand f.new.tree.nodes.stored f.new.tree.nodes.store }
 {
     f.tree.nodes.update_all(now);
     done(u)

@@ -8,7 +8,7 @@ ghost use Rattle.fs_nodes.specs.FileSystem.{SameRest};
 ghost use Rattle.open_files.specs.declared.file.OpenFile.{OpenFile};
 ghost use Rattle.open_files.specs.Files.{file_at, free_entry, opened, AreOpen};
 ghost use Rattle.sys_files.specs.Handed.{Handed, handed, with_number};
-ghost use Rattle.sys_files.specs.Did.{fails};
+ghost use Rattle.sys_files.specs.Did.{fails, unnamed};
 ghost use Rattle.sys_files.specs.Pipes.{ArePipes, place_of};
 ghost use Rattle.sys_files.specs.Piping.{words_of, waits_in_pipe, pipe_at, ends_read, ends_write, breaks, woken_by_read, woken_by_write, reads_pipe, writes_pipe, reading_end, writing_end, has_opened, opens_ends, pipe_new};
 ghost use Rattle.sys_files.specs.Sound.{IsSound, IsKept};
@@ -18,6 +18,7 @@ ghost use Rattle.sys_files.specs.Entering.{did_with};
 use crate::descriptors::see_entries;
 use crate::entering::make_inode;
 use crate::files::Files;
+use crate::inodes::ROOT_DISK;
 use fs_codec::IALLOC;
 use fs_tree::{User, let_go, refer_again};
 use open_files::FileKind;
@@ -116,12 +117,12 @@ fn open_ends(f: &mut Files, u: &mut UArea, ino: u16) -> Answer
 /// Makes the inode of a pipe, and opens the two ends. Where they can't be opened the inode goes again.
 fn make_pipe(f: &mut Files, u: &mut UArea, now: u32) -> Answer
     requires { (row : Row) (image : Image) → IsSound (handed f.old u.old row image) }
-    ensures did { (row : Row) (image : Image) → pipe_new (handed f.old u.old row image) now
+    ensures did { (row : Row) (image : Image) → unnamed (pipe_new (handed f.old u.old row image) now)
         ≡ did_with (handed f.new u.new row image) result }
     ensures kept { (row : Row) (image : Image) → IsKept (handed f.old u.old row image) (handed f.new u.new row image) }
     ensures blocks { SameRest f.old.tree.nodes f.new.tree.nodes }
 {
-    let ino = match make_inode(&mut f.tree.nodes, IALLOC, NOBODY, now) {
+    let ino = match make_inode(&mut f.tree.nodes, ROOT_DISK, IALLOC, NOBODY, now) {
         Ok(ino) => ino,
         Err(e) => return Answer::Fail(e),
     };

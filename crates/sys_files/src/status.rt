@@ -6,6 +6,7 @@ ghost use Rattle.fs_codec.specs.Fields.{fields_of};
 ghost use Rattle.fs_codec.specs.Modes.{is_device};
 ghost use Rattle.fs_codec.specs.Store.{Node};
 ghost use Rattle.fs_nodes.specs.FileSystem.{SameRest, Shows};
+ghost use Rattle.mount_tab.specs.Mounted.{split_of};
 ghost use Rattle.proc_tab.specs.declared.row.Row.{Row};
 ghost use Rattle.sys_files.specs.Handed.{handed, node_in};
 ghost use Rattle.sys_files.specs.Status.{status_bytes, tells_status, stat_file, stat_open};
@@ -18,8 +19,7 @@ use crate::files::Files;
 use crate::inodes::inode_of;
 use crate::naming::find_name;
 use fs_codec::{DiskNode, is_device, put_words, write_node};
-use fs_nodes::Nodes;
-use fs_tree::let_go;
+use fs_tree::{Tree, let_go};
 use proc_tab::Row;
 use u_area::UArea;
 use v6_base::{Answer, Errno, Slot, Space, Trace};
@@ -63,38 +63,41 @@ fn node_bytes(node: &DiskNode) -> [u8; 32]
     bytes
 }
 
-/// The numbers of a file's device, which is 0, and of its inode.
-fn number_bytes(ino: u16) -> [u8; 4]
-    ensures { result ≡ bytes_of (0 ∷ ino ∷ []) }
+/// The numbers of a file's disk and of its inode there.
+fn number_bytes(dev: u8, ino: u16) -> [u8; 4]
+    ensures { result ≡ bytes_of (dev ∷ ino ∷ []) }
 {
     let mut bytes = [0; 4];
-    put_words(&mut bytes, 0, &[0, ino]);
+    put_words(&mut bytes, 0, &[u16::from(dev), ino]);
     see_bytes(&bytes);
     bytes
 }
 
 /// The 36 bytes that are told of a file.
-fn status_bytes(ino: u16, node: &DiskNode) -> [u8; 36]
-    ensures { (file : Node) → Shows node.now file → result ≡ status_bytes ino file }
+fn status_bytes(dev: u8, ino: u16, node: &DiskNode) -> [u8; 36]
+    ensures { (file : Node) → Shows node.now file → result ≡ status_bytes dev ino file }
 {
     let mut bytes = [0; 36];
-    bytes[..4].copy_from_slice(&number_bytes(ino));
+    bytes[..4].copy_from_slice(&number_bytes(dev, ino));
     bytes[4..].copy_from_slice(&node_bytes(&without_addresses(node)));
     bytes
 }
 
 /// Puts the 36 bytes of a file whose inode is referred to into a process's memory, all of them or none.
-fn put_status<S: Space>(nodes: &Nodes, space: &mut S, ino: u16, at: u16) -> bool
-    requires referenced { 0 < slice_index nodes.now.references ino }
-    ensures done { result ≡ true → store_bytes (S.image space.old) at (status_bytes ino (node_in nodes.now.store ino))
+fn put_status<S: Space>(tree: &Tree, space: &mut S, ino: u16, at: u16) -> bool
+    requires referenced { 0 < slice_index tree.now.nodes.references ino }
+    ensures done { result ≡ true → store_bytes (S.image space.old) at
+        (status_bytes (split_of tree.now.mounts ino).0 (split_of tree.now.mounts ino).1 (node_in tree.now.nodes.store ino))
         ≡ Some (S.image space.new) }
-    ensures refused { result
-        ≡ false → store_bytes (S.image space.old) at (status_bytes ino (node_in nodes.now.store ino)) ≡ None }
+    ensures refused { result ≡ false → store_bytes (S.image space.old) at
+        (status_bytes (split_of tree.now.mounts ino).0 (split_of tree.now.mounts ino).1 (node_in tree.now.nodes.store ino))
+        ≡ None }
     ensures same { result ≡ false → S.image space.new ≡ S.image space.old }
     ensures rest { S.rest space.new ≡ S.rest space.old }
 {
-    let node = inode_of(nodes, ino);
-    space.copy_out(at, &status_bytes(ino, &node))
+    let node = inode_of(&tree.nodes, ino);
+    let (dev, number) = tree.mounts.split(ino);
+    space.copy_out(at, &status_bytes(dev, number, &node))
 }
 
 /// Tells of a file whose inode is referred to.
@@ -110,7 +113,7 @@ fn tell_status<S: Space>(f: &Files, u: &UArea, space: &mut S, ino: u16, at: u16)
     ensures items { (row : Row) → (tells_status (handed f.now u.now row (S.image space.old)) ino at).items ≡ [] }
     ensures memory { S.rest space.new ≡ S.rest space.old }
 {
-    if put_status(&f.tree.nodes, space, ino, at) {
+    if put_status(&f.tree, space, ino, at) {
         done(u)
     } else {
         Answer::Fail(Errno::EFAULT)

@@ -15,7 +15,7 @@ use Rattle.proc_tab.specs.declared.row.Row.{Row}
 use Rattle.proc_tab.specs.Processes.{member_at, changed, with_change, with_row}
 use Rattle.image_keep.specs.Kept.{Held, Keeping, Nothing, Alive, Kept, keeping, described, with_area, text_of, area_in, clicks_of, HasSizes}
 use Rattle.image_keep.proofs.Frames.{with_area_texts}
-use Rattle.fs_laws.proofs.RestLemmas.{rest_stays}
+use Rattle.fs_nodes.proofs.RestLemmas.{rest_stays}
 use Rattle.fs_nodes.specs.FileSystem.{FileSystem}
 use Rattle.sys_procs.specs.declared.procs.Procs.{Procs}
 use Rattle.sys_procs.specs.Process.{Process, no_process, process_by}

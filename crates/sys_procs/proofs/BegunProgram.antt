@@ -9,8 +9,7 @@ use Rattle.v6_base.specs.declared.entry.PanicKind.{PanicKind}
 use Rattle.v6_base.specs.declared.entry.PanicKind.TheVariants as panic
 use Rattle.u_area.specs.declared.area.UArea.{UArea}
 use Rattle.proc_tab.specs.declared.row.Row.{Row}
-use Rattle.fs_codec.specs.Store.{Store}
-use Rattle.fs_laws.specs.Keys.{node_numbered}
+use Rattle.fs_nodes.specs.Keys.{Stores, node_numbered}
 use Rattle.image_keep.specs.Kept.{Kept, Shared, shared, shared_clicks, text_of, text_clicks}
 use Rattle.image_keep.specs.SharedTexts.{AreLong}
 use Rattle.pick_rules.specs.Board.{Board}
@@ -190,9 +189,9 @@ module _ (p q : Procs) (fs gs : FileSystem) (s : ℕ) (program : Program) (bare 
 
           same : SameOwner (node_in fs.store ino) (node_at before ino)
           same =
-              subst (λ (st : Store). SameOwner (node_in st ino) (node_at before ino)) (taken_store w s ino size)
+              subst (λ (st : Stores). SameOwner (node_in st ino) (node_at before ino)) (taken_store w s ino size)
               (text_owner first.state s program (is_some entry)
-              (subst (λ (st : Store). IsSome (node_numbered st ino)) (sym (taken_store w s ino size)) there))
+              (subst (λ (st : Stores). IsSome (node_numbered st ino)) (sym (taken_store w s ino size)) there))
 
           row_then : row ≡ row_in (node_at before ino) v.uid (process_of first.state s).row
           row_then =

@@ -1,19 +1,18 @@
 -- What a read leaves of a file: its owner and its group, and whether it sets them.
-use Rattle.std.proofs.Common.{◌≡◌, ◌∙◌, ◌+◌, ◌/◌, ◌==◌, ℕ, Bool, true, false, not, cond, if◌then◌else◌, List, [], ◌∷◌, length, min, get_or, get_or-set_same, bit_and, bit_or, Option, Some, None, IsSome, replicate, refl, sym, ap, subst, inl, inr}
+use Rattle.std.proofs.Common.{◌≡◌, ◌∙◌, ◌+◌, ◌/◌, ◌==◌, ℕ, Bool, true, false, not, cond, if◌then◌else◌, List, [], ◌∷◌, min, bit_and, bit_or, Option, Some, None, IsSome, replicate, refl, sym, ap, subst}
 use Rattle.std.specs.Prelude.{◌-◌, ◌<◌}
 use Rattle.std.specs.Option.{unwrap_or}
-use Rattle.std.proofs.lemmas.Bool.{cases_lt}
-use Rattle.std.proofs.lemmas.List.{get_or_past}
 use Rattle.std.proofs.lemmas.Nat.{and_or_apart}
 use Rattle.bmap_path.specs.declared.BlockName.{BlockName}
 use Rattle.bmap_path.specs.declared.BlockName.TheVariants.{Data, Ind, Dbl}
 use Rattle.bmap_path.specs.Path.{path_of}
 use Rattle.fs_codec.specs.Modes.{is_large, is_device}
-use Rattle.fs_codec.specs.Store.{Node, Store, holds}
+use Rattle.fs_codec.specs.Store.{Node, holds}
 use Rattle.fs_codec.specs.declared.modes.TheConstants.{ISUID, ISGID, ILARG}
 use Rattle.fs_laws.specs.Touch.{Touching, gained, take_names, touching}
 use Rattle.fs_laws.specs.Pieces.{Moving, going_on, reading, read_file, pieces, beginning}
-use Rattle.fs_laws.specs.Keys.{node_numbered, room_at, with_node}
+use Rattle.fs_nodes.specs.Keys.{Stores, node_numbered, room_at, with_node}
+use Rattle.fs_nodes.proofs.KeyLaws.{node_set}
 use Rattle.fs_nodes.specs.Copy.{put_kernel}
 use Rattle.sys_procs.specs.declared.program.Program.{Program}
 use Rattle.sys_procs.specs.World.{World}
@@ -108,21 +107,14 @@ module _ {Memory : Type 0} (put : Memory → ℕ → List ℕ → Option Memory)
       begins_same (is_device base.mode) (if count == 0 then base else record base { actime = time }) room memory
       (pieces at (min base.size (at + count))) (dated (count == 0) time)
 
--- a node that is put at a number that has one
-some_low : (nodes : List (Option Node)) (i : ℕ) → IsSome (get_or nodes i None) → i < length nodes
-some_low nodes i is = elim (cases_lt i (length nodes)) [
-  | inl low ↦ low
-  | inr past ↦ absurd (let none = get_or_past nodes i None past in no_some (get_or nodes i None) is none)
-]
-  where
-    no_some : (o : Option Node) → IsSome o → o ≡ None → ⊥
-    no_some None h e = absurd (cc h)
-    no_some (Some node) h e = cc e
-
-pub node_put : (store : Store) (i : ℕ) (node : Node) (room : ℕ) → IsSome (node_numbered store i)
+-- a node that is put at a key that has one
+pub node_put : (store : Stores) (i : ℕ) (node : Node) (room : ℕ) → IsSome (node_numbered store i)
     → node_in (with_node store i node room) i ≡ node
-node_put store i node room is =
-    ap (λ o. unwrap_or o no_node) (get_or-set_same store.nodes i (Some node) None (some_low store.nodes i is))
+node_put store i node room is = by (node_numbered store i) refl is
+  where
+    by : (o : Option Node) → node_numbered store i ≡ o → IsSome o → node_in (with_node store i node room) i ≡ node
+    by (Some old) at there = ap (λ o. unwrap_or o no_node) (node_set store i room old node at)
+    by None at there = absurd (cc there)
 
 -- The text of a program is read from its file.
 pub text_owner : (w : World) (s : ℕ) (program : Program) (b : Bool) → IsSome (node_numbered w.inodes.store program.ino)

@@ -9,9 +9,9 @@ use Rattle.v6_base.specs.Trace.{Log, Taken, Took}
 use Rattle.v6_base.specs.declared.entry.Entry.TheVariants.{Bare}
 use Rattle.v6_base.specs.declared.answer.Answer.{Answer}
 use Rattle.v6_base.specs.declared.entry.PanicKind.{PanicKind}
-use Rattle.fs_codec.specs.Store.{Node, Store}
-use Rattle.fs_laws.specs.Numbers.{without_node}
-use Rattle.fs_laws.specs.Keys.{without_reference}
+use Rattle.fs_codec.specs.Store.{Node}
+use Rattle.fs_nodes.specs.Keys.{Stores, without_reference}
+use Rattle.fs_nodes.proofs.OtherLemmas.{gone_other}
 use Rattle.fs_nodes.specs.FileSystem.{FileSystem}
 use Rattle.fs_tree.specs.Finding.{Inodes, put_in, put_back}
 use Rattle.image_keep.specs.Kept.{text_of}
@@ -69,17 +69,13 @@ some_at l i j some two = elim (cases_eq j i) [
 ]
 
 -- An inode that is still referred to stays as it is.
-node_kept : (store : Store) (i count j : ℕ) (o : Option Node) → (i ≡ j → count ≢ 1) → node_in (put_in store i count o) j
+node_kept : (store : Stores) (i count j : ℕ) (o : Option Node) → (i ≡ j → count ≢ 1) → node_in (put_in store i count o) j
     ≡ node_in store j
 node_kept store i count j None last = refl
 node_kept store i count j (Some node) last = by (count == 1) refl
   where
-    gone : (c : Bool) → (j ≢ i) → node_in (if c then without_node store i node else store) j ≡ node_in store j
-    gone true other = ap (λ o. unwrap_or o no_node) (get_or-set_other store.nodes i j None None other)
-    gone false other = refl
-
     by : (b : Bool) → (count == 1) ≡ b → node_in (if b then without_reference store i node else store) j ≡ node_in store j
-    by true e = gone ((node.nlink == 0) && not (i == 1)) (λ same. last (sym same) (eqb-true count 1 e))
+    by true e = ap (λ o. unwrap_or o no_node) (gone_other store i j node (λ same. last (sym same) (eqb-true count 1 e)))
     by false e = refl
 
 -- The texts that stay have the clicks that they had.

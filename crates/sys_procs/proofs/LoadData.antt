@@ -9,11 +9,11 @@ use Rattle.v6_base.specs.Image.{Image, nseg, data_base, named_by}
 use Rattle.v6_base.specs.Access.{store_byte, with_byte}
 use Rattle.v6_base.specs.Copy.{then_store, store_bytes}
 use Rattle.fs_codec.specs.Modes.{is_device}
-use Rattle.fs_codec.specs.Store.{Node, Store}
+use Rattle.fs_codec.specs.Store.{Node}
 use Rattle.fs_laws.specs.Touch.{Touching, touching}
 use Rattle.fs_laws.specs.Pieces.{Moving, going_on, reading, read_file, pieces, piece_end, beginning}
 use Rattle.fs_laws.proofs.PieceLemmas.{pieces_step, no_pieces}
-use Rattle.fs_laws.specs.Keys.{node_numbered, room_at}
+use Rattle.fs_nodes.specs.Keys.{Stores, node_numbered, room_at}
 use Rattle.fs_nodes.specs.Copy.{put_into}
 use Rattle.seg_regs.specs.Sizes.{is_refused}
 use Rattle.sys_procs.specs.declared.program.Program.{Program}
@@ -156,7 +156,7 @@ begins_at text t d long few = record {
   few = omega (arith, few);
 }
 
-pub stack_stays : (store : Store) (text : List ℕ) (program : Program) (time : ℕ) → length text ≡ 64 * program.text_clicks
+pub stack_stays : (store : Stores) (text : List ℕ) (program : Program) (time : ℕ) → length text ≡ 64 * program.text_clicks
     → is_refused program.text_clicks (data_clicks program.plan) 20 2048 ≡ false
     → (data_in store text program time).memory.stack ≡ replicate 1280 0
 stack_stays store text program time long fits =
@@ -174,6 +174,6 @@ some_or : (o : Option Node) → IsSome o → o ≡ Some (unwrap_or o no_node)
 some_or None h = absurd (cc)
 some_or (Some node) h = refl
 
-pub node_there : (store : Store) (i : ℕ) → IsSome (node_numbered store i)
+pub node_there : (store : Stores) (i : ℕ) → IsSome (node_numbered store i)
     → node_numbered store i ≡ Some (node_in store i)
 node_there store i h = some_or (node_numbered store i) h

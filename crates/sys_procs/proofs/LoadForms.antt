@@ -12,6 +12,7 @@ use Rattle.fs_laws.specs.Pieces.{Moving}
 use Rattle.u_area.specs.declared.area.UArea.{UArea}
 use Rattle.proc_tab.specs.declared.row.Row.{Row}
 use Rattle.pick_rules.specs.Effects as effect
+use Rattle.mount_tab.specs.Mounted.{MountTable}
 use Rattle.sys_procs.specs.declared.program.Program.{Program}
 use Rattle.sys_procs.specs.Process.{Process, register}
 use Rattle.sys_procs.specs.TextTable.{Text, text_of, with_text, text_bytes, entry_of}
@@ -205,16 +206,16 @@ anew_is w s v program =
     (executes (reads_text is_new placed s program) s v program))
 
 -- What the call comes to when the tests have come to this.
-module _ (w : World) (s name list : ℕ) where
+module _ (mounts : MountTable) (w : World) (s name list : ℕ) where
   abbrev t : Tested
-  t = tests w s name list
+  t = tests mounts w s name list
 
-  comes_by : (a : Result Program Errno) → a ≡ t.answer → done_by t.world s a ≡ exec_file w s name list
+  comes_by : (a : Result Program Errno) → a ≡ t.answer → done_by t.world s a ≡ exec_file mounts w s name list
   unfolding exec_file
   comes_by a is = ap (done_by t.world s) is
 
-  pub refused : (e : Errno) → Err e ≡ t.answer → fails t.world e ≡ exec_file w s name list
+  pub refused : (e : Errno) → Err e ≡ t.answer → fails t.world e ≡ exec_file mounts w s name list
   refused e is = comes_by (Err e) is
 
-  pub loaded : (program : Program) → Ok program ≡ t.answer → loads t.world s program ≡ exec_file w s name list
+  pub loaded : (program : Program) → Ok program ≡ t.answer → loads t.world s program ≡ exec_file mounts w s name list
   loaded program is = comes_by (Ok program) is

@@ -16,6 +16,7 @@ use Rattle.fs_tree.specs.Finding.{Finding, Inodes, can_refer, with_reference, fi
 use Rattle.fs_tree.specs.Path.{way, found}
 use Rattle.aout_head.specs.Header.{Header, header_of, plan_of}
 use Rattle.seg_regs.specs.Sizes.{is_refused}
+use Rattle.mount_tab.specs.Mounted.{MountTable}
 use Rattle.sys_procs.specs.declared.program.Program.{Program}
 use Rattle.sys_procs.specs.Process.{Process, image_of}
 use Rattle.sys_procs.specs.World.{World, process_of, with_inodes, let_go}
@@ -54,10 +55,10 @@ keeps_file w v s ino list same =
     keeps_check w out (arguments (image_of v.texts p) list) _ same (λ args.
     keeps_header w (with_moved v ino head) ino args head same)))
 
-pub tests_processes : (w : World) (s name list : ℕ) → (tests w s name list).world.processes ≡ w.processes
-tests_processes w s name list =
+pub tests_processes : (mounts : MountTable) (w : World) (s name list : ℕ) → (tests mounts w s name list).world.processes ≡ w.processes
+tests_processes mounts w s name list =
     let p : Process = process_of w s in
-    let found : Finding ℕ = find_in w.inodes (user_of p) p.u.dir (name_at (image_of w.texts p) name) in
+    let found : Finding ℕ = find_in w.inodes mounts (user_of p) p.u.dir (name_at (image_of w.texts p) name) in
     keeps_check w (with_inodes w found.inodes) found.answer _ refl
     (λ ino. keeps_file w (with_inodes w found.inodes) s ino list refl)
 
@@ -119,12 +120,12 @@ found_refers n (Ok i) ino is = by (can_refer n i) is
     by true same = let here : i ≡ ino = cc same in ap (λ j. more n.references j) here
     by false same = absurd (cc same)
 
-pub tests_refer : (w : World) (s name list : ℕ) (program : Program) → (tests w s name list).answer ≡ Ok program
-    → (tests w s name list).world.inodes.references ≡ more w.inodes.references program.ino
-tests_refer w s name list =
+pub tests_refer : (mounts : MountTable) (w : World) (s name list : ℕ) (program : Program) → (tests mounts w s name list).answer ≡ Ok program
+    → (tests mounts w s name list).world.inodes.references ≡ more w.inodes.references program.ino
+tests_refer mounts w s name list =
     let p : Process = process_of w s in
-    let o : Result ℕ Errno = then_do (way w.inodes.store (user_of p) p.u.dir (name_at (image_of w.texts p) name))
-    (found w.inodes.store) in
+    let o : Result ℕ Errno = then_do (way w.inodes.store mounts (user_of p) p.u.dir (name_at (image_of w.texts p) name))
+    (found w.inodes.store mounts) in
     let f : Finding ℕ = finding w.inodes o in
     refers_check w.inodes.references (with_inodes w f.inodes) f.answer _ (λ ino is.
     refers_file w.inodes.references (with_inodes w f.inodes) s ino list (found_refers w.inodes o ino is))

@@ -8,9 +8,9 @@ use Rattle.v6_base.specs.Access.{then_do}
 use Rattle.v6_base.specs.declared.errno.Errno.{Errno}
 use Rattle.v6_base.specs.declared.errno.Errno.TheVariants.{ENOEXEC, ENOMEM, EACCES, ETXTBSY}
 use Rattle.fs_codec.specs.Modes.{file_type}
-use Rattle.fs_codec.specs.Store.{Node, Store}
+use Rattle.fs_codec.specs.Store.{Node}
 use Rattle.fs_laws.specs.Pieces.{Moving}
-use Rattle.fs_laws.specs.Keys.{node_numbered}
+use Rattle.fs_nodes.specs.Keys.{Stores, node_numbered}
 use Rattle.fs_nodes.specs.FileSystem.{FileSystem}
 use Rattle.fs_tree.specs.declared.user.Want.TheVariants.{Execute}
 use Rattle.fs_tree.specs.Permission.{permission}
@@ -19,6 +19,7 @@ use Rattle.fs_tree.specs.Finding.{Inodes, inodes_of, find_in}
 use Rattle.aout_head.specs.Header.{header_of, plan_of}
 use Rattle.aout_head.specs.declared.parts.Plan.{Plan}
 use Rattle.seg_regs.specs.Sizes.{is_refused}
+use Rattle.mount_tab.specs.Mounted.{MountTable}
 use Rattle.sys_procs.specs.declared.procs.Procs.{Procs}
 use Rattle.sys_procs.specs.declared.program.Program.{Program}
 use Rattle.image_keep.specs.Kept.{Kept, Shared, shared, shared_clicks, bytes_in}
@@ -186,7 +187,7 @@ node_by : (o : Option Node) → IsSome o → o ≡ Some (unwrap_or o no_node)
 node_by None used = absurd (cc)
 node_by (Some node) used = refl
 
-pub node_there : (store : Store) (ino : ℕ) → IsSome (node_numbered store ino)
+pub node_there : (store : Stores) (ino : ℕ) → IsSome (node_numbered store ino)
     → node_numbered store ino ≡ Some (node_in store ino)
 node_there store ino used = node_by (node_numbered store ino) used
 
@@ -216,14 +217,14 @@ file_tested p fs s ino list r is =
     ∙ sym (three_checks (let_go w ino) may plain (arguments (memory_here p s) list) (reads_header w ino))
 
 -- All tests, by what the search of the name comes to.
-pub program_tested : (p : Procs) (fs : FileSystem) (s name list : ℕ) (r : Result ℕ Errno) (n : Inodes)
-    → r ≡ (find_in (inodes_of fs) (user_of (process_here p s)) (process_here p s).u.dir
+pub program_tested : (mounts : MountTable) (p : Procs) (fs : FileSystem) (s name list : ℕ) (r : Result ℕ Errno) (n : Inodes)
+    → r ≡ (find_in (inodes_of fs) mounts (user_of (process_here p s)) (process_here p s).u.dir
     (name_at (memory_here p s) name)).answer
-    → n ≡ (find_in (inodes_of fs) (user_of (process_here p s)) (process_here p s).u.dir
+    → n ≡ (find_in (inodes_of fs) mounts (user_of (process_here p s)) (process_here p s).u.dir
     (name_at (memory_here p s) name)).inodes
     → check (with_inodes (handed p fs) n) r (λ ino. tests_file (with_inodes (handed p fs) n) s ino list)
-    ≡ tests (handed p fs) s name list
-program_tested p fs s name list r n answer inodes =
+    ≡ tests mounts (handed p fs) s name list
+program_tested mounts p fs s name list r n answer inodes =
     let w : World = handed p fs in
     λ i. check (with_inodes w (inodes i)) (answer i) (λ ino. tests_file (with_inodes w (inodes i)) s ino list)
 

@@ -7,16 +7,17 @@ use Rattle.v6_base.specs.declared.errno.Errno.{Errno}
 use Rattle.v6_base.specs.declared.errno.Errno.TheVariants.{ENOEXEC, ENOMEM, EACCES, ETXTBSY}
 use Rattle.buf_cache.specs.Blocks.{patched}
 use Rattle.fs_codec.specs.Modes.{file_type}
-use Rattle.fs_codec.specs.Store.{Node, Store}
+use Rattle.fs_codec.specs.Store.{Node}
 use Rattle.fs_codec.specs.declared.modes.TheConstants.{ISUID, ISGID}
 use Rattle.fs_laws.specs.Pieces.{Moving, read_file}
-use Rattle.fs_laws.specs.Keys.{room_at, with_node}
+use Rattle.fs_nodes.specs.Keys.{Stores, room_at, with_node}
 use Rattle.fs_nodes.specs.Copy.{put_into, put_kernel}
 use Rattle.fs_tree.specs.declared.user.Want.TheVariants.{Execute}
 use Rattle.fs_tree.specs.Permission.{permission}
 use Rattle.fs_tree.specs.Name.{name_at}
 pub use Rattle.fs_tree.specs.Entries.{answer_to}
 use Rattle.fs_tree.specs.Finding.{Finding, find_in}
+use Rattle.mount_tab.specs.Mounted.{MountTable}
 use Rattle.aout_head.specs.Header.{Header, header_of, plan_of}
 use Rattle.aout_head.specs.declared.parts.Plan.{Plan}
 use Rattle.aout_head.specs.declared.parts.ExecFault.{ExecFault}
@@ -120,10 +121,10 @@ tests_file w s ino list =
 
 -- All tests of a name and of a list of arguments, in order. Nothing changes but what the reading of the header sets and
 -- touches.
-abbrev pub tests : World → ℕ → ℕ → ℕ → Tested
-tests w s name list =
+abbrev pub tests : MountTable → World → ℕ → ℕ → ℕ → Tested
+tests mounts w s name list =
     let p : Process = process_of w s in
-    let found : Finding ℕ = find_in w.inodes (user_of p) p.u.dir (name_at (image_of w.texts p) name) in
+    let found : Finding ℕ = find_in w.inodes mounts (user_of p) p.u.dir (name_at (image_of w.texts p) name) in
     check (with_inodes w found.inodes) found.answer (λ ino. tests_file (with_inodes w found.inodes) s ino list)
 
 -- the clicks of its image
@@ -141,7 +142,7 @@ bare_board b s = applied b (Bare s)
 abbrev pub text_room : Program → ℕ
 text_room program = min program.plan.text (64 * program.text_clicks)
 
-abbrev pub text_in : Store → Program → ℕ → Moving (List ℕ)
+abbrev pub text_in : Stores → Program → ℕ → Moving (List ℕ)
 text_in store program time =
     read_file put_kernel (node_in store program.ino) (room_at store program.ino)
     (replicate (text_room program) 0) 16 (text_room program) time
@@ -172,7 +173,7 @@ cleared_image text plan = record {
   stack = replicate (64 * stack_clicks) 0;
 }
 
-abbrev pub data_in : Store → List ℕ → Program → ℕ → Moving Image
+abbrev pub data_in : Stores → List ℕ → Program → ℕ → Moving Image
 data_in store text program time =
     read_file (put_into (8192 * nseg program.text_clicks)) (node_in store program.ino) (room_at store program.ino)
     (cleared_image text program.plan) (16 + program.plan.text) program.plan.init time
@@ -243,9 +244,9 @@ abbrev pub done_by : World → ℕ → Result Program Errno → Comes
 done_by w s (Ok program) = loads w s program
 done_by w s (Err e) = fails w e
 
--- 11, exec: a name, and a list of arguments
-unfoldable pub exec_file : World → ℕ → ℕ → ℕ → Comes
-exec_file w s name list = let t : Tested = tests w s name list in done_by t.world s t.answer
+-- 11, exec: a name, which the mount table tells where to cross, and a list of arguments
+unfoldable pub exec_file : MountTable → World → ℕ → ℕ → ℕ → Comes
+exec_file mounts w s name list = let t : Tested = tests mounts w s name list in done_by t.world s t.answer
 
 -- All texts of an inode have so many clicks.
 abbrev pub AreSized : List (Option Text) → ℕ → ℕ → Type 0

@@ -1,10 +1,11 @@
 //! exec(II).
 ghost use Rattle.std.specs.Prelude.{◌≡◌, ◌≤◌, ◌<◌, ◌+◌, ◌*◌, ◌%◌, ◌==◌, if◌then◌else◌, ℕ, false, Some, None, List, length, IfOk, IfErr, IfSome, map, replicate, slice_index, is_some, count_by};
 ghost use Rattle.v6_base.specs.Image.{nseg};
-ghost use Rattle.fs_laws.specs.Keys.{with_node};
+ghost use Rattle.fs_nodes.specs.Keys.{with_node};
 ghost use Rattle.fs_nodes.specs.FileSystem.{FileSystem, SameRest};
 ghost use Rattle.seg_regs.specs.Sizes.{is_refused};
 ghost use Rattle.image_keep.specs.Kept.{Shared, shared, text_of};
+ghost use Rattle.fs_tree.specs.Mounting.{AreMounts};
 ghost use Rattle.sys_procs.specs.TextTable.{is_text_of, marks_of};
 ghost use Rattle.sys_procs.specs.World.{texts_in, with_process};
 ghost use Rattle.sys_procs.specs.Tests.{node_in};
@@ -155,6 +156,7 @@ fn read_text(p: &mut Procs, tree: &mut Tree, s: Slot, t: TextId, program: &Progr
     ensures board { board p.new ≡ board p.old }
     ensures references { tree.new.nodes.references ≡ tree.old.nodes.references }
     ensures marks { tree.new.marks ≡ tree.old.marks }
+    ensures mounts { tree.new.mounts ≡ tree.old.mounts }
     ensures blocks { SameRest tree.old.nodes tree.new.nodes }
     ensures marked { marks_of (texts_in p.new.images.kept) ≡ marks_of (texts_in p.old.images.kept) }
     ensures alive { IsAlive p.new s }
@@ -177,6 +179,7 @@ fn fill_text(p: &mut Procs, tree: &mut Tree, s: Slot, new: Option<TextId>, progr
     ensures board { board p.new ≡ board p.old }
     ensures references { tree.new.nodes.references ≡ tree.old.nodes.references }
     ensures marks { tree.new.marks ≡ tree.old.marks }
+    ensures mounts { tree.new.mounts ≡ tree.old.mounts }
     ensures blocks { SameRest tree.old.nodes tree.new.nodes }
     ensures marked { marks_of (texts_in p.new.images.kept) ≡ marks_of (texts_in p.old.images.kept) }
     ensures alive { IsAlive p.new s }
@@ -234,6 +237,7 @@ fn fill_image(p: &mut Procs, tree: &mut Tree, s: Slot, program: &Program)
     ensures state { handed p.new tree.new.nodes ≡ fills (handed p.old tree.old.nodes) s program.now }
     ensures references { tree.new.nodes.references ≡ tree.old.nodes.references }
     ensures marks { tree.new.marks ≡ tree.old.marks }
+    ensures mounts { tree.new.mounts ≡ tree.old.mounts }
     ensures blocks { SameRest tree.old.nodes tree.new.nodes }
     ensures board { board p.new ≡ board p.old }
     ensures alive { IsAlive p.new s }
@@ -291,6 +295,7 @@ fn fill_program(
         program.now.ino row u.now }
     ensures board { board p.new ≡ board p.old }
     ensures marks { tree.new.marks ≡ tree.old.marks }
+    ensures mounts { tree.new.mounts ≡ tree.old.mounts }
     ensures marked { marks_of (texts_in p.new.images.kept) ≡ marks_of (texts_in p.old.images.kept) }
     ensures blocks { SameRest tree.old.nodes tree.new.nodes }
     ensures alive { IsAlive p.new s }
@@ -333,6 +338,7 @@ fn begin_program<T: Trace>(
     ensures agree { IfOk result (λ answer. AreProcs p.new) }
     ensures bare { IfErr result (λ kind. AreBare p.new s) }
     ensures marks { IsMarked p.new tree.new.marks }
+    ensures mounts { tree.new.mounts ≡ tree.old.mounts }
     ensures blocks { SameRest tree.old.nodes tree.new.nodes }
 {
     tree.nodes.see();
@@ -367,6 +373,7 @@ fn load<T: Trace>(
     ensures agree { IfOk result (λ answer. AreProcs p.new) }
     ensures bare { IfErr result (λ kind. AreBare p.new s) }
     ensures marks { IsMarked p.new tree.new.marks }
+    ensures mounts { tree.new.mounts ≡ tree.old.mounts }
     ensures blocks { SameRest tree.old.nodes tree.new.nodes }
 {
     see(p, s);
@@ -403,12 +410,14 @@ pub fn exec_file<T: Trace>(
 ) -> Result<Answer, PanicKind>
     requires calls { Calls p.old tree.old.nodes s }
     requires marks { IsMarked p.old tree.old.marks }
+    requires mounts { AreMounts tree.old.mounts tree.old.nodes.store }
     ensures does { HasDone p.old p.new tree.new.nodes result (T.taken trace.old) (T.taken trace.new)
-        (exec_file (handed p.old tree.old.nodes) s (slice_index args 0) (slice_index args 1)) }
+        (exec_file tree.old.mounts (handed p.old tree.old.nodes) s (slice_index args 0) (slice_index args 1)) }
     ensures frame { T.leads_to trace.old trace.new }
     ensures agree { IfOk result (λ answer. AreProcs p.new) }
     ensures bare { IfErr result (λ kind. AreBare p.new s) }
     ensures marks { IsMarked p.new tree.new.marks }
+    ensures mounts { tree.new.mounts ≡ tree.old.mounts }
     ensures blocks { SameRest tree.old.nodes tree.new.nodes }
 {
     match test_program(p, tree, s, args[0], args[1]) {

@@ -51,6 +51,7 @@ fn leave(p: &mut Procs, tree: &mut Tree, s: Slot, status: u16)
     ensures texts { p.new.images.kept.texts ≡ p.old.images.kept.texts }
     ensures referred { (ino : ℕ) → count_by (is_text_of ino) (texts_in p.new.images.kept) ≤ slice_index tree.new.nodes.references ino }
     ensures marks { tree.new.marks ≡ tree.old.marks }
+    ensures mounts { tree.new.mounts ≡ tree.old.mounts }
     ensures blocks { SameRest tree.old.nodes tree.new.nodes }
 {
     let u = p.area(s);
@@ -174,6 +175,7 @@ pub fn end_proc<T: Trace>(
     ensures frame { T.leads_to trace.old trace.new }
     ensures agree { AreProcs p.new }
     ensures marks { IsMarked p.new tree.new.marks }
+    ensures mounts { tree.new.mounts ≡ tree.old.mounts }
     ensures blocks { SameRest tree.old.nodes tree.new.nodes }
 {
     leave(p, tree, s, status);
@@ -200,6 +202,7 @@ pub fn exit_now<T: Trace>(
     ensures frame { T.leads_to trace.old trace.new }
     ensures agree { AreProcs p.new }
     ensures marks { IsMarked p.new tree.new.marks }
+    ensures mounts { tree.new.mounts ≡ tree.old.mounts }
     ensures blocks { SameRest tree.old.nodes tree.new.nodes }
 {
     let u = p.area(s);

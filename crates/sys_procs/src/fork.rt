@@ -106,6 +106,7 @@ fn go_on(p: &mut Procs, tree: &mut Tree, s: Slot, child: Slot) -> Answer
     ensures board { board p.new ≡ board p.old }
     ensures agree { AreProcs p.new }
     ensures marks { tree.new.marks ≡ tree.old.marks }
+    ensures mounts { tree.new.mounts ≡ tree.old.mounts }
     ensures blocks { SameRest tree.old.nodes tree.new.nodes }
 {
     let u = p.area(s);
@@ -140,6 +141,7 @@ fn fork_into<T: Trace>(
     ensures frame { T.leads_to trace.old trace.new }
     ensures agree { AreProcs p.new }
     ensures marks { tree.new.marks ≡ tree.old.marks }
+    ensures mounts { tree.new.mounts ≡ tree.old.mounts }
     ensures blocks { SameRest tree.old.nodes tree.new.nodes }
 {
     see(p, s);
@@ -182,6 +184,7 @@ pub fn fork_one<T: Trace>(
     ensures frame { T.leads_to trace.old trace.new }
     ensures agree { AreProcs p.new }
     ensures marks { tree.new.marks ≡ tree.old.marks }
+    ensures mounts { tree.new.mounts ≡ tree.old.mounts }
     ensures blocks { SameRest tree.old.nodes tree.new.nodes }
 {
     see(p, s);

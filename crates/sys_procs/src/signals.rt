@@ -203,6 +203,7 @@ pub fn kill_to<T: Trace>(
     ensures frame { T.leads_to trace.old trace.new }
     ensures agree { AreProcs p.new }
     ensures marks { tree.new.marks ≡ tree.old.marks }
+    ensures mounts { tree.new.mounts ≡ tree.old.mounts }
     ensures blocks { SameRest tree.old.nodes tree.new.nodes }
 {
     let u = p.area(s);
@@ -267,6 +268,7 @@ pub fn signal_set<T: Trace>(
     ensures frame { T.leads_to trace.old trace.new }
     ensures agree { AreProcs p.new }
     ensures marks { tree.new.marks ≡ tree.old.marks }
+    ensures mounts { tree.new.mounts ≡ tree.old.mounts }
     ensures blocks { SameRest tree.old.nodes tree.new.nodes }
 {
     let sig = args[0];

@@ -12,6 +12,7 @@ ghost use Rattle.fs_tree.specs.Name.{name_at};
 ghost use Rattle.fs_tree.specs.Finding.{inodes_of, find_in};
 ghost use Rattle.aout_head.specs.Header.{header_of, plan_of};
 ghost use Rattle.seg_regs.specs.Sizes.{is_refused};
+ghost use Rattle.fs_tree.specs.Mounting.{AreMounts};
 ghost use Rattle.sys_procs.specs.Stack.{arguments, stack_clicks};
 ghost use Rattle.sys_procs.specs.Tests.{must, user_of, node_in};
 ghost use Rattle.sys_procs.specs.Handed.{Calls, IsAlive, handed, process_here, memory_here};
@@ -60,14 +61,16 @@ fn user_of(u: &UArea) -> User
 fn find_name<S: Space>(tree: &mut Tree, u: &UArea, space: &S, name: u16) -> Result<u16, Errno>
     requires directory { 0 < slice_index tree.old.nodes.references u.now.dir }
     requires few { (ino : ℕ) → slice_index tree.old.nodes.references ino ≤ 65500 }
+    requires mounts { AreMounts tree.old.mounts tree.old.nodes.store }
     ensures answer { result
-        ≡ (find_in (inodes_of tree.old.nodes) (record { uid = u.now.uid; gid = u.now.gid }) u.now.dir
+        ≡ (find_in (inodes_of tree.old.nodes) tree.old.mounts (record { uid = u.now.uid; gid = u.now.gid }) u.now.dir
         (name_at (S.image space.now) name)).answer }
     ensures inodes { inodes_of tree.new.nodes
-        ≡ (find_in (inodes_of tree.old.nodes) (record { uid = u.now.uid; gid = u.now.gid }) u.now.dir
+        ≡ (find_in (inodes_of tree.old.nodes) tree.old.mounts (record { uid = u.now.uid; gid = u.now.gid }) u.now.dir
         (name_at (S.image space.now) name)).inodes }
     ensures referenced { IfOk result (λ ino. 0 < slice_index tree.new.nodes.references ino) }
     ensures marks { tree.new.marks ≡ tree.old.marks }
+    ensures mounts { tree.new.mounts ≡ tree.old.mounts }
     ensures blocks { tree.new.nodes.blocks ≡ tree.old.nodes.blocks }
 {
     tree.nodes.see();
@@ -80,16 +83,18 @@ fn find_name<S: Space>(tree: &mut Tree, u: &UArea, space: &S, name: u16) -> Resu
 ///
 /// Those of a name.
 fn find_program(p: &mut Procs, tree: &mut Tree, s: Slot, name: u16) -> Result<u16, Errno>
-    requires { Calls p.old tree.old.nodes s }
+    requires calls { Calls p.old tree.old.nodes s }
+    requires mounts { AreMounts tree.old.mounts tree.old.nodes.store }
     ensures answer { result
-        ≡ (find_in (inodes_of tree.old.nodes) (user_of (process_here p.old s)) (process_here p.old s).u.dir
+        ≡ (find_in (inodes_of tree.old.nodes) tree.old.mounts (user_of (process_here p.old s)) (process_here p.old s).u.dir
         (name_at (memory_here p.old s) name)).answer }
     ensures inodes { inodes_of tree.new.nodes
-        ≡ (find_in (inodes_of tree.old.nodes) (user_of (process_here p.old s)) (process_here p.old s).u.dir
+        ≡ (find_in (inodes_of tree.old.nodes) tree.old.mounts (user_of (process_here p.old s)) (process_here p.old s).u.dir
         (name_at (memory_here p.old s) name)).inodes }
     ensures referenced { IfOk result (λ ino. 0 < slice_index tree.new.nodes.references ino) }
     ensures procs { p.new ≡ p.old }
     ensures marks { tree.new.marks ≡ tree.old.marks }
+    ensures mounts { tree.new.mounts ≡ tree.old.mounts }
     ensures blocks { tree.new.nodes.blocks ≡ tree.old.nodes.blocks }
 {
     let u = p.images.area(s);
@@ -293,6 +298,7 @@ fn test_header(
         → handed p.now tree.new.nodes ≡ (tests_header (handed p.now tree.old.nodes) ino args m).world }
     ensures tested { IfOk result (IsTested (handed p.now tree.new.nodes)) }
     ensures marks { tree.new.marks ≡ tree.old.marks }
+    ensures mounts { tree.new.mounts ≡ tree.old.mounts }
     ensures blocks { SameRest tree.old.nodes tree.new.nodes }
 {
     tree.nodes.see();
@@ -320,6 +326,7 @@ fn read_header(p: &Procs, tree: &mut Tree, ino: u16, args: Arguments) -> Result<
         (header_read (handed p.now tree.old.nodes) ino)).world }
     ensures tested { IfOk result (IsTested (handed p.now tree.new.nodes)) }
     ensures marks { tree.new.marks ≡ tree.old.marks }
+    ensures mounts { tree.new.mounts ≡ tree.old.mounts }
     ensures blocks { SameRest tree.old.nodes tree.new.nodes }
 {
     tree.nodes.see();
@@ -341,6 +348,7 @@ fn test_file(p: &mut Procs, tree: &mut Tree, s: Slot, ino: u16, list: u16) -> Re
     ensures procs { p.new ≡ p.old }
     ensures tested { IfOk result (IsTested (handed p.new tree.new.nodes)) }
     ensures marks { tree.new.marks ≡ tree.old.marks }
+    ensures mounts { tree.new.mounts ≡ tree.old.mounts }
     ensures blocks { SameRest tree.old.nodes tree.new.nodes }
 {
     match test_call(p, tree, s, ino, list) {
@@ -365,12 +373,14 @@ pub(crate) fn test_program(
     name: u16,
     list: u16,
 ) -> Result<Program, Errno>
-    requires { Calls p.old tree.old.nodes s }
-    ensures answer { result ≡ (tests (handed p.old tree.old.nodes) s name list).answer }
-    ensures state { handed p.new tree.new.nodes ≡ (tests (handed p.old tree.old.nodes) s name list).world }
+    requires calls { Calls p.old tree.old.nodes s }
+    requires mounts { AreMounts tree.old.mounts tree.old.nodes.store }
+    ensures answer { result ≡ (tests tree.old.mounts (handed p.old tree.old.nodes) s name list).answer }
+    ensures state { handed p.new tree.new.nodes ≡ (tests tree.old.mounts (handed p.old tree.old.nodes) s name list).world }
     ensures procs { p.new ≡ p.old }
     ensures tested { IfOk result (IsTested (handed p.new tree.new.nodes)) }
     ensures marks { tree.new.marks ≡ tree.old.marks }
+    ensures mounts { tree.new.mounts ≡ tree.old.mounts }
     ensures blocks { SameRest tree.old.nodes tree.new.nodes }
 {
     let ino = find_program(p, tree, s, name)?;

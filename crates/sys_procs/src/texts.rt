@@ -65,6 +65,7 @@ fn leave_entry<T: Trace>(p: &mut Procs, tree: &mut Tree, s: Slot, t: TextId, tra
     ensures alive { IsAlive p.new s }
     ensures none { text_of p.new.images.kept s ≡ None }
     ensures marks { IsMarked p.new tree.new.marks }
+    ensures mounts { tree.new.mounts ≡ tree.old.mounts }
     ensures blocks { SameRest tree.old.nodes tree.new.nodes }
 {
     see(p, s);
@@ -95,6 +96,7 @@ pub(crate) fn leave_text<T: Trace>(p: &mut Procs, tree: &mut Tree, s: Slot, trac
     ensures alive { IsAlive p.new s }
     ensures none { text_of p.new.images.kept s ≡ None }
     ensures marks { IsMarked p.new tree.new.marks }
+    ensures mounts { tree.new.mounts ≡ tree.old.mounts }
     ensures blocks { SameRest tree.old.nodes tree.new.nodes }
 {
     if let Some(t) = p.table.rows[s as usize].text {
@@ -165,6 +167,7 @@ fn make_text<T: Trace>(
     ensures frame { T.leads_to trace.old trace.new }
     ensures bare { IsBare p.new s }
     ensures marks { IsMarked p.new tree.new.marks }
+    ensures mounts { tree.new.mounts ≡ tree.old.mounts }
     ensures blocks { tree.new.nodes.blocks ≡ tree.old.nodes.blocks }
 {
     let _place = p.images.place(s);
@@ -218,6 +221,7 @@ pub(crate) fn take_text<T: Trace>(
     ensures frame { T.leads_to trace.old trace.new }
     ensures bare { IsBare p.new s }
     ensures marks { IsMarked p.new tree.new.marks }
+    ensures mounts { tree.new.mounts ≡ tree.old.mounts }
     ensures blocks { tree.new.nodes.blocks ≡ tree.old.nodes.blocks }
 {
     if program.text_clicks == 0 {

@@ -16,6 +16,7 @@ use Rattle.pick_rules.specs.Swapper.{candidate}
 use Rattle.u_area.specs.declared.layout.TheConstants.{NOTHING_PENDING}
 use Rattle.fs_nodes.specs.FileSystem.{FileSystem}
 use Rattle.fs_tree.specs.Marks.{no_marks}
+use Rattle.fs_tree.specs.Mounting.{AreMounts}
 use Rattle.fs_tree.specs.declared.marks.TheConstants.{INODE_NUMBERS}
 use Rattle.sys_procs.specs.TextTable.{marks_of}
 use Rattle.sys_files.specs.Pipes.{ArePipes}
@@ -86,7 +87,7 @@ both_ones ino = elim (eqb_tells ino 1) [
 ]
 
 -- The root is referred to twice.
-first_referred : (ino : ℕ) → refer no_files no_texts first_told ino ≡ (if ino == 1 then 2 else 0)
+first_referred : (ino : ℕ) → refer None no_files no_texts first_told ino ≡ (if ino == 1 then 2 else 0)
 unfolding all_stand
 first_referred ino =
     let files : count_by (is_of ino) no_files ≡ 0 = count_none (is_of ino) 100 None refl in
@@ -239,8 +240,9 @@ nobody_out time = refl
 
 -- The world that a kernel begins with.
 module _ (fs : FileSystem) (core count : ℕ) (referred : (ino : ℕ) → slice_index fs.references ino ≡ (if ino == 1 then 2 else 0))
-    (w : World) (nodes : w.files.tree.nodes ≡ fs) (marks : w.files.tree.marks ≡ no_marks) (table : w.files.table ≡ no_files) (pipes : w.files.pipes ≡ []) (lines : w.files.lines ≡ first_lines count)
-    (rows : w.procs.rows ≡ first_processes) (slots : w.procs.table ≡ first_table fs.store.stamp) (good : IsTable w.procs.table)
+    (w : World) (nodes : w.files.tree.nodes ≡ fs) (marks : w.files.tree.marks ≡ no_marks)
+    (mounts : AreMounts w.files.tree.mounts fs.store) (uncovered : w.files.tree.mounts.covered ≡ None) (table : w.files.table ≡ no_files) (pipes : w.files.pipes ≡ []) (lines : w.files.lines ≡ first_lines count)
+    (rows : w.procs.rows ≡ first_processes) (slots : w.procs.table ≡ first_table fs.store.root.stamp) (good : IsTable w.procs.table)
     (images : w.procs.images.kept ≡ first_images core) (switches : w.procs.switches ≡ 0)
     (entries : w.tape.entry_room ≡ 64) (bytes : w.tape.byte_room ≡ 524288) (clicks : w.core ≡ core)
     (timing : timing_in w.slots ≡ record { passed = 0; disk = 0; pace = 0; since = 0 }) where
@@ -253,6 +255,7 @@ module _ (fs : FileSystem) (core count : ℕ) (referred : (ino : ℕ) → slice_
   unix_is : unix_of w ≡ first_unix fs.store core count
   unix_is = λ i. record {
     store = (nodes i).store;
+    covered = uncovered i;
     processes = processes_are i;
     files = table i;
     pipes = pipes i;
@@ -267,24 +270,26 @@ module _ (fs : FileSystem) (core count : ℕ) (referred : (ino : ℕ) → slice_
 
   begun_agree : Agree w.procs.rows w.procs.table w.procs.images.kept
   begun_agree =
-      let begun : Agree first_processes (first_table fs.store.stamp) (first_images core) = first_agree core fs.store.stamp (subst IsTable slots good) in
+      let begun : Agree first_processes (first_table fs.store.root.stamp) (first_images core) = first_agree core fs.store.root.stamp (subst IsTable slots good) in
       subst (λ v. Agree v w.procs.table w.procs.images.kept) (sym rows)
-      (subst (λ t. Agree first_processes t w.procs.images.kept) (sym slots) (subst (λ k. Agree first_processes (first_table fs.store.stamp) k) (sym images) begun))
+      (subst (λ t. Agree first_processes t w.procs.images.kept) (sym slots) (subst (λ k. Agree first_processes (first_table fs.store.root.stamp) k) (sym images) begun))
 
   first_good : IsGood w
   first_good = record {
     agree = begun_agree;
-    owed = subst (λ texts. Owes w.files.tree.nodes.references w.files.table w.files.pipes texts (told_in (unix_of w).processes)) (sym texts_are)
-        (subst (λ (files : List (Option OpenFile)). Owes w.files.tree.nodes.references files w.files.pipes no_texts (told_in (unix_of w).processes)) (sym table)
-        (subst (λ ps. Owes w.files.tree.nodes.references no_files ps no_texts (told_in (unix_of w).processes)) (sym pipes)
-        (subst (Owes w.files.tree.nodes.references no_files [] no_texts) (sym (ap told_in processes_are ∙ told_is)) (record {
+    owed = subst (λ covered. Owes covered w.files.tree.nodes.references w.files.table w.files.pipes (unix_of w).texts (told_in (unix_of w).processes)) (sym uncovered)
+        (subst (λ texts. Owes None w.files.tree.nodes.references w.files.table w.files.pipes texts (told_in (unix_of w).processes)) (sym texts_are)
+        (subst (λ (files : List (Option OpenFile)). Owes None w.files.tree.nodes.references files w.files.pipes no_texts (told_in (unix_of w).processes)) (sym table)
+        (subst (λ ps. Owes None w.files.tree.nodes.references no_files ps no_texts (told_in (unix_of w).processes)) (sym pipes)
+        (subst (Owes None w.files.tree.nodes.references no_files [] no_texts) (sym (ap told_in processes_are ∙ told_is)) (record {
           numbers = λ entry. ap numbers_of (none_open entry) ∙ sym (none_named entry);
           referred = λ ino. ap (λ (f : FileSystem). slice_index f.references ino) nodes ∙ referred ino ∙ sym (first_referred ino);
           piped = no_pipes;
           fifteen = first_fifteen;
-        }))));
+        })))));
     pending = none_goes_on (unix_of w) (λ s p is. nobody_waits s p (ap (λ (l : List (Option Process)). get_or l s None) (sym processes_are) ∙ is));
     marks = marks ∙ sym (ap marks_of texts_are ∙ marks_none);
+    mounts = subst (λ (f : FileSystem). AreMounts w.files.tree.mounts f.store) (sym nodes) mounts;
     running = λ s runs above. absurd (let zero_ : Some 0 ≡ Some s = sym (ap (λ (t : Table). t.running) slots) ∙ runs in
         let same : 0 ≡ s = cc zero_ in omega (arith, same, above));
     rooms = (entries, bytes);
@@ -295,7 +300,7 @@ module _ (fs : FileSystem) (core count : ℕ) (referred : (ino : ℕ) → slice_
   first_new = record {
     good = first_good;
     runs = ap (λ (t : Table). t.running) slots;
-    nobody_out = ap (λ t. candidate t) slots ∙ nobody_out fs.store.stamp;
+    nobody_out = ap (λ t. candidate t) slots ∙ nobody_out fs.store.root.stamp;
   }
 
   pub first_kernel : w.slots.left ≤ w.slots.due → w.slots.set_at ≡ 0 → 3000000001 < w.slots.due → IsKernel stage.New w
@@ -313,4 +318,4 @@ module _ (fs : FileSystem) (core count : ℕ) (referred : (ino : ℕ) → slice_
   pub first_system : system_at w ≡ system_with fs.store core count
   first_system =
       (λ i. record { unix = unix_is i; board = board_of (slots i) (images i) })
-      ∙ ap (λ texts. record { unix = first_unix fs.store core count; board = record (first_board core fs.store.stamp) { texts = texts } }) no_places
+      ∙ ap (λ texts. record { unix = first_unix fs.store core count; board = record (first_board core fs.store.root.stamp) { texts = texts } }) no_places

@@ -3,7 +3,7 @@ use Rattle.std.proofs.Common.{◌≡◌, ◌≤◌, ℕ, [], ◌∷◌, refl, ap
 use Rattle.v6_base.specs.Trace.{Log, Took, Taken}
 use Rattle.v6_base.specs.declared.entry.Entry.TheVariants.{Boot}
 use Rattle.v6_base.proofs.Took.{took_then}
-use Rattle.fs_laws.specs.Numbers.{synced}
+use Rattle.fs_nodes.specs.Keys.{synced}
 use Rattle.fs_nodes.specs.FileSystem.{FileSystem}
 use Rattle.unix_core.specs.declared.world.World.{World}
 use Rattle.unix_core.specs.declared.machine.Stage.{Stage}
@@ -43,6 +43,7 @@ module _ (w : World) (word : ℕ) where
     owed = good.owed;
     pending = going_same (unix_of w) (unix_of switched) refl refl good.pending;
     marks = good.marks;
+    mounts = good.mounts;
     running = good.running;
     rooms = good.rooms;
     core = good.core;

@@ -1,10 +1,10 @@
 -- A volume on the disk of an image is what a kernel begins with.
-use Rattle.std.proofs.Common.{◌≡◌, ◌≤◌, if◌then◌else◌, ℕ, false, List, Some, None, is_some, sym, ap, ◌∙◌, subst, arith}
+use Rattle.std.proofs.Common.{◌≡◌, ◌≤◌, if◌then◌else◌, ◌||◌, ℕ, false, List, Option, Some, None, is_some, sym, ap, ◌∙◌, subst, arith}
 use Rattle.fs_codec.specs.Fields.{super_of}
-use Rattle.fs_codec.specs.Store.{Store}
 use Rattle.fs_codec.specs.Disk.{Disk, disk_of, head}
 use Rattle.fs_codec.specs.Faults.{disk_fault, image_fault}
 use Rattle.fs_codec.specs.Stands.{store_of, StandsFor}
+use Rattle.fs_codec.specs.Store.{Store}
 use Rattle.fs_codec.specs.declared.layout.TheConstants.{DISK_BLOCKS, SWAP_START}
 use Rattle.fs_codec.specs.declared.super_block.SuperBlock.{SuperBlock}
 use Rattle.buf_cache.specs.Blocks.{block_at, blocks_of}
@@ -16,8 +16,9 @@ use Rattle.fs_laws.proofs.SyncLemmas.{alike_fault, alike_store}
 use Rattle.fs_laws.proofs.AgreeLemmas.{files_store}
 use Rattle.fs_blocks.specs.State.{State, disk, opened}
 use Rattle.fs_blocks.specs.Store.{store_now}
+use Rattle.fs_nodes.specs.Keys.{Stores}
 use Rattle.abstract_unix.specs.Unix.{System}
-use Rattle.abstract_unix.specs.Runs.{system_with, system_of, boots}
+use Rattle.abstract_unix.specs.Runs.{system_with, system_of, stores_of, is_second_bad, boots}
 
 clean_store : (volume : State) → volume.changed ≡ false → store_now volume ≡ store_of (disk volume)
 unfolding store_now store_of
@@ -44,12 +45,14 @@ module _ (bytes : List ℕ) (good : image_fault bytes ≡ None) where
     unfolding store_of
     volume_stamp is = volume_time is
 
--- An image without a fault is booted.
-pub boots_as : (image : List ℕ) (core lines : ℕ) (store : Store) (m : System) → image_fault image ≡ None → store ≡ store_of (disk_of image)
-    → m ≡ system_with store core lines → boots image core lines ≡ Some m
-boots_as image core lines store m none is system =
-    ap (λ f. if is_some f then None else Some (system_of image core lines)) none
-    ∙ ap (λ (s : Store). Some (system_with s core lines)) (sym is) ∙ ap (λ (n : System). Some n) (sym system)
+-- Images without a fault are booted.
+pub boots_as : (image : List ℕ) (second : Option (List ℕ)) (core lines : ℕ) (store : Stores) (m : System) → image_fault image ≡ None
+    → is_second_bad image second ≡ false → store ≡ stores_of image second
+    → m ≡ system_with store core lines → boots image second core lines ≡ Some m
+boots_as image second core lines store m none fine is system =
+    ap (λ f. if is_some f || is_second_bad image second then None else Some (system_of image second core lines)) none
+    ∙ ap (λ b. if b then None else Some (system_of image second core lines)) fine
+    ∙ ap (λ (s : Stores). Some (system_with s core lines)) (sym is) ∙ ap (λ (n : System). Some n) (sym system)
 
 -- A file system that keeps clear of the swap area has no fault there either.
 pub stands_below : (d : Disk) (store : Store) → (head d).f_size ≤ SWAP_START → StandsFor DISK_BLOCKS d store → StandsFor SWAP_START d store

@@ -11,6 +11,7 @@ use Rattle.open_files.specs.declared.file.OpenFile.{OpenFile}
 use Rattle.pipe_ends.specs.declared.ends.Pipe.{Pipe}
 use Rattle.fs_nodes.specs.FileSystem.{IsFileSystem}
 use Rattle.fs_tree.specs.declared.tree.Tree.{Tree}
+use Rattle.fs_nodes.specs.Keys.{counts}
 use Rattle.image_keep.specs.Kept.{IsKept, area_of, area_in}
 use Rattle.sys_procs.specs.declared.procs.Procs.{Procs}
 use Rattle.sys_procs.specs.World as its
@@ -102,9 +103,9 @@ pub record IsLike (w : World) (x : its.World) : Type 0 where
   pub told : told_in x.processes ≡ told_in (unix_of w).processes
 
 -- What is owed then.
-like_owes : (w : World) (x : its.World) → IsLike w x → IsGood w → Owes x.inodes.references w.files.table w.files.pipes x.texts (told_in x.processes)
+like_owes : (w : World) (x : its.World) → IsLike w x → IsGood w → Owes w.files.tree.mounts.covered x.inodes.references w.files.table w.files.pipes x.texts (told_in x.processes)
 like_owes w x like good =
-    subst (Owes x.inodes.references w.files.table w.files.pipes x.texts) (sym like.told) (record {
+    subst (Owes w.files.tree.mounts.covered x.inodes.references w.files.table w.files.pipes x.texts) (sym like.told) (record {
       numbers = good.owed.numbers;
       referred = λ ino. let before = good.owed.referred ino in let same = like.refs ino in omega (arith, before, same);
       piped = good.owed.piped;
@@ -119,15 +120,16 @@ module _ (w now : World) (s : ℕ) (ready : IsReady w s) (x : its.World) (agree 
 
   moved_owed : Owed now.files.tree.nodes.references (unix_of now)
   moved_owed =
-      let P : its.World → List (Option OpenFile) → List Pipe → Type 0 = λ v files pipes. Owes v.inodes.references files pipes v.texts (told_in v.processes) in
+      let P : its.World → List (Option OpenFile) → List Pipe → Type 0 = λ v files pipes. Owes w.files.tree.mounts.covered v.inodes.references files pipes v.texts (told_in v.processes) in
       subst (P (given now) now.files.table) (sym stays.rests.pipes)
       (subst (λ files. P (given now) files w.files.pipes) (sym stays.table) (subst (λ v. P v w.files.table w.files.pipes) (sym state) (like_owes w x like ready.good)))
 
-  pub moved_ready : CanGoOn (with_world (unix_of w) x) → IsMarked now.procs now.files.tree.marks → IsReady now s
-  moved_ready pending marks = record {
+  pub moved_ready : CanGoOn (with_world (unix_of w) x) → IsMarked now.procs now.files.tree.marks
+      → counts now.files.tree.nodes.store ≡ counts w.files.tree.nodes.store → IsReady now s
+  moved_ready pending marks same = record {
     good = good_then w now stays.rests after.core ready.good agree
         (still_runs w now ready.good agree (λ r is. sym after.running ∙ is) (λ r t was is. told r ∙ is))
-        moved_owed (going_same (with_world (unix_of w) x) (unix_of now) (ap (λ (v : its.World). v.processes) state) stays.table pending) marks;
+        moved_owed (going_same (with_world (unix_of w) x) (unix_of now) (ap (λ (v : its.World). v.processes) state) stays.table pending) marks same;
     runs = after.running ∙ ready.runs;
     user = ready.user;
   }

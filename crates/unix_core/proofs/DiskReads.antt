@@ -19,7 +19,7 @@ use Rattle.abstract_unix.specs.Calls.{handed_of, is_of_disk}
 use Rattle.unix_core.specs.declared.world.World.{World}
 use Rattle.unix_core.specs.Parts.{unix_of, IsReady}
 use Rattle.unix_core.proofs.AreaLemmas.{own_area}
-use Rattle.unix_core.proofs.WorldLemmas.{references_in, sound_parts}
+use Rattle.unix_core.proofs.WorldLemmas.{references_in, mounts_is, sound_parts}
 
 module _ (w : World) (s : ℕ) (ready : IsReady w s) (form : IsFileSystem w.files.tree.nodes) (long : length w.files.table ≡ 100)
     (holds : kept.IsKept w.procs.images.kept) (u : UArea) (is : u ≡ area_of w.procs.images.kept s) where
@@ -28,6 +28,7 @@ module _ (w : World) (s : ℕ) (ready : IsReady w s) (form : IsFileSystem w.file
 
   sound : IsSound h
   sound = sound_parts w s h ready long holds refl refl refl (sym (references_in w s ready form))
+      (sym (mounts_is w.files.tree.mounts w.files.tree.nodes.store ready.good.mounts)) refl
 
   -- the number in R0
   number : slice_index u.files (slice_index u.r 0) ≡ slice_index h.u.files (r0 h)

@@ -19,6 +19,7 @@ use Rattle.open_files.specs.Files.{times}
 use Rattle.open_files.specs.declared.file.OpenFile.{OpenFile}
 use Rattle.u_area.specs.declared.layout.TheConstants.{NOTHING_PENDING}
 use Rattle.pipe_ends.specs.declared.ends.Pipe.{Pipe}
+use Rattle.fs_nodes.specs.Keys.{counts}
 use Rattle.sys_files.specs.Handed.{Handed}
 use Rattle.fs_nodes.specs.FileSystem.{IsFileSystem}
 use Rattle.sys_procs.specs.TextTable.{Text, text_of}
@@ -124,7 +125,7 @@ module _ (w1 : World) (s : ℕ) (ready : IsReady w1 s) (status : ℕ) where
     abbrev references : List ℕ
     references = w1.files.tree.nodes.references
 
-    away_owes : Owes (away w1 s ready status).inodes.references w1.files.table w1.files.pipes x.texts others
+    away_owes : Owes w1.files.tree.mounts.covered (away w1 s ready status).inodes.references w1.files.table w1.files.pipes x.texts others
     away_owes = end_owes x s w1.files.table w1.files.pipes (slot_is w1 s ready) (is_living w1 s ready) closed ready.good.owed
 
     none_zero : slice_index (away w1 s ready status).inodes.references 0 ≡ 0
@@ -138,7 +139,7 @@ module _ (w1 : World) (s : ℕ) (ready : IsReady w1 s) (status : ℕ) where
     ]
 
     owes_by : (o : Option ℕ)
-        → Owes (left_world w1 s ready status o).inodes.references w1.files.table w1.files.pipes (left_world w1 s ready status o).texts others
+        → Owes w1.files.tree.mounts.covered (left_world w1 s ready status o).inodes.references w1.files.table w1.files.pipes (left_world w1 s ready status o).texts others
     owes_by None = away_owes
     owes_by (Some k) =
         let y : its.World = away w1 s ready status in
@@ -146,7 +147,7 @@ module _ (w1 : World) (s : ℕ) (ready : IsReady w1 s) (status : ℕ) where
         (left_refs y s k (is_sticky y k)
         (λ ino. let all = away_owes.referred ino in omega (arith, all)) none_zero) w1.files.table w1.files.pipes others away_owes
 
-    pub gone_owes : Owes (has_left w1 s ready status).inodes.references w1.files.table w1.files.pipes (has_left w1 s ready status).texts others
+    pub gone_owes : Owes w1.files.tree.mounts.covered (has_left w1 s ready status).inodes.references w1.files.table w1.files.pipes (has_left w1 s ready status).texts others
     gone_owes = owes_by its_own
 
 module _ (w1 now : World) (s : ℕ) (ready : IsReady w1 s) (status : ℕ) (agree : AreProcs now.procs)
@@ -178,12 +179,12 @@ module _ (w1 now : World) (s : ℕ) (ready : IsReady w1 s) (status : ℕ) (agree
     owed : Owed now.files.tree.nodes.references (unix_of now)
     owed =
         let P : its.World → List (Option OpenFile) → List Pipe → Type 0 =
-        λ v files pipes. Owes v.inodes.references files pipes v.texts (told_in v.processes) in
+        λ v files pipes. Owes w1.files.tree.mounts.covered v.inodes.references files pipes v.texts (told_in v.processes) in
         let left : its.World = has_left w1 s ready status in
         subst (P (handed now.procs now.files.tree.nodes) now.files.table) (sym rests.pipes)
         (subst (λ files. P (handed now.procs now.files.tree.nodes) files w1.files.pipes) (sym table)
         (subst (λ v. P v w1.files.table w1.files.pipes) (sym gone_state)
-        (subst (Owes left.inodes.references w1.files.table w1.files.pipes left.texts) (sym (told_gone w1 s ready status))
+        (subst (Owes w1.files.tree.mounts.covered left.inodes.references w1.files.table w1.files.pipes left.texts) (sym (told_gone w1 s ready status))
         (gone_owes w1 s ready status form closed))))
 
     -- who waits in a pipe can go on
@@ -192,13 +193,13 @@ module _ (w1 now : World) (s : ℕ) (ready : IsReady w1 s) (status : ℕ) (agree
         subst CanGoOn (sym ended_unix)
         (world_goes_on (unix_of w1) (ends w1 s ready status).state ready.good.pending (end_waited (handed w1.procs w1.files.tree.nodes) s free status))
 
-    pub ended_good : IsMarked now.procs now.files.tree.marks → IsGood now
-    ended_good marks = good_then w1 now rests clicks ready.good agree (λ r is up. absurd (
+    pub ended_good : IsMarked now.procs now.files.tree.marks → counts now.files.tree.nodes.store ≡ counts w1.files.tree.nodes.store → IsGood now
+    ended_good marks same = good_then w1 now rests clicks ready.good agree (λ r is up. absurd (
         let b = its_board in
         let none : now.procs.table.running ≡ None =
         ap (λ (x : Board). x.table.running) b.1.1 ∙ end_running left_board s b.0 b.1.0 in
         let never : ◌≡◌ {A = Option ℕ} None (Some r) = sym none ∙ is in
-        cc never)) owed waits marks
+        cc never)) owed waits marks same
 
 -- The world where the run stops, since the swap area has no block: the process has left its directory and its text, and still runs.
 module _ (w1 now : World) (s : ℕ) (ready : IsReady w1 s) (status : ℕ) (stop : Stop its.World)

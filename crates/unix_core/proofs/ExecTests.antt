@@ -1,14 +1,14 @@
 -- exec(II): what its tests leave. They refer to the inode of the program once more, where they let it through.
-use Rattle.std.proofs.Common.{◌≡◌, ◌<◌, ◌+◌, ◌==◌, ◌&&◌, ℕ, Bool, true, false, not, cond, if◌then◌else◌, List, length, Option, Some, None, IsSome, slice_index, refl, sym, ap, arith}
+use Rattle.std.proofs.Common.{◌≡◌, ◌<◌, ◌+◌, ◌==◌, ◌&&◌, ℕ, Bool, true, false, not, cond, if◌then◌else◌, List, length, IsSome, slice_index, refl, sym, ap, arith}
 use Rattle.std.specs.Prelude.{Result, Ok, Err}
 use Rattle.std.proofs.lemmas.Bool.{eq-eqb}
 use Rattle.v6_base.specs.Access.{then_do}
 use Rattle.v6_base.specs.declared.errno.Errno.{Errno}
 use Rattle.v6_base.specs.declared.errno.Errno.TheVariants.{ENOEXEC, ENOMEM, ENFILE, EACCES, ETXTBSY}
 use Rattle.fs_codec.specs.Modes.{file_type}
-use Rattle.fs_codec.specs.Store.{Node, Store}
+use Rattle.fs_codec.specs.Store.{Node}
 use Rattle.fs_laws.specs.Pieces.{Moving}
-use Rattle.fs_laws.specs.Keys.{node_numbered}
+use Rattle.fs_nodes.specs.Keys.{Stores, node_numbered}
 use Rattle.fs_nodes.specs.FileSystem.{IsFileSystem}
 use Rattle.fs_tree.specs.declared.user.User.{User}
 use Rattle.fs_tree.specs.declared.user.Want.TheVariants.{Execute}
@@ -30,7 +30,7 @@ use Rattle.unix_core.specs.declared.world.World.{World}
 use Rattle.unix_core.specs.Parts.{unix_of, IsReady}
 use Rattle.abstract_unix.specs.Whole.{told_in, told_of}
 use Rattle.abstract_unix.specs.Unix.{process_of}
-use Rattle.abstract_unix.proofs.Owing.{dir_referred, some_within}
+use Rattle.abstract_unix.proofs.Owing.{dir_referred}
 use Rattle.abstract_unix.proofs.Dying.{put_refs}
 use Rattle.abstract_unix.proofs.Sharing.{more_within}
 use Rattle.unix_core.proofs.WorldLemmas.{told_here}
@@ -77,17 +77,7 @@ then_gives (Err e) f b is = absurd (cc is)
 -- An inode that is used has its number among the references.
 pub used_within : (w : World) (d : ℕ) → IsFileSystem w.files.tree.nodes → IsSome (node_numbered w.files.tree.nodes.store d)
     → d < length w.files.tree.nodes.references
-used_within w d form used =
-    let store : Store = w.files.tree.nodes.store in
-    let there = some_node (node_numbered store d) used in
-    let low = some_within store.nodes d there.0 there.1 in
-    let nodes = form.nodes in
-    let references = form.references in
-    omega (arith, low, nodes, references)
-  where
-    some_node : (o : Option Node) → IsSome o → (node : Node) × (o ≡ Some node)
-    some_node None some = absurd (cc)
-    some_node (Some node) some = (node, refl)
+used_within w d form used = form.low d used
 
 module _ (w : World) (s : ℕ) (ready : IsReady w s) (form : IsFileSystem w.files.tree.nodes) where
   abbrev base : its.World
@@ -157,7 +147,7 @@ module _ (w : World) (s : ℕ) (ready : IsReady w s) (form : IsFileSystem w.file
       by true = form.root
       by false = dir
 
-  abbrev store : Store
+  abbrev store : Stores
   store = base.inodes.store
 
   abbrev user : User
@@ -167,13 +157,13 @@ module _ (w : World) (s : ℕ) (ready : IsReady w s) (form : IsFileSystem w.file
   dir = (its.process_of base s).u.dir
 
   -- what is found is used
-  found_is_used : (bytes : List ℕ) (ino : ℕ) → then_do (way store user dir bytes) (found store) ≡ Ok ino
+  found_is_used : (bytes : List ℕ) (ino : ℕ) → then_do (way store w.files.tree.mounts user dir bytes) (found store w.files.tree.mounts) ≡ Ok ino
       → IsSome (node_numbered store ino)
   found_is_used bytes ino is =
-      let there = then_gives (way store user dir bytes) (found store) ino is in
+      let there = then_gives (way store w.files.tree.mounts user dir bytes) (found store w.files.tree.mounts) ino is in
       found_used store there.0 ino (way_used store user dir bytes there.0 there.1 (start_used bytes)) there.2
 
-  pub leaves_tests : (name list : ℕ) → Leaves base (tests base s name list).world (tests base s name list).answer
+  pub leaves_tests : (name list : ℕ) → Leaves base (tests w.files.tree.mounts base s name list).world (tests w.files.tree.mounts base s name list).answer
   leaves_tests name list =
       let bytes : List ℕ = name_at (image_of base.texts (its.process_of base s)) name in
-      leaves_found list (then_do (way store user dir bytes) (found store)) (found_is_used bytes)
+      leaves_found list (then_do (way store w.files.tree.mounts user dir bytes) (found store w.files.tree.mounts)) (found_is_used bytes)

@@ -78,7 +78,7 @@ free_slot w child free =
 -- Who is told of then, and what is owed when the files are shared.
 record ForkOwes (w : World) (s : ℕ) (c : Comes) : Type 0 where
   stays : (t : Told) → told_of_slot w s ≡ Some t → get_or (told_in c.state.processes) s None ≡ Some t
-  owed : Owes c.state.inodes.references (shares w.files.table (process_of (unix_of w) s).u.files c.answer) w.files.pipes c.state.texts (told_in c.state.processes)
+  owed : Owes w.files.tree.mounts.covered c.state.inodes.references (shares w.files.table (process_of (unix_of w) s).u.files c.answer) w.files.pipes c.state.texts (told_in c.state.processes)
   marks : marks_of c.state.texts ≡ marks_of (unix_of w).texts
 
 module _ (w : World) (s : ℕ) (ready : IsReady w s) where
@@ -99,7 +99,7 @@ module _ (w : World) (s : ℕ) (ready : IsReady w s) where
       let same : told_in (set ps s (Some (past_word p))) ≡ ts = told_change ps s p (past_word p) (slot_is w s ready) refl in
       record {
         stays = λ t is. ap (λ l. get_or l s None) same ∙ is;
-        owed = subst (Owes refs w.files.table w.files.pipes (unix_of w).texts) (sym same) ready.good.owed;
+        owed = subst (Owes w.files.tree.mounts.covered refs w.files.table w.files.pipes (unix_of w).texts) (sym same) ready.good.owed;
         marks = refl;
       }
   fork_by (Some child) found =
@@ -117,7 +117,7 @@ module _ (w : World) (s : ℕ) (ready : IsReady w s) where
       let Q : List (Option Told) → Type 0 = λ l. (t : Told) → told_of_slot w s ≡ Some t → get_or l s None ≡ Some t in
       record {
         stays = subst Q put (λ t is. get_or-set_other ts child s (Some (told_of p)) None apart ∙ is);
-        owed = subst (Owes (set refs p.u.dir (slice_index refs p.u.dir + 1)) (shares w.files.table p.u.files (fork_into (given w) s (Some child)).answer) w.files.pipes joins) put
+        owed = subst (Owes w.files.tree.mounts.covered (set refs p.u.dir (slice_index refs p.u.dir + 1)) (shares w.files.table p.u.files (fork_into (given w) s (Some child)).answer) w.files.pipes joins) put
             (child_owes refs w.files.table w.files.pipes joins ts s child (told_of p)
             (same_owes texts joins (files_of_child texts p.text) refs w.files.table w.files.pipes ts ready.good.owed) (told_here w s ready) (told_none ps child free.empty)
             (let low = free.low in let long = fifty_told w in omega (arith, low, long)));
@@ -149,7 +149,7 @@ module _ (w now : World) (s : ℕ) (ready : IsReady w s) (agree : AreProcs now.p
   forked_ready user marks =
       let owes = fork_owes w s ready in
       let mine : List (Option OpenFile) = shares w.files.table (process_of (unix_of w) s).u.files (call w s).answer in
-      let P : its.World → List (Option OpenFile) → List Pipe → Type 0 = λ x files pipes. Owes x.inodes.references files pipes x.texts (told_in x.processes) in
+      let P : its.World → List (Option OpenFile) → List Pipe → Type 0 = λ x files pipes. Owes w.files.tree.mounts.covered x.inodes.references files pipes x.texts (told_in x.processes) in
       record {
         good = good_then w now rests moved.core ready.good agree
             (still_runs w now ready.good agree (λ r is. sym moved.running ∙ is) (λ r t was is.

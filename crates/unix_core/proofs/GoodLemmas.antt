@@ -6,6 +6,8 @@ use Rattle.pick_rules.specs.declared.table.Table.{Table}
 use Rattle.pick_rules.specs.Table.{row_at}
 use Rattle.proc_tab.specs.declared.member.Member.{Member}
 use Rattle.proc_tab.specs.Processes.{member_at}
+use Rattle.fs_nodes.specs.Keys.{counts}
+use Rattle.sys_files.proofs.KeptLemmas.{still_mounts}
 use Rattle.image_keep.specs.Kept.{Held, Keeping, Nothing, Alive, Grave, Kept, Has, HasImage, keeping, text_of}
 use Rattle.image_keep.specs.Kept as kept
 use Rattle.sys_procs.specs.Process.{Process, no_process, process_by, process_in}
@@ -95,6 +97,7 @@ module _ (w now : World) (good : IsGood w) (agree : AreProcs now.procs) (table :
 
 -- Beside processes, inodes, their marks and the table of open files a world is as it was.
 pub record Rests (w now : World) : Type 0 where
+  pub mounts : now.files.tree.mounts ≡ w.files.tree.mounts
   pub pipes : now.files.pipes ≡ w.files.pipes
   pub lines : now.files.lines ≡ w.files.lines
   pub tape : now.tape ≡ w.tape
@@ -108,6 +111,7 @@ module _ (w now : World) (rests : Rests w now) (clicks : (board now.procs).core 
       let switches : now.procs.switches ≡ w.procs.switches = ap (λ (v : its.World). v.switches) state ∙ same in
       λ i. record {
         store = (state i).inodes.store;
+        covered = (rests.mounts i).covered;
         processes = (state i).processes;
         files = table i;
         pipes = rests.pipes i;
@@ -121,13 +125,14 @@ module _ (w now : World) (rests : Rests w now) (clicks : (board now.procs).core 
       }
 
   pub good_then : IsGood w → AreProcs now.procs → ((s : ℕ) → now.procs.table.running ≡ Some s → 0 < s → HasImage now.procs.images.kept s) → Owed now.files.tree.nodes.references (unix_of now)
-      → CanGoOn (unix_of now) → IsMarked now.procs now.files.tree.marks → IsGood now
-  good_then good agree running owed pending marks = record {
+      → CanGoOn (unix_of now) → IsMarked now.procs now.files.tree.marks → counts now.files.tree.nodes.store ≡ counts w.files.tree.nodes.store → IsGood now
+  good_then good agree running owed pending marks same = record {
     agree = agree;
     running = running;
     owed = owed;
     pending = pending;
     marks = marks;
+    mounts = still_mounts w.files.tree.mounts now.files.tree.mounts w.files.tree.nodes.store now.files.tree.nodes.store rests.mounts same good.mounts;
     rooms = (ap (λ t. t.entry_room) rests.tape ∙ good.rooms.0, ap (λ t. t.byte_room) rests.tape ∙ good.rooms.1);
     core = rests.core ∙ good.core ∙ sym clicks;
   }

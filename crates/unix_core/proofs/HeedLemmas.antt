@@ -73,12 +73,13 @@ module _ (w : World) (s : ℕ) (ready : IsReady w s) (v : Processes) (is : v ≡
         good = record {
           agree = agree_row w.procs.rows w.procs.table w.procs.images.kept s here.member row ready.good.agree alive.above alive.below low here.member_is;
           running = ready.good.running;
-          owed = subst (Owes refs w.files.table w.files.pipes (unix_of w).texts)
+          owed = subst (Owes w.files.tree.mounts.covered refs w.files.table w.files.pipes (unix_of w).texts)
               (sym (ap (λ (x : Unix). told_in x.processes) changed_unix ∙ told_change (unix_of w).processes s p (heeding p) (slot_is w s ready) refl))
               ready.good.owed;
           pending = subst CanGoOn (sym changed_unix)
               (going_put (unix_of w) s p (heeding p) (slot_is w s ready) (record { pending = refl; call = refl; files = refl; lives = refl }) ready.good.pending);
           marks = ready.good.marks;
+          mounts = ready.good.mounts;
           rooms = ready.good.rooms;
           core = ready.good.core;
         };

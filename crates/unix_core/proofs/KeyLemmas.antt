@@ -140,10 +140,11 @@ module _ (w : World) (good : IsGood w) (procs : Procs) (l n : ℕ) (agree : AreP
         (λ s t runs is. ap (λ (ts : List (Option Told)). get_or ts s None) told_same ∙ is);
     owed =
         let refs : List ℕ = w.files.tree.nodes.references in
-        subst (λ texts. Owes refs w.files.table w.files.pipes texts (told_in (unix_of now).processes)) (sym (ap (λ (x : its.World). x.texts) (state fs)))
-        (subst (Owes refs w.files.table w.files.pipes (unix_of w).texts) (sym told_same) good.owed);
+        subst (λ texts. Owes w.files.tree.mounts.covered refs w.files.table w.files.pipes texts (told_in (unix_of now).processes)) (sym (ap (λ (x : its.World). x.texts) (state fs)))
+        (subst (Owes w.files.tree.mounts.covered refs w.files.table w.files.pipes (unix_of w).texts) (sym told_same) good.owed);
     pending = subst CanGoOn (sym key_unix) (line_goes_on l n (unix_of w) good.pending);
     marks = good.marks ∙ sym (ap (λ (x : its.World). marks_of x.texts) (state fs));
+    mounts = good.mounts;
     rooms = good.rooms;
     core = good.core ∙ sym kept.core;
   }

@@ -209,7 +209,7 @@ module _ (w : World) (s : ℕ) {u : UArea} {r : Row} {m : Image} (lent : IsLent 
 
 -- Files that are closed, as what a call does. It answers nothing.
 abbrev pub closing : Handed → Did
-closing h = record { answer = Ret 0 0; state = (close_all h).state; items = (close_all h).items }
+closing h = record { answer = Ret 0 0; state = (close_all h).state; items = (close_all h).items; named = [] }
 
 pub closing_confined : (slot : ℕ) (h : Handed) → All HasRoom h.lines → Confined slot h (closing h)
 closing_confined slot h room = record { fits = close_all_fits slot h room; steady = close_all_steady h room }

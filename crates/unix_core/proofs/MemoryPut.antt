@@ -63,12 +63,13 @@ module _ (w : World) (x : ImagesState) (s : ℕ) (alive : IsAlive w.procs s) (im
     running = runs_same w with_memory good memory_agree refl;
     owed =
         let refs : List ℕ = w.files.tree.nodes.references in
-        subst (λ texts. Owes refs w.files.table w.files.pipes texts (told_in (unix_of with_memory).processes)) (ap (λ texts. map text_in texts) (sym (with_image_texts w.procs.images.kept s image).texts))
-        (subst (Owes refs w.files.table w.files.pipes (unix_of w).texts)
+        subst (λ texts. Owes w.files.tree.mounts.covered refs w.files.table w.files.pipes texts (told_in (unix_of with_memory).processes)) (ap (λ texts. map text_in texts) (sym (with_image_texts w.procs.images.kept s image).texts))
+        (subst (Owes w.files.tree.mounts.covered refs w.files.table w.files.pipes (unix_of w).texts)
         (sym (ap (λ (x : Unix). told_in x.processes) memory_unix ∙ told_change (unix_of w).processes s p q (alive_slot w s alive) refl)) good.owed);
     pending = subst CanGoOn (sym memory_unix)
         (going_put (unix_of w) s p q (alive_slot w s alive) (record { pending = refl; call = refl; files = refl; lives = refl }) good.pending);
     marks = good.marks ∙ ap (λ texts. marks_of (map text_in texts)) (sym (with_image_texts w.procs.images.kept s image).texts);
+    mounts = good.mounts;
     rooms = good.rooms;
     core = good.core ∙ sym (image_core w.procs.images.kept s image);
   }

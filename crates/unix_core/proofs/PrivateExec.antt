@@ -9,6 +9,7 @@ use Rattle.fs_tree.specs.Finding.{with_reference}
 use Rattle.pick_rules.specs.Effects as effect
 use Rattle.pick_rules.specs.Effects.{Show}
 use Rattle.u_area.specs.declared.area.UArea.{UArea}
+use Rattle.mount_tab.specs.Mounted.{MountTable}
 use Rattle.sys_procs.specs.Process.{Process}
 use Rattle.sys_procs.specs.World.{World, process_of, change}
 use Rattle.sys_procs.specs.Comes.{Comes, does, logs}
@@ -81,11 +82,11 @@ module _ (ps : List (Option Process)) (r s : ℕ) (other : r ≢ s) where
   sparing_done w (Ok program) h = sparing_loads w program h
   sparing_done w (Err e) h = sparing_comes ps r s other w _ h
 
-  sparing_exec : (w : World) (name list : ℕ) → SparedIn w → IsSparing ps r (exec_file w s name list)
+  sparing_exec : (mounts : MountTable) (w : World) (name list : ℕ) → SparedIn w → IsSparing ps r (exec_file mounts w s name list)
   unfolding exec_file
-  sparing_exec w name list h =
-      let t : Tested = tests w s name list in
-      sparing_done t.world t.answer (subst (λ qs. Spared ps qs r) (sym (tests_processes w s name list)) h)
+  sparing_exec mounts w name list h =
+      let t : Tested = tests mounts w s name list in
+      sparing_done t.world t.answer (subst (λ qs. Spared ps qs r) (sym (tests_processes mounts w s name list)) h)
 
   -- break, and the growth of a stack
   sparing_expands : (w : World) (d n : ℕ) → SparedIn w → IsSparing ps r (expands w s d n)
@@ -133,9 +134,9 @@ module _ (ps : List (Option Process)) (r s : ℕ) (other : r ≢ s) where
       })
 
   -- each row
-  pub sparing_row : (call : ProcessCall) (w : World) (args : List ℕ) → length w.processes ≡ 50 → SparedIn w
-      → IsSparing ps r (process_row call w s args)
-  sparing_row process.Exec w a long h = sparing_exec w (slice_index a 0) (slice_index a 1) h
-  sparing_row process.Break w a long h = sparing_break w (slice_index a 0) h
-  sparing_row process.Kill w a long h = sparing_kill w (slice_index a 0) long h
-  sparing_row call w a long h = sparing_plain ps r s other w _ (plain_row call tt s w a) h
+  pub sparing_row : (call : ProcessCall) (mounts : MountTable) (w : World) (args : List ℕ) → length w.processes ≡ 50 → SparedIn w
+      → IsSparing ps r (process_row call mounts w s args)
+  sparing_row process.Exec mounts w a long h = sparing_exec mounts w (slice_index a 0) (slice_index a 1) h
+  sparing_row process.Break mounts w a long h = sparing_break w (slice_index a 0) h
+  sparing_row process.Kill mounts w a long h = sparing_kill w (slice_index a 0) long h
+  sparing_row call mounts w a long h = sparing_plain ps r s other w _ (plain_row call tt mounts s w a) h

@@ -47,7 +47,7 @@ use Rattle.abstract_unix.specs.declared.calls.SystemCall.TheVariants.{Indirect, 
 use Rattle.abstract_unix.specs.declared.calls.Sysent.{Sysent}
 use Rattle.abstract_unix.specs.declared.ending.Ending.{Ending}
 use Rattle.abstract_unix.specs.declared.ending.Ending.TheVariants as ending
-use Rattle.abstract_unix.specs.Unix.{Unix, System, terminal_at, with_terminal, process_of, with_process}
+use Rattle.abstract_unix.specs.Unix.{Unix, System, terminal_at, with_terminal, process_of, with_process, mounts_of}
 use Rattle.abstract_unix.specs.Steps.{Steps, quietly, returns, signals, after_effects}
 use Rattle.abstract_unix.specs.Errors.{error_number}
 use Rattle.abstract_unix.specs.Calls.{in_order, handed_of, with_handed, world_of, with_world, with_area, entered_area, words_passed, asked, given_area, refused_area, refuses, answers, file_row, process_row, did_by, came_by, forks, closes_all, exits_with, grows, grown_by, takes_time, does_call, sysent_of, does_asked, resumed}
@@ -161,7 +161,7 @@ module _ (ps : List (Option Process)) (r s : ℕ) (other : r ≢ s) where
     sparing_does long Unknown args = sparing_refuses u (error_number ENOSYS) h
     sparing_does long (OnFiles call) args = sparing_timed _ _ (sparing_did (file_row call (handed_of u (process_of u s)) s args u.clock.time))
     sparing_does long (OnProcesses call) args =
-        sparing_timed _ _ (sparing_came (process_row call (world_of u) s args) (sparing_row ps r s other call (world_of u) args long h))
+        sparing_timed _ _ (sparing_came (process_row call (mounts_of u) (world_of u) s args) (sparing_row ps r s other call (mounts_of u) (world_of u) args long h))
 
   -- A signal is delivered: it is caught,
   module _ (u : Unix) (h : Spared ps u.processes r) where

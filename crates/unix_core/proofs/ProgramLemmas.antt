@@ -14,7 +14,7 @@ use Rattle.fs_codec.specs.declared.modes.TheConstants.{ISUID, ISGID}
 use Rattle.fs_nodes.specs.FileSystem.{IsFileSystem}
 use Rattle.fs_laws.specs.Pieces.{Moving}
 use Rattle.v6_base.specs.Image.{Image}
-use Rattle.fs_laws.specs.Keys.{node_numbered}
+use Rattle.fs_nodes.specs.Keys.{node_numbered}
 use Rattle.sys_procs.specs.Stack.{first_stack}
 use Rattle.u_area.specs.declared.area.UArea.{UArea}
 use Rattle.pick_rules.specs.Apply.{applied}
@@ -403,7 +403,7 @@ module _ (w : World) (s : ℕ) (ready : IsReady w s) (form : IsFileSystem w.file
     told = ap (λ (v : its.World). told_in v.processes) leaves.world;
   })
 
-  pub exec_tame : (name list : ℕ) → IsTame w (exec_file (given w) s name list)
+  pub exec_tame : (name list : ℕ) → IsTame w (exec_file w.files.tree.mounts (given w) s name list)
   unfolding exec_file
-  exec_tame name list = let t : Tested = tests (given w) s name list in
+  exec_tame name list = let t : Tested = tests w.files.tree.mounts (given w) s name list in
       done_tame t.world t.answer (leaves_tests w s ready form name list)

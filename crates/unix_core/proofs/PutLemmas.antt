@@ -49,6 +49,7 @@ module _ (w : World) (x : ImagesState) (same : x.kept ≡ w.procs.images.kept) w
     owed = good.owed;
     pending = good.pending;
     marks = good.marks;
+    mounts = good.mounts;
     rooms = good.rooms;
     core = good.core;
   })
@@ -155,10 +156,11 @@ module _ (w : World) (x : ImagesState) (s : ℕ) (u : UArea) (alive : IsAlive w.
       running = runs_same w w' good agree_area refl;
       owed =
           let refs : List ℕ = w.files.tree.nodes.references in
-          subst (λ texts. Owes refs w.files.table w.files.pipes texts (told_in (unix_of w').processes)) (ap (λ texts. map text_in texts) (sym (with_area_texts k s u).texts))
-          (subst (Owes refs w.files.table w.files.pipes (unix_of w).texts) (sym told_put) good.owed);
+          subst (λ texts. Owes w.files.tree.mounts.covered refs w.files.table w.files.pipes texts (told_in (unix_of w').processes)) (ap (λ texts. map text_in texts) (sym (with_area_texts k s u).texts))
+          (subst (Owes w.files.tree.mounts.covered refs w.files.table w.files.pipes (unix_of w).texts) (sym told_put) good.owed);
       pending = subst CanGoOn (sym unix_put) going;
       marks = good.marks ∙ ap (λ texts. marks_of (map text_in texts)) (sym (with_area_texts k s u).texts);
+      mounts = good.mounts;
       rooms = good.rooms;
       core = good.core ∙ sym (area_core k s u);
     }

@@ -46,7 +46,7 @@ module _ (old new : List (Option Text)) (same : (ino : ℕ) → map (is_text_of 
   unfolding marks_of
   same_marks = λ i. map (λ ino. same_found ino i) (range_with_len 0 INODE_NUMBERS)
 
-  pub same_owes : (refs : List ℕ) (files : List (Option OpenFile)) (pipes : List Pipe) (ts : List (Option Told)) → Owes refs files pipes old ts → Owes refs files pipes new ts
+  pub same_owes : {covered : Option ℕ} (refs : List ℕ) (files : List (Option OpenFile)) (pipes : List Pipe) (ts : List (Option Told)) → Owes covered refs files pipes old ts → Owes covered refs files pipes new ts
   same_owes refs files pipes ts owed = record {
     numbers = owed.numbers;
     referred = λ ino. let before = owed.referred ino in let count = same_count ino in omega (arith, before, count);

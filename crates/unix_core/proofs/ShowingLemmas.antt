@@ -126,6 +126,7 @@ module _ (w : World) (entries : List Entry) (slots : HaveSlots entries) where
           owed = ready.good.owed;
           pending = going_same (unix_of w) (unix_of (with_woken w entries)) refl refl ready.good.pending;
           marks = ready.good.marks;
+          mounts = ready.good.mounts;
           rooms = ready.good.rooms;
           core = ready.good.core;
         };

@@ -37,6 +37,7 @@ module _ (w : World) (slots : Slots) where
     owed = good.owed;
     pending = going_same (unix_of w) (unix_of (with_slots w slots)) refl refl good.pending;
     marks = good.marks;
+    mounts = good.mounts;
     running = good.running;
     rooms = good.rooms;
     core = good.core;

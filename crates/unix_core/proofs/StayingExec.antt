@@ -21,6 +21,7 @@ use Rattle.pick_rules.specs.Board.{Board, free_text}
 use Rattle.pick_rules.specs.Effects.{Effect, lifted}
 use Rattle.pick_rules.specs.Effects as effect
 use Rattle.log_laws.proofs.Users.{users_on, left_users, leave_users, free_users, free_is}
+use Rattle.mount_tab.specs.Mounted.{MountTable}
 use Rattle.sys_procs.specs.declared.program.Program.{Program}
 use Rattle.sys_procs.specs.Process.{Process, no_process, image_of}
 use Rattle.sys_procs.specs.World.{World, process_of, change, with_inodes, let_go}
@@ -72,10 +73,10 @@ keeps_file w v s ino list same =
     keeps_check w out (arguments (image_of v.texts p) list) _ same (λ args.
     keeps_header w (with_moved v ino head) ino args head same)))
 
-tests_texts : (w : World) (s name list : ℕ) → (tests w s name list).world.texts ≡ w.texts
-tests_texts w s name list =
+tests_texts : (mounts : MountTable) (w : World) (s name list : ℕ) → (tests mounts w s name list).world.texts ≡ w.texts
+tests_texts mounts w s name list =
     let p : Process = process_of w s in
-    let found : Finding ℕ = find_in w.inodes (user_of p) p.u.dir (name_at (image_of w.texts p) name) in
+    let found : Finding ℕ = find_in w.inodes mounts (user_of p) p.u.dir (name_at (image_of w.texts p) name) in
     keeps_check w (with_inodes w found.inodes) found.answer _ refl
     (λ ino. keeps_file w (with_inodes w found.inodes) s ino list refl)
 
@@ -210,9 +211,9 @@ module _ (ts : List (Option Text)) (k s : ℕ) (u : Unix) where
   done_goes b w (Ok program) is = loads_goes b w program is
   done_goes b w (Err e) is = goes_staying b (fails w e) (staying_comes ts k s w _ is.stays)
 
-  pub exec_goes : (b : Board) (w : World) (name list : ℕ) → IsIn ts k s b w → Goes b (exec_file w s name list)
+  pub exec_goes : (mounts : MountTable) (b : Board) (w : World) (name list : ℕ) → IsIn ts k s b w → Goes b (exec_file mounts w s name list)
   unfolding exec_file
-  exec_goes b w name list is =
-      let t : Tested = tests w s name list in
-      done_goes b t.world t.answer (subst (λ l. IsAt ts k s b l t.world.processes) (sym (tests_texts w s name list))
-      (subst (λ l. IsAt ts k s b w.texts l) (sym (tests_processes w s name list)) is))
+  exec_goes mounts b w name list is =
+      let t : Tested = tests mounts w s name list in
+      done_goes b t.world t.answer (subst (λ l. IsAt ts k s b l t.world.processes) (sym (tests_texts mounts w s name list))
+      (subst (λ l. IsAt ts k s b w.texts l) (sym (tests_processes mounts w s name list)) is))

@@ -51,7 +51,7 @@ use Rattle.abstract_unix.specs.declared.calls.SystemCall.TheVariants.{Indirect, 
 use Rattle.abstract_unix.specs.declared.calls.Sysent.{Sysent}
 use Rattle.abstract_unix.specs.declared.ending.Ending.{Ending}
 use Rattle.abstract_unix.specs.declared.ending.Ending.TheVariants as ending
-use Rattle.abstract_unix.specs.Unix.{Unix, System, Started, terminal_at, with_terminal, process_of, with_process}
+use Rattle.abstract_unix.specs.Unix.{Unix, System, Started, terminal_at, with_terminal, process_of, with_process, mounts_of}
 use Rattle.abstract_unix.specs.Steps.{Steps, quietly, returns, signals, after_effects}
 use Rattle.abstract_unix.specs.Errors.{error_number}
 use Rattle.pick_rules.specs.Priority.{pribio}
@@ -227,11 +227,11 @@ module _ (ts : List (Option Text)) (k s : ℕ) where
     }
 
     module _ (u : Unix) (is : IsIn u) where
-      after_row : (call : ProcessCall) (args : List ℕ) → StaysAfter b (came_by u s (process_row call (world_of u) s args))
+      after_row : (call : ProcessCall) (args : List ℕ) → StaysAfter b (came_by u s (process_row call (mounts_of u) (world_of u) s args))
       after_row process.Exec a =
-          let c : Comes = process_row process.Exec (world_of u) s a in
+          let c : Comes = process_row process.Exec (mounts_of u) (world_of u) s a in
           let now : Unix = with_world u c.state in
-          exec_goes ts k s u b (world_of u) _ _ is (answers now s c.answer).effects (answers now s c.answer).unix
+          exec_goes ts k s u (mounts_of u) b (world_of u) _ _ is (answers now s c.answer).effects (answers now s c.answer).unix
           (carry_answers now c.answer) (answered_texts now c.answer)
       after_row process.Break a =
           after_steps b _ (staying_came u is.stays _ (staying_break ts k s (world_of u) _ is.stays))
@@ -239,7 +239,7 @@ module _ (ts : List (Option Text)) (k s : ℕ) where
           after_steps b _ (staying_came u is.stays _ (staying_kill ts k s (world_of u) _ is.stays))
       after_row call a =
           after_steps b _ (staying_came u is.stays _
-          (staying_plain ts k s (world_of u) _ (plain_row call tt s (world_of u) a) is.stays))
+          (staying_plain ts k s (world_of u) _ (plain_row call tt (mounts_of u) s (world_of u) a) is.stays))
 
       after_refused : (n : ℕ) → StaysAfter b (refuses u s n)
       after_refused n = after_steps b _
@@ -267,7 +267,7 @@ module _ (ts : List (Option Text)) (k s : ℕ) where
           let did : Did = file_row call (handed_of u (process_of u s)) s a u.clock.time in
           after_timed (reads_disk call (handed_of u (process_of u s)) did.answer) (did_by u s did) (after_steps b _ (staying_did u is.stays did))
       after_call (OnProcesses call) a =
-          let c : Comes = process_row call (world_of u) s a in
+          let c : Comes = process_row call (mounts_of u) (world_of u) s a in
           after_timed (loads_program call c.answer) (came_by u s c) (after_row call a)
 
     module _ (u : Unix) (is : IsIn u) where

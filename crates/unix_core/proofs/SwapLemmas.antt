@@ -321,6 +321,7 @@ module _ (w : World) (u : Table) (x : ImagesState) (a z : Taken) (good : IsGood 
     owed = subst (Owed w.files.tree.nodes.references) (sym after_unix) good.owed;
     pending = subst CanGoOn (sym after_unix) good.pending;
     marks = good.marks ∙ ap marks_of (sym texts_after);
+    mounts = good.mounts;
     rooms = good.rooms;
     core = good.core ∙ sym same.core;
   }

@@ -31,6 +31,7 @@ module _ (w : World) (t : Table) (agree : Agree w.procs.rows t w.procs.images.ke
     owed = good.owed;
     pending = going_same (unix_of w) (unix_of (with_table w t)) refl refl good.pending;
     marks = good.marks;
+    mounts = good.mounts;
     running = runs;
     rooms = good.rooms;
     core = good.core;

@@ -57,10 +57,10 @@ kill_mild w s n long = by (length slots == 0)
     }
 
 pub tame_row : (w : World) (s : ℕ) → IsReady w s → IsFileSystem w.files.tree.nodes → IsKept w.procs.images.kept
-    → (call : ProcessCall) (args : List ℕ) → IsTame w (process_row call (given w) s args)
+    → (call : ProcessCall) (args : List ℕ) → IsTame w (process_row call w.files.tree.mounts (given w) s args)
 tame_row w s ready form holds process.Exec a = exec_tame w s ready form holds (slice_index a 0) (slice_index a 1)
 tame_row w s ready form holds process.Break a = break_tame w s ready (slice_index a 0)
 tame_row w s ready form holds process.Kill a =
     mild_tame w _ (kill_mild (given w) s (slice_index a 0) (fifty_processes w.procs.rows.slots w.procs.images.kept))
 tame_row w s ready form holds call a =
-    mild_tame w _ (mild_plain (given w) s (given w) _ (plain_row call tt s (given w) a) (near_here w s ready))
+    mild_tame w _ (mild_plain (given w) s (given w) _ (plain_row call tt w.files.tree.mounts s (given w) a) (near_here w s ready))

@@ -48,9 +48,9 @@ pub record SameOthers (x y : its.World) : Type 0 where
   pub refs : (ino : ℕ) → slice_index y.inodes.references ino + shared x.texts ino
       ≡ slice_index x.inodes.references ino + shared y.texts ino
 
-pub others_owe : (x y : its.World) → SameOthers x y → (files : List (Option OpenFile)) (pipes : List Pipe) (ts : List (Option Told))
-    → Owes x.inodes.references files pipes x.texts ts
-    → Owes y.inodes.references files pipes y.texts ts
+pub others_owe : {covered : Option ℕ} (x y : its.World) → SameOthers x y → (files : List (Option OpenFile)) (pipes : List Pipe) (ts : List (Option Told))
+    → Owes covered x.inodes.references files pipes x.texts ts
+    → Owes covered y.inodes.references files pipes y.texts ts
 others_owe x y same files pipes ts owed = record {
   numbers = owed.numbers;
   referred = λ ino. let before = owed.referred ino in let refs = same.refs ino in omega (arith, before, refs);

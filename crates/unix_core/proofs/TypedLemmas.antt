@@ -39,6 +39,7 @@ lines_good w lines was = record {
   owed = was.owed;
   pending = going_same (unix_of w) (unix_of (with_lines w lines)) refl refl was.pending;
   marks = was.marks;
+  mounts = was.mounts;
   rooms = was.rooms;
   core = was.core;
 }

@@ -12,6 +12,9 @@ use Rattle.image_keep.specs.Kept.{Held, Has, keeping, clicks_of, area_of, image_
 use Rattle.image_keep.specs.Kept as kept
 use Rattle.image_keep.proofs.Frames.{SameTexts}
 use Rattle.fs_nodes.specs.FileSystem.{IsFileSystem}
+use Rattle.fs_nodes.specs.Keys.{Stores, key_count, second_count}
+use Rattle.fs_tree.specs.Mounting.{AreMounts}
+use Rattle.mount_tab.specs.Mounted.{MountTable}
 use Rattle.sys_files.specs.Handed.{Handed, handed}
 use Rattle.sys_files.specs.Sound.{IsSound, IsKept}
 use Rattle.sys_files.proofs.Bounds.{Fits, HasAll}
@@ -56,22 +59,30 @@ pub told_here : (w : World) (s : ℕ) → IsReady w s → told_of_slot w s ≡ S
 told_here w s ready = told_at (unix_of w).processes s (process_of (unix_of w) s) (slot_is w s ready) (is_living w s ready)
 
 pub sound_parts : (w : World) (s : ℕ) (h : Handed) → IsReady w s → length w.files.table ≡ 100 → kept.IsKept w.procs.images.kept
-    → h.files ≡ w.files.table → h.pipes ≡ w.files.pipes → h.u ≡ (process_of (unix_of w) s).u → h.inodes.references ≡ w.files.tree.nodes.references → IsSound h
-sound_parts w s h ready long holds files pipes area references =
+    → h.files ≡ w.files.table → h.pipes ≡ w.files.pipes → h.u ≡ (process_of (unix_of w) s).u → h.inodes.references ≡ w.files.tree.nodes.references → h.mounts ≡ w.files.tree.mounts → h.inodes.store ≡ w.files.tree.nodes.store → IsSound h
+sound_parts w s h ready long holds files pipes area references table store =
     let ts : List (Option Told) = told_in (unix_of w).processes in
     let texts : List (Option Text) = (unix_of w).texts in
     let refs : List ℕ = w.files.tree.nodes.references in
-    let owed : Owes refs h.files h.pipes texts ts =
-    subst (λ table. Owes refs table h.pipes texts ts) (sym files) (subst (λ ends. Owes refs w.files.table ends texts ts) (sym pipes) ready.good.owed) in
-    sound_by h texts ts s (subst (λ l. Owes l h.files h.pipes texts ts) (sym references) owed)
+    let owed : Owes w.files.tree.mounts.covered refs h.files h.pipes texts ts =
+    subst (λ table. Owes w.files.tree.mounts.covered refs table h.pipes texts ts) (sym files) (subst (λ ends. Owes w.files.tree.mounts.covered refs w.files.table ends texts ts) (sym pipes) ready.good.owed) in
+    sound_by h texts ts s
+    (subst (λ (m : MountTable). Owes m.covered h.inodes.references h.files h.pipes texts ts) (sym table)
+    (subst (λ l. Owes w.files.tree.mounts.covered l h.files h.pipes texts ts) (sym references) owed))
+    (subst (λ (m : MountTable). AreMounts m h.inodes.store) (sym table) (subst (AreMounts w.files.tree.mounts) (sym store) ready.good.mounts))
     (told_here w s ready ∙ ap (λ (u : UArea). Some (record { files = u.files; dir = u.dir })) (sym area)) (ap length files ∙ long) (fifty_told w) (forty w.procs.images.kept holds)
 
 -- the references of the file system are those that the Unix says
 pub references_in : (w : World) (s : ℕ) → IsReady w s → IsFileSystem w.files.tree.nodes → w.files.tree.nodes.references ≡ references_of (unix_of w)
 unfolding references_of
 references_in w s ready form =
-    fill_by_all (referrers (unix_of w)) w.files.tree.nodes.references (w.files.tree.nodes.store.count + 1) 0 form.references
+    fill_by_all (referrers (unix_of w)) w.files.tree.nodes.references (key_count w.files.tree.nodes.store + 1) 0 form.references
     (λ k low. ready.good.owed.referred k ∙ refer_told (unix_of w) k)
+
+-- The mount table is what the Unix says.
+pub mounts_is : (m : MountTable) (s : Stores) → AreMounts m s
+    → m ≡ record { first = s.root.count; second = second_count s.second; covered = m.covered }
+mounts_is m s are = λ i. record { first = are.first i; second = are.second i; covered = m.covered }
 
 -- What the kernel hands to a call of the process is what the Unix says.
 pub handed_is : (w : World) (s : ℕ) → IsReady w s → IsFileSystem w.files.tree.nodes → kept.IsKept w.procs.images.kept
@@ -85,6 +96,7 @@ handed_is w s ready form holds =
     let image : image_of w.procs.images.kept s ≡ one.image_of (unix_of w).texts p = sym (image_here w.procs s alive holds) in
     λ i. record {
       inodes = record { store = w.files.tree.nodes.store; references = references i };
+      mounts = mounts_is w.files.tree.mounts w.files.tree.nodes.store ready.good.mounts i;
       marks = ready.good.marks i;
       files = w.files.table;
       pipes = w.files.pipes;
@@ -167,6 +179,7 @@ module _ (w w' : World) (s : ℕ) (ready : IsReady w s) (u : UArea) (row : Row) 
         pending = subst CanGoOn (sym unix_after)
             (file_goes_on w.files.tree.nodes.references (unix_of w) s h ready.good.owed ready.good.pending (slot_is w s ready) (is_living w s ready) after.kept after.pends);
         marks = after.marks ∙ (ready.good.marks ∙ ap (λ texts. marks_of (map text_in texts)) (sym after.texts.texts));
+        mounts = after.kept.mounts;
         rooms = (after.entry_room ∙ ready.good.rooms.0, after.byte_room ∙ ready.good.rooms.1);
         core = after.world_core ∙ (ready.good.core ∙ sym after.core);
       }

@@ -10,6 +10,7 @@ use Rattle.v6_base.specs.Trace.{Item}
 use Rattle.pick_rules.specs.Effects.{Show}
 use Rattle.pick_rules.specs.Logged.{Stop, nothing_logged, logged, left_by}
 use Rattle.v6_base.specs.declared.entry.Place.TheVariants.{Core}
+use Rattle.fs_tree.specs.Mounting.{AreMounts}
 use Rattle.image_keep.specs.Area.{sized_area}
 use Rattle.image_keep.specs.Places.{cleared}
 use Rattle.image_keep.specs.Kept.{Held, Kept, HasImage}
@@ -40,6 +41,7 @@ use Rattle.abstract_unix.specs.Turn.{Happened, Turn, machine_of, with_machine, i
 abbrev pub unix_of : parts.World → Unix
 unix_of w = record {
   store = w.files.tree.nodes.store;
+  covered = w.files.tree.mounts.covered;
   processes = processes_in w.procs.rows.slots w.procs.images.kept;
   files = w.files.table;
   pipes = w.files.pipes;
@@ -91,6 +93,7 @@ pub record IsGood (w : parts.World) : Type 0 where
   pub owed : Owed w.files.tree.nodes.references (unix_of w)
   pub pending : CanGoOn (unix_of w)
   pub marks : IsMarked w.procs w.files.tree.marks
+  pub mounts : AreMounts w.files.tree.mounts w.files.tree.nodes.store
   pub rooms : (w.tape.entry_room ≡ 64) × (w.tape.byte_room ≡ 524288)
   pub core : w.core ≡ w.procs.images.kept.core
 

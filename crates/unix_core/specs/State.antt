@@ -1,6 +1,7 @@
 -- What a kernel is to its caller.
 use Rattle.std.specs.Prelude.{ℕ, List}
-use Rattle.fs_laws.specs.Rest.{SameAround}
+use Rattle.fs_nodes.specs.Disks.{Disks}
+use Rattle.fs_nodes.specs.FileSystem.{SameAroundEach}
 use Rattle.image_keep.specs.Kept.{Kept}
 use Rattle.abstract_unix.specs.Unix.{System, Phase}
 
@@ -11,10 +12,10 @@ pub record KernelState : Type 0 where
   pub kept : Kept
   pub core : List ℕ
   pub swap : List ℕ
-  pub blocks : List (List ℕ)
-  pub stored : List (List ℕ)
+  pub blocks : Disks (List (List ℕ))
+  pub stored : Disks (List (List ℕ))
   pub phase : Phase
 
 -- What no change of files changes on the disk of a kernel is the same.
 abbrev pub KeepsRest : KernelState → KernelState → Type 0
-KeepsRest old new = SameAround old.blocks new.blocks
+KeepsRest old new = SameAroundEach old.blocks new.blocks

@@ -1,18 +1,25 @@
 //! What a kernel begins with.
-ghost use Rattle.std.specs.Prelude.{◌≡◌, ◌⊎◌, ℕ, ◌≤◌, ◌+◌, IfOk, IfErr, Some, None, replicate, length};
+ghost use Rattle.std.specs.Prelude.{◌≡◌, ◌⊎◌, ℕ, ◌≤◌, ◌==◌, if◌then◌else◌, IfOk, IfErr, Some, None, slice_index, length};
 ghost use Rattle.fs_codec.specs.Disk.{disk_of};
-ghost use Rattle.fs_codec.specs.Faults.{image_fault};
+ghost use Rattle.fs_codec.specs.Faults.{image_fault, fault_within};
 ghost use Rattle.fs_codec.specs.Stands.{store_of};
-ghost use Rattle.buf_cache.specs.Blocks.{blocks_of};
+ghost use Rattle.fs_codec.specs.declared.layout.TheConstants.{DISK_BLOCKS};
+ghost use Rattle.fs_nodes.specs.Keys.{key_count};
+ghost use Rattle.fs_tree.specs.Marks.{no_marks};
+ghost use Rattle.fs_tree.specs.Mounting.{AreMounts};
+ghost use Rattle.abstract_unix.specs.Runs.{stores_of};
+ghost use Rattle.unix_core.specs.Boots.{second_fault_of, blocks_on};
 
 use crate::files::take_root;
 use crate::kernel::Kernel;
 use buf_cache::{Cache, Disk};
 use fs_blocks::Volume;
-use fs_check::{ImageFault, accept};
-use fs_codec::{BLOCK_SIZE, DISK_BYTES, SWAP_START};
+use fs_check::{ImageFault, accept, accept_second};
+use fs_codec::{BLOCK_INODES, BLOCK_SIZE, DISK_BYTES, SWAP_START, super_in};
 use fs_nodes::Nodes;
+use fs_tree::Tree;
 use image_keep::Images;
+use mount_tab::Mounts;
 use pdp_decode::Dispatch;
 use std::alloc::{AllocError, Global};
 use v6_base::{LINES, Tape};
@@ -37,13 +44,33 @@ pub enum BootFault {
     NoMemory,
 }
 
+/// Why there is no second disk.
+#[derive(Clone, Copy, Debug, PartialEq, Eq)]
+pub enum SecondFault {
+    /// Its image has this fault.
+    Image(ImageFault),
+    /// There are so many inodes on both disks, more than there are numbers by which the kernel could know them: 65,535.
+    Nodes(u32),
+}
+
+/// Why there is no kernel for two images.
+#[derive(Clone, Copy, Debug, PartialEq, Eq)]
+pub enum Boot2Fault {
+    /// The image of the root's disk has this fault.
+    Image(ImageFault),
+    /// The image of the second one has this.
+    Second(SecondFault),
+    /// There is no memory for them.
+    NoMemory,
+}
+
 /// The file system on the disk of an image without a fault, and its time.
 fn file_system_of(alloc: Global, image: &[u8]) -> Result<(Nodes, u32), AllocError>
     requires { image_fault image.now ≡ None }
-    ensures store { IfOk result (λ made. made.0.store ≡ store_of (disk_of image.now)) }
-    ensures references { IfOk result (λ made. made.0.references ≡ replicate (made.0.store.count + 1) 0) }
-    ensures blocks { IfOk result (λ made. made.0.blocks ≡ blocks_of image.now) }
-    ensures stored { IfOk result (λ made. made.0.stored ≡ blocks_of image.now) }
+    ensures store { IfOk result (λ made. made.0.store ≡ stores_of image.now None) }
+    ensures references { IfOk result (λ made. (ino : ℕ) → slice_index made.0.references ino ≡ 0) }
+    ensures blocks { IfOk result (λ made. made.0.blocks ≡ blocks_on image.now None) }
+    ensures stored { IfOk result (λ made. made.0.stored ≡ blocks_on image.now None) }
     ensures time { IfOk result (λ made. made.1 ≡ (store_of (disk_of image.now)).stamp) }
 {
     let disk = Disk::from_bytes(alloc, image)?;
@@ -51,6 +78,48 @@ fn file_system_of(alloc: Global, image: &[u8]) -> Result<(Nodes, u32), AllocErro
     let volume = Volume::open_on(cache);
     let time = volume.head().time;
     Ok((Nodes::new(volume), time))
+}
+
+/// The file systems on the disks of two images without a fault, and the time of the first.
+fn file_systems_of(alloc: Global, image: &[u8], second: &[u8]) -> Result<(Nodes, u32), AllocError>
+    requires root { image_fault image.now ≡ None }
+    requires second { fault_within DISK_BLOCKS second.now ≡ None }
+    requires few { key_count (stores_of image.now (Some second.now)) ≤ 65535 }
+    ensures store { IfOk result (λ made. made.0.store ≡ stores_of image.now (Some second.now)) }
+    ensures references { IfOk result (λ made. (ino : ℕ) → slice_index made.0.references ino ≡ 0) }
+    ensures blocks { IfOk result (λ made. made.0.blocks ≡ blocks_on image.now (Some second.now)) }
+    ensures stored { IfOk result (λ made. made.0.stored ≡ blocks_on image.now (Some second.now)) }
+    ensures time { IfOk result (λ made. made.1 ≡ (store_of (disk_of image.now)).stamp) }
+{
+    let disk = Disk::from_bytes(alloc, image)?;
+    let cache = Cache::new(alloc, disk)?;
+    let volume = Volume::open_on(cache);
+    let time = volume.head().time;
+    let disk = Disk::from_bytes(alloc, second)?;
+    let cache = Cache::new(alloc, disk)?;
+    Ok((Nodes::new2(volume, Volume::open_on(cache)), time))
+}
+
+/// How many inodes the disk of an image has.
+fn inode_count(image: &[u8]) -> u32
+    ensures { result ≡ (store_of (disk_of image.now)).count }
+{
+    BLOCK_INODES as u32 * u32::from(super_in(image).i_size)
+}
+
+/// What is wrong with the image of a second disk, beside the image of the root's: its first fault, or else that both disks have
+/// more inodes than there are numbers by which the kernel could know them.
+pub fn second_fault(image: &[u8], second: &[u8]) -> Option<SecondFault>
+    ensures { result ≡ second_fault_of image.now second.now }
+{
+    if let Err(fault) = accept_second(second) {
+        return Some(SecondFault::Image(fault));
+    }
+    let count = inode_count(image) + inode_count(second);
+    if count > 65535 {
+        return Some(SecondFault::Nodes(count));
+    }
+    None
 }
 
 /// Puts what an image has of the swap area there.
@@ -76,18 +145,18 @@ fn swap_area(alloc: Global, image: &[u8]) -> Result<Vec<u8>, AllocError>
 }
 
 impl Kernel {
-    ghost use Rattle.unix_core.specs.Boots.{RefusesBoot};
+    ghost use Rattle.unix_core.specs.Boots.{RefusesBoot, RefusesBoot2};
     ghost use Rattle.abstract_unix.specs.Unix.{New};
-    ghost use Rattle.abstract_unix.specs.Runs.{boots};
+    ghost use Rattle.abstract_unix.specs.Runs.{boots, system_with};
 
     /// Makes the kernel for a disk image, so many clicks of core and so many terminal lines.
     fn boot_with(alloc: Global, image: &[u8], core: u16, lines: u8) -> Result<Kernel, BootFault>
         requires least { 64 ≤ core }
         requires most { core ≤ 3968 }
         requires lines { (lines ≡ 1) ⊎ (lines ≡ 8) }
-        ensures system { IfOk result (λ kernel. boots image.now core lines ≡ Some kernel.system) }
-        ensures blocks { IfOk result (λ kernel. kernel.blocks ≡ blocks_of image.now) }
-        ensures stored { IfOk result (λ kernel. kernel.stored ≡ blocks_of image.now) }
+        ensures system { IfOk result (λ kernel. boots image.now None core lines ≡ Some kernel.system) }
+        ensures blocks { IfOk result (λ kernel. kernel.blocks ≡ blocks_on image.now None) }
+        ensures stored { IfOk result (λ kernel. kernel.stored ≡ blocks_on image.now None) }
         ensures phase { IfOk result (λ kernel. kernel.phase ≡ New) }
         ensures refused { IfErr result (RefusesBoot image.now) }
     {
@@ -98,19 +167,10 @@ impl Kernel {
             return Err(BootFault::NoMemory);
         };
         take_root(&mut nodes);
-        let Ok(swap) = swap_area(alloc, image) else {
-            return Err(BootFault::NoMemory);
-        };
-        let Ok(images) = Images::new(alloc, core, &swap) else {
-            return Err(BootFault::NoMemory);
-        };
-        let Ok(tape) = Tape::new(alloc, TAPE_ENTRIES, TAPE_BYTES) else {
-            return Err(BootFault::NoMemory);
-        };
-        let Ok(dispatch) = Dispatch::new(alloc) else {
-            return Err(BootFault::NoMemory);
-        };
-        Ok(Kernel::new(images, tape, nodes, time, core, lines, dispatch))
+        match Kernel::around(alloc, image, Tree::new(nodes), time, core, lines) {
+            Ok(kernel) => Ok(kernel),
+            Err(_) => Err(BootFault::NoMemory),
+        }
     }
 
     /// Makes the kernel for a disk image and so many clicks of core, before the start of its run. It has one terminal line, the
@@ -120,9 +180,9 @@ impl Kernel {
     pub fn boot(alloc: Global, image: &[u8], core: u16) -> Result<Kernel, BootFault>
         requires least { 64 ≤ core }
         requires most { core ≤ 3968 }
-        ensures system { IfOk result (λ kernel. boots image.now core 1 ≡ Some kernel.system) }
-        ensures blocks { IfOk result (λ kernel. kernel.blocks ≡ blocks_of image.now) }
-        ensures stored { IfOk result (λ kernel. kernel.stored ≡ blocks_of image.now) }
+        ensures system { IfOk result (λ kernel. boots image.now None core 1 ≡ Some kernel.system) }
+        ensures blocks { IfOk result (λ kernel. kernel.blocks ≡ blocks_on image.now None) }
+        ensures stored { IfOk result (λ kernel. kernel.stored ≡ blocks_on image.now None) }
         ensures phase { IfOk result (λ kernel. kernel.phase ≡ New) }
         ensures refused { IfErr result (RefusesBoot image.now) }
     {
@@ -133,12 +193,76 @@ impl Kernel {
     pub fn boot8(alloc: Global, image: &[u8], core: u16) -> Result<Kernel, BootFault>
         requires least { 64 ≤ core }
         requires most { core ≤ 3968 }
-        ensures system { IfOk result (λ kernel. boots image.now core LINES ≡ Some kernel.system) }
-        ensures blocks { IfOk result (λ kernel. kernel.blocks ≡ blocks_of image.now) }
-        ensures stored { IfOk result (λ kernel. kernel.stored ≡ blocks_of image.now) }
+        ensures system { IfOk result (λ kernel. boots image.now None core LINES ≡ Some kernel.system) }
+        ensures blocks { IfOk result (λ kernel. kernel.blocks ≡ blocks_on image.now None) }
+        ensures stored { IfOk result (λ kernel. kernel.stored ≡ blocks_on image.now None) }
         ensures phase { IfOk result (λ kernel. kernel.phase ≡ New) }
         ensures refused { IfErr result (RefusesBoot image.now) }
     {
         Kernel::boot_with(alloc, image, core, LINES)
+    }
+
+    /// Makes the kernel for two disk images and so many clicks of core, before the start of its run. The second disk is mounted
+    /// nowhere, and there is one terminal line, the console.
+    ///
+    /// It keeps disks of its own, and takes all the memory that it will ever use.
+    pub fn boot2(
+        alloc: Global,
+        image: &[u8],
+        second: &[u8],
+        core: u16,
+    ) -> Result<Kernel, Boot2Fault>
+        requires least { 64 ≤ core }
+        requires most { core ≤ 3968 }
+        ensures system { IfOk result (λ kernel. boots image.now (Some second.now) core 1 ≡ Some kernel.system) }
+        ensures blocks { IfOk result (λ kernel. kernel.blocks ≡ blocks_on image.now (Some second.now)) }
+        ensures stored { IfOk result (λ kernel. kernel.stored ≡ blocks_on image.now (Some second.now)) }
+        ensures phase { IfOk result (λ kernel. kernel.phase ≡ New) }
+        ensures refused { IfErr result (RefusesBoot2 image.now second.now) }
+    {
+        if let Err(fault) = accept(image) {
+            return Err(Boot2Fault::Image(fault));
+        }
+        if let Some(fault) = second_fault(image, second) {
+            return Err(Boot2Fault::Second(fault));
+        }
+        let Ok((mut nodes, time)) = file_systems_of(alloc, image, second) else {
+            return Err(Boot2Fault::NoMemory);
+        };
+        take_root(&mut nodes);
+        let mounts = Mounts::new(inode_count(image) as u16, inode_count(second) as u16);
+        match Kernel::around(alloc, image, Tree::new2(nodes, mounts), time, core, 1) {
+            Ok(kernel) => Ok(kernel),
+            Err(_) => Err(Boot2Fault::NoMemory),
+        }
+    }
+
+    /// The kernel with a tree of names and so many terminal lines, on the swap area of an image.
+    fn around(
+        alloc: Global,
+        image: &[u8],
+        tree: Tree,
+        time: u32,
+        core: u16,
+        lines: u8,
+    ) -> Result<Kernel, AllocError>
+        requires least { 64 ≤ core }
+        requires most { core ≤ 3968 }
+        requires referred { (ino : ℕ) → slice_index tree.nodes.references ino ≡ (if ino == 1 then 2 else 0) }
+        requires mounts { AreMounts tree.mounts tree.nodes.store }
+        requires uncovered { tree.mounts.covered ≡ None }
+        requires unmarked { tree.marks ≡ no_marks }
+        requires time { time ≡ tree.nodes.store.root.stamp }
+        requires lines { (lines ≡ 1) ⊎ (lines ≡ 8) }
+        ensures system { IfOk result (λ kernel. kernel.system ≡ system_with tree.nodes.store core lines) }
+        ensures blocks { IfOk result (λ kernel. kernel.blocks ≡ tree.nodes.blocks) }
+        ensures stored { IfOk result (λ kernel. kernel.stored ≡ tree.nodes.stored) }
+        ensures phase { IfOk result (λ kernel. kernel.phase ≡ New) }
+    {
+        let swap = swap_area(alloc, image)?;
+        let images = Images::new(alloc, core, &swap)?;
+        let tape = Tape::new(alloc, TAPE_ENTRIES, TAPE_BYTES)?;
+        let dispatch = Dispatch::new(alloc)?;
+        Ok(Kernel::new(images, tape, tree, time, core, lines, dispatch))
     }
 }

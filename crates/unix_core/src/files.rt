@@ -1,5 +1,5 @@
 //! The inodes that the kernel and its process refer to.
-ghost use Rattle.std.specs.Prelude.{◌≡◌, ℕ, ◌+◌, ◌≤◌, ◌==◌, if◌then◌else◌, slice_index, replicate, length};
+ghost use Rattle.std.specs.Prelude.{◌≡◌, ℕ, ◌+◌, ◌≤◌, ◌==◌, if◌then◌else◌, slice_index, length};
 ghost use Rattle.std.specs.List.{All};
 ghost use Rattle.lines_eight.specs.Lines.{HasRoom};
 ghost use Rattle.image_keep.specs.Kept.{IsKept};
@@ -79,7 +79,7 @@ pub(crate) fn see_words(words: &[u16; 8])
 
 /// Takes inode 1 as the root and as the directory of process 1.
 pub(crate) fn take_root(nodes: &mut Nodes)
-    requires none { nodes.old.references ≡ replicate (nodes.old.store.count + 1) 0 }
+    requires none { (ino : ℕ) → slice_index nodes.old.references ino ≡ 0 }
     ensures store { nodes.new.store ≡ nodes.old.store }
     ensures blocks { nodes.new.blocks ≡ nodes.old.blocks }
     ensures stored { nodes.old.stored ≡ nodes.old.blocks → nodes.new.stored ≡ nodes.old.blocks }

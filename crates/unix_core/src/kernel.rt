@@ -1,11 +1,15 @@
 //! The kernel, which takes one event a call.
-ghost use Rattle.std.specs.Prelude.{◌≡◌, ◌≢◌, ◌⊎◌, ◌==◌, ◌<◌, ◌≤◌, ℕ, [], slice_index, slice_set, if◌then◌else◌, true, false};
+ghost use Rattle.std.specs.Prelude.{◌≡◌, ◌≢◌, ◌⊎◌, ◌==◌, ◌<◌, ◌≤◌, ℕ, [], slice_index, slice_set, if◌then◌else◌, true, false, None};
 ghost use Rattle.v6_base.specs.Trace.{Took};
 ghost use Rattle.v6_base.specs.Tape.{blank};
 ghost use Rattle.fs_codec.specs.Disk.{head};
 ghost use Rattle.fs_codec.specs.Stands.{StandsFor};
 ghost use Rattle.fs_codec.specs.declared.layout.TheConstants.{SWAP_START};
 ghost use Rattle.buf_cache.specs.Blocks.{block_at, IsDisk};
+ghost use Rattle.fs_nodes.specs.Disks.{OfSecond};
+ghost use Rattle.fs_nodes.specs.FileSystem.{AllStand};
+ghost use Rattle.fs_tree.specs.Marks.{no_marks};
+ghost use Rattle.fs_tree.specs.Mounting.{AreMounts};
 ghost use Rattle.image_keep.specs.Kept.{Alive, first_kept, with_keeping};
 ghost use Rattle.image_keep.specs.Deposits.{memory_size, HasByte, IsNobodys};
 ghost use Rattle.unix_core.specs.Parts.{first_held};
@@ -23,7 +27,6 @@ use crate::slots::Slots;
 use crate::world::World;
 use abstract_unix::Turned;
 use fs_codec::DISK_BLOCKS;
-use fs_nodes::Nodes;
 use fs_tree::Tree;
 use image_keep::Images;
 use lines_eight::Lines;
@@ -100,7 +103,7 @@ impl Kernel {
     pub(crate) fn new(
         images: Images,
         tape: Tape,
-        nodes: Nodes,
+        tree: Tree,
         time: u32,
         core: u16,
         lines: u8,
@@ -110,16 +113,18 @@ impl Kernel {
         requires most { core ≤ 3968 }
         requires images { images.kept ≡ first_kept core }
         requires tape { tape ≡ blank 64 524288 }
-        requires referred { (ino : ℕ) → slice_index nodes.references ino ≡ (if ino == 1 then 2 else 0) }
-        requires time { time ≡ nodes.store.stamp }
+        requires referred { (ino : ℕ) → slice_index tree.nodes.references ino ≡ (if ino == 1 then 2 else 0) }
+        requires mounts { AreMounts tree.mounts tree.nodes.store }
+        requires uncovered { tree.mounts.covered ≡ None }
+        requires unmarked { tree.marks ≡ no_marks }
+        requires time { time ≡ tree.nodes.store.root.stamp }
         requires lines { (lines ≡ 1) ⊎ (lines ≡ 8) }
-        ensures system { result.system ≡ system_with nodes.store core lines }
-        ensures blocks { result.blocks ≡ nodes.blocks }
-        ensures stored { result.stored ≡ nodes.stored }
+        ensures system { result.system ≡ system_with tree.nodes.store core lines }
+        ensures blocks { result.blocks ≡ tree.nodes.blocks }
+        ensures stored { result.stored ≡ tree.nodes.stored }
         ensures phase { result.phase ≡ New }
     {
-        nodes.see();
-        let tree = Tree::new(nodes);
+        tree.nodes.see();
         let files = Files {
             tree,
             table: OpenTable::new(),
@@ -342,7 +347,7 @@ impl Kernel {
         is_put
     }
 
-    /// Ends a run: writes to the disk what has changed, and the super-block with the time where that has. A file system that
+    /// Ends a run: writes to each disk what has changed, and the super-block with the time where that has. A file system that
     /// keeps clear of the swap area, as each that was booted does, is without a fault there too. sync(II) of the manual;
     /// `update` in Lions' Commentary, `alloc.c`. Core and the swap area then keep what the system tells.
     pub fn finish(&mut self)
@@ -353,11 +358,12 @@ impl Kernel {
         ensures core { self.new.core ≡ self.old.core }
         ensures swap { self.new.swap ≡ self.old.swap }
         ensures stored { self.new.stored ≡ self.new.blocks }
-        ensures stands { StandsFor DISK_BLOCKS (block_at self.new.stored) self.new.system.unix.store }
-        ensures below { (head (block_at self.old.blocks)).f_size ≤ SWAP_START
-            → StandsFor SWAP_START (block_at self.new.stored) self.new.system.unix.store }
+        ensures stands { AllStand self.new.stored self.new.system.unix.store }
+        ensures below { (head (block_at self.old.blocks.root)).f_size ≤ SWAP_START
+            → StandsFor SWAP_START (block_at self.new.stored.root) self.new.system.unix.store.root }
         ensures rest { KeepsRest self.old self.new }
-        ensures form { IsDisk self.new.blocks }
+        ensures form { IsDisk self.new.blocks.root }
+        ensures second_form { OfSecond IsDisk self.new.blocks.second }
     {
         self.machine.stage = Stage::Finished;
         self.machine

@@ -17,5 +17,5 @@ mod slots;
 mod world;
 
 pub use abstract_unix::{Ends, Turned};
-pub use boot::BootFault;
+pub use boot::{Boot2Fault, BootFault, SecondFault, second_fault};
 pub use kernel::Kernel;

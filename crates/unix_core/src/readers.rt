@@ -1,6 +1,6 @@
 //! What a kernel tells of its memory and its disk: the bytes of core and of the swap area, where images stand, and the blocks
 //! that a run leaves.
-ghost use Rattle.std.specs.Prelude.{◌≡◌, ◌<◌, ◌≤◌, ◌+◌, ◌*◌, ◌-◌, ℕ, List, length, slice_index};
+ghost use Rattle.std.specs.Prelude.{◌≡◌, ◌<◌, ◌≤◌, ◌+◌, ◌*◌, ◌-◌, ℕ, List, IsSome, IfSome, length, slice_index};
 ghost use Rattle.fs_codec.specs.declared.layout.TheConstants.{SWAP_START};
 ghost use Rattle.buf_cache.specs.Blocks.{block_at};
 ghost use Rattle.core_mem.specs.Bytes.{part};
@@ -95,11 +95,11 @@ impl Kernel {
     /// what the swap area holds.
     pub fn disk_block(&self, n: u16) -> [u8; 512]
         requires { n < DISK_BLOCKS }
-        ensures below { n < SWAP_START → result ≡ block_at self.now.stored n }
+        ensures below { n < SWAP_START → result ≡ block_at self.now.stored.root n }
         ensures swapped { SWAP_START ≤ n → result ≡ part self.now.swap (512 * (n - SWAP_START)) 512 }
     {
         if n < SWAP_START {
-            *self.machine.world.files.tree.nodes.on_disk(n)
+            *self.machine.world.files.tree.nodes.on_disk(0, n)
         } else {
             swap_block(self.swap(), usize::from(n - SWAP_START))
         }
@@ -109,9 +109,19 @@ impl Kernel {
     pub fn final_block(&self, n: u16) -> [u8; 512]
         requires finished { self.now.phase ≡ Finished }
         requires block { n < DISK_BLOCKS }
-        ensures below { n < SWAP_START → result ≡ block_at self.now.stored n }
+        ensures below { n < SWAP_START → result ≡ block_at self.now.stored.root n }
         ensures swapped { SWAP_START ≤ n → result ≡ part self.now.swap (512 * (n - SWAP_START)) 512 }
     {
         self.disk_block(n)
+    }
+
+    /// Block `n` of the second disk, as a run that has been finished leaves it.
+    pub fn second_block(&self, n: u16) -> [u8; 512]
+        requires finished { self.now.phase ≡ Finished }
+        requires block { n < DISK_BLOCKS }
+        requires second { IsSome self.now.system.unix.store.second }
+        ensures { IfSome self.now.stored.second (λ stored. result ≡ block_at stored n) }
+    {
+        *self.machine.world.files.tree.nodes.on_disk(1, n)
     }
 }

@@ -1,5 +1,5 @@
 -- What a kernel can take of a script: the slots that it has room for.
-use Rattle.std.proofs.Common.{◌≡◌, ◌∙◌, ◌<◌, ◌≤◌, ◌+◌, ℕ, Bool, true, false, cond, List, [], ◌∷◌, length, drop, get_or, is_some, Some, None, sym, ap, subst, arith}
+use Rattle.std.proofs.Common.{◌≡◌, ◌∙◌, ◌<◌, ◌≤◌, ◌+◌, ◌||◌, ℕ, Bool, true, false, cond, List, [], ◌∷◌, length, drop, get_or, is_some, Option, Some, None, sym, ap, subst, arith}
 use Rattle.std.specs.List.{sum_by}
 use Rattle.std.proofs.lemmas.List.{drop_more}
 use Rattle.std.proofs.lemmas.List.Sums.{sum_by-cons}
@@ -8,23 +8,23 @@ use Rattle.script_text.specs.declared.script.Event.TheVariants as ask
 use Rattle.script_text.specs.Script.{slots_of, AreRates}
 use Rattle.fs_codec.specs.Faults.{image_fault}
 use Rattle.abstract_unix.specs.Unix.{Timing, System}
-use Rattle.abstract_unix.specs.Runs.{system_of, boots, start_of}
+use Rattle.abstract_unix.specs.Runs.{system_of, is_second_bad, boots, start_of}
 use Rattle.abstract_unix.specs.declared.ends.Ends.TheVariants.{AtEnd}
 use Rattle.abstract_unix.proofs.Uncounted.{start_timing}
 use Rattle.v6_run.specs.Courses.{CanTake}
 
 -- a kernel that was booted has taken no slot
-pub boots_fresh : (image : List ℕ) (core : ℕ) (m : System) → boots image core 1 ≡ Some m → m.unix.timing.passed ≡ 0
-boots_fresh image core m is = by (is_some (image_fault image)) is
+pub boots_fresh : (image : List ℕ) (second : Option (List ℕ)) (core : ℕ) (m : System) → boots image second core 1 ≡ Some m → m.unix.timing.passed ≡ 0
+boots_fresh image second core m is = by (is_some (image_fault image) || is_second_bad image second) is
   where
-    by : (b : Bool) → cond b None (Some (system_of image core 1)) ≡ Some m → m.unix.timing.passed ≡ 0
+    by : (b : Bool) → cond b None (Some (system_of image second core 1)) ≡ Some m → m.unix.timing.passed ≡ 0
     by true e = absurd (cc e)
-    by false e = let same : system_of image core 1 ≡ m = cc e in sym (ap (λ (s : System). s.unix.timing.passed) same)
+    by false e = let same : system_of image second core 1 ≡ m = cc e in sym (ap (λ (s : System). s.unix.timing.passed) same)
 
-pub boot_can : (image : List ℕ) (core : ℕ) (m : System) (events : List Event) → boots image core 1 ≡ Some m → sum_by slots_of events ≤ 200000000
+pub boot_can : (image : List ℕ) (second : Option (List ℕ)) (core : ℕ) (m : System) (events : List Event) → boots image second core 1 ≡ Some m → sum_by slots_of events ≤ 200000000
     → AreRates events → CanTake m events
-boot_can image core m events is few rates =
-    let none = boots_fresh image core m is in record { fresh = omega (arith, none, few); rates = rates }
+boot_can image second core m events is few rates =
+    let none = boots_fresh image second core m is in record { fresh = omega (arith, none, few); rates = rates }
 
 -- and neither has one that was started
 pub start_can : (m next : System) (events : List Event) → (start_of m).ending ≡ AtEnd → next ≡ (start_of m).next → CanTake m events → CanTake next events

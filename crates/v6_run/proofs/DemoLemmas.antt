@@ -1,5 +1,5 @@
 -- What `demo` answers, exit by exit.
-use Rattle.std.proofs.Common.{◌≡◌, MatchOption, ℕ, true, Option, Some, None, is_some, if◌then◌else◌, List, [], ◌∷◌, Result, Ok, Err, IfOk, MatchResult, refl, sym, ◌∙◌, ap, subst}
+use Rattle.std.proofs.Common.{◌≡◌, MatchOption, ◌||◌, ℕ, true, false, Option, Some, None, is_some, if◌then◌else◌, List, [], ◌∷◌, Result, Ok, Err, IfOk, MatchResult, refl, sym, ◌∙◌, ap, subst}
 use Rattle.v6_port.specs.declared.host.OutPort.TheVariants as out_port
 use Rattle.v6_port.specs.Outside.{Out, Environment, Outside}
 use Rattle.v6_port.specs.Causes.{Calm, FaultAt}
@@ -84,14 +84,14 @@ module _ (number : ℕ) (o : Outside) where
   -- the disk has no fault, and the script is read
   module _ (good : image_fault (build_of number) ≡ None) (events : List asked.Event) (read : script_of demo_text ≡ Ok events) where
     abbrev system : System
-    system = system_of (build_of number) DEMO_CORE 1
+    system = system_of (build_of number) None DEMO_CORE 1
 
     abbrev all : Course
-    all = run_of (build_of number) DEMO_CORE 1 (events_of events)
+    all = run_of (build_of number) None DEMO_CORE 1 (events_of events)
 
     complete : IsKnownAnd (demo_completion number) (IsComplete (status_at all.ending) o o)
-    complete = subst (λ f. IsKnownAnd (fault_completion f (Known (run_completion DEMO_CORE no_writing (build_of number) demo_text))) (IsComplete (status_at all.ending) o o)) (sym good)
-        (subst (λ r. IsComplete (status_at all.ending) o o (lines_completion DEMO_CORE no_writing (build_of number) r)) (sym read)
+    complete = subst (λ f. IsKnownAnd (fault_completion f (Known (run_completion DEMO_CORE no_writing (build_of number) None demo_text))) (IsComplete (status_at all.ending) o o)) (sym good)
+        (subst (λ r. IsComplete (status_at all.ending) o o (lines_completion DEMO_CORE no_writing (build_of number) None r)) (sym read)
         (complete_unwritten (status_at all.ending) o o (λ p. refl)))
 
     ends_so : (e : Ends) → all.ending ≡ e → Answers (Demo number) (status_at e) o o
@@ -102,6 +102,7 @@ module _ (number : ℕ) (o : Outside) where
     stops_so run.NoMemory stops = no_memory
     stops_so (run.Panic kind) stops = ends_so (ends.Panic kind) stops
     stops_so (run.Image e) stops = absurd stops
+    stops_so (run.Second e) stops = absurd stops
     stops_so (run.Script e) stops = absurd stops
     stops_so (run.Refused e) stops = absurd stops
     stops_so (run.Write output) stops = absurd stops
@@ -115,8 +116,8 @@ module _ (number : ℕ) (o : Outside) where
     line_so (Err e) outcome = _
 
     -- the system that was booted is that of the disk
-    module _ (booted : System) (boots_is : boots (build_of number) DEMO_CORE 1 ≡ Some booted) where
-      of_disk : (f : Option codec.ImageFault) → (if is_some f then None else Some system) ≡ Some booted → system ≡ booted
+    module _ (booted : System) (boots_is : boots (build_of number) None DEMO_CORE 1 ≡ Some booted) where
+      of_disk : (f : Option codec.ImageFault) → (if is_some f || false then None else Some system) ≡ Some booted → system ≡ booted
       of_disk None is = cc is
       of_disk (Some f) is = absurd (cc is)
 

@@ -10,7 +10,7 @@ use Rattle.fs_codec.specs.Disk.{Disk, disk_of, head}
 use Rattle.fs_codec.specs.Stands.{StandsFor}
 use Rattle.fs_codec.specs.declared.layout.TheConstants.{DISK_BLOCKS, SWAP_START}
 use Rattle.buf_cache.specs.Blocks.{block_at, blocks_of, IsDisk}
-use Rattle.fs_laws.proofs.RestLemmas.{rest_then}
+use Rattle.fs_nodes.proofs.RestLemmas.{rest_then}
 use Rattle.pick_rules.specs.Lawful.{Lawful}
 use Rattle.abstract_unix.specs.declared.ends.Ends.{Ends}
 use Rattle.abstract_unix.specs.declared.ends.Ends.TheVariants as ends
@@ -23,7 +23,7 @@ use Rattle.unix_core.specs.State.{KernelState, KeepsRest}
 use Rattle.unix_core.specs.Memory.{kept_in}
 use Rattle.abstract_unix.specs.Runs.{Course, shown_by, finished}
 use Rattle.fs_laws.proofs.ImageLemmas.{block_of_image}
-use Rattle.fs_laws.specs.Rest.{SameAround}
+use Rattle.fs_nodes.specs.FileSystem.{SameAroundEach}
 use Rattle.v6_run.specs.Ports as ports
 use Rattle.v6_run.specs.Ports.{term, final_of, HasShown, HasShownFronts}
 use Rattle.v6_run.specs.Fronts.{HoldsFront, HoldsSome, HoldsFrontOfSome}
@@ -168,7 +168,7 @@ module _ (files : DiskFiles) (first : Disk) (run : Course) (lawful : Lawful (log
 
 -- the disk that a run leaves, where it has ended
 pub run_leaves : (old played ended : KernelState) (run : Course) → (head (block_at old.blocks)).f_size ≤ SWAP_START → played.system ≡ run.system → KeepsRest old played
-    → ended.system ≡ finished played.system → StandsFor DISK_BLOCKS (block_at ended.stored) ended.system.unix.store → SameAround played.blocks ended.stored → IsDisk ended.stored
+    → ended.system ≡ finished played.system → StandsFor DISK_BLOCKS (block_at ended.stored) ended.system.unix.store → SameAroundEach played.blocks ended.stored → IsDisk ended.stored
     → (swap : List ℕ) → SwapHolds swap (kept_in ended.system) → AreRangesApart (kept_in ended.system)
     → IsFinal (block_at old.blocks) (finished run.system) (disk_text ended.stored ++ swap)
 run_leaves old played ended run low plays first finishes stands second form swap holds apart =

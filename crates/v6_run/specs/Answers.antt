@@ -1,5 +1,5 @@
 -- What a command comes to before its report, and then with it: the parts of the contract of `v6` as they are proved.
-use Rattle.std.specs.Prelude.{◌≡◌, ◌≢◌, ℕ, true, false, Option, Some, None, is_some, Result, IsOkAnd, List, ◌++◌, take, ◌⊎◌}
+use Rattle.std.specs.Prelude.{◌≡◌, ◌≢◌, ℕ, true, false, Option, Some, None, is_some, MatchOption, Result, IsOkAnd, List, ◌++◌, take, ◌⊎◌}
 use Rattle.std.specs.Option.{option_map}
 use Rattle.v6_port.specs.declared.host.OutPort.{OutPort}
 use Rattle.v6_port.specs.declared.host.OutPort.TheVariants as out_port
@@ -12,7 +12,8 @@ use Rattle.v6_run.specs.declared.status.Status.{Status}
 use Rattle.v6_run.specs.declared.status.Status.TheVariants.{Done, WriteFault}
 use Rattle.v6_run.specs.declared.error.CommandError.{CommandError}
 use Rattle.v6_run.specs.declared.report.Found.{Found}
-use Rattle.v6_run.specs.Words.{RunWords, Command, Run}
+use Rattle.unix_core.specs.Boots.{second_fault_of}
+use Rattle.v6_run.specs.Words.{RunWords, second_image, Command, Run}
 use Rattle.v6_run.specs.Status.{is_decided, has_written, is_closed}
 use Rattle.v6_run.specs.Errors.{command_status, end_of}
 use Rattle.v6_run.specs.Report.{report, answer_line}
@@ -51,11 +52,18 @@ pub record Reports (answer : Result (Option Found) CommandError) (status : Statu
   pub whole : Tells old → (report new).faults ≡ (report old).faults → (report new).bytes ≡ (report old).bytes ++ answer_line answer
   pub front : Tells old → HoldsFront (report old).bytes (answer_line answer) (report new).bytes
 
--- both files have been read, the image has no fault, and so far nothing has been written
-pub record HasFiles (words : RunWords) (image bytes : List ℕ) (old new : Outside) : Type 0 where
+-- a second image has been read where the words name one, and nothing is wrong with it
+abbrev pub HasSecond : List ℕ → Option (List ℕ) → Option (List ℕ) → Outside → Type 0
+HasSecond image None second old = second ≡ None
+HasSecond image (Some name) second old = MatchOption second ⊥ (λ bytes. (second_fault_of image bytes ≡ None)
+    × (Tells old → option_map (take IMAGE_LIMIT) (old.fixed.given name) ≡ Some bytes))
+
+-- all files have been read, the images have no fault, and so far nothing has been written
+pub record HasFiles (words : RunWords) (image : List ℕ) (second : Option (List ℕ)) (bytes : List ℕ) (old new : Outside) : Type 0 where
   pub only : OnlyAt (is_named (Run words)) old new
   pub none : (p : OutPort) → new.port (Out p) ≡ old.port (Out p)
   pub calm : Calm old new
   pub good : image_fault image ≡ None
+  pub second : HasSecond image (second_image words.outputs) second old
   pub image_is : Tells old → option_map (take IMAGE_LIMIT) (old.fixed.given words.image) ≡ Some image
   pub script_is : Tells old → option_map (take SCRIPT_LIMIT) (old.fixed.given words.script) ≡ Some bytes

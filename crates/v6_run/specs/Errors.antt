@@ -9,6 +9,8 @@ use Rattle.v6_run.specs.declared.files.ReadError.{ReadError}
 use Rattle.v6_run.specs.declared.files.ReadError.TheVariants as reading
 use Rattle.v6_run.specs.declared.image.ImageError.{ImageError}
 use Rattle.v6_run.specs.declared.image.ImageError.TheVariants as image
+use Rattle.v6_run.specs.declared.image.SecondError.{SecondError}
+use Rattle.v6_run.specs.declared.image.SecondError.TheVariants as second
 use Rattle.script_text.specs.declared.script.ScriptFault.{ScriptFault}
 use Rattle.script_text.specs.declared.script.ScriptFault.TheVariants as fault
 use Rattle.v6_run.specs.declared.run.RunError.{RunError}
@@ -28,6 +30,10 @@ abbrev pub image_status : ImageError → Status
 image_status (image.Unread error) = read_status in_port.Image error
 image_status (image.Faulty fault) = status.ImageFault fault
 
+abbrev pub second_status : SecondError → Status
+second_status (second.Unread error) = read_status in_port.Second error
+second_status (second.Faulty fault) = status.SecondFault fault
+
 -- want of memory is a status of its own
 abbrev pub script_status : ScriptFault → Status
 script_status fault.NoMemory = status.NoMemory
@@ -35,6 +41,7 @@ script_status fault = status.ScriptFault fault
 
 abbrev pub run_status : RunError → Status
 run_status (run.Image error) = image_status error
+run_status (run.Second error) = second_status error
 run_status (run.Script error) = read_status in_port.Script error
 run_status (run.Refused error) = script_status error
 run_status run.NoMemory = status.NoMemory

@@ -3,7 +3,8 @@ use Rattle.std.specs.Prelude.{◌≡◌, ◌<◌, ◌≤◌, ◌*◌, ℕ, List,
 use Rattle.std.specs.List.{range_with_len}
 use Rattle.fs_codec.specs.Disk.{Disk, disk_of, head}
 use Rattle.fs_codec.specs.Stands.{StandsFor}
-use Rattle.fs_codec.specs.declared.layout.TheConstants.{DISK_BYTES, SWAP_START}
+use Rattle.fs_codec.specs.Store.{Store}
+use Rattle.fs_codec.specs.declared.layout.TheConstants.{DISK_BYTES, DISK_BLOCKS, SWAP_START}
 use Rattle.buf_cache.specs.Blocks.{block_at}
 use Rattle.core_mem.specs.Bytes.{part}
 use Rattle.image_keep.specs.declared.memory.TheConstants.{SWAP_BYTES}
@@ -17,7 +18,7 @@ use Rattle.unix_core.specs.Memory.{kept_in}
 -- ranges meet.
 pub record IsFinal (first : Disk) (m : System) (text : List ℕ) : Type 0 where
   pub long : length text ≡ DISK_BYTES
-  pub stands : StandsFor SWAP_START (disk_of text) m.unix.store
+  pub stands : StandsFor SWAP_START (disk_of text) m.unix.store.root
   pub boot : disk_of text 0 ≡ first 0
   pub size : (head (disk_of text)).f_size ≡ (head first).f_size
   pub behind : (n : ℕ) → (head first).f_size ≤ n → n < SWAP_START → disk_of text n ≡ first n
@@ -27,6 +28,19 @@ pub record IsFinal (first : Disk) (m : System) (text : List ℕ) : Type 0 where
 -- the bytes of all blocks of a disk before the swap area, in order
 unfoldable pub disk_text : List (List ℕ) → List ℕ
 disk_text blocks = flat_map (block_at blocks) (range_with_len 0 SWAP_START)
+
+-- The same of a second disk, which has no swap area: all of it but the boot block and what comes after the file system, which are
+-- as on the disk that the run began with, stands for the system's second store.
+pub record IsFinalSecond (first : Disk) (store : Store) (text : List ℕ) : Type 0 where
+  pub long : length text ≡ DISK_BYTES
+  pub stands : StandsFor DISK_BLOCKS (disk_of text) store
+  pub boot : disk_of text 0 ≡ first 0
+  pub size : (head (disk_of text)).f_size ≡ (head first).f_size
+  pub behind : (n : ℕ) → (head first).f_size ≤ n → n < DISK_BLOCKS → disk_of text n ≡ first n
+
+-- the bytes of all its blocks, in order
+unfoldable pub second_text : List (List ℕ) → List ℕ
+second_text blocks = flat_map (block_at blocks) (range_with_len 0 DISK_BLOCKS)
 
 -- These bytes are those of core and then those of the swap area, which hold what a system keeps there.
 pub record IsMemory (m : System) (text : List ℕ) : Type 0 where

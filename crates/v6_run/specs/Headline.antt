@@ -1,6 +1,8 @@
 -- What a command answers and writes, from its words and the bytes of its files, in the order of docs/manual/commands.md: the
--- words, the size of core, the image's first fault, the script's first fault, and the run; or the log's first line at fault.
+-- words, the size of core, the image's first fault, what is wrong with the second one, the script's first fault, and the run; or the
+-- log's first line at fault.
 use Rattle.std.specs.Prelude.{◌≡◌, ℕ, Bool, true, false, Option, Some, None, List, [], length, take, nat_le, not, ◌&&◌, ◌||◌, if◌then◌else◌, Result, Ok, Err}
+use Rattle.std.specs.Option.{option_map}
 use Rattle.v6_port.specs.declared.host.InPort.TheVariants as in_port
 use Rattle.v6_port.specs.declared.host.OutPort.{OutPort}
 use Rattle.v6_port.specs.declared.host.OutPort.TheVariants as out_port
@@ -23,7 +25,9 @@ use Rattle.v6_run.specs.declared.status.Status.{Status}
 use Rattle.v6_run.specs.declared.status.Status.TheVariants as status
 use Rattle.abstract_unix.specs.declared.ends.Ends.{Ends}
 use Rattle.abstract_unix.specs.declared.ends.Ends.TheVariants.{AtEnd, Panic}
-use Rattle.v6_run.specs.Words.{RunWords, Command, Run, Check, Make, Demo, Audit}
+use Rattle.unix_core.specs.declared.boot.SecondFault.{SecondFault}
+use Rattle.unix_core.specs.Boots.{second_fault_of}
+use Rattle.v6_run.specs.Words.{RunWords, second_image, Command, Run, Check, Make, Demo, Audit}
 use Rattle.v6_run.specs.Logs.{lines_of, AuditEnds}
 use Rattle.v6_run.specs.Events.{events_of}
 use Rattle.v6_run.specs.Status.{has_written}
@@ -35,7 +39,7 @@ use Rattle.v6_run.specs.Report.{store_line, course_line, lawful_line}
 abbrev pub is_core_size : ℕ → Bool
 is_core_size core = nat_le 64 core && nat_le core 3968
 
--- `run` and `memory` are the commands with a size of core
+-- `run`, `run2` and `memory` are the commands with a size of core
 abbrev pub has_core_size : Command → Bool
 has_core_size (Run words) = is_core_size words.core
 has_core_size _ = true
@@ -79,22 +83,23 @@ abbrev pub course_completion : Writing → Course → Completion
 course_completion writes c = record { ends = λ t. t ≡ status_at c.ending; writes = writes c }
 
 -- in so much core, from an image without a fault, and a script or its first fault
-abbrev pub lines_completion : ℕ → Writing → List ℕ → Result (List Event) ScriptFault → Completion
-lines_completion core writes image (Err fault) = ends_with (status.ScriptFault fault)
-lines_completion core writes image (Ok events) = course_completion writes (run_of image core 1 (events_of events))
+abbrev pub lines_completion : ℕ → Writing → List ℕ → Option (List ℕ) → Result (List Event) ScriptFault → Completion
+lines_completion core writes image second (Err fault) = ends_with (status.ScriptFault fault)
+lines_completion core writes image second (Ok events) = course_completion writes (run_of image second core 1 (events_of events))
 
-abbrev pub run_completion : ℕ → Writing → List ℕ → List ℕ → Completion
-run_completion core writes image bytes = lines_completion core writes image (script_of bytes)
+abbrev pub run_completion : ℕ → Writing → List ℕ → Option (List ℕ) → List ℕ → Completion
+run_completion core writes image second bytes = lines_completion core writes image second (script_of bytes)
 
--- Of `run` the terminal and LOG get what the run shows, and FINAL the disk that it leaves. Of `memory` FINAL gets core and the
--- swap area.
-abbrev pub bytes_completion : RunWords → List ℕ → List ℕ → Completion
-bytes_completion words image bytes = run_completion words.core (run_writes words.outputs (disk_of image)) image bytes
+-- Of `run` the terminal and LOG get what the run shows, and FINAL the disk that it leaves; of `run2` FINAL2 gets the second disk too.
+-- Of `memory` FINAL gets core and the swap area.
+abbrev pub bytes_completion : RunWords → List ℕ → Option (List ℕ) → List ℕ → Completion
+bytes_completion words image second bytes =
+    run_completion words.core (run_writes words.outputs (disk_of image) (option_map disk_of second)) image second bytes
 
 -- from the bytes of SCRIPT, of which at most one more is read than a script may have
-abbrev pub script_completion : RunWords → Option (List ℕ) → List ℕ → MaybeCompletion
-script_completion words None image = Unknown
-script_completion words (Some bytes) image = Known (bytes_completion words image (take SCRIPT_LIMIT bytes))
+abbrev pub script_completion : RunWords → Option (List ℕ) → List ℕ → Option (List ℕ) → MaybeCompletion
+script_completion words None image second = Unknown
+script_completion words (Some bytes) image second = Known (bytes_completion words image second (take SCRIPT_LIMIT bytes))
 
 abbrev pub fault_completion : Option ImageFault → MaybeCompletion → MaybeCompletion
 fault_completion (Some fault) rest = Known (ends_with (status.ImageFault fault))
@@ -105,13 +110,27 @@ abbrev pub image_completion : Option (List ℕ) → (List ℕ → MaybeCompletio
 image_completion None rest = Unknown
 image_completion (Some bytes) rest = fault_completion (image_fault (take IMAGE_LIMIT bytes)) (rest (take IMAGE_LIMIT bytes))
 
+-- from the bytes of IMAGE2, where the words name it, beside an image: what is wrong with it, or what comes after
+abbrev pub second_fault_completion : Option SecondFault → MaybeCompletion → MaybeCompletion
+second_fault_completion (Some fault) rest = Known (ends_with (status.SecondFault fault))
+second_fault_completion None rest = rest
+
+abbrev pub given_second : List ℕ → Option (List ℕ) → (Option (List ℕ) → MaybeCompletion) → MaybeCompletion
+given_second image None rest = Unknown
+given_second image (Some bytes) rest =
+    second_fault_completion (second_fault_of image (take IMAGE_LIMIT bytes)) (rest (Some (take IMAGE_LIMIT bytes)))
+
+abbrev pub second_completion : Option (List ℕ) → Environment → List ℕ → (Option (List ℕ) → MaybeCompletion) → MaybeCompletion
+second_completion None fixed image rest = rest None
+second_completion (Some name) fixed image rest = given_second image (fixed.given name) rest
+
 -- `demo` is a run of the script of the demo over the disk that `make` builds. It writes no file.
 abbrev pub no_writing : Writing
 no_writing c port = exactly []
 
 abbrev pub demo_completion : ℕ → MaybeCompletion
 demo_completion number =
-    fault_completion (image_fault (build_of number)) (Known (run_completion DEMO_CORE no_writing (build_of number) demo_text))
+    fault_completion (image_fault (build_of number)) (Known (run_completion DEMO_CORE no_writing (build_of number) None demo_text))
 
 -- `audit` ends as the lines of its file say, and writes no file
 abbrev pub log_completion : Option (List ℕ) → MaybeCompletion
@@ -120,7 +139,8 @@ log_completion (Some bytes) = Known (record { ends = AuditEnds bytes; writes = �
 
 -- what a command comes to
 abbrev pub command_completion : Command → Environment → MaybeCompletion
-command_completion (Run words) fixed = image_completion (fixed.given words.image) (script_completion words (fixed.given words.script))
+command_completion (Run words) fixed = image_completion (fixed.given words.image) (λ image.
+    second_completion (second_image words.outputs) fixed image (script_completion words (fixed.given words.script) image))
 command_completion (Check image) fixed = image_completion (fixed.given image) (λ bytes. Known (ends_with status.Done))
 command_completion (Make number final) fixed = Known (record { ends = λ t. t ≡ status.Done; writes = only_to out_port.Final (build_of number) })
 command_completion (Demo number) fixed = demo_completion number
@@ -138,7 +158,7 @@ image_line (Some bytes) = store_line (store_of (disk_of (take IMAGE_LIMIT bytes)
 
 abbrev pub run_line : ℕ → Result (List Event) ScriptFault → List ℕ
 run_line number (Err fault) = []
-run_line number (Ok events) = course_line number (run_of (build_of number) DEMO_CORE 1 (events_of events))
+run_line number (Ok events) = course_line number (run_of (build_of number) None DEMO_CORE 1 (events_of events))
 
 abbrev pub log_line : Option (List ℕ) → List ℕ
 log_line None = []
@@ -205,6 +225,7 @@ may_end command (status.ReadFault port) = is_named command (In port)
 may_end command (status.WriteFault port) = is_named command (Out port) || (is_report (Out port) && reports_done command)
 may_end command (status.ScriptFault fault) = is_run command && is_script_fault fault
 may_end command (status.ImageFault fault) = is_named command (In in_port.Image) || is_demo command
+may_end command (status.SecondFault fault) = is_named command (In in_port.Second)
 may_end command status.NoMemory = not (is_audit command)
 may_end command (status.Panic kind) = is_run command || is_demo command
 may_end command (status.Unlawful line) = is_audit command

@@ -1,18 +1,19 @@
 -- The files that a command opens, in the order of docs/manual/commands.md, and what lets it go on after each.
-use Rattle.std.specs.Prelude.{◌≡◌, ⊤, ℕ, Bool, true, false, ◌||◌, if◌then◌else◌, Option, Some, None, IsSomeAnd, IsOk, List, [], ◌∷◌, take}
+use Rattle.std.specs.Prelude.{◌≡◌, ⊤, ℕ, Bool, true, false, ◌||◌, if◌then◌else◌, Option, Some, None, IsSomeAnd, IsOk, List, [], ◌∷◌, ◌++◌, take}
 use Rattle.v6_port.specs.declared.host.InPort.{InPort}
 use Rattle.v6_port.specs.declared.host.InPort.TheVariants as in_port
 use Rattle.v6_port.specs.declared.host.OutPort.{OutPort}
 use Rattle.v6_port.specs.declared.host.OutPort.TheVariants as out_port
 use Rattle.v6_port.specs.Outside.{Port, In, Out, same, Environment, Outside, Tells}
 use Rattle.v6_port.specs.Calls.{is_given, is_expected}
-use Rattle.fs_codec.specs.Faults.{image_fault}
+use Rattle.fs_codec.specs.Faults.{image_fault, fault_within}
+use Rattle.fs_codec.specs.declared.layout.TheConstants.{DISK_BLOCKS}
 use Rattle.script_text.specs.Script.{script_of}
 use Rattle.v6_run.specs.declared.image.TheConstants.{IMAGE_LIMIT}
 use Rattle.v6_run.specs.declared.run.TheConstants.{SCRIPT_LIMIT}
 use Rattle.v6_run.specs.declared.status.Status.{Status}
 use Rattle.v6_run.specs.declared.status.Status.TheVariants as status
-use Rattle.v6_run.specs.Words.{Outputs, ToDisk, ToMemory, Command, Run, Check, Make, Demo, Audit}
+use Rattle.v6_run.specs.Words.{Outputs, ToDisk, ToDisks, ToMemory, second_image, Command, Run, Check, Make, Demo, Audit}
 
 -- a port, and the name that a command's words give for it
 pub record NamedPort : Type 0 where
@@ -28,10 +29,20 @@ output p name = record { port = Out p; name = name }
 -- The ports that a command opens, in this order. All are opened before a byte is written.
 abbrev pub output_ports : Outputs → List NamedPort
 output_ports (ToDisk files) = output out_port.Term files.term ∷ output out_port.Log files.log ∷ output out_port.Final files.final_disk ∷ []
+output_ports (ToDisks files second) =
+    output out_port.Term files.term ∷ output out_port.Log files.log ∷ output out_port.Final files.final_disk
+    ∷ output out_port.Second second.final_disk ∷ []
 output_ports (ToMemory final) = output out_port.Final final ∷ []
 
+-- the second image's, where there is one
+abbrev pub second_ports : Option (List ℕ) → List NamedPort
+second_ports None = []
+second_ports (Some name) = input in_port.Second name ∷ []
+
 abbrev pub command_ports : Command → List NamedPort
-command_ports (Run words) = input in_port.Image words.image ∷ input in_port.Script words.script ∷ output_ports words.outputs
+command_ports (Run words) =
+    input in_port.Image words.image ∷ second_ports (second_image words.outputs)
+    ++ (input in_port.Script words.script ∷ output_ports words.outputs)
 command_ports (Check image) = input in_port.Image image ∷ []
 command_ports (Make number final) = output out_port.Final final ∷ []
 command_ports (Demo number) = []
@@ -73,10 +84,12 @@ abbrev pub knows_port : List NamedPort → Environment → Port → Bool
 knows_port [] fixed q = true
 knows_port (p ∷ ports) fixed q = if same p.port q then knows_name fixed p.name p.port else knows_port ports fixed q
 
--- What lets a command go on: an image is given and has no fault, nor has a script, and an output is expected under its name.
+-- What lets a command go on: an image is given and has no fault, nor has a second one, nor a script, and an output is expected under its name.
 abbrev pub IsGoodAt : Environment → List ℕ → Port → Type 0
 IsGoodAt fixed name (In in_port.Image) = IsSomeAnd (fixed.given name) (λ bytes. image_fault (take IMAGE_LIMIT bytes) ≡ None)
 IsGoodAt fixed name (In in_port.Script) = IsSomeAnd (fixed.given name) (λ bytes. IsOk (script_of (take SCRIPT_LIMIT bytes)))
+IsGoodAt fixed name (In in_port.Second) =
+    IsSomeAnd (fixed.given name) (λ bytes. fault_within DISK_BLOCKS (take IMAGE_LIMIT bytes) ≡ None)
 IsGoodAt fixed name q = knows_name fixed name q ≡ true
 
 abbrev pub AreGood : Environment → List NamedPort → Type 0
@@ -87,6 +100,7 @@ AreGood fixed (p ∷ ports) = IsGoodAt fixed p.name p.port × AreGood fixed port
 abbrev pub ports_passed : Status → List NamedPort → List NamedPort
 ports_passed status.Done ports = ports
 ports_passed (status.Panic kind) ports = ports
+ports_passed (status.SecondFault fault) ports = ports_before ports (In in_port.Second)
 ports_passed (status.ScriptFault fault) ports = ports_before ports (In in_port.Script)
 ports_passed (status.ReadFault p) ports = ports_before ports (In p)
 ports_passed (status.WriteFault p) ports = ports_before ports (Out p)

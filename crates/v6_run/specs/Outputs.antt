@@ -1,6 +1,6 @@
 -- The files that a run writes, by docs/manual/commands.md: of `run` what the terminal shows, the log, and the disk at the end;
 -- of `memory` core and the swap area at the end.
-use Rattle.std.specs.Prelude.{◌≡◌, ◌≢◌, ℕ, Bool, true, false, List, [], ◌||◌}
+use Rattle.std.specs.Prelude.{◌≡◌, ◌≢◌, ℕ, Bool, true, false, Option, Some, None, List, [], ◌||◌}
 use Rattle.v6_base.specs.Trace.{line_bytes, text_of}
 use Rattle.v6_port.specs.declared.host.OutPort.{OutPort}
 use Rattle.v6_port.specs.declared.host.OutPort.TheVariants as out_port
@@ -8,14 +8,15 @@ use Rattle.v6_port.specs.Outside.{Port, Out, same, Outside, Tells}
 use Rattle.v6_port.specs.Causes.{Calm, FaultAt}
 use Rattle.pick_rules.specs.Lawful.{Lawful}
 use Rattle.fs_codec.specs.Disk.{Disk}
+use Rattle.fs_codec.specs.Store.{Store}
 use Rattle.abstract_unix.specs.declared.ends.Ends.{Ends}
 use Rattle.abstract_unix.specs.declared.ends.Ends.TheVariants.{AtEnd, Panic}
 use Rattle.abstract_unix.specs.Unix.{System}
 use Rattle.abstract_unix.specs.Law.{log_of}
 use Rattle.abstract_unix.specs.Runs.{Event, Course, started, course, shown_by, finished}
 use Rattle.v6_run.specs.Fronts.{HoldsSome, HoldsFrontOfSome, exactly}
-use Rattle.v6_run.specs.Final.{IsFinal, IsMemory}
-use Rattle.v6_run.specs.Words.{Outputs, ToDisk, ToMemory}
+use Rattle.v6_run.specs.Final.{IsFinal, IsFinalSecond, IsMemory}
+use Rattle.v6_run.specs.Words.{Outputs, ToDisk, ToDisks, ToMemory}
 use Rattle.v6_run.specs.Opened.{output_ports, ports_before, knows_port, AreGood}
 
 -- what a run shows goes to these while it runs
@@ -25,8 +26,12 @@ is_shown q = same (Out out_port.Term) q || same (Out out_port.Log) q
 abbrev pub is_disk_output : Port → Bool
 is_disk_output q = is_shown q || same (Out out_port.Final) q
 
+abbrev pub is_disks_output : Port → Bool
+is_disks_output q = is_disk_output q || same (Out out_port.Second) q
+
 abbrev pub is_output : Outputs → Port → Bool
 is_output (ToDisk files) q = is_disk_output q
+is_output (ToDisks files second) q = is_disks_output q
 is_output (ToMemory final) q = same (Out out_port.Final) q
 
 -- A run for its memory leaves its core and its swap area; after a panic it leaves nothing.
@@ -52,6 +57,15 @@ disk_writes first c out_port.Report = exactly []
 disk_writes first c out_port.Second = exactly []
 disk_writes first c (out_port.Line l) = exactly []
 
+-- Those of `run2`: the second disk too, as it is left.
+abbrev pub second_writes : Option Disk → Option Store → List ℕ → Type 0
+second_writes (Some first) (Some store) = IsFinalSecond first store
+second_writes first store = exactly []
+
+abbrev pub disks_writes : Disk → Option Disk → Course → OutPort → List ℕ → Type 0
+disks_writes first second c out_port.Second = second_writes second (finished c.system).unix.store.second
+disks_writes first second c p = disk_writes first c p
+
 -- `memory` writes nothing of what is shown
 abbrev pub core_writes : Course → OutPort → List ℕ → Type 0
 core_writes c out_port.Term = exactly []
@@ -61,9 +75,10 @@ core_writes c out_port.Report = exactly []
 core_writes c out_port.Second = exactly []
 core_writes c (out_port.Line l) = exactly []
 
-abbrev pub run_writes : Outputs → Disk → Course → OutPort → List ℕ → Type 0
-run_writes (ToDisk files) first c p = disk_writes first c p
-run_writes (ToMemory final) first c p = core_writes c p
+abbrev pub run_writes : Outputs → Disk → Option Disk → Course → OutPort → List ℕ → Type 0
+run_writes (ToDisk files) first second c p = disk_writes first c p
+run_writes (ToDisks files named) first second c p = disks_writes first second c p
+run_writes (ToMemory final) first second c p = core_writes c p
 
 -- The run has been taken and ends so, and all of it is written.
 pub record EndsRun (outputs : Outputs) (writes : OutPort → List ℕ → Type 0) (c : Course) (ends : Ends) (old new : Outside) : Type 0 where

@@ -17,6 +17,9 @@ term o = o.port (Out out_port.Term)
 abbrev pub log_of : Outside → PortState
 log_of o = o.port (Out out_port.Log)
 
+abbrev pub second_of : Outside → PortState
+second_of o = o.port (Out out_port.Second)
+
 abbrev pub final_of : Outside → PortState
 final_of o = o.port (Out out_port.Final)
 

@@ -11,6 +11,8 @@ use Rattle.script_text.specs.declared.script.ScriptFault.TheVariants as script
 use Rattle.fs_codec.specs.declared.fault.ImageFault.{ImageFault}
 use Rattle.fs_codec.specs.declared.fault.ImageFault.TheVariants.{TooLong, BadSuper, NoSwap, FreeCount, FreeOutside, NodeOutside, BlockTwice, NoRoot}
 use Rattle.fs_codec.specs.Store.{Store}
+use Rattle.unix_core.specs.declared.boot.SecondFault.{SecondFault}
+use Rattle.unix_core.specs.declared.boot.SecondFault.TheVariants as second
 use Rattle.abstract_unix.specs.Runs.{Course, shown_by, finished}
 use Rattle.v6_base.specs.Trace.{line_bytes}
 use Rattle.v6_run.specs.declared.status.Status.{Status}
@@ -57,6 +59,15 @@ fault_line (NodeOutside inode block) =
 fault_line (BlockTwice block) = line_of (codes "image: block " ++ decimal block ++ codes " twice")
 fault_line NoRoot = line_of (codes "image: no root")
 
+-- of a second image the same, but for the fault of a file system that needs no swap area
+abbrev pub second_fault_line : ImageFault → List ℕ
+second_fault_line (NoSwap blocks) = line_of (codes "second image: file system of " ++ decimal blocks ++ codes " blocks is too long")
+second_fault_line fault = codes "second " ++ fault_line fault
+
+abbrev pub second_line : SecondFault → List ℕ
+second_line (second.Image fault) = second_fault_line fault
+second_line (second.Nodes n) = line_of (codes "second image: " ++ decimal n ++ codes " nodes in all")
+
 -- what a panic in Lions' book says
 abbrev pub panic_line : PanicKind → List ℕ
 panic_line panic.Swap = line_of (codes "panic: out of swap space")
@@ -65,7 +76,7 @@ panic_line panic.Text = line_of (codes "panic: out of text")
 
 abbrev pub usage : List ℕ
 usage =
-    codes "usage: v6 run IMAGE CORE SCRIPT TERM LOG FINAL, memory IMAGE CORE SCRIPT FINAL, check IMAGE, make N FINAL, demo N, audit LOG"
+    codes "usage: v6 run IMAGE CORE SCRIPT TERM LOG FINAL, run2 IMAGE CORE SCRIPT TERM LOG FINAL IMAGE2 FINAL2, memory IMAGE CORE SCRIPT FINAL, check IMAGE, make N FINAL, demo N, audit LOG"
 
 -- the line of a status; a command that was done has none
 abbrev pub status_line : Status → List ℕ
@@ -76,6 +87,7 @@ status_line (status.WriteFault port) = line_of (codes "write fault: " ++ out_nam
 status_line status.CoreSize = line_of (codes "core size")
 status_line (status.ScriptFault fault) = script_line fault
 status_line (status.ImageFault fault) = fault_line fault
+status_line (status.SecondFault fault) = second_line fault
 status_line (status.Panic kind) = panic_line kind
 status_line status.NoMemory = line_of (codes "no memory")
 status_line (status.Unlawful line) = line_of (codes "log: line " ++ decimal line ++ codes " is not lawful")
@@ -99,7 +111,7 @@ abbrev pub shown_line : ℕ → ℕ → Store → List ℕ
 shown_line number shown store = demo_line number shown (count_by is_some store.nodes) store.room
 
 abbrev pub course_line : ℕ → Course → List ℕ
-course_line number c = shown_line number (length (line_bytes 0 (shown_by c))) (finished c.system).unix.store
+course_line number c = shown_line number (length (line_bytes 0 (shown_by c))) (finished c.system).unix.store.root
 
 abbrev pub summary_line : Summary → List ℕ
 summary_line summary = demo_line summary.number summary.shown summary.tally.nodes summary.tally.free

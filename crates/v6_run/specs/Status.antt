@@ -2,7 +2,7 @@
 use Rattle.std.specs.Prelude.{ℕ, Bool, true, false, Option, Some, None}
 use Rattle.v6_port.specs.Outside.{Port, In, Out}
 use Rattle.v6_run.specs.declared.status.Status.{Status}
-use Rattle.v6_run.specs.declared.status.Status.TheVariants.{Done, Usage, ReadFault, WriteFault, CoreSize, ScriptFault, ImageFault, Panic, NoMemory, Unlawful, BadLog, LogTooLong}
+use Rattle.v6_run.specs.declared.status.Status.TheVariants.{Done, Usage, ReadFault, WriteFault, CoreSize, ScriptFault, ImageFault, SecondFault, Panic, NoMemory, Unlawful, BadLog, LogTooLong}
 
 abbrev pub status_number : Status → ℕ
 status_number Done = 0
@@ -16,6 +16,7 @@ status_number (Panic kind) = 7
 status_number NoMemory = 8
 status_number (Unlawful line) = 9
 status_number (BadLog line) = 10
+status_number (SecondFault fault) = 12
 status_number LogTooLong = 13
 
 -- the port that is at fault
@@ -29,6 +30,7 @@ abbrev pub is_decided : Status → Bool
 is_decided Done = true
 is_decided (ScriptFault fault) = true
 is_decided (ImageFault fault) = true
+is_decided (SecondFault fault) = true
 is_decided (Panic kind) = true
 is_decided (Unlawful line) = true
 is_decided (BadLog line) = true

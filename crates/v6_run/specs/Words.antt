@@ -1,9 +1,10 @@
 -- The words of a command, without the program's name, by docs/manual/commands.md.
-use Rattle.std.specs.Prelude.{ℕ, Bool, true, false, if◌then◌else◌, Option, Some, None, List, [], ◌∷◌, map, nat_eq, codes, String, string_bytes}
+use Rattle.std.specs.Prelude.{ℕ, Bool, true, false, if◌then◌else◌, Option, Some, None, List, [], ◌∷◌, map, nat_eq, codes, String, Vec, string_bytes}
 use Rattle.std.specs.declared.alloc.Global.{Global}
 use Rattle.std.specs.Cmp.Lexicographic.{pointwise}
 use Rattle.script_text.specs.Number.{number_of}
 use Rattle.v6_run.specs.declared.words.DiskFiles as disk_files
+use Rattle.v6_run.specs.declared.words.SecondFiles as second_files
 use Rattle.v6_run.specs.declared.words.Outputs as outputs
 use Rattle.v6_run.specs.declared.words.Outputs.TheVariants as output
 use Rattle.v6_run.specs.declared.words.RunWords as words
@@ -16,9 +17,16 @@ pub record DiskFiles : Type 0 where
   pub log : List ℕ
   pub final_disk : List ℕ
 
--- what a run leaves: the files of `run`, or the file of `memory` with the bytes of core and of the swap area
+-- the files of a second disk: its image before the run, and after it
+pub record SecondFiles : Type 0 where
+  pub image : List ℕ
+  pub final_disk : List ℕ
+
+-- what a run leaves: the files of `run`, those of `run2`, with a second disk, or the file of `memory` with the bytes of core and of
+-- the swap area
 pub data Outputs : Type 0 where
   ToDisk : DiskFiles → Outputs
+  ToDisks : DiskFiles → SecondFiles → Outputs
   ToMemory : List ℕ → Outputs
 
 -- the files of a run that are read, the size of core in clicks of 64 bytes, and what is written
@@ -28,8 +36,14 @@ pub record RunWords : Type 0 where
   pub script : List ℕ
   pub outputs : Outputs
 
--- a command: what `run` or `memory` is told, the image that `check` reads, the number and the file of `make`, the number of
--- `demo`, or the log that `audit` reads
+-- the name of the second image, where there is one
+abbrev pub second_image : Outputs → Option (List ℕ)
+second_image (ToDisk files) = None
+second_image (ToDisks files second) = Some second.image
+second_image (ToMemory final) = None
+
+-- a command: what `run`, `run2` or `memory` is told, the image that `check` reads, the number and the file of `make`, the number
+-- of `demo`, or the log that `audit` reads
 pub data Command : Type 0 where
   Run : RunWords → Command
   Check : List ℕ → Command
@@ -37,7 +51,7 @@ pub data Command : Type 0 where
   Demo : ℕ → Command
   Audit : List ℕ → Command
 
--- the words of `run` and of `memory` are good where CORE is a number
+-- the words of `run`, of `run2` and of `memory` are good where CORE is a number
 abbrev pub run_words : Bool → Option ℕ → List ℕ → List ℕ → Outputs → Option Command
 run_words true (Some core) image script outputs = Some (Run (record { image = image; core = core; script = script; outputs = outputs }))
 run_words true None image script outputs = None
@@ -68,10 +82,14 @@ short_words verb word =
     if is_word verb (codes "audit") then Some (Audit word)
     else check_words (is_word verb (codes "check")) word)
 
--- run IMAGE CORE SCRIPT TERM LOG FINAL, memory IMAGE CORE SCRIPT FINAL, check IMAGE, make N FINAL, demo N, audit LOG
+-- run IMAGE CORE SCRIPT TERM LOG FINAL, run2 IMAGE CORE SCRIPT TERM LOG FINAL IMAGE2 FINAL2, memory IMAGE CORE SCRIPT FINAL,
+-- check IMAGE, make N FINAL, demo N, audit LOG
 abbrev pub command_of : List (List ℕ) → Option Command
 command_of (verb ∷ image ∷ core ∷ script ∷ term ∷ log ∷ final ∷ []) =
     run_words (is_word verb (codes "run")) (number_of core) image script (ToDisk (record { term = term; log = log; final_disk = final }))
+command_of (verb ∷ image ∷ core ∷ script ∷ term ∷ log ∷ final ∷ second ∷ final_second ∷ []) =
+    run_words (is_word verb (codes "run2")) (number_of core) image script
+    (ToDisks (record { term = term; log = log; final_disk = final }) (record { image = second; final_disk = final_second }))
 command_of (verb ∷ image ∷ core ∷ script ∷ final ∷ []) = run_words (is_word verb (codes "memory")) (number_of core) image script (ToMemory final)
 command_of (verb ∷ word ∷ []) = short_words verb word
 command_of (verb ∷ number ∷ final ∷ []) = make_words (is_word verb (codes "make")) (number_of number) final
@@ -85,8 +103,12 @@ command_in words = command_of (map string_bytes words)
 abbrev pub disk_files_value : disk_files.DiskFiles → DiskFiles
 disk_files_value f = record { term = f.term.now; log = f.log.now; final_disk = f.final_disk.now }
 
+abbrev pub second_files_value : second_files.SecondFiles → SecondFiles
+second_files_value f = record { image = f.image.now; final_disk = f.final_disk.now }
+
 abbrev pub outputs_value : outputs.Outputs → Outputs
 outputs_value (output.Disk files) = ToDisk (disk_files_value files)
+outputs_value (output.Disks files second) = ToDisks (disk_files_value files) (second_files_value second)
 outputs_value (output.Memory final) = ToMemory final.now
 
 abbrev pub run_words_value : words.RunWords → RunWords
@@ -98,3 +120,8 @@ command_value (variant.Check image) = Check image.now
 command_value (variant.Make number final) = Make number final.now
 command_value (variant.Demo number) = Demo number
 command_value (variant.Audit log) = Audit log.now
+
+-- the bytes of a file that is read, where there is one
+abbrev pub bytes_value : Option (Vec ℕ Global) → Option (List ℕ)
+bytes_value None = None
+bytes_value (Some bytes) = Some bytes.items

@@ -110,7 +110,9 @@ fn answer<H: Host>(
 /// - `run IMAGE CORE SCRIPT TERM LOG FINAL` boots the disk IMAGE with CORE clicks of memory, takes it through what SCRIPT
 ///   asks for, and writes to TERM what the terminal shows, to LOG what the kernel decides, and to FINAL the disk that is
 ///   left.
-/// - `memory IMAGE CORE SCRIPT FINAL` does the same, and writes to FINAL alone: the bytes of core and then those of the swap
+/// - `run2 IMAGE CORE SCRIPT TERM LOG FINAL IMAGE2 FINAL2` does the same with a second disk, IMAGE2, which may be mounted, and
+///   writes to FINAL2 what is left of it.
+/// - `memory IMAGE CORE SCRIPT FINAL` does the same with one disk, and writes to FINAL alone: the bytes of core and then those of the swap
 ///   area.
 /// - `check IMAGE` tells how many nodes and free blocks the disk IMAGE has, or the first of its faults.
 /// - `make N FINAL` writes the disk image of the number N to FINAL.
@@ -118,7 +120,7 @@ fn answer<H: Host>(
 ///   came to. It reads and writes no file.
 /// - `audit LOG` tells whether the lines of LOG are a lawful log, or the first line that is at fault. It goes by the lines alone.
 ///
-/// Any other words are [`Status::Usage`]. `run`, `memory` and `make` report nothing where they were done; any other status is reported in
+/// Any other words are [`Status::Usage`]. `run`, `run2`, `memory` and `make` report nothing where they were done; any other status is reported in
 /// one line.
 pub fn v6<H: Host>(alloc: Global, words: &Vec<String>, host: &mut H) -> Status
     requires { IsIdle (H.outside host.old) }
@@ -133,9 +135,9 @@ pub fn v6<H: Host>(alloc: Global, words: &Vec<String>, host: &mut H) -> Status
     ensures unopened { IsSome (refused_by (command_in words.now.items))
         → OnlyAt is_report (H.outside host.old) (H.outside host.new) }
 
-    // Done, ScriptFault, ImageFault, Panic, Unlawful, BadLog and LogTooLong are exactly what the command's files come to, and each
-    // file has got all of a text that may be written to it. At a write fault each has got a front of one, or nothing; and one of
-    // Report is answered only where the command would else be done.
+    // Done, ScriptFault, ImageFault, SecondFault, Panic, Unlawful, BadLog and LogTooLong are exactly what the command's files come
+    // to, and each file has got all of a text that may be written to it. At a write fault each has got a front of one, or nothing;
+    // and one of Report is answered only where the command would else be done.
     ensures complete { is_decided result ≡ true → TellsInputs (words_ports (command_in words.now.items)) (H.outside host.old)
         → IsKnownAnd (words_completion (command_in words.now.items) (H.outside host.old).fixed)
         (IsComplete result (H.outside host.old) (H.outside host.new)) }

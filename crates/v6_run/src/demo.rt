@@ -89,9 +89,9 @@ fn put_block(image: &mut [u8], n: u16, block: &[u8; BLOCK_SIZE])
 /// Puts all blocks of the kernel's disk before its swap area in place of those of an image.
 fn put_blocks(kernel: &Kernel, image: &mut [u8])
     requires finished { kernel.now.phase ≡ Finished }
-    requires form { IsDisk kernel.now.stored }
+    requires form { IsDisk kernel.now.stored.root }
     requires long { length image.old ≡ 512 * SWAP_START }
-    ensures { image.new ≡ disk_text kernel.now.stored }
+    ensures { image.new ≡ disk_text kernel.now.stored.root }
 {
     'numbers: for n in 0..SWAP_START {
         put_block(image, n, &kernel.final_block(n));
@@ -101,10 +101,10 @@ fn put_blocks(kernel: &Kernel, image: &mut [u8])
 /// Finishes the run, and counts what is on the disk that it leaves, which is put in place of an image.
 fn final_tally(kernel: &mut Kernel, image: &mut [u8]) -> Tally
     requires started { kernel.old.phase ≡ Started }
-    requires root { (head (block_at kernel.old.blocks)).f_size ≤ SWAP_START }
+    requires root { (head (block_at kernel.old.blocks.root)).f_size ≤ SWAP_START }
     requires long { length image.old ≡ 512 * SWAP_START }
-    ensures nodes { result.nodes ≡ count_by is_some (finished kernel.old.system).unix.store.nodes }
-    ensures free { result.free ≡ (finished kernel.old.system).unix.store.room }
+    ensures nodes { result.nodes ≡ count_by is_some (finished kernel.old.system).unix.store.root.nodes }
+    ensures free { result.free ≡ (finished kernel.old.system).unix.store.root.room }
 {
     kernel.finish();
     put_blocks(kernel, image);
@@ -121,7 +121,7 @@ fn run_counted<H: Host>(
     host: &mut H,
 ) -> Result<Summary, RunError>
     requires new { kernel.old.phase ≡ New }
-    requires root { (head (block_at kernel.old.blocks)).f_size ≤ SWAP_START }
+    requires root { (head (block_at kernel.old.blocks.root)).f_size ≤ SWAP_START }
     requires long { length image.old ≡ 512 * SWAP_START }
     requires can { CanTake kernel.old.system events.now }
     ensures outside { H.outside host.new ≡ H.outside host.old }

@@ -1,10 +1,10 @@
 //! Why a command was not done, and the status that says so.
 ghost use Rattle.std.specs.Prelude.{◌≡◌};
-ghost use Rattle.v6_run.specs.Errors.{read_status, image_status, script_status, run_status, make_status, log_status};
+ghost use Rattle.v6_run.specs.Errors.{read_status, image_status, second_status, script_status, run_status, make_status, log_status};
 
 use crate::audit::LogError;
 use crate::files::ReadError;
-use crate::image::ImageError;
+use crate::image::{ImageError, SecondError};
 use crate::make::MakeError;
 use crate::run::RunError;
 use crate::status::Status;
@@ -46,6 +46,15 @@ fn image_status(error: ImageError) -> Status
     }
 }
 
+fn second_status(error: SecondError) -> Status
+    ensures { result ≡ second_status error }
+{
+    match error {
+        SecondError::Unread(error) => read_status(InPort::Second, error),
+        SecondError::Faulty(fault) => Status::SecondFault(fault),
+    }
+}
+
 fn script_status(fault: ScriptFault) -> Status
     ensures { result ≡ script_status fault }
 {
@@ -60,6 +69,7 @@ fn run_status(error: RunError) -> Status
 {
     match error {
         RunError::Image(error) => image_status(error),
+        RunError::Second(error) => second_status(error),
         RunError::Script(error) => read_status(InPort::Script, error),
         RunError::Refused(fault) => script_status(fault),
         RunError::NoMemory => Status::NoMemory,

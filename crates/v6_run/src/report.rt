@@ -4,7 +4,7 @@ ghost use Rattle.v6_port.specs.Outside.{Out, OnlyAt, Tells, same};
 ghost use Rattle.v6_port.specs.declared.host.OutPort.TheVariants.{Report};
 ghost use Rattle.v6_port.specs.Causes.{Calm, FaultAt};
 ghost use Rattle.v6_run.specs.Fronts.{HoldsFront};
-ghost use Rattle.v6_run.specs.Report.{report, status_line, panic_line, script_line, fault_line, ok_line, demo_line, lawful_line, found_line};
+ghost use Rattle.v6_run.specs.Report.{report, status_line, panic_line, script_line, fault_line, second_line, ok_line, demo_line, lawful_line, found_line};
 ghost use Rattle.v6_run.specs.Answers.{Reports};
 
 use crate::demo::Summary;
@@ -14,6 +14,7 @@ use crate::line::{Line, long_numbered, numbered, plain, push_number, twice_numbe
 use crate::status::Status;
 use fs_check::{ImageFault, Tally};
 use script_text::ScriptFault;
+use unix_core::SecondFault;
 use v6_base::PanicKind;
 use v6_port::{Failed, Host, InPort, OutPort};
 
@@ -29,7 +30,7 @@ pub(crate) enum Found {
 }
 
 const USAGE: &str =
-    "usage: v6 run IMAGE CORE SCRIPT TERM LOG FINAL, memory IMAGE CORE SCRIPT FINAL, check IMAGE, make N FINAL, demo N, audit LOG";
+    "usage: v6 run IMAGE CORE SCRIPT TERM LOG FINAL, run2 IMAGE CORE SCRIPT TERM LOG FINAL IMAGE2 FINAL2, memory IMAGE CORE SCRIPT FINAL, check IMAGE, make N FINAL, demo N, audit LOG";
 
 fn script_line(fault: ScriptFault) -> Line
     ensures { result.bytes ≡ script_line fault }
@@ -58,6 +59,28 @@ fn fault_line(fault: ImageFault) -> Line
         }
         ImageFault::BlockTwice(block) => numbered("image: block ", block, " twice"),
         ImageFault::NoRoot => plain("image: no root"),
+    }
+}
+
+/// The line of what is wrong with a second image. It leaves no room for a swap area, and needs none.
+fn second_line(fault: SecondFault) -> Line
+    ensures { result.bytes ≡ second_line fault }
+{
+    match fault {
+        SecondFault::Image(ImageFault::NoSwap(blocks)) => {
+            numbered(
+                "second image: file system of ",
+                blocks,
+                " blocks is too long",
+            )
+        }
+        SecondFault::Image(fault) => {
+            let mut line = Line::new();
+            line.push_str("second ");
+            line.push_str(fault_line(fault).as_str());
+            line
+        }
+        SecondFault::Nodes(count) => numbered("second image: ", count, " nodes in all"),
     }
 }
 
@@ -96,6 +119,7 @@ fn status_line(status: Status) -> Line
         Status::CoreSize => plain("core size"),
         Status::ScriptFault(fault) => script_line(fault),
         Status::ImageFault(fault) => fault_line(fault),
+        Status::SecondFault(fault) => second_line(fault),
         Status::Panic(kind) => panic_line(kind),
         Status::NoMemory => plain("no memory"),
         Status::Unlawful(line) => long_numbered("log: line ", line, " is not lawful"),

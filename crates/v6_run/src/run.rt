@@ -1,36 +1,40 @@
-//! The commands `run` and `memory`: a run, and what it leaves.
-ghost use Rattle.std.specs.Prelude.{◌≡◌, ◌<◌, ◌≤◌, ◌^◌, length, true, false, None, Some, IfOk, OnOk, IfErr, MatchResult, ◌++◌};
-ghost use Rattle.v6_port.specs.Outside.{Out, IsOpen, OnlyAt, Tells, same};
+//! The commands `run`, `run2` and `memory`: a run, and what it leaves.
+ghost use Rattle.std.specs.Prelude.{◌≡◌, ◌<◌, ◌≤◌, ◌^◌, length, true, false, None, Some, IsSome, IfSome, IfOk, OnOk, IfErr, MatchResult, ◌++◌};
+ghost use Rattle.std.specs.Option.{option_map};
+ghost use Rattle.v6_port.specs.Outside.{In, Out, IsOpen, OnlyAt, Tells, same};
+ghost use Rattle.v6_port.specs.declared.host.InPort.TheVariants.{Second};
 ghost use Rattle.v6_port.specs.declared.host.OutPort.{OutPort};
 ghost use Rattle.v6_port.specs.declared.host.OutPort.TheVariants.{Term, Log};
 ghost use Rattle.v6_port.specs.Causes.{Calm, FaultAt};
 ghost use Rattle.v6_base.specs.Image.{AreBytes};
 ghost use Rattle.fs_codec.specs.Faults.{image_fault};
 ghost use Rattle.fs_codec.specs.Disk.{head};
-ghost use Rattle.buf_cache.specs.Blocks.{block_at, blocks_of};
+ghost use Rattle.buf_cache.specs.Blocks.{block_at};
 ghost use Rattle.abstract_unix.specs.Unix.{New};
 ghost use Rattle.abstract_unix.specs.Endings.{phase_after};
 ghost use Rattle.abstract_unix.specs.Runs.{boots, started, course, shown_by};
+ghost use Rattle.unix_core.specs.Boots.{blocks_on, second_fault_of};
 ghost use Rattle.unix_core.specs.State.{KeepsRest};
 ghost use Rattle.v6_run.specs.Courses.{CanTake};
-ghost use Rattle.v6_run.specs.Words.{Run, ToDisk, disk_files_value, run_words_value};
+ghost use Rattle.v6_run.specs.Words.{Run, ToDisk, ToDisks, disk_files_value, second_files_value, run_words_value, second_image, bytes_value};
 ghost use Rattle.v6_run.specs.Events.{events_of};
 ghost use Rattle.v6_run.specs.Ports.{HasShown, HasShownFronts};
 ghost use Rattle.v6_run.specs.Errors.{end_of, run_status};
-ghost use Rattle.v6_run.specs.Outputs.{is_shown, is_disk_output, is_output, disk_writes, run_writes, HasLawfulLogs, EndsRun, StopsRun};
-ghost use Rattle.v6_run.specs.Answers.{Answers, HasFiles};
+ghost use Rattle.v6_run.specs.Outputs.{is_shown, is_disk_output, is_disks_output, is_output, disk_writes, disks_writes, run_writes, HasLawfulLogs, EndsRun, StopsRun};
+ghost use Rattle.v6_run.specs.Answers.{Answers, HasSecond, HasFiles};
+ghost use Rattle.v6_run.specs.Steps.{StopsSecond};
 
 use crate::files::{ReadError, read_file};
-use crate::image::{ImageError, read_image};
+use crate::image::{ImageError, SecondError, read_image, read_second};
 use crate::memory::run_to_memory;
-use crate::outputs::{finish_outputs, leave_disk, open_outputs};
+use crate::outputs::{finish_both, finish_outputs, leave_both, leave_disk, open_both, open_outputs};
 use crate::ports::Ports;
 use crate::slots::show_run;
-use crate::words::{DiskFiles, Outputs, RunWords};
+use crate::words::{DiskFiles, Outputs, RunWords, SecondFiles};
 use fs_codec::SWAP_START;
 use script_text::{Event, MAX_BYTES, ScriptFault, read};
 use std::alloc::Global;
-use unix_core::{BootFault, Ends, Kernel};
+use unix_core::{Boot2Fault, BootFault, Ends, Kernel};
 use v6_base::PanicKind;
 use v6_port::{Host, InPort, OutPort};
 
@@ -42,6 +46,8 @@ pub(crate) const SCRIPT_LIMIT: usize = MAX_BYTES + 1;
 pub(crate) enum RunError {
     /// There is no image.
     Image(ImageError),
+    /// There is no second image.
+    Second(SecondError),
     /// The script could not be read.
     Script(ReadError),
     /// The script has this first fault, or there was no memory for its events.
@@ -62,6 +68,17 @@ impl From<ImageError> for RunError {
 
     fn from(error: ImageError) -> RunError {
         RunError::Image(error)
+    }
+}
+
+impl From<SecondError> for RunError {
+    ghost use Rattle.std.specs.Prelude.{◌≡◌};
+    ghost use Rattle.v6_run.specs.declared.run.RunError.TheVariants.{Second};
+
+    ghost from_gives = { λ error run_error. run_error ≡ Second error };
+
+    fn from(error: SecondError) -> RunError {
+        RunError::Second(error)
     }
 }
 
@@ -99,8 +116,8 @@ pub(crate) fn boot(alloc: Global, image: &[u8], core: u32) -> Result<Kernel, Run
     requires least { 64 ≤ core }
     requires most { core ≤ 3968 }
     requires good { image_fault image.now ≡ None }
-    ensures system { IfOk result (λ kernel. boots image.now core 1 ≡ Some kernel.system) }
-    ensures blocks { IfOk result (λ kernel. kernel.blocks ≡ blocks_of image.now) }
+    ensures system { IfOk result (λ kernel. boots image.now None core 1 ≡ Some kernel.system) }
+    ensures blocks { IfOk result (λ kernel. kernel.blocks ≡ blocks_on image.now None) }
     ensures phase { IfOk result (λ kernel. kernel.phase ≡ New) }
     ensures lawful { IfOk result (λ kernel. HasLawfulLogs kernel.system) }
     ensures memory { IfErr result (λ error. error ≡ RunError.NoMemory) }
@@ -110,6 +127,44 @@ pub(crate) fn boot(alloc: Global, image: &[u8], core: u32) -> Result<Kernel, Run
         Ok(kernel) => Ok(kernel),
         Err(BootFault::Image(_)) => unreachable!(),
         Err(BootFault::NoMemory) => Err(RunError::NoMemory),
+    }
+}
+
+/// The kernel for two images and so many clicks of core. Each of its runs has a lawful log.
+fn boot2(alloc: Global, image: &[u8], second: &[u8], core: u32) -> Result<Kernel, RunError>
+    requires least { 64 ≤ core }
+    requires most { core ≤ 3968 }
+    requires good { image_fault image.now ≡ None }
+    requires second { second_fault_of image.now second.now ≡ None }
+    ensures system { IfOk result (λ kernel. boots image.now (Some second.now) core 1 ≡ Some kernel.system) }
+    ensures blocks { IfOk result (λ kernel. kernel.blocks ≡ blocks_on image.now (Some second.now)) }
+    ensures phase { IfOk result (λ kernel. kernel.phase ≡ New) }
+    ensures lawful { IfOk result (λ kernel. HasLawfulLogs kernel.system) }
+    ensures memory { IfErr result (λ error. error ≡ RunError.NoMemory) }
+{
+    see_bytes(image);
+    match Kernel::boot2(alloc, image, second, core as u16) {
+        Ok(kernel) => Ok(kernel),
+        Err(Boot2Fault::NoMemory) => Err(RunError::NoMemory),
+        Err(_) => unreachable!(),
+    }
+}
+
+/// The kernel for the images that were read.
+fn boot_files(alloc: Global, files: &Files, core: u32) -> Result<Kernel, RunError>
+    requires least { 64 ≤ core }
+    requires most { core ≤ 3968 }
+    requires good { image_fault files.now.image.items ≡ None }
+    requires second { IfSome files.now.second (λ second. second_fault_of files.now.image.items second.items ≡ None) }
+    ensures system { IfOk result (λ kernel. boots files.now.image.items (bytes_value files.now.second) core 1 ≡ Some kernel.system) }
+    ensures blocks { IfOk result (λ kernel. kernel.blocks ≡ blocks_on files.now.image.items (bytes_value files.now.second)) }
+    ensures phase { IfOk result (λ kernel. kernel.phase ≡ New) }
+    ensures lawful { IfOk result (λ kernel. HasLawfulLogs kernel.system) }
+    ensures memory { IfErr result (λ error. error ≡ RunError.NoMemory) }
+{
+    match &files.second {
+        Some(second) => boot2(alloc, &files.image, second, core),
+        None => boot(alloc, &files.image, core),
     }
 }
 
@@ -155,17 +210,17 @@ fn run_to_disk<H: Host>(
 ) -> Result<Ends, OutPort>
     requires closed { (p : OutPort) → is_disk_output (Out p) ≡ true
         → ((H.outside host.old).port (Out p)).is_open ≡ false }
-    requires root { (head (block_at kernel.old.blocks)).f_size ≤ SWAP_START }
+    requires root { (head (block_at kernel.old.blocks.root)).f_size ≤ SWAP_START }
     requires new { kernel.old.phase ≡ New }
     requires lawful { HasLawfulLogs kernel.old.system }
     requires can { CanTake kernel.old.system events.now }
     ensures only { OnlyAt is_disk_output (H.outside host.old) (H.outside host.new) }
     ensures outcome { MatchResult result
         (λ ends. EndsRun (ToDisk (disk_files_value files.now))
-        (disk_writes (block_at kernel.old.blocks) (course (started kernel.old.system) (events_of events.now)))
+        (disk_writes (block_at kernel.old.blocks.root) (course (started kernel.old.system) (events_of events.now)))
         (course (started kernel.old.system) (events_of events.now)) ends (H.outside host.old) (H.outside host.new))
         (λ port. StopsRun (ToDisk (disk_files_value files.now))
-        (disk_writes (block_at kernel.old.blocks) (course (started kernel.old.system) (events_of events.now))) port
+        (disk_writes (block_at kernel.old.blocks.root) (course (started kernel.old.system) (events_of events.now))) port
         (H.outside host.old) (H.outside host.new)) }
 {
     open_outputs(files, host)?;
@@ -174,6 +229,39 @@ fn run_to_disk<H: Host>(
         return Err(OutPort::Final);
     }
     finish_outputs(host)?;
+    Ok(ends)
+}
+
+/// The same of `run2`: the second disk is written after the root's, and its file is finished last.
+fn run_to_disks<H: Host>(
+    kernel: &mut Kernel,
+    events: &[Event],
+    files: &DiskFiles<'_>,
+    second: &SecondFiles<'_>,
+    host: &mut H,
+) -> Result<Ends, OutPort>
+    requires closed { (p : OutPort) → is_disks_output (Out p) ≡ true
+        → ((H.outside host.old).port (Out p)).is_open ≡ false }
+    requires root { (head (block_at kernel.old.blocks.root)).f_size ≤ SWAP_START }
+    requires second { IsSome kernel.old.system.unix.store.second }
+    requires new { kernel.old.phase ≡ New }
+    requires lawful { HasLawfulLogs kernel.old.system }
+    requires can { CanTake kernel.old.system events.now }
+    ensures only { OnlyAt is_disks_output (H.outside host.old) (H.outside host.new) }
+    ensures outcome { MatchResult result
+        (λ ends. EndsRun (ToDisks (disk_files_value files.now) (second_files_value second.now))
+        (disks_writes (block_at kernel.old.blocks.root) (option_map block_at kernel.old.blocks.second)
+        (course (started kernel.old.system) (events_of events.now)))
+        (course (started kernel.old.system) (events_of events.now)) ends (H.outside host.old) (H.outside host.new))
+        (λ port. StopsRun (ToDisks (disk_files_value files.now) (second_files_value second.now))
+        (disks_writes (block_at kernel.old.blocks.root) (option_map block_at kernel.old.blocks.second)
+        (course (started kernel.old.system) (events_of events.now))) port
+        (H.outside host.old) (H.outside host.new)) }
+{
+    open_both(files, second, host)?;
+    let ends = play(kernel, events, host)?;
+    leave_both(kernel, host)?;
+    finish_both(host)?;
     Ok(ends)
 }
 
@@ -186,22 +274,26 @@ fn run_with_outputs<H: Host>(
 ) -> Result<Ends, OutPort>
     requires closed { (p : OutPort) → is_output (run_words_value words.now).outputs (Out p) ≡ true
         → ((H.outside host.old).port (Out p)).is_open ≡ false }
-    requires root { (head (block_at kernel.old.blocks)).f_size ≤ SWAP_START }
+    requires root { (head (block_at kernel.old.blocks.root)).f_size ≤ SWAP_START }
+    requires second { IsSome (second_image (run_words_value words.now).outputs) → IsSome kernel.old.system.unix.store.second }
     requires new { kernel.old.phase ≡ New }
     requires lawful { HasLawfulLogs kernel.old.system }
     requires can { CanTake kernel.old.system events.now }
     ensures only { OnlyAt (is_output (run_words_value words.now).outputs) (H.outside host.old) (H.outside host.new) }
     ensures outcome { MatchResult result
         (λ ends. EndsRun (run_words_value words.now).outputs
-        (run_writes (run_words_value words.now).outputs (block_at kernel.old.blocks)
+        (run_writes (run_words_value words.now).outputs (block_at kernel.old.blocks.root)
+        (option_map block_at kernel.old.blocks.second)
         (course (started kernel.old.system) (events_of events.now)))
         (course (started kernel.old.system) (events_of events.now)) ends (H.outside host.old) (H.outside host.new))
         (λ port. StopsRun (run_words_value words.now).outputs
-        (run_writes (run_words_value words.now).outputs (block_at kernel.old.blocks)
+        (run_writes (run_words_value words.now).outputs (block_at kernel.old.blocks.root)
+        (option_map block_at kernel.old.blocks.second)
         (course (started kernel.old.system) (events_of events.now))) port (H.outside host.old) (H.outside host.new)) }
 {
     match &words.outputs {
         Outputs::Disk(files) => run_to_disk(kernel, events, files, host),
+        Outputs::Disks(files, second) => run_to_disks(kernel, events, files, second, host),
         Outputs::Memory(name) => run_to_memory(kernel, events, name, host),
     }
 }
@@ -210,22 +302,51 @@ fn run_with_outputs<H: Host>(
 #[derive(Drop)]
 struct Files {
     image: Vec<u8>,
+    /// The second image, where the words name one.
+    second: Option<Vec<u8>>,
     script: Vec<u8>,
+}
+
+/// Reads the second image, where the words name one.
+fn read_other<H: Host>(
+    alloc: Global,
+    words: &RunWords<'_>,
+    image: &[u8],
+    host: &mut H,
+) -> Result<Option<Vec<u8>>, SecondError>
+    requires { image_fault image.now ≡ None }
+    ensures only { OnlyAt (same (In Second)) (H.outside host.old) (H.outside host.new) }
+    ensures second { IfOk result (λ second.
+        HasSecond image.now (second_image (run_words_value words.now).outputs) (bytes_value second) (H.outside host.old)) }
+    ensures cause { MatchResult result (λ _. Calm (H.outside host.old) (H.outside host.new))
+        (λ error. IfSome (second_image (run_words_value words.now).outputs) (λ name.
+        StopsSecond image.now name error (H.outside host.old) (H.outside host.new))) }
+{
+    match &words.outputs {
+        Outputs::Disks(_, second) => Ok(Some(read_second(alloc, image, second.image, host)?)),
+        Outputs::Disk(_) | Outputs::Memory(_) => Ok(None),
+    }
 }
 
 fn read_files<H: Host>(alloc: Global, words: &RunWords<'_>, host: &mut H) -> Result<Files, RunError>
     ensures files { IfOk result (λ files.
-        HasFiles (run_words_value words.now) files.image.items files.script.items (H.outside host.old) (H.outside host.new)) }
+        HasFiles (run_words_value words.now) files.image.items (bytes_value files.second) files.script.items
+        (H.outside host.old) (H.outside host.new)) }
     ensures short { IfOk result (λ files. length files.script.items < 2 ^ 32) }
     ensures refused { IfErr result (λ error.
         Answers (Run (run_words_value words.now)) (run_status error) (H.outside host.old) (H.outside host.new)) }
 {
     let image = read_image(alloc, words.image, host)?;
+    let second = read_other(alloc, words, &image, host)?;
     let script = read_file(alloc, host, InPort::Script, words.script, SCRIPT_LIMIT)?;
-    Ok(Files { image, script })
+    Ok(Files {
+        image,
+        second,
+        script,
+    })
 }
 
-/// The commands `run` and `memory` with good words.
+/// The commands `run`, `run2` and `memory` with good words.
 pub(crate) fn run<H: Host>(
     alloc: Global,
     words: &RunWords<'_>,
@@ -239,7 +360,7 @@ pub(crate) fn run<H: Host>(
 {
     let files = read_files(alloc, words, host)?;
     let script = read(alloc, &files.script)?;
-    let mut kernel = boot(alloc, &files.image, words.core)?;
+    let mut kernel = boot_files(alloc, &files, words.core)?;
     match run_with_outputs(&mut kernel, &script.events, words, host) {
         Ok(Ends::AtEnd) => Ok(()),
         Ok(Ends::Panic(kind)) => Err(RunError::Panic(kind)),

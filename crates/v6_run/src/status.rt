@@ -4,6 +4,7 @@ ghost use Rattle.v6_run.specs.Status.{status_number};
 
 use fs_check::ImageFault;
 use script_text::ScriptFault;
+use unix_core::SecondFault;
 use v6_base::PanicKind;
 use v6_port::{InPort, OutPort};
 
@@ -26,6 +27,8 @@ pub enum Status {
     ImageFault(ImageFault),
     /// The run came to a panic: a demand for a place in the swap area, or for a text, can't be met.
     Panic(PanicKind),
+    /// The image of the second disk has this first fault, or both disks have too many inodes.
+    SecondFault(SecondFault),
     /// There was no memory, before the first slot of a run, or before a demo reports, and before anything else is written.
     NoMemory,
     /// This line of the log, counted from 1, is the first at fault, and is a line of a log; or the log ends before it.
@@ -53,6 +56,7 @@ impl Status {
             Status::NoMemory => 8,
             Status::Unlawful(_) => 9,
             Status::BadLog(_) => 10,
+            Status::SecondFault(_) => 12,
             Status::LogTooLong => 13,
         }
     }

@@ -13,11 +13,20 @@ pub(crate) struct DiskFiles<'a> {
     pub(crate) final_disk: &'a str,
 }
 
+/// The files of a second disk: its image before the run, and after it.
+#[derive(Clone, Copy)]
+pub(crate) struct SecondFiles<'a> {
+    pub(crate) image: &'a str,
+    pub(crate) final_disk: &'a str,
+}
+
 /// What a run leaves.
 #[derive(Clone, Copy)]
 pub(crate) enum Outputs<'a> {
     /// The files of `run`.
     Disk(DiskFiles<'a>),
+    /// Those of `run2`: the same, and the second disk's.
+    Disks(DiskFiles<'a>, SecondFiles<'a>),
     /// The file of `memory`, with the bytes of core and of the swap area.
     Memory(&'a str),
 }
@@ -34,7 +43,8 @@ pub(crate) struct RunWords<'a> {
 /// A command with its names and numbers.
 #[derive(Clone, Copy)]
 pub(crate) enum Command<'a> {
-    /// `run IMAGE CORE SCRIPT TERM LOG FINAL`, or `memory IMAGE CORE SCRIPT FINAL`
+    /// `run IMAGE CORE SCRIPT TERM LOG FINAL`, `run2 IMAGE CORE SCRIPT TERM LOG FINAL IMAGE2 FINAL2`, or
+    /// `memory IMAGE CORE SCRIPT FINAL`
     Run(RunWords<'a>),
     /// `check IMAGE`
     Check(&'a str),
@@ -113,6 +123,33 @@ pub(crate) fn command_of(words: &[String]) -> Option<Command<'_>>
     ensures { option_map command_value result ≡ command_in words.now }
 {
     match words {
+        [
+            verb,
+            image,
+            core,
+            script,
+            term,
+            log,
+            final_disk,
+            second,
+            final_second,
+        ] => run_words(
+            verb.as_str() == "run2",
+            image.as_str(),
+            core.as_str(),
+            script.as_str(),
+            Outputs::Disks(
+                DiskFiles {
+                    term: term.as_str(),
+                    log: log.as_str(),
+                    final_disk: final_disk.as_str(),
+                },
+                SecondFiles {
+                    image: second.as_str(),
+                    final_disk: final_second.as_str(),
+                },
+            ),
+        ),
         [verb, image, core, script, term, log, final_disk] => run_words(
             verb.as_str() == "run",
             image.as_str(),

@@ -129,7 +129,7 @@ fn sets(nodes: &mut Nodes, ino: u16, call: Call, time: u32) -> Told {
 /// What a call answers at a time.
 pub fn answer(nodes: &mut Nodes, call: Call, time: u32) -> Told {
     match call {
-        Call::New(mode, uid, gid) => told_number(nodes.new_node(mode, uid, gid, time)),
+        Call::New(mode, uid, gid) => told_number(nodes.new_node(0, mode, uid, gid, time)),
         Call::Take(ino) => told_taken(takes(nodes, ino)),
         Call::Put(ino) => put(nodes, ino, time),
         Call::Write(ino, offset, count) => write(nodes, ino, offset, count, time),

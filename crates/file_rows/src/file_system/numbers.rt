@@ -218,7 +218,7 @@ fn put_list(bytes: &mut [u8], list: &[u16]) {
 
 fn makes(nodes: &mut Nodes, high: u16, low: u16) -> bool {
     for ino in (low..=high).rev() {
-        if nodes.new_node(0o644, 1, 2, 3) != Ok(ino) {
+        if nodes.new_node(0, 0o644, 1, 2, 3) != Ok(ino) {
             return false;
         }
     }
@@ -242,8 +242,8 @@ fn lists(nodes: &mut Nodes, count: u16) -> bool {
 fn does(nodes: &mut Nodes, step: Step) -> bool {
     match step {
         Makes(high, low) => makes(nodes, high, low),
-        NoSpace => nodes.new_node(0o644, 1, 2, 3) == Err(Errno::ENOSPC),
-        Full => nodes.new_node(0o644, 1, 2, 3) == Err(Errno::ENFILE),
+        NoSpace => nodes.new_node(0, 0o644, 1, 2, 3) == Err(Errno::ENOSPC),
+        Full => nodes.new_node(0, 0o644, 1, 2, 3) == Err(Errno::ENFILE),
         Takes(ino) => takes(nodes, ino),
         Puts(ino) => puts(nodes, ino),
         Links(ino) => answer(nodes, Call::Links(ino, 1), 4) == (0, None),
@@ -309,9 +309,9 @@ fn is_filled_whole(alloc: Global) -> Result<bool, AllocError> {
     let Some(mut nodes) = open(alloc, &disk_with(2, &[(30, 32)]))? else {
         return Ok(false);
     };
-    let is_made = nodes.new_node(0o644, 1, 2, 3) == Ok(32);
+    let is_made = nodes.new_node(0, 0o644, 1, 2, 3) == Ok(32);
     nodes.update_all(4);
-    let words = &nodes.on_disk(1)[206..214];
+    let words = &nodes.on_disk(0, 1)[206..214];
     Ok(is_made && words == [2, 0, 30, 0, 31, 0, 32, 0].as_slice())
 }
 

@@ -121,7 +121,7 @@ pub fn are_free(volume: &mut Volume, blocks: &[u16]) -> bool {
 pub fn stands(nodes: &Nodes, at: usize, bytes: &[u8]) -> bool {
     for (k, byte) in bytes.iter().enumerate() {
         let place = at.wrapping_add(k);
-        if place >= TWENTY_BLOCKS || nodes.on_disk((place / 512) as u16)[place % 512] != *byte {
+        if place >= TWENTY_BLOCKS || nodes.on_disk(0, (place / 512) as u16)[place % 512] != *byte {
             return false;
         }
     }
@@ -144,7 +144,7 @@ pub fn written(alloc: Global, nodes: &Nodes, blocks: u16) -> Result<Vec<u8>, All
 {
     let mut image = Vec::new(alloc);
     for n in 0..blocks {
-        image.extend_from_slice(nodes.on_disk(n))?;
+        image.extend_from_slice(nodes.on_disk(0, n))?;
     }
     Ok(image)
 }

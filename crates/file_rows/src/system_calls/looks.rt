@@ -191,7 +191,7 @@ fn disk(nodes: &Nodes) -> [u8; BYTES] {
     for n in 0..BLOCKS {
         put(
             &mut bytes,
-            &[(512 * usize::from(n), nodes.on_disk(n).as_slice())],
+            &[(512 * usize::from(n), nodes.on_disk(0, n).as_slice())],
         );
     }
     bytes

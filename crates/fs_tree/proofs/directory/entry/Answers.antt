@@ -1,6 +1,6 @@
 use Rattle.std.proofs.Common.{◌≡◌, ◌/◌, ℕ, List, Some, sym, subst}
 use Rattle.fs_codec.specs.Store.{Node}
-use Rattle.fs_laws.specs.Keys.{node_numbered}
+use Rattle.fs_nodes.specs.Keys.{node_numbered}
 use Rattle.fs_tree.specs.Directory.{HasBlock}
 use Rattle.fs_tree.proofs.DirectoryLemmas.{entry_at_place}
 use Rattle.fs_tree.proofs.directory.entry.Goals as goal

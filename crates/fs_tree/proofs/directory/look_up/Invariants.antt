@@ -1,6 +1,6 @@
 use Rattle.std.proofs.Common.{◌≡◌, ◌≢◌, ◌/◌, ◌%◌, Some}
 use Rattle.fs_codec.specs.Store.{Node}
-use Rattle.fs_laws.specs.Keys.{node_numbered}
+use Rattle.fs_nodes.specs.Keys.{node_numbered}
 use Rattle.fs_nodes.specs.FileSystem.{SameFiles}
 use Rattle.fs_tree.specs.Directory.{HasBlock}
 use Rattle.fs_tree.proofs.DirectoryLemmas.{Passed}

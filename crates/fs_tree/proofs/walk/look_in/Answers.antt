@@ -1,6 +1,5 @@
 use Rattle.std.proofs.Common.{◌||◌, not, sym, ap, ◌∙◌}
-use Rattle.fs_codec.specs.Store.{Store}
-use Rattle.fs_laws.specs.Keys.{node_numbered}
+use Rattle.fs_nodes.specs.Keys.{Stores, node_numbered}
 use Rattle.fs_tree.specs.declared.user.Want.TheVariants.{Write, Execute}
 use Rattle.fs_tree.specs.Name.{components, is_whole}
 use Rattle.fs_tree.specs.Path.{in_directory, is_last}
@@ -29,7 +28,7 @@ returns-clause-result g c = λ component later is.
     let same = same_names (components c.args.name.now) component c.component-component.result later (components c.component-component.new.self) is c.component-component.ensures.component in
     in_searched c.args.nodes.now.store c.args.user c.args.dir c.component-component.result (not (is_last (components c.component-component.new.self)) || is_whole c.component-component.new.self)
     s.0 c.may-2.result c.look_up.result s.1 d m (read_some c.component-component.new.self r.0 (sym r.1 ∙ c.peek-2.ensures) c.component-component.ensures.none) w
-    (c.look_up.ensures.looked s.0 (ap (λ (s : Store). node_numbered s c.args.dir) c.peek.ensures.same.store ∙ s.1) (sym s.2.size))
+    (c.look_up.ensures.looked s.0 (ap (λ (s : Stores). node_numbered s c.args.dir) c.peek.ensures.same.store ∙ s.1) (sym s.2.size))
     ∙ (λ i. in_directory c.args.nodes.now.store c.args.user c.args.dir (same.name i) (not (is_last (same.later i)) || c.component-component.ensures.whole i))
 
 pub returns-clause-read : goal.returns-clause-read

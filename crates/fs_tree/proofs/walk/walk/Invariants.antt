@@ -8,7 +8,7 @@ abbrev pub invariant-loop-last : goal.invariant-loop-last
 invariant-loop-last g l = record {
   begins : begins l.name ≡ true;
   same : SameFiles l.fn.nodes l.nodes;
-  walk : way l.fn.nodes.store l.user l.fn.dir l.fn.name ≡ walk l.fn.nodes.store l.user (is_whole l.name) l.at (components l.name);
+  walk : way l.fn.nodes.store l.mounts l.user l.fn.dir l.fn.name ≡ walk l.fn.nodes.store l.mounts l.user (is_whole l.name) l.at (components l.name);
 }
 
 abbrev pub decreases-loop-last : goal.decreases-loop-last

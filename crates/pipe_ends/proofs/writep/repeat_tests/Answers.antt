@@ -1,6 +1,6 @@
 use Rattle.std.proofs.Common.{◌≡◌, ◌+◌, ◌-◌, ◌%◌, ◌<◌, ◌≤◌, ℕ, min, suc, true, false, Some, None, refl, sym, ap, ◌∙◌, subst, arith}
 use Rattle.std.proofs.lemmas.Bool.{ltb-true, ltb-false}
-use Rattle.fs_laws.proofs.RestLemmas.{rest_then}
+use Rattle.fs_nodes.proofs.RestLemmas.{rest_stays, rest_then}
 use Rattle.v6_base.specs.declared.errno.Errno.{Errno}
 use Rattle.pipe_ends.specs.declared.ends.Pipe.{Pipe}
 use Rattle.pipe_ends.specs.declared.ends.Piped.TheVariants.{Done, Broken, Error}
@@ -48,7 +48,7 @@ loop-left-init g c =
       few = omega arith;
       ino = refl;
       references = refl;
-      rest = record { boot = refl; i_size = refl; f_size = refl; behind = λ n h. refl };
+      rest = rest_stays _;
     }
 
 -- the pipe has lost an end

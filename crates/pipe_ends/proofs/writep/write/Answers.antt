@@ -1,6 +1,6 @@
 use Rattle.std.proofs.Common.{◌≡◌, ◌↔◌, ◌<◌, ◌≤◌, ℕ, true, sym, ◌∙◌, subst}
 use Rattle.v6_base.specs.Image.{Image}
-use Rattle.fs_codec.specs.Store.{Store}
+use Rattle.fs_nodes.specs.Keys.{Stores}
 use Rattle.pipe_ends.specs.declared.ends.Pipe.{Pipe}
 use Rattle.pipe_ends.specs.declared.ends.TheConstants.{PIPSIZ}
 use Rattle.pipe_ends.specs.Pipes.{pipe_file, ends_of}
@@ -22,9 +22,9 @@ returns-clause-waits g c = λ left is.
     let image : Image = g.S.Space.image c.args.space.now in
     let w : PipeWrite = writes c.args.n.now.store ends c.args.p.now image c.args.at c.args.count c.args.time in
     let e = c.repeat_tests.ensures in
-    let Q : Store → Pipe → Type 0 = λ s p.
+    let Q : Stores → Pipe → Type 0 = λ s p.
     (0 < left) × (2 ≤ ends) × (PIPSIZ ≤ (pipe_file s p).size) × (p.writer_waits ≡ true) in
-    let of_store : Store → Type 0 = λ s. Q s c.repeat_tests.new.p in
+    let of_store : Stores → Type 0 = λ s. Q s c.repeat_tests.new.p in
     let of_pipe : Pipe → Type 0 = λ p. Q w.store p in
     let full = waits_where c.args.n.now.store ends c.args.p.now image c.args.at c.args.count c.args.time left (sym e.answer ∙ is) in
     subst of_store (sym e.store) (subst of_pipe (sym e.pipe) (full.some, full.both, full.full, full.marked))

@@ -1,7 +1,7 @@
 use Rattle.std.proofs.Common.{refl}
 use Rattle.fs_laws.specs.Pieces.{Moving}
 use Rattle.fs_codec.specs.Store.{Node}
-use Rattle.fs_laws.specs.Keys.{with_node}
+use Rattle.fs_nodes.specs.Keys.{with_node}
 use Rattle.fs_tree.specs.Entries.{written}
 use Rattle.sys_files.proofs.EnteringLemmas.{changed_keeps}
 use Rattle.sys_files.proofs.core_file.write_area.Goals as goal

@@ -1,6 +1,6 @@
 use Rattle.std.proofs.Common.{◌≡◌, ◌==◌, false, rules, refl, sym, ap, ◌∙◌, arith}
 use Rattle.sys_files.specs.Handed.{Handed, handed}
-use Rattle.sys_files.specs.Did.{Did}
+use Rattle.sys_files.specs.Did.{Did, unnamed}
 use Rattle.sys_files.specs.Core.{is_written}
 use Rattle.sys_files.proofs.AnyLemmas.{any_row}
 use Rattle.sys_files.proofs.OwedLemmas.{directory_referred}
@@ -21,7 +21,7 @@ returns-then-u-clause-whole g c = λ row.
     let h : Handed = handed c.args.f.now c.args.u.now row image in
     let after : Handed = handed c.write_named.new.f c.args.u.now row image in
     c.is_ok.ensures.value ∙ told_whole after c.write_named.result
-    ∙ ap (λ (d : Did). is_written d.answer) (sym (core_goes h c.args.now c.if-u.true ∙ c.write_named.ensures.did row))
+    ∙ ap (λ (d : Did). is_written d.answer) (sym (ap unnamed (core_goes h c.args.now c.if-u.true) ∙ c.write_named.ensures.did row))
 
 pub returns-then-u-clause-state : goal.returns-then-u-clause-state
 returns-then-u-clause-state g c = λ row.
@@ -29,7 +29,7 @@ returns-then-u-clause-state g c = λ row.
     let h : Handed = handed c.args.f.now c.args.u.now row image in
     let after : Handed = handed c.write_named.new.f c.args.u.now row image in
     told_state after c.write_named.result ∙ ap (λ (d : Did). d.state)
-    (sym (core_goes h c.args.now c.if-u.true ∙ c.write_named.ensures.did row))
+    (sym (ap unnamed (core_goes h c.args.now c.if-u.true) ∙ c.write_named.ensures.did row))
 
 pub returns-then-u-clause-kept : goal.returns-then-u-clause-kept
 returns-then-u-clause-kept g c = λ row.
@@ -38,8 +38,8 @@ returns-then-u-clause-kept g c = λ row.
     let after : Handed = handed c.write_named.new.f c.args.u.now row image in
     core_kept h after c.args.now (c.requires.sound row)
     (told_state after c.write_named.result ∙ ap (λ (d : Did). d.state)
-    (sym (core_goes h c.args.now c.if-u.true ∙ c.write_named.ensures.did row)))
-    c.write_named.ensures.kept.references c.write_named.ensures.kept.count
+    (sym (ap unnamed (core_goes h c.args.now c.if-u.true) ∙ c.write_named.ensures.did row)))
+    c.write_named.ensures.kept.references c.write_named.ensures.kept.counts
 
 pub returns-else-u-clause-whole : goal.returns-else-u-clause-whole
 returns-else-u-clause-whole g c = λ row.
@@ -56,4 +56,4 @@ returns-else-u-clause-state g c = λ row.
 pub returns-else-u-clause-kept : goal.returns-else-u-clause-kept
 returns-else-u-clause-kept g c = λ row.
     let h : Handed = handed c.args.f.now c.args.u.now row (g.S.Space.image c.args.space.now) in
-    kept_references h h (c.requires.sound row) refl refl refl refl (λ i. refl) refl
+    kept_references h h (c.requires.sound row) refl refl refl refl refl (λ i. refl) refl

@@ -21,7 +21,7 @@ returns-in-Room-clause-did g c = λ row.
     let h : Handed = handed c.args.f.now c.args.u.now row image in
     let after : Handed = handed (record c.args.f.now { tree = c.find_to_make.new.tree }) c.args.u.now row image in
     named_new h after c.args.now (name_at (text_alone c.core_name.result.bytes) 0) c.core_name.ensures
-    (λ i. record h { inodes = c.find_to_make.ensures.inodes i; marks = c.find_to_make.ensures.marks i })
+    (λ i. record h { inodes = c.find_to_make.ensures.inodes i; marks = c.find_to_make.ensures.marks i; mounts = c.find_to_make.ensures.mounts i })
     c.in_ok-ino.field-0 c.in-Room.dir c.in-Room.offset c.in-Room.name (handed c.write_new-result.new.f c.args.u.now row image)
     c.write_new-result.result (inodes_of c.let_go-in-Room.new.nodes) c.in_ok-ino.ensures.answer c.in-Room.is
     (c.write_new-result.ensures.did row) c.let_go-in-Room.ensures.inodes

@@ -1,14 +1,27 @@
+use Rattle.std.proofs.Common.{◌∙◌}
 use Rattle.sys_files.specs.Handed.{handed}
 use Rattle.sys_files.specs.Core.{writes_parts}
 use Rattle.sys_files.proofs.GivingLemmas.{takes_keeps_gives}
 use Rattle.sys_files.proofs.MakingLemmas.{made_told}
+use Rattle.sys_files.proofs.EnteringLemmas.{disk_has, same_disk}
 use Rattle.sys_files.proofs.core_file.write_new.Goals as goal
+
+pub make_inode-requires-clause-there : goal.make_inode-requires-clause-there
+make_inode-requires-clause-there g c = λ other.
+    disk_has c.args.f.now.tree.nodes c.see.ensures c.args.f.now.tree.mounts c.requires.mounts c.args.room.dir
+    c.requires.entry.referenced (λ none. other (c.disk_of-dev.ensures.disk ∙ none))
+
+pub enter_core-result-requires-clause-disk : goal.enter_core-result-requires-clause-disk
+enter_core-result-requires-clause-disk g c =
+    same_disk c.args.f.now.tree.mounts c.args.f.now.tree.nodes.store c.disk_of-dev.result c.args.room.dir c.in_ok-ino.ino c.requires.mounts
+    c.disk_of-dev.ensures.disk c.in_ok-ino.ensures.disk
 
 pub returns-clause-did : goal.returns-clause-did
 returns-clause-did g c = λ row.
     let image = g.S.Space.image c.args.space.now in
     made_told (handed c.args.f.now c.args.u.now row image) c.args.room.dir c.args.room.offset c.args.room.name
     0o666 c.args.now (writes_parts c.args.now) c.user_of.result c.user_of.ensures
+    c.disk_of-dev.result c.disk_of-dev.ensures.disk
     c.in_ok-ino.ino _ _ (handed c.enter_core-result.new.f c.args.u.now row image) c.enter_core-result.result
     c.in_ok-ino.ensures.answer c.make_inode.ensures.inodes
     (c.enter_core-result.ensures.did row) c.let_go.ensures.inodes

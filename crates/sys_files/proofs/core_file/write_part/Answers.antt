@@ -1,7 +1,7 @@
 use Rattle.std.proofs.Common.{refl}
 use Rattle.fs_laws.specs.Pieces.{Moving, write_file}
 use Rattle.fs_codec.specs.Store.{Node}
-use Rattle.fs_laws.specs.Keys.{room_at, with_node}
+use Rattle.fs_nodes.specs.Keys.{room_at, with_node}
 use Rattle.fs_nodes.specs.Copy.{get_from}
 use Rattle.sys_files.proofs.EnteringLemmas.{changed_keeps}
 use Rattle.sys_files.proofs.WritingLemmas.{node_there}

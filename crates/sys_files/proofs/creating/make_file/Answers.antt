@@ -1,8 +1,19 @@
-use Rattle.std.proofs.Common.{[], refl}
+use Rattle.std.proofs.Common.{◌∙◌, [], refl}
 use Rattle.v6_base.specs.Image.{Image}
 use Rattle.sys_files.specs.Handed.{handed}
 use Rattle.sys_files.proofs.CreatingLemmas.{between_kept, between_more, between_blocks}
+use Rattle.sys_files.proofs.EnteringLemmas.{disk_has, same_disk}
 use Rattle.sys_files.proofs.creating.make_file.Goals as goal
+
+pub make_inode-requires-clause-there : goal.make_inode-requires-clause-there
+make_inode-requires-clause-there c = λ other.
+    disk_has c.args.f.now.tree.nodes c.see.ensures c.args.f.now.tree.mounts c.requires.mounts c.args.room.dir
+    c.requires.entry.referenced (λ none. other (c.disk_of-dev.ensures.disk ∙ none))
+
+pub enter_file-answer-requires-clause-disk : goal.enter_file-answer-requires-clause-disk
+enter_file-answer-requires-clause-disk c =
+    same_disk c.args.f.now.tree.mounts c.args.f.now.tree.nodes.store c.disk_of-dev.result c.args.room.dir c.in-Ok.ino c.requires.mounts
+    c.disk_of-dev.ensures.disk c.in-Ok.ensures.disk
 
 pub returns-clause-kept : goal.returns-clause-kept
 returns-clause-kept c = λ image.
@@ -11,7 +22,7 @@ returns-clause-kept c = λ image.
     image)
     (handed c.enter_file-answer.new.f c.enter_file-answer.new.u c.enter_file-answer.new.row image)
     c.args.f.now.tree.nodes c.make_inode.new.nodes c.enter_file-answer.new.f.tree.nodes c.let_go.new.nodes c.in-Ok.ino
-    c.in-Ok.ensures.found (c.enter_file-answer.ensures.kept image) refl refl c.enter_file-answer.ensures.more
+    c.in-Ok.ensures.found (c.enter_file-answer.ensures.kept image) refl refl refl c.enter_file-answer.ensures.more
     c.let_go.ensures.inodes c.let_go.ensures.rest
 
 none : Image
@@ -24,7 +35,7 @@ returns-clause-more c =
     none)
     (handed c.enter_file-answer.new.f c.enter_file-answer.new.u c.enter_file-answer.new.row none)
     c.args.f.now.tree.nodes c.make_inode.new.nodes c.enter_file-answer.new.f.tree.nodes c.let_go.new.nodes c.in-Ok.ino
-    c.in-Ok.ensures.found (c.enter_file-answer.ensures.kept none) refl refl c.enter_file-answer.ensures.more
+    c.in-Ok.ensures.found (c.enter_file-answer.ensures.kept none) refl refl refl c.enter_file-answer.ensures.more
     c.let_go.ensures.inodes c.let_go.ensures.rest
 
 pub returns-clause-blocks : goal.returns-clause-blocks
@@ -34,5 +45,5 @@ returns-clause-blocks c =
     none)
     (handed c.enter_file-answer.new.f c.enter_file-answer.new.u c.enter_file-answer.new.row none)
     c.args.f.now.tree.nodes c.make_inode.new.nodes c.enter_file-answer.new.f.tree.nodes c.let_go.new.nodes c.in-Ok.ino
-    c.in-Ok.ensures.found (c.enter_file-answer.ensures.kept none) refl refl c.enter_file-answer.ensures.more
+    c.in-Ok.ensures.found (c.enter_file-answer.ensures.kept none) refl refl refl c.enter_file-answer.ensures.more
     c.let_go.ensures.inodes c.let_go.ensures.rest c.enter_file-answer.ensures.blocks

@@ -8,4 +8,4 @@ returns-clause-kept c = λ image.
     kept_after (handed c.args.f.now c.args.u.now c.args.row.now image)
     (handed (record c.args.f.now { tree = record c.args.f.now.tree { nodes = c.truncate.new.nodes } }) c.args.u.now c.args.row.now
     image) _
-    refl refl c.truncate.ensures.kept.references c.truncate.ensures.kept.count (c.open_to_write.ensures.kept image)
+    refl refl refl c.truncate.ensures.kept.references c.truncate.ensures.kept.counts (c.open_to_write.ensures.kept image)

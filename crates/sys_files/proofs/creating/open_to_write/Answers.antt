@@ -7,7 +7,7 @@ use Rattle.sys_files.proofs.creating.open_to_write.Goals as goal
 pub returns-clause-kept : goal.returns-clause-kept
 returns-clause-kept c = λ image.
     opened_kept (handed c.args.f.now c.args.u.now c.args.row.now image) _ c.args.ino _ refl c.requires.open
-    c.requires.pipes c.requires.referenced (c.open_found.ensures.state image)
+    c.requires.pipes c.requires.mounts c.requires.referenced (c.open_found.ensures.state image)
 
 none : Image
 none = record { text = []; «data» = []; stack = [] }

@@ -3,7 +3,7 @@ use Rattle.v6_base.specs.Image.{Image}
 use Rattle.v6_base.specs.Trace.{Item, Took}
 use Rattle.v6_base.proofs.Took.{took_nothing, took_then}
 use Rattle.proc_tab.specs.declared.row.Row.{Row}
-use Rattle.fs_laws.proofs.RestLemmas.{rest_stays, rest_then}
+use Rattle.fs_nodes.proofs.RestLemmas.{rest_stays, rest_then}
 use Rattle.sys_files.specs.Handed.{Handed, handed}
 use Rattle.sys_files.specs.Sound.{IsSound, IsKept}
 use Rattle.sys_files.specs.Descriptors.{Closing, then_closes}

@@ -1,5 +1,6 @@
 use Rattle.std.proofs.Common.{◌≡◌, ◌<◌, Err, rules, sym, ap, ◌∙◌, arith}
 use Rattle.sys_files.specs.Handed.{handed, node_in}
+use Rattle.sys_files.specs.Did.{unnamed}
 use Rattle.sys_files.specs.Making.{enters_again}
 use Rattle.sys_files.specs.Entering.{did_of}
 use Rattle.sys_files.proofs.GivingLemmas.{takes_keeps_gives}
@@ -12,8 +13,8 @@ returns-then-not-may_link-clause-did g c = λ row.
     let image = g.S.Space.image c.args.space.now in
     let few : (node_in c.args.f.now.tree.nodes.store c.args.ino).nlink < 127 =
     omega (arith, c.links_of.ensures, c.if-links_of-ge-MOST_LINKS.false) in
-    link_refused (handed c.args.f.now c.args.u.now row image) c.args.name c.args.now c.args.ino few
-    (sym (c.may_link.ensures row image) ∙ c.if-not-may_link.true)
+    ap unnamed (link_refused (handed c.args.f.now c.args.u.now row image) c.args.name c.args.now c.args.ino few
+    (sym (c.may_link.ensures row image) ∙ c.if-not-may_link.true))
 
 pub returns-in_err-room-clause-did : goal.returns-in_err-room-clause-did
 returns-in_err-room-clause-did g c = λ row.
@@ -21,9 +22,9 @@ returns-in_err-room-clause-did g c = λ row.
     let few : (node_in c.args.f.now.tree.nodes.store c.args.ino).nlink < 127 =
     omega (arith, c.links_of.ensures, c.if-links_of-ge-MOST_LINKS.false) in
     let is : Err c.in_err-room.field-0.0 ≡ c.from_residual.result = search rules in
-    link_goes (handed c.args.f.now c.args.u.now row image) c.args.name c.args.now c.args.ino few
-    (sym (c.may_link.ensures row image) ∙ c.if-not-may_link.false)
-    ∙ (c.in_err-room.ensures.did row (enters_again c.args.ino c.args.now)
+    ap unnamed (link_goes (handed c.args.f.now c.args.u.now row image) c.args.name c.args.now c.args.ino few
+    (sym (c.may_link.ensures row image) ∙ c.if-not-may_link.false))
+    ∙ (ap unnamed (c.in_err-room.ensures.did row (enters_again c.args.ino c.args.now))
     ∙ ap (did_of (handed c.find_room.new.f c.args.u.now row image)) is)
 
 pub returns-clause-did : goal.returns-clause-did
@@ -31,13 +32,13 @@ returns-clause-did g c = λ row.
     let image = g.S.Space.image c.args.space.now in
     let few : (node_in c.args.f.now.tree.nodes.store c.args.ino).nlink < 127 =
     omega (arith, c.links_of.ensures, c.if-links_of-ge-MOST_LINKS.false) in
-    link_goes (handed c.args.f.now c.args.u.now row image) c.args.name c.args.now c.args.ino few
-    (sym (c.may_link.ensures row image) ∙ c.if-not-may_link.false)
-    ∙ (c.in_ok-room.ensures.did row (enters_again c.args.ino c.args.now)
+    ap unnamed (link_goes (handed c.args.f.now c.args.u.now row image) c.args.name c.args.now c.args.ino few
+    (sym (c.may_link.ensures row image) ∙ c.if-not-may_link.false))
+    ∙ (ap unnamed (c.in_ok-room.ensures.did row (enters_again c.args.ino c.args.now))
     ∙ until (handed c.enter_again-result.new.f c.args.u.now row image) c.in_ok-room.room.dir
     (enters_again c.args.ino c.args.now (handed c.find_room.new.f c.args.u.now row image) c.in_ok-room.room.dir
     c.in_ok-room.room.offset c.in_ok-room.room.name)
-    c.enter_again-result.result _ (c.enter_again-result.ensures.did row image) c.let_go.ensures.inodes)
+    c.enter_again-result.result _ (ap unnamed (c.enter_again-result.ensures.did row image)) c.let_go.ensures.inodes)
 
 pub returns-clause-kept : goal.returns-clause-kept
 returns-clause-kept g c =

@@ -1,16 +1,28 @@
-use Rattle.std.proofs.Common.{ℕ, bit_and}
+use Rattle.std.proofs.Common.{◌∙◌, ℕ, bit_and}
 use Rattle.sys_files.specs.Handed.{Handed, handed}
 use Rattle.sys_files.specs.Did.{is_done}
 use Rattle.sys_files.specs.Making.{with_device}
 use Rattle.sys_files.proofs.GivingLemmas.{takes_keeps_gives}
 use Rattle.sys_files.proofs.MakingLemmas.{made_told}
+use Rattle.sys_files.proofs.EnteringLemmas.{disk_has, same_disk}
 use Rattle.sys_files.proofs.making.make_any.Goals as goal
+
+pub make_inode-requires-clause-there : goal.make_inode-requires-clause-there
+make_inode-requires-clause-there c = λ other.
+    disk_has c.args.f.now.tree.nodes c.see.ensures c.args.f.now.tree.mounts c.requires.mounts c.args.room.dir
+    c.requires.entry.referenced (λ none. other (c.disk_of-dev.ensures.disk ∙ none))
+
+pub enter_any-result-requires-clause-disk : goal.enter_any-result-requires-clause-disk
+enter_any-result-requires-clause-disk c =
+    same_disk c.args.f.now.tree.mounts c.args.f.now.tree.nodes.store c.disk_of-dev.result c.args.room.dir c.in_ok-ino.ino c.requires.mounts
+    c.disk_of-dev.ensures.disk c.in_ok-ino.ensures.disk
 
 pub returns-clause-did : goal.returns-clause-did
 returns-clause-did c = λ row image.
     made_told (handed c.args.f.now c.args.u.now row image) c.args.room.dir c.args.room.offset c.args.room.name
     (bit_and c.args.mode 0o167777) c.args.now
     (λ (h : Handed) (ino : ℕ). is_done (with_device h ino c.args.device)) c.user_of.result c.user_of.ensures
+    c.disk_of-dev.result c.disk_of-dev.ensures.disk
     c.in_ok-ino.ino _ _ (handed c.enter_any-result.new.f c.args.u.now row image) c.enter_any-result.result
     c.in_ok-ino.ensures.answer c.make_inode.ensures.inodes
     (c.enter_any-result.ensures.did row image) c.let_go.ensures.inodes

@@ -16,4 +16,4 @@ returns-clause-does g c =
     let image = g.S.Space.image c.args.space.now in
     let h : Handed = handed c.args.f.now c.args.u.now c.args.row.now image in
     does_as (c.in-Ok.ensures.line c.args.row.now image (λ l. tells_modes h l (slice_index c.args.args 0)) ∙ c.put_modes.ensures.did h refl refl refl)
-    (kept_same h _ c.requires.sound refl refl refl refl refl refl)
+    (kept_same h _ c.requires.sound refl refl refl refl refl refl refl)

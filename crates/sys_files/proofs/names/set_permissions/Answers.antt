@@ -1,5 +1,5 @@
 use Rattle.sys_files.proofs.NamesLemmas.{kind_stays}
-use Rattle.fs_laws.specs.Keys.{node_numbered}
+use Rattle.fs_nodes.specs.Keys.{node_numbered}
 use Rattle.sys_files.proofs.names.set_permissions.Goals as goal
 
 pub set_mode-requires-clause-kind : goal.set_mode-requires-clause-kind

@@ -11,8 +11,8 @@ use Rattle.sys_files.proofs.piping.make_pipe.Goals as goal
 pub returns-in-Err-clause-kept : goal.returns-in-Err-clause-kept
 returns-in-Err-clause-kept c row image =
     let h = handed c.args.f.now c.args.u.now row image in
-    kept_references h (with_inodes h (inodes_of c.make_inode.new.nodes)) (c.requires row image) refl refl refl refl
-    c.in-Err.ensures.none.references c.in-Err.ensures.none.count
+    kept_references h (with_inodes h (inodes_of c.make_inode.new.nodes)) (c.requires row image) refl refl refl refl refl
+    c.in-Err.ensures.none.references c.in-Err.ensures.none.counts
 
 pub open_ends-answer-requires-clause-few : goal.open_ends-answer-requires-clause-few
 open_ends-answer-requires-clause-few c =

@@ -1,4 +1,4 @@
-use Rattle.std.proofs.Common.{◌≡◌, ◌<◌, List, length, slice_index, sym, ap, subst}
+use Rattle.std.proofs.Common.{[], ◌≡◌, ◌<◌, List, length, slice_index, sym, ap, subst}
 use Rattle.v6_base.specs.Trace.{Item, Took}
 use Rattle.fs_tree.specs.Finding.{inodes_of}
 use Rattle.sys_files.specs.Did.{Did}
@@ -39,7 +39,7 @@ left g c = record (before g c) {
 }
 
 abbrev did : (g : Over) → After-end_read g → Did
-did g c = record { answer = c.end_read.result; state = left g c; items = woken_by_read c.pipe_at-old.result c.read-piped.new.p }
+did g c = record { answer = c.end_read.result; state = left g c; items = woken_by_read c.pipe_at-old.result c.read-piped.new.p; named = [] }
 
 comes : (g : Over) (c : After-end_read g)
     → reads_pipe (before g c) c.args.transfer.entry c.args.transfer.at c.args.transfer.count c.args.now ≡ did g c

@@ -2,5 +2,5 @@ use Rattle.sys_files.proofs.StatusLemmas.{number_bytes_are}
 use Rattle.sys_files.proofs.status.number_bytes.Goals as goal
 
 pub returns : goal.returns
-returns c = number_bytes_are c.args.ino c.put_words.new.b c.put_words.auto.b c.see_bytes.ensures
+returns c = number_bytes_are c.args.dev c.args.ino c.put_words.new.b c.put_words.auto.b c.see_bytes.ensures
     c.put_words.ensures.here

@@ -1,6 +1,7 @@
 use Rattle.std.proofs.Common.{◌≡◌, ◌∙◌, ◌+◌, ◌<◌, ◌≤◌, ◌==◌, ℕ, if◌then◌else◌, List, set, get_or, count_by, slice_index, Ok, refl, sym, ap, subst, arith}
 use Rattle.v6_base.specs.declared.answer.Answer.TheVariants.{Fail}
 use Rattle.fs_nodes.specs.FileSystem.{FileSystem}
+use Rattle.mount_tab.specs.Mounted.{MountTable}
 use Rattle.sys_procs.specs.declared.procs.Procs.{Procs}
 use Rattle.sys_procs.specs.declared.program.Program.{Program}
 use Rattle.sys_procs.specs.World.{World, texts_in}
@@ -22,15 +23,15 @@ load-requires-clause-alive g c =
     (calls_alive c.args.p.now c.args.tree.now.nodes c.args.s c.requires.calls)
 
 -- The program that they let through is referred to once more, so that its own text, if it has one, isn't all that refers to it.
-module _ (p q : Procs) (fs gs : FileSystem) (s name list : ℕ) (program : Program) (calls : Calls p fs s)
-    (state : handed q gs ≡ (tests (handed p fs) s name list).world)
-    (answer : Ok program ≡ (tests (handed p fs) s name list).answer)
+module _ (mounts : MountTable) (p q : Procs) (fs gs : FileSystem) (s name list : ℕ) (program : Program) (calls : Calls p fs s)
+    (state : handed q gs ≡ (tests mounts (handed p fs) s name list).world)
+    (answer : Ok program ≡ (tests mounts (handed p fs) s name list).answer)
     (some : 0 < slice_index gs.references program.ino) where
   abbrev more : List ℕ
   more = set fs.references program.ino (slice_index fs.references program.ino + 1)
 
   is : gs.references ≡ more
-  is = ap (λ (w : World). w.inodes.references) state ∙ tests_refer (handed p fs) s name list program (sym answer)
+  is = ap (λ (w : World). w.inodes.references) state ∙ tests_refer mounts (handed p fs) s name list program (sym answer)
 
   some_more : 0 < slice_index more program.ino
   some_more = subst (λ l. 0 < slice_index l program.ino) is some
@@ -51,7 +52,7 @@ module _ (p q : Procs) (fs gs : FileSystem) (s name list : ℕ) (program : Progr
 
 pub load-requires-clause-few : goal.load-requires-clause-few
 load-requires-clause-few g c =
-    few c.args.p.now c.test_program.new.p c.args.tree.now.nodes c.test_program.new.tree.nodes c.args.s (get_or c.args.args 0 0)
+    few c.args.tree.now.mounts c.args.p.now c.test_program.new.p c.args.tree.now.nodes c.test_program.new.tree.nodes c.args.s (get_or c.args.args 0 0)
     (get_or c.args.args 1 0)
     c.in-Ok.program c.requires.calls c.test_program.ensures.state c.in-Ok.ensures.answer c.in-Ok.ensures.tested.referenced
 
@@ -59,7 +60,7 @@ pub load-requires-clause-referred : goal.load-requires-clause-referred
 load-requires-clause-referred g c =
     subst (λ (p : Procs). (i : ℕ) → count_by (is_text_of i) (texts_in p.images.kept) + (if i == c.in-Ok.program.ino then 1 else 0)
     ≤ slice_index c.test_program.new.tree.nodes.references i) (sym c.test_program.ensures.procs)
-    (referred c.args.p.now c.test_program.new.p c.args.tree.now.nodes c.test_program.new.tree.nodes c.args.s
+    (referred c.args.tree.now.mounts c.args.p.now c.test_program.new.p c.args.tree.now.nodes c.test_program.new.tree.nodes c.args.s
     (get_or c.args.args 0 0)
     (get_or c.args.args 1 0) c.in-Ok.program c.requires.calls c.test_program.ensures.state c.in-Ok.ensures.answer
     c.in-Ok.ensures.tested.referenced)
@@ -72,7 +73,7 @@ returns-in-Ok-clause-does g c =
     (g.T.Trace.taken c.args.trace.now) (g.T.Trace.taken c.load.new.trace) x in
     done_as
     (ap (λ (v : World). loads v c.args.s c.in-Ok.program) c.test_program.ensures.state
-    ∙ loaded w c.args.s (get_or c.args.args 0 0) (get_or c.args.args 1 0) c.in-Ok.program c.in-Ok.ensures.answer)
+    ∙ loaded c.args.tree.now.mounts w c.args.s (get_or c.args.args 0 0) (get_or c.args.args 1 0) c.in-Ok.program c.in-Ok.ensures.answer)
     (subst (λ (q : Procs). P q (loads (handed c.test_program.new.p c.test_program.new.tree.nodes) c.args.s c.in-Ok.program))
     c.test_program.ensures.procs c.load.ensures.does)
 
@@ -81,5 +82,5 @@ pub returns-in-Err-clause-does : goal.returns-in-Err-clause-does
 returns-in-Err-clause-does g c =
     let w : World = handed c.args.p.now c.args.tree.now.nodes in
     done_none _ (Fail c.in-Err.e)
-    (refused w c.args.s (get_or c.args.args 0 0) (get_or c.args.args 1 0) c.in-Err.e c.in-Err.ensures.answer)
+    (refused c.args.tree.now.mounts w c.args.s (get_or c.args.args 0 0) (get_or c.args.args 1 0) c.in-Err.e c.in-Err.ensures.answer)
     refl c.test_program.ensures.state (ap (λ (p : Procs). board p) c.test_program.ensures.procs)

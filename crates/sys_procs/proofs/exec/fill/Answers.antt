@@ -1,8 +1,7 @@
 use Rattle.std.proofs.Common.{◌≡◌, ◌∙◌, ℕ, ◌+◌, ◌*◌, ◌%◌, List, ap, arith}
 use Rattle.v6_base.specs.Image.{Image, nseg}
-use Rattle.fs_codec.specs.Store.{Store}
 use Rattle.fs_laws.specs.Pieces.{Moving, read_file}
-use Rattle.fs_laws.specs.Keys.{room_at, with_node}
+use Rattle.fs_nodes.specs.Keys.{Stores, room_at, with_node}
 use Rattle.fs_nodes.specs.Copy.{put_into}
 use Rattle.sys_procs.specs.declared.program.Program.{Program}
 use Rattle.sys_procs.specs.Tests.{node_in}
@@ -29,7 +28,7 @@ read_is : (g : given.Over) (c : After-read_at g) (text : List ℕ) → g.S.Space
     (g.S.Space.image c.args.space.now) (16 + c.from.result) c.args.program.now.plan.init c.args.now)
     (data_in c.args.nodes.now.store text c.args.program.now c.args.now)
 read_is g c text is =
-    let store : Store = c.args.nodes.now.store in
+    let store : Stores = c.args.nodes.now.store in
     let program : Program = c.args.program.now in
     (λ i. read_file (put_into (at_is g c i)) (node_in store program.ino) (room_at store program.ino) (is i)
     (16 + c.from.ensures i) program.plan.init c.args.now)
@@ -60,7 +59,7 @@ returns-clause-image g c = λ text is.
 pub returns-clause-store : goal.returns-clause-store
 returns-clause-store g c = λ text is.
     let at = (goal.at.returns-clause-store g c).After-read_at in
-    let store : Store = c.args.nodes.now.store in
+    let store : Stores = c.args.nodes.now.store in
     let program : Program = c.args.program.now in
     (c.read_at.ensures.moved (node_in store program.ino)
     (node_there store program.ino (c.see.ensures.used program.ino c.requires.referenced))).store

@@ -11,7 +11,7 @@ use Rattle.sys_procs.proofs.MemoryLemmas.{image_here}
 use Rattle.sys_procs.proofs.tested.find_program.Goals as goal
 
 alive : (c : goal.After-find_name) → IsAlive c.args.p.now c.args.s
-alive c = calls_alive c.args.p.now c.args.tree.now.nodes c.args.s c.requires
+alive c = calls_alive c.args.p.now c.args.tree.now.nodes c.args.s c.requires.calls
 
 area : (c : goal.After-find_name) → c.area-u.result ≡ (process_here c.args.p.now c.args.s).u
 area c = c.area-u.ensures.u ∙ area_here c.args.p.now c.args.s (alive c)
@@ -27,7 +27,7 @@ image c =
 -- a search of the name for a process with such an area and such a memory
 abbrev search_in : goal.After-find_name → UArea → Image → Finding ℕ
 search_in c u m =
-    find_in (inodes_of c.args.tree.now.nodes) (record { uid = u.uid; gid = u.gid }) u.dir (name_at m c.args.name)
+    find_in (inodes_of c.args.tree.now.nodes) c.args.tree.now.mounts (record { uid = u.uid; gid = u.gid }) u.dir (name_at m c.args.name)
 
 pub returns-clause-answer : goal.returns-clause-answer
 returns-clause-answer c = c.find_name.ensures.answer ∙ (λ i. (search_in c (area c i) (image c i)).answer)

@@ -1,6 +1,6 @@
 use Rattle.std.proofs.Common.{◌≡◌, ◌∙◌, List, ℕ, sym, ap}
-use Rattle.fs_codec.specs.Store.{Store}
 use Rattle.fs_laws.specs.Pieces.{Moving}
+use Rattle.fs_nodes.specs.Keys.{Stores}
 use Rattle.sys_procs.specs.World.{World}
 use Rattle.sys_procs.specs.Tests.{node_in}
 use Rattle.sys_procs.specs.Handed.{handed}
@@ -11,7 +11,7 @@ use Rattle.sys_procs.proofs.tested.read_header.Goals as goal
 pub returns-clause-answer : goal.returns-clause-answer
 returns-clause-answer c =
     let w : World = handed c.args.p.now c.args.tree.now.nodes in
-    let store : Store = c.args.tree.now.nodes.store in
+    let store : Stores = c.args.tree.now.nodes.store in
     let m : Moving (List ℕ) = header_read w c.args.ino in
     let moves = c.read_kernel-read.ensures.moved (node_in store c.args.ino)
     (node_there store c.args.ino (c.see.ensures.used c.args.ino c.requires.referenced)) in

@@ -14,20 +14,20 @@ returns-in_err-ino-clause-answer c =
     given.1
     ∙ (ap (λ e. Err e) given.2
     ∙ ap (λ (t : Tested). t.answer)
-    (program_tested c.args.p.now c.args.tree.now.nodes c.args.s c.args.name c.args.list (Err c.in_err-ino.field-0.0) _
+    (program_tested c.args.tree.now.mounts c.args.p.now c.args.tree.now.nodes c.args.s c.args.name c.args.list (Err c.in_err-ino.field-0.0) _
     c.in_err-ino.ensures.answer c.find_program.ensures.inodes))
 
 pub returns-in_err-ino-clause-state : goal.returns-in_err-ino-clause-state
 returns-in_err-ino-clause-state c =
     ap (λ (p : Procs). handed p c.find_program.new.tree.nodes) c.find_program.ensures.procs
     ∙ ap (λ (t : Tested). t.world)
-    (program_tested c.args.p.now c.args.tree.now.nodes c.args.s c.args.name c.args.list (Err c.in_err-ino.field-0.0) _
+    (program_tested c.args.tree.now.mounts c.args.p.now c.args.tree.now.nodes c.args.s c.args.name c.args.list (Err c.in_err-ino.field-0.0) _
     c.in_err-ino.ensures.answer c.find_program.ensures.inodes)
 
 pub test_file-requires-clause-alive : goal.test_file-requires-clause-alive
 test_file-requires-clause-alive c =
     subst (λ (p : Procs). IsAlive p c.args.s) (sym c.find_program.ensures.procs)
-    (calls_alive c.args.p.now c.args.tree.now.nodes c.args.s c.requires)
+    (calls_alive c.args.p.now c.args.tree.now.nodes c.args.s c.requires.calls)
 
 pub returns-clause-answer : goal.returns-clause-answer
 returns-clause-answer c =
@@ -36,7 +36,7 @@ returns-clause-answer c =
     ∙ (ap (λ (p : Procs). (tests_file (handed p found) c.args.s c.in_ok-ino.ino c.args.list).answer)
     c.find_program.ensures.procs
     ∙ ap (λ (t : Tested). t.answer)
-    (program_tested c.args.p.now c.args.tree.now.nodes c.args.s c.args.name c.args.list _ _
+    (program_tested c.args.tree.now.mounts c.args.p.now c.args.tree.now.nodes c.args.s c.args.name c.args.list _ _
     c.in_ok-ino.ensures.answer c.find_program.ensures.inodes))
 
 pub returns-clause-state : goal.returns-clause-state
@@ -46,5 +46,5 @@ returns-clause-state c =
     ∙ (ap (λ (p : Procs). (tests_file (handed p found) c.args.s c.in_ok-ino.ino c.args.list).world)
     c.find_program.ensures.procs
     ∙ ap (λ (t : Tested). t.world)
-    (program_tested c.args.p.now c.args.tree.now.nodes c.args.s c.args.name c.args.list _ _
+    (program_tested c.args.tree.now.mounts c.args.p.now c.args.tree.now.nodes c.args.s c.args.name c.args.list _ _
     c.in_ok-ino.ensures.answer c.find_program.ensures.inodes))

@@ -1,6 +1,6 @@
 use Rattle.std.proofs.Common.{◌≡◌, ◌∙◌, ◌<◌, true, false, slice_index, inl, inr, sym, ap, subst}
 use Rattle.text_tab.specs.declared.left.Left.TheVariants.{Gone}
-use Rattle.fs_laws.proofs.RestLemmas.{rest_stays}
+use Rattle.fs_nodes.proofs.RestLemmas.{rest_stays}
 use Rattle.image_keep.specs.Kept.{Kept, text_of}
 use Rattle.image_keep.specs.SharedTexts.{row_of_text}
 use Rattle.text_tab.specs.Table as table

@@ -1,6 +1,6 @@
 use Rattle.std.proofs.Common.{◌≡◌, ◌∙◌, ◌+◌, ◌*◌, ◌%◌, ℕ, Bool, true, false, if◌then◌else◌, slice_index, sym, ap, subst}
 use Rattle.v6_base.specs.Trace.{Took}
-use Rattle.fs_laws.proofs.RestLemmas.{rest_then}
+use Rattle.fs_nodes.proofs.RestLemmas.{rest_then}
 use Rattle.fs_nodes.specs.FileSystem.{SameRest}
 use Rattle.pick_rules.specs.Logged.{logged}
 use Rattle.u_area.specs.declared.area.UArea.{UArea}

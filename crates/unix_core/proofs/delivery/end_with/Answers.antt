@@ -5,7 +5,7 @@ use Rattle.u_area.specs.declared.layout.TheConstants.{NOTHING_PENDING}
 use Rattle.sys_procs.specs.Agree.{ended_by}
 use Rattle.sys_procs.specs.World as its
 use Rattle.v6_base.specs.Trace.{Took}
-use Rattle.fs_laws.proofs.RestLemmas.{rest_then}
+use Rattle.fs_nodes.proofs.RestLemmas.{rest_then}
 use Rattle.pick_rules.specs.declared.table.Table.{Table}
 use Rattle.pick_rules.specs.Effects.{Show}
 use Rattle.pick_rules.specs.Logged.{Stop, logged}

@@ -26,7 +26,7 @@ close_all-requires c =
     record {
       sound = λ row image.
           sound_parts w c.args.s (handed w.files c.area-u.result row image) c.requires.ready c.see_table.ensures
-          c.area-u.ensures.holds refl refl area refl;
+          c.area-u.ensures.holds refl refl area refl refl refl;
     }
 
 pub set_area-requires : goal.set_area-requires

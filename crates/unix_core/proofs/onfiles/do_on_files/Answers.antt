@@ -25,7 +25,7 @@ do_file_call-answer-requires c =
     let s : ℕ = c.args.fixed.now.slot in
     let parts : Handed = handed w.files c.area-u.result c.row.result.now (image_of c.space_at-space.result.images.now.kept c.space_at-space.result.slot) in
     let area = area_is w s c.area-u.result c.requires.ready c.area-u.ensures.u in
-    record { sound = sound_parts w s parts c.requires.ready c.see_table.ensures c.area-u.ensures.holds refl refl area refl }
+    record { sound = sound_parts w s parts c.requires.ready c.see_table.ensures c.area-u.ensures.holds refl refl area refl refl refl }
 
 -- These follow from the images alone, whatever the loan says of itself.
 pub put_back-requires : goal.put_back-requires

@@ -25,7 +25,7 @@ write_core-requires-clause-sound c row =
     let w : World = c.args.world.now in
     let image : Image = image_of c.space-space.result.images.now.kept c.space-space.result.slot in
     sound_parts w c.args.s (handed w.files c.area-u.result row image) c.requires.ready c.see_table.ensures c.area-u.ensures.holds refl refl
-    (area_is w c.args.s c.area-u.result c.requires.ready c.area-u.ensures.u) refl
+    (area_is w c.args.s c.area-u.result c.requires.ready c.area-u.ensures.u) refl refl refl
 
 pub returns-clause-whole : goal.returns-clause-whole
 returns-clause-whole c =

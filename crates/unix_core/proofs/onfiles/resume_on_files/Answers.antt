@@ -52,7 +52,7 @@ resume_file-answer-requires-clause-sound c =
     let w : World = c.args.world.now in
     let parts : Handed = handed w.files c.area-u.result c.row.result.now (image_of c.space-space.result.images.now.kept c.space-space.result.slot) in
     let area = area_is w c.args.s c.area-u.result c.requires.ready c.area-u.ensures.u in
-    sound_parts w c.args.s parts c.requires.ready c.see_table.ensures c.area-u.ensures.holds refl refl area refl
+    sound_parts w c.args.s parts c.requires.ready c.see_table.ensures c.area-u.ensures.holds refl refl area refl refl refl
 
 pub resume_file-answer-requires-clause-pending : goal.resume_file-answer-requires-clause-pending
 resume_file-answer-requires-clause-pending c =

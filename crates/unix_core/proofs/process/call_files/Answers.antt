@@ -1,7 +1,7 @@
 use Rattle.std.proofs.Common.{◌≡◌, ◌≢◌, ◌∙◌, ◌==◌, ◌&&◌, not, ℕ, Bool, List, refl, sym, ap, subst}
 use Rattle.v6_base.specs.Trace.{Took}
 use Rattle.v6_base.specs.declared.answer.Answer.{Answer}
-use Rattle.fs_laws.specs.Rest.{SameAround}
+use Rattle.fs_nodes.specs.FileSystem.{SameAroundEach}
 use Rattle.pick_rules.specs.Logged.{logged}
 use Rattle.sys_files.specs.declared.files.Files.{Files}
 use Rattle.sys_files.specs.Handed.{Handed, r0}
@@ -103,8 +103,8 @@ returns-then-waits-clause-slots g c =
 
 pub returns-then-waits-clause-rest : goal.returns-then-waits-clause-rest
 returns-then-waits-clause-rest g c =
-    subst (λ (f : Files). SameAround c.args.world.now.files.tree.nodes.blocks f.tree.nodes.blocks) (sym c.wait_for_disk.ensures.files)
-    (subst (λ b. SameAround c.args.world.now.files.tree.nodes.blocks b) (sym c.conclude-ending.ensures.blocks) c.do_on_files-answer.ensures.rest)
+    subst (λ (f : Files). SameAroundEach c.args.world.now.files.tree.nodes.blocks f.tree.nodes.blocks) (sym c.wait_for_disk.ensures.files)
+    (subst (λ b. SameAroundEach c.args.world.now.files.tree.nodes.blocks b) (sym c.conclude-ending.ensures.blocks) c.do_on_files-answer.ensures.rest)
 
 pub returns-then-waits-clause-frame : goal.returns-then-waits-clause-frame
 returns-then-waits-clause-frame g c = g.met.T.Trace.goes_on _ _ _ c.pass_on.ensures.frame c.conclude-ending.ensures.frame
@@ -168,7 +168,7 @@ returns-clause-slots g c =
 
 pub returns-clause-rest : goal.returns-clause-rest
 returns-clause-rest g c =
-    subst (λ b. SameAround c.args.world.now.files.tree.nodes.blocks b) (sym c.conclude-ending.ensures.blocks) c.do_on_files-answer.ensures.rest
+    subst (λ b. SameAroundEach c.args.world.now.files.tree.nodes.blocks b) (sym c.conclude-ending.ensures.blocks) c.do_on_files-answer.ensures.rest
 
 pub returns-clause-frame : goal.returns-clause-frame
 returns-clause-frame g c = g.met.T.Trace.goes_on _ _ _ c.pass_on.ensures.frame c.conclude-ending.ensures.frame

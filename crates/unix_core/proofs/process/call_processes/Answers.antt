@@ -3,7 +3,7 @@ use Rattle.std.proofs.lemmas.Result.{IfOk-at_ok, IfErr-at_err}
 use Rattle.v6_base.specs.Trace.{Took}
 use Rattle.v6_base.specs.declared.answer.Answer.{Answer}
 use Rattle.v6_base.specs.declared.entry.PanicKind.{PanicKind}
-use Rattle.fs_laws.specs.Rest.{SameAround}
+use Rattle.fs_nodes.specs.FileSystem.{SameAroundEach}
 use Rattle.pick_rules.specs.Logged.{logged}
 use Rattle.fs_nodes.specs.FileSystem.{IsFileSystem}
 use Rattle.image_keep.specs.Kept.{IsKept}
@@ -15,7 +15,7 @@ use Rattle.unix_core.specs.declared.world.World.{World}
 use Rattle.abstract_unix.specs.declared.ending.Ending.TheVariants.{Panic}
 use Rattle.abstract_unix.specs.declared.calls.ProcessCall.{ProcessCall}
 use Rattle.abstract_unix.specs.declared.calls.SystemCall.TheVariants.{OnProcesses}
-use Rattle.abstract_unix.specs.Unix.{Timing, process_of}
+use Rattle.abstract_unix.specs.Unix.{Timing, process_of, mounts_of}
 use Rattle.abstract_unix.specs.Calls.{world_of, came_by, process_row, loads_program, waits_in_call, with_world}
 use Rattle.abstract_unix.specs.Turn.{is_user}
 use Rattle.abstract_unix.specs.Whole.{CanGoOn}
@@ -35,7 +35,7 @@ use Rattle.unix_core.proofs.TameRows.{tame_row}
 use Rattle.unix_core.proofs.process.call_processes.Goals as goal
 
 abbrev row : World → ProcessCall → ℕ → List ℕ → Comes
-row w call s args = process_row call (given w) s args
+row w call s args = process_row call w.files.tree.mounts (given w) s args
 
 tame : (w : World) (call : ProcessCall) (s : ℕ) (args : List ℕ) → IsReady w s → IsFileSystem w.files.tree.nodes → IsKept w.procs.images.kept → IsTame w (row w call s args)
 tame w call s args ready form holds = tame_row w s ready form holds call args
@@ -45,7 +45,7 @@ waits : (w : World) (call : ProcessCall) (s : ℕ) (args : List ℕ) → IsReady
     → CanGoOn (with_world (unix_of w) (row w call s args).state)
 waits w call s args ready user =
     world_goes_on (unix_of w) (row w call s args).state ready.good.pending
-    (row_waited (given w) s (none_pending (process_of (unix_of w) s) user) call args)
+    (row_waited (given w) s (none_pending (process_of (unix_of w) s) user) call w.files.tree.mounts args)
 
 -- what is answered is what the row says
 went : (w : World) (call : ProcessCall) (s : ℕ) (args : List ℕ) (a : Answer) (r : Result Answer PanicKind)
@@ -62,10 +62,10 @@ waits_so w call s args ready form answer is loaded slots same told =
     (is ∙ ap (λ x. (process_row call x s args).answer) (world_is w s ready form)))
 
 waits_then : (w : World) (call : ProcessCall) (s : ℕ) (args : List ℕ) (loaded : Bool) → waits_in_call (unix_of w) s (OnProcesses call) args ≡ loaded
-    → let its : Comes = process_row call (world_of (unix_of w)) s args in
+    → let its : Comes = process_row call (mounts_of (unix_of w)) (world_of (unix_of w)) s args in
     (loads_program call its.answer && not ((came_by (unix_of w) s its).unix.timing.disk == 0)) ≡ loaded
 waits_then w call s args loaded is =
-    let its : Comes = process_row call (world_of (unix_of w)) s args in
+    let its : Comes = process_row call (mounts_of (unix_of w)) (world_of (unix_of w)) s args in
     ap (λ (t : Timing). loads_program call its.answer && not (t.disk == 0)) (times_came s (unix_of w) its) ∙ is
 
 pub do_process_call-requires-clause-calls : goal.do_process_call-requires-clause-calls
@@ -95,7 +95,7 @@ returns-then-has_loaded-clause-come g c =
     let w : World = c.args.world.now in
     let s = c.args.s in
     let e = c.do_process_call.ensures in
-    let its : Comes = process_row c.args.call (world_of (unix_of w)) s c.args.args in
+    let its : Comes = process_row c.args.call (mounts_of (unix_of w)) (world_of (unix_of w)) s c.args.args in
     let is = went w c.args.call s c.args.args c.in-Ok.answer _ e.does.answer c.in-Ok.is in
     let waits = waits_so w c.args.call s c.args.args c.requires.ready c.see.ensures c.in-Ok.answer is c.has_loaded.result c.conclude-ending.new.world.slots
     c.conclude-ending.ensures.slots c.has_loaded.ensures in
@@ -115,7 +115,7 @@ returns-then-has_loaded-clause-items g c =
     let w : World = c.args.world.now in
     let s = c.args.s in
     let e = c.do_process_call.ensures in
-    let its : Comes = process_row c.args.call (world_of (unix_of w)) s c.args.args in
+    let its : Comes = process_row c.args.call (mounts_of (unix_of w)) (world_of (unix_of w)) s c.args.args in
     subst (λ es. Took (g.T.Trace.taken c.args.trace.now) (logged (board_in w) es).items (g.T.Trace.taken c.conclude-ending.new.trace))
     (sym (timed_effects (loads_program c.args.call its.answer) s (came_by (unix_of w) s its)))
     (subst (λ x. Took (g.T.Trace.taken c.args.trace.now) (logged (board_in w) (came_by (unix_of w) s (process_row c.args.call x s c.args.args)).effects).items
@@ -133,8 +133,8 @@ returns-then-has_loaded-clause-frame g c = g.met.T.Trace.goes_on _ _ _ c.do_proc
 
 pub returns-then-has_loaded-clause-rest : goal.returns-then-has_loaded-clause-rest
 returns-then-has_loaded-clause-rest g c =
-    subst (λ (f : Files). SameAround c.args.world.now.files.tree.nodes.blocks f.tree.nodes.blocks) (sym c.wait_for_disk.ensures.files)
-    (subst (λ b. SameAround c.args.world.now.files.tree.nodes.blocks b) (sym c.conclude-ending.ensures.blocks) c.do_process_call.ensures.blocks)
+    subst (λ (f : Files). SameAroundEach c.args.world.now.files.tree.nodes.blocks f.tree.nodes.blocks) (sym c.wait_for_disk.ensures.files)
+    (subst (λ b. SameAroundEach c.args.world.now.files.tree.nodes.blocks b) (sym c.conclude-ending.ensures.blocks) c.do_process_call.ensures.blocks)
 
 pub returns-then-has_loaded-clause-slots : goal.returns-then-has_loaded-clause-slots
 returns-then-has_loaded-clause-slots g c goes =
@@ -146,7 +146,7 @@ returns-else-has_loaded-clause-come g c =
     let w : World = c.args.world.now in
     let s = c.args.s in
     let e = c.do_process_call.ensures in
-    let its : Comes = process_row c.args.call (world_of (unix_of w)) s c.args.args in
+    let its : Comes = process_row c.args.call (mounts_of (unix_of w)) (world_of (unix_of w)) s c.args.args in
     let is = went w c.args.call s c.args.args c.in-Ok.answer _ e.does.answer c.in-Ok.is in
     let waits = waits_so w c.args.call s c.args.args c.requires.ready c.see.ensures c.in-Ok.answer is c.has_loaded.result c.conclude-ending.new.world.slots
     c.conclude-ending.ensures.slots c.has_loaded.ensures in
@@ -173,7 +173,7 @@ returns-else-has_loaded-clause-items g c =
     let w : World = c.args.world.now in
     let s = c.args.s in
     let e = c.do_process_call.ensures in
-    let its : Comes = process_row c.args.call (world_of (unix_of w)) s c.args.args in
+    let its : Comes = process_row c.args.call (mounts_of (unix_of w)) (world_of (unix_of w)) s c.args.args in
     subst (λ es. Took (g.T.Trace.taken c.args.trace.now) (logged (board_in w) es).items (g.T.Trace.taken c.conclude-ending.new.trace))
     (sym (timed_effects (loads_program c.args.call its.answer) s (came_by (unix_of w) s its)))
     (subst (λ x. Took (g.T.Trace.taken c.args.trace.now) (logged (board_in w) (came_by (unix_of w) s (process_row c.args.call x s c.args.args)).effects).items
@@ -191,14 +191,14 @@ returns-else-has_loaded-clause-frame g c = g.met.T.Trace.goes_on _ _ _ c.do_proc
 
 pub returns-else-has_loaded-clause-rest : goal.returns-else-has_loaded-clause-rest
 returns-else-has_loaded-clause-rest g c =
-    subst (λ b. SameAround c.args.world.now.files.tree.nodes.blocks b) (sym c.conclude-ending.ensures.blocks) c.do_process_call.ensures.blocks
+    subst (λ b. SameAroundEach c.args.world.now.files.tree.nodes.blocks b) (sym c.conclude-ending.ensures.blocks) c.do_process_call.ensures.blocks
 
 pub returns-in-Err-clause-come : goal.returns-in-Err-clause-come
 returns-in-Err-clause-come g c =
     let w : World = c.args.world.now in
     let s = c.args.s in
     let e = c.do_process_call.ensures in
-    let its : Comes = process_row c.args.call (world_of (unix_of w)) s c.args.args in
+    let its : Comes = process_row c.args.call (mounts_of (unix_of w)) (world_of (unix_of w)) s c.args.args in
     let now : World = after w c.do_process_call.new.tree c.do_process_call.new.p in
     let done : HasCome (board_in w) (came_by (unix_of w) s its) (Panic c.in-Err.kind) now =
     subst (λ x. HasCome (board_in w) (came_by (unix_of w) s (process_row c.args.call x s c.args.args)) (Panic c.in-Err.kind) now)
@@ -220,7 +220,7 @@ returns-in-Err-clause-items g c =
     let w : World = c.args.world.now in
     let s = c.args.s in
     let e = c.do_process_call.ensures in
-    let its : Comes = process_row c.args.call (world_of (unix_of w)) s c.args.args in
+    let its : Comes = process_row c.args.call (mounts_of (unix_of w)) (world_of (unix_of w)) s c.args.args in
     subst (λ es. Took (g.T.Trace.taken c.args.trace.now) (logged (board_in w) es).items (g.T.Trace.taken c.do_process_call.new.trace))
     (sym (timed_effects (loads_program c.args.call its.answer) s (came_by (unix_of w) s its)))
     (subst (λ x. Took (g.T.Trace.taken c.args.trace.now) (logged (board_in w) (came_by (unix_of w) s (process_row c.args.call x s c.args.args)).effects).items

@@ -5,7 +5,7 @@ use Rattle.unix_core.specs.Parts.{unix_of, board_in}
 use Rattle.sys_files.specs.Handed.{Handed}
 use Rattle.sys_files.specs.Did.{Did}
 use Rattle.sys_procs.specs.Comes.{Comes}
-use Rattle.abstract_unix.specs.Unix.{process_of}
+use Rattle.abstract_unix.specs.Unix.{process_of, mounts_of}
 use Rattle.abstract_unix.specs.declared.calls.SystemCall.{SystemCall}
 use Rattle.abstract_unix.specs.Calls.{handed_of, world_of, file_row, process_row, reads_disk, loads_program, did_by, came_by, waits_in_call, does_call}
 use Rattle.unix_core.specs.declared.world.World.{World}
@@ -58,7 +58,7 @@ pub returns-in-OnProcesses-clause-call : goal.returns-in-OnProcesses-clause-call
 returns-in-OnProcesses-clause-call g c =
     let w : World = c.args.world.now in
     let s = c.args.fixed.now.slot in
-    let row : Comes = process_row c.in-OnProcesses.on_processes (world_of (unix_of w)) s c.args.args in
+    let row : Comes = process_row c.in-OnProcesses.on_processes (mounts_of (unix_of w)) (world_of (unix_of w)) s c.args.args in
     never_next _ _ _ _ c.call_processes.ensures.come
     (timed_next (loads_program c.in-OnProcesses.on_processes row.answer) s (came_by (unix_of w) s row) (came_next (unix_of w) s row))
 

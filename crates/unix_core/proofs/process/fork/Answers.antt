@@ -1,6 +1,6 @@
 use Rattle.std.proofs.Common.{◌≡◌, ◌∙◌, ℕ, List, Option, refl, sym, ap, subst, arith}
 use Rattle.v6_base.specs.declared.answer.Answer.{Answer}
-use Rattle.fs_laws.specs.Rest.{SameAround}
+use Rattle.fs_nodes.specs.FileSystem.{SameAroundEach}
 use Rattle.image_keep.specs.Kept.{area_of}
 use Rattle.open_files.specs.declared.file.OpenFile.{OpenFile}
 use Rattle.open_files.specs.Files.{AreOpen, HaveRoom}
@@ -88,7 +88,7 @@ returns-in-Ok-clause-frame g c = g.met.T.Trace.goes_on _ _ _ c.fork_one.ensures.
 
 pub returns-in-Ok-clause-rest : goal.returns-in-Ok-clause-rest
 returns-in-Ok-clause-rest g c =
-    subst (λ b. SameAround c.args.world.now.files.tree.nodes.blocks b) (sym c.conclude.ensures.blocks) c.fork_one.ensures.blocks
+    subst (λ b. SameAroundEach c.args.world.now.files.tree.nodes.blocks b) (sym c.conclude.ensures.blocks) c.fork_one.ensures.blocks
 
 pub returns-in-Err-clause-come : goal.returns-in-Err-clause-come
 returns-in-Err-clause-come g c =

@@ -1,7 +1,7 @@
 use Rattle.std.proofs.Common.{◌∙◌, sym, subst}
 use Rattle.v6_base.specs.Trace.{Took}
 use Rattle.v6_base.specs.declared.answer.Answer.{Answer}
-use Rattle.fs_laws.specs.Rest.{SameAround}
+use Rattle.fs_nodes.specs.FileSystem.{SameAroundEach}
 use Rattle.pick_rules.specs.Logged.{logged}
 use Rattle.sys_files.specs.Did.{Did}
 use Rattle.sys_files.specs.Moving.{resumes}
@@ -56,7 +56,7 @@ returns-clause-covered g c ends = absurd (let never = sym c.conclude.ensures.goe
 
 pub returns-clause-rest : goal.returns-clause-rest
 returns-clause-rest g c =
-    subst (λ b. SameAround c.args.world.now.files.tree.nodes.blocks b) (sym c.conclude.ensures.blocks) c.resume_on_files-answer.ensures.rest
+    subst (λ b. SameAroundEach c.args.world.now.files.tree.nodes.blocks b) (sym c.conclude.ensures.blocks) c.resume_on_files-answer.ensures.rest
 
 pub returns-clause-frame : goal.returns-clause-frame
 returns-clause-frame g c = g.met.T.Trace.goes_on _ _ _ c.pass_on.ensures.frame c.conclude.ensures.frame

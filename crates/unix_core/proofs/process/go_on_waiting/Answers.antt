@@ -3,7 +3,7 @@ use Rattle.std.specs.Prelude.{Result, Err}
 use Rattle.v6_base.specs.Trace.{Took}
 use Rattle.v6_base.specs.declared.answer.Answer.{Answer}
 use Rattle.v6_base.specs.declared.entry.PanicKind.{PanicKind}
-use Rattle.fs_laws.specs.Rest.{SameAround}
+use Rattle.fs_nodes.specs.FileSystem.{SameAroundEach}
 use Rattle.pick_rules.specs.Logged.{logged}
 use Rattle.sys_procs.specs.Comes.{Comes}
 use Rattle.sys_procs.specs.Agree.{answered}
@@ -79,7 +79,7 @@ returns-in-Ok-clause-frame g c = g.met.T.Trace.goes_on _ _ _ c.resume_proc.ensur
 
 pub returns-in-Ok-clause-rest : goal.returns-in-Ok-clause-rest
 returns-in-Ok-clause-rest g c =
-    subst (λ b. SameAround c.args.world.now.files.tree.nodes.blocks b) (sym c.conclude.ensures.blocks) c.resume_proc.ensures.blocks
+    subst (λ b. SameAroundEach c.args.world.now.files.tree.nodes.blocks b) (sym c.conclude.ensures.blocks) c.resume_proc.ensures.blocks
 
 -- it never stops
 never : (w : World) (s : ℕ) (kind : PanicKind) (r : Result Answer PanicKind) → IsReady w s

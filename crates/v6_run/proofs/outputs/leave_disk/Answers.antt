@@ -1,12 +1,12 @@
 use Rattle.std.proofs.Common.{ℕ, List, sym, subst}
 use Rattle.buf_cache.specs.Blocks.{IsDisk}
-use Rattle.fs_laws.specs.Rest.{SameAround}
+use Rattle.fs_nodes.specs.FileSystem.{SameAroundEach}
 use Rattle.image_keep.specs.Holds.{AreRangesApart, SwapHolds}
 use Rattle.v6_run.proofs.outputs.leave_disk.Goals as goal
 
 pub returns-clause-rest : goal.returns-clause-rest
 returns-clause-rest g c =
-    let P : List (List ℕ) → Type 0 = SameAround c.args.kernel.now.blocks in subst P (sym c.finish.ensures.stored) c.finish.ensures.rest
+    let P : List (List ℕ) → Type 0 = SameAroundEach c.args.kernel.now.blocks in subst P (sym c.finish.ensures.stored) c.finish.ensures.rest
 
 pub returns-clause-form : goal.returns-clause-form
 returns-clause-form g c = subst IsDisk (sym c.finish.ensures.stored) c.finish.ensures.form

@@ -3,7 +3,7 @@ use Rattle.std.specs.List.{range_with_len}
 use Rattle.std.proofs.Math.Nat.{mod-eq_of_lt, add-mul-mod_self_right}
 use Rattle.abstract_unix.specs.declared.ends.Ends.TheVariants.{AtEnd}
 use Rattle.abstract_unix.specs.Endings.{phase_after}
-use Rattle.fs_laws.proofs.RestLemmas.{rest_stays, rest_then}
+use Rattle.fs_nodes.proofs.RestLemmas.{rest_stays, rest_then}
 use Rattle.v6_run.specs.Events.{slot_numbered}
 use Rattle.v6_run.proofs.SlotLemmas.{run_none, run_more, run_last, run_as, ends_as}
 use Rattle.v6_run.proofs.TickLemmas.{stretch_more, stretch_part, next_upto, next_ahead, next_most}

@@ -1,7 +1,7 @@
 use Rattle.std.proofs.Common.{◌∙◌, ap, refl}
 use Rattle.abstract_unix.specs.declared.ends.Ends.TheVariants.{AtEnd}
 use Rattle.abstract_unix.specs.Endings.{phase_after}
-use Rattle.fs_laws.proofs.RestLemmas.{rest_then}
+use Rattle.fs_nodes.proofs.RestLemmas.{rest_then}
 use Rattle.v6_run.specs.Clocks.{clock_value}
 use Rattle.v6_run.proofs.SlotLemmas.{ends_as}
 use Rattle.v6_run.proofs.CanLemmas.{one_can, rest_can}

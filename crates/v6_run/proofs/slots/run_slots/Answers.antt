@@ -1,5 +1,5 @@
 use Rattle.std.proofs.Common.{rules, arith, ◌≡◌, ◌+◌, ◌-◌, ◌∙◌, ap, sym, replicate}
-use Rattle.fs_laws.proofs.RestLemmas.{rest_stays, rest_then}
+use Rattle.fs_nodes.proofs.RestLemmas.{rest_stays, rest_then}
 use Rattle.abstract_unix.specs.declared.ends.Ends.TheVariants as ends
 use Rattle.abstract_unix.specs.declared.ends.Ends.TheVariants.{AtEnd}
 use Rattle.abstract_unix.specs.Endings.{phase_after}

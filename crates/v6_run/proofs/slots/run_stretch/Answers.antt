@@ -1,6 +1,6 @@
 use Rattle.std.proofs.Common.{◌∙◌, [], ◌∷◌, if◌then◌else◌, replicate, refl, sym, ap}
 use Rattle.std.proofs.lemmas.List.{append-nil}
-use Rattle.fs_laws.proofs.RestLemmas.{rest_then}
+use Rattle.fs_nodes.proofs.RestLemmas.{rest_then}
 use Rattle.abstract_unix.specs.declared.ends.Ends.TheVariants.{AtEnd}
 use Rattle.abstract_unix.specs.Endings.{phase_after}
 use Rattle.abstract_unix.specs.Unix.{Timing, System}

@@ -1,6 +1,7 @@
-use Rattle.std.proofs.Common.{◌≡◌, ◌⊎◌, ◌∙◌, ap, sym, subst, arith}
+use Rattle.std.proofs.Common.{◌≡◌, ◌⊎◌, ◌∙◌, ℕ, List, ap, sym, subst, arith}
 use Rattle.fs_codec.specs.Disk.{head}
 use Rattle.buf_cache.specs.Blocks.{block_at}
+use Rattle.fs_nodes.specs.Disks.{Disks}
 use Rattle.unix_core.specs.State.{KernelState}
 use Rattle.abstract_unix.specs.Unix.{Phase, Started, Stopped}
 use Rattle.abstract_unix.specs.Runs.{finished}
@@ -27,10 +28,10 @@ returns-clause-stands c = c.update_all.ensures.stands
 pub returns-clause-below : goal.returns-clause-below
 returns-clause-below c = λ low.
     let new = c.update_all.new.self in
-    let size : (head (block_at new.stored)).f_size ≡ (head (block_at c.args.self.now.blocks)).f_size =
-    ap (λ l. (head (block_at l)).f_size) c.update_all.ensures.stored ∙ c.update_all.ensures.rest.f_size
-    ∙ ap (λ (v : KernelState). (head (block_at v.blocks)).f_size) c.self.view_is in
-    stands_below (block_at new.stored) _ (omega (arith, size, low)) (returns-clause-stands c)
+    let size : (head (block_at new.stored.root)).f_size ≡ (head (block_at c.args.self.now.blocks.root)).f_size =
+    ap (λ (l : Disks (List (List ℕ))). (head (block_at l.root)).f_size) c.update_all.ensures.stored ∙ c.update_all.ensures.rest.root.f_size
+    ∙ ap (λ (v : KernelState). (head (block_at v.blocks.root)).f_size) c.self.view_is in
+    stands_below (block_at new.stored.root) _ (omega (arith, size, low)) (returns-clause-stands c).root
 
 -- What core and the swap area keep is what the system tells.
 pub returns-clause-kept : goal.returns-clause-kept

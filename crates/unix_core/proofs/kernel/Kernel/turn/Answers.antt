@@ -1,8 +1,8 @@
 use Rattle.std.proofs.Common.{◌≡◌, ◌∙◌, sym, ap, subst}
 use Rattle.v6_base.specs.Trace.{Took}
 use Rattle.abstract_unix.specs.Runs.{Slot, event_of}
-use Rattle.fs_laws.specs.Rest.{SameAround}
-use Rattle.fs_laws.proofs.RestLemmas.{rest_stays}
+use Rattle.fs_nodes.specs.FileSystem.{SameAroundEach}
+use Rattle.fs_nodes.proofs.RestLemmas.{rest_stays}
 use Rattle.unix_core.specs.State.{KernelState}
 use Rattle.fs_tree.specs.declared.tree.Tree.{Tree}
 use Rattle.unix_core.proofs.TakenLemmas.{step_counted, taken_started, taken_fresh, taken_answer, taken_next, taken_phase, taken_idle, taken_private, taken_texts}
@@ -89,7 +89,7 @@ pub returns-then-execute-clause-rest : goal.returns-then-execute-clause-rest
 returns-then-execute-clause-rest g c =
     let same : c.args.self.now.blocks ≡ c.count_slot.new.self.world.files.tree.nodes.blocks =
     sym (ap (λ (v : KernelState). v.blocks) c.self.view_is) ∙ sym (ap (λ (t : Tree). t.nodes.blocks) c.count_slot.ensures.tree) in
-    subst (SameAround c.args.self.now.blocks) same (rest_stays _)
+    subst (SameAroundEach c.args.self.now.blocks) same (rest_stays _)
 
 -- It comes to something else.
 pub after_step-requires-clause-running : goal.after_step-requires-clause-running

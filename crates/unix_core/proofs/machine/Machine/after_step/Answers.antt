@@ -1,7 +1,7 @@
 use Rattle.std.proofs.Common.{◌≡◌, ◌∙◌, ◌≤◌, ℕ, List, refl, ap, sym, subst}
 use Rattle.v6_base.specs.Trace.{Took}
-use Rattle.fs_laws.specs.Rest.{SameAround}
-use Rattle.fs_laws.proofs.RestLemmas.{rest_then}
+use Rattle.fs_nodes.specs.FileSystem.{SameAroundEach}
+use Rattle.fs_nodes.proofs.RestLemmas.{rest_then}
 use Rattle.unix_core.specs.declared.world.World.{World}
 use Rattle.unix_core.specs.declared.slots.Slots.{Slots}
 use Rattle.unix_core.specs.Slots.{passed_in}
@@ -107,5 +107,5 @@ returns-clause-frame g c =
 pub returns-clause-rest : goal.returns-clause-rest
 returns-clause-rest g c =
     let first : List (List ℕ) = c.args.self.now.world.files.tree.nodes.blocks in
-    subst (λ (b : List (List ℕ)). SameAround first b) (sym c.end.ensures.blocks)
+    subst (λ (b : List (List ℕ)). SameAroundEach first b) (sym c.end.ensures.blocks)
     (rest_then first _ _ c.come_to-ending.ensures.rest c.deliver_after-ending.ensures.rest)

@@ -1,5 +1,5 @@
 use Rattle.std.proofs.Common.{◌≡◌, false}
-use Rattle.fs_laws.proofs.RestLemmas.{rest_then}
+use Rattle.fs_nodes.proofs.RestLemmas.{rest_then}
 use Rattle.unix_core.specs.declared.world.World.{World}
 use Rattle.abstract_unix.specs.Unix.{System, process_of}
 use Rattle.abstract_unix.specs.Turn.{is_user, begins_turn}

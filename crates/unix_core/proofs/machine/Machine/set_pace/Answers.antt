@@ -3,7 +3,7 @@ use Rattle.v6_base.specs.Trace.{Took}
 use Rattle.fs_tree.specs.declared.tree.Tree.{Tree}
 use Rattle.sys_files.specs.declared.files.Files.{Files}
 use Rattle.fs_nodes.specs.FileSystem.{FileSystem, SameRest}
-use Rattle.fs_laws.proofs.RestLemmas.{rest_stays}
+use Rattle.fs_nodes.proofs.RestLemmas.{rest_stays}
 use Rattle.sys_procs.specs.declared.procs.Procs.{Procs}
 use Rattle.unix_core.specs.declared.world.World.{World}
 use Rattle.unix_core.specs.Slots.{IsCounted}

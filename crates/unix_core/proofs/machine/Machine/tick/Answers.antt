@@ -1,7 +1,7 @@
 use Rattle.std.proofs.Common.{◌≡◌, ◌∷◌, [], false, rules, refl, sym, ap, subst}
 use Rattle.v6_base.specs.Trace.{Took, Log}
 use Rattle.v6_base.specs.declared.entry.Entry.{Entry}
-use Rattle.fs_laws.specs.Rest.{SameAround}
+use Rattle.fs_nodes.specs.FileSystem.{SameAroundEach}
 use Rattle.unix_core.specs.declared.world.World.{World}
 use Rattle.abstract_unix.specs.Unix.{System}
 use Rattle.unix_core.specs.declared.slots.Slots.{Slots}
@@ -105,7 +105,7 @@ returns-in-Panic g c =
     record {
       answer = panic_answer m ticked.stop c.deliver.result last come kind c.in-Panic.is;
       takes = panic_takes m ticked.stop c.deliver.result last come kind c.in-Panic.is (c.deliver.ensures.covered (ap is_over c.in-Panic.is));
-      rest = subst (λ b. SameAround b last.files.tree.nodes.blocks) c.charge.ensures.blocks c.deliver.ensures.rest;
+      rest = subst (λ b. SameAroundEach b last.files.tree.nodes.blocks) c.charge.ensures.blocks c.deliver.ensures.rest;
       items = panic_items m ticked.stop c.deliver.result last come kind c.in-Panic.is _ _ _ shown (ticked.shows _ _ c.deliver.ensures.items);
       frame = g.met.T.Trace.goes_on _ _ _ c.entry.ensures.frame (g.met.T.Trace.goes_on _ _ _ c.wake.ensures.frame c.deliver.ensures.frame);
     }
@@ -139,8 +139,8 @@ returns-in_default g c =
     record {
       answer = ticked_goes m ticked.stop c.deliver.result last come goes;
       takes = ticked_takes m ticked.stop c.deliver.result last come goes _ _ c.settle.ensures.kernel c.settle.ensures.started c.settle.ensures.system;
-      rest = subst (λ b. SameAround b c.settle.new.self.world.files.tree.nodes.blocks) c.charge.ensures.blocks
-          (subst (λ b. SameAround n.world.files.tree.nodes.blocks b) (sym c.settle.ensures.blocks) c.deliver.ensures.rest);
+      rest = subst (λ b. SameAroundEach b c.settle.new.self.world.files.tree.nodes.blocks) c.charge.ensures.blocks
+          (subst (λ b. SameAroundEach n.world.files.tree.nodes.blocks b) (sym c.settle.ensures.blocks) c.deliver.ensures.rest);
       items = ticked_items m ticked.stop c.deliver.result last come goes _ _ _ _ shown (ticked.shows _ _ c.deliver.ensures.items) c.settle.ensures.items;
       frame = g.met.T.Trace.goes_on _ _ _ c.entry.ensures.frame
           (g.met.T.Trace.goes_on _ _ _ c.wake.ensures.frame (g.met.T.Trace.goes_on _ _ _ c.deliver.ensures.frame c.settle.ensures.frame));

@@ -2,7 +2,7 @@ use Rattle.std.proofs.Common.{◌∙◌, refl, sym, ap, subst}
 use Rattle.fs_nodes.specs.FileSystem.{FileSystem, SameRest}
 use Rattle.fs_tree.specs.declared.tree.Tree.{Tree}
 use Rattle.sys_files.specs.declared.files.Files.{Files}
-use Rattle.fs_laws.proofs.RestLemmas.{rest_stays}
+use Rattle.fs_nodes.proofs.RestLemmas.{rest_stays}
 use Rattle.unix_core.specs.Parts.{system_at, goes_on}
 use Rattle.abstract_unix.specs.Outside.{typed_of}
 use Rattle.unix_core.proofs.BootKernelLemmas.{kernel_good}

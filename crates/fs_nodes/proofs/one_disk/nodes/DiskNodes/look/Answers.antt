@@ -1,0 +1,52 @@
+use Rattle.std.proofs.Common.{◌≡◌, ◌+◌, ℕ, true, List, sym, ap, ◌∙◌, subst, slice_index}
+use Rattle.fs_codec.specs.Fields.{fields_of}
+use Rattle.fs_codec.specs.Disk.{inode}
+use Rattle.fs_codec.specs.Modes.{holds_blocks}
+use Rattle.fs_codec.specs.Held.{addresses}
+use Rattle.fs_codec.specs.Stands.{body_of}
+use Rattle.fs_laws.specs.Whole.{IsApart}
+use Rattle.fs_blocks.specs.State.{State, disk}
+use Rattle.fs_nodes.specs.declared.one_disk.table.Referenced.{Referenced}
+use Rattle.fs_nodes.specs.one_disk.FileSystem.{file_byte}
+use Rattle.fs_nodes.specs.one_disk.Table.{seen, IsHeld, IsUsed}
+use Rattle.fs_nodes.proofs.HeldLemmas.{apart_real}
+use Rattle.fs_nodes.proofs.LookLemmas.{used_in, seen_bytes}
+use Rattle.fs_nodes.proofs.PieceEnds.{holds_apart}
+use Rattle.fs_nodes.proofs.NodesLemmas.{plain, plain_of, same_files}
+use Rattle.fs_nodes.proofs.SeenMoves.{body_seen}
+use Rattle.fs_nodes.proofs.one_disk.nodes.DiskNodes.look.Goals as goal
+use Rattle.fs_nodes.proofs.one_disk.nodes.DiskNodes.look.Goals.{After-deref, After-peek_inode-node}
+
+used : (c : After-deref) → IsUsed (seen c.self.inside.volume.state c.self.inside.table.items) c.args.ino
+used c = used_in (seen c.self.inside.volume.state c.self.inside.table.items) c.self.inside.table.items (plain_of c.self.inside.volume c.self.inside.table.items c.args.self.now) c.args.ino (plain c.self.inside.volume c.self.inside.table.items c.args.self.now c.self.view_is) c.requires.node
+
+same : (c : After-peek_inode-node) → fields_of c.peek_inode-node.result ≡ inode (disk (seen c.self.inside.volume.state c.self.inside.table.items)) c.args.ino
+same c = c.peek_inode-node.ensures.node ∙ ap (λ (l : List Referenced). inode (disk (seen c.self.inside.volume.state l)) c.args.ino) c.deref.ensures.0
+
+pub peek_inode-node-requires-clause-held : goal.peek_inode-node-requires-clause-held
+peek_inode-node-requires-clause-held c = let P : List Referenced → Type 0 = IsHeld c.self.inside.volume.state in subst P (sym c.deref.ensures.0) c.self.invariant
+
+pub peek_inode-node-requires-clause-low : goal.peek_inode-node-requires-clause-low
+peek_inode-node-requires-clause-low c = (used (goal.at.peek_inode-node-requires-clause-low c).After-deref).low
+
+pub peek_inode-node-requires-clause-high : goal.peek_inode-node-requires-clause-high
+peek_inode-node-requires-clause-high c = (used (goal.at.peek_inode-node-requires-clause-high c).After-deref).high
+
+pub look_at-requires : goal.look_at-requires
+look_at-requires c =
+    let u = used (goal.at.look_at-requires c).After-deref in
+    let is = same (goal.at.look_at-requires c).After-peek_inode-node in
+    let P : State → Type 0 = λ s. holds_blocks c.peek_inode-node.result.mode ≡ true → IsApart (disk s) (addresses (disk s) (fields_of c.peek_inode-node.result)) in
+    subst P (sym c.peek_inode-node.ensures.same) (λ holds. apart_real c.self.inside.volume.state c.self.inside.table.items (fields_of c.peek_inode-node.result) c.self.invariant
+    (holds_apart (seen c.self.inside.volume.state c.self.inside.table.items) c.args.ino (fields_of c.peek_inode-node.result) c.self.invariant.nodes.whole u.low u.high is holds))
+
+pub returns-clause-bytes : goal.returns-clause-bytes
+returns-clause-bytes c = λ file found k low.
+    let u = used (goal.at.returns-clause-bytes c).After-deref in
+    let is = same (goal.at.returns-clause-bytes c).After-peek_inode-node in
+    seen_bytes (seen c.self.inside.volume.state c.self.inside.table.items) c.self.inside.table.items (plain_of c.self.inside.volume c.self.inside.table.items c.args.self.now) c.args.ino c.args.offset k (slice_index c.look_at.new.buf k) (fields_of c.peek_inode-node.result) file (plain c.self.inside.volume c.self.inside.table.items c.args.self.now c.self.view_is) u is found
+    (c.look_at.ensures.bytes k low ∙ ap (λ (s : State). file_byte c.peek_inode-node.result.size (body_of (disk s) (fields_of c.peek_inode-node.result)) (c.args.offset + k)) c.peek_inode-node.ensures.same
+    ∙ ap (λ (l : List ℕ). file_byte c.peek_inode-node.result.size l (c.args.offset + k)) (sym (body_seen c.self.inside.volume.state c.self.inside.table.items c.args.ino (fields_of c.peek_inode-node.result) c.self.invariant u.low u.high (sym is))))
+
+pub returns-clause-same : goal.returns-clause-same
+returns-clause-same c = same_files c.self.inside.volume c.look_at.new.volume c.self.inside.table.items c.args.self.now c.self.view_is (c.look_at.ensures.same ∙ c.peek_inode-node.ensures.same)

@@ -1,0 +1,7 @@
+use Rattle.std.proofs.Common.{sym, ◌∙◌}
+use Rattle.fs_nodes.proofs.PeekLemmas.{none_inode}
+use Rattle.fs_nodes.proofs.one_disk.table.peek_inode.Goals as goal
+
+pub returns-in-None-clause-node : goal.returns-in-None-clause-node
+returns-in-None-clause-node c =
+    c.read_inode.ensures.node ∙ sym (none_inode c.args.volume.now.state c.args.table.now c.args.ino c.requires.held c.requires.low c.in-None.ensures.none)

@@ -1,0 +1,11 @@
+use Rattle.std.proofs.Common.{refl}
+use Rattle.sys_files.specs.Handed.{handed}
+use Rattle.sys_files.proofs.DoesLemmas.{does_whole}
+use Rattle.sys_files.proofs.mounting.umount_off.Goals as goal
+
+pub returns-clause-does : goal.returns-clause-does
+returns-clause-does g c =
+    let image = g.S.Space.image c.args.space.now in
+    does_whole (handed c.args.f.now c.args.u.now c.args.row.now image)
+    (handed c.unmount-result.new.f c.args.u.now c.args.row.now image) c.unmount-result.result
+    (c.unmount-result.ensures.did c.args.row.now) (c.answer_of.ensures _ refl) (c.unmount-result.ensures.kept c.args.row.now)
