@@ -1,16 +1,15 @@
 -- What is so of all file systems, from what is so of each.
-use Rattle.std.proofs.Common.{◌≡◌, ◌+◌, ◌-◌, ◌<◌, ◌≤◌, ◌⊎◌, ◌&&◌, ℕ, Bool, true, false, cond, nat_lt, length, slice_index, Option, Some, None, IsSome, is_some, inl, inr, refl, sym, ap, ◌∙◌, subst, arith}
+use Rattle.std.proofs.Common.{◌≡◌, ◌+◌, ◌-◌, ◌<◌, ◌≤◌, ℕ, false, nat_lt, Option, Some, None, IsSome, inl, inr, refl, sym, ◌∙◌, subst, arith}
 use Rattle.std.proofs.lemmas.Bool.{cases_lt}
 use Rattle.std.proofs.lemmas.List.{get_or_past}
-use Rattle.std.proofs.lemmas.Bool.Decides.{nat_tests, leb_tells}
-use Rattle.fs_codec.specs.Store.{Node, Store}
+use Rattle.std.proofs.lemmas.Bool.Decides.{nat_tests}
+use Rattle.fs_codec.specs.Store.{Node}
 use Rattle.fs_codec.specs.Store as codec
 use Rattle.fs_nodes.specs.one_disk.FileSystem as disk
 use Rattle.fs_nodes.specs.Disks.{OfSecond}
-use Rattle.fs_nodes.specs.Keys.{node_numbered, joined}
 use Rattle.fs_nodes.proofs.JoinedLemmas.{joined_long}
-use Rattle.fs_nodes.specs.FileSystem.{FileSystem, AreDisks, IsFileSystem, together, referenced}
-use Rattle.fs_nodes.proofs.SideLemmas.{Side, with_root, with_second, root_side, second_side, node_is, total_is, low_used}
+use Rattle.fs_nodes.specs.FileSystem.{AreDisks, IsFileSystem, together, referenced}
+use Rattle.fs_nodes.proofs.SideLemmas.{root_side, second_side, node_is, total_is, low_used}
 
 one_form : (root : disk.FileSystem) → disk.IsFileSystem root → IsFileSystem (together (record { root = root; second = None }))
 one_form root form =

@@ -1,12 +1,12 @@
 -- What is so of a key once the node of one has changed.
-use Rattle.std.proofs.Common.{◌≡◌, ◌≢◌, ◌⊎◌, ◌-◌, ◌<◌, ◌≤◌, ◌==◌, ◌&&◌, ℕ, Bool, true, false, cond, nat_lt, List, length, slice_set, slice_index_or, Option, Some, None, IsSome, is_some, unwrap_or, inl, inr, refl, sym, ap, ◌∙◌, subst, arith}
+use Rattle.std.proofs.Common.{◌≡◌, ◌≢◌, ◌⊎◌, ◌-◌, ◌==◌, ℕ, Bool, true, false, cond, nat_lt, length, slice_index_or, Option, Some, None, unwrap_or, inl, inr, refl, sym, ap, ◌∙◌, arith}
 use Rattle.std.proofs.lemmas.Bool.{cases_lt}
 use Rattle.std.proofs.lemmas.List.{get_or_past, set_past, get_or-set_same, get_or-set_other}
 use Rattle.fs_codec.specs.Store.{Node, Store}
 use Rattle.fs_codec.specs.Store as codec
 use Rattle.fs_laws.specs.Numbers as numbers
 use Rattle.fs_laws.specs.Numbers.{Draw}
-use Rattle.fs_nodes.specs.Keys.{Stores, counts, is_second, store_at, number_of, node_numbered, room_at, in_place, with_store_at, with_node}
+use Rattle.fs_nodes.specs.Keys.{Stores, counts, store_at, number_of, node_numbered, room_at, in_place, with_store_at, with_node}
 use Rattle.fs_nodes.specs.Numbers.{with_draw}
 use Rattle.fs_nodes.proofs.JoinedLemmas.{above}
 

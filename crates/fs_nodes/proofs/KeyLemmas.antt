@@ -1,14 +1,9 @@
 -- Nodes of two disks by keys.
-use Rattle.std.proofs.Common.{◌≡◌, ◌≢◌, ◌+◌, ◌-◌, ◌<◌, ◌≤◌, ◌&&◌, ℕ, Bool, true, false, cond, nat_lt, List, length, slice_set, Option, Some, None, IsSome, is_some, unwrap_or, refl, sym, ap, ◌∙◌, inl, inr, subst, arith}
-use Rattle.std.proofs.lemmas.Bool.{cases_lt}
+use Rattle.std.proofs.Common.{◌≡◌, ◌-◌, ◌<◌, ◌&&◌, ℕ, true, false, cond, nat_lt, Option, Some, is_some, unwrap_or, ap, ◌∙◌, arith}
 use Rattle.std.proofs.lemmas.Bool.Decides.{nat_tests}
-use Rattle.std.proofs.lemmas.List.{get_or-set_same, get_or-set_other, get_or_past, length-set}
-use Rattle.fs_codec.specs.Store.{Node, Store}
+use Rattle.fs_codec.specs.Store.{Store}
 use Rattle.fs_codec.specs.Store as codec
-use Rattle.fs_laws.specs.Numbers as numbers
-use Rattle.fs_nodes.specs.Disks.{Disks}
-use Rattle.fs_nodes.specs.Keys.{Stores, is_second, counts, store_at, number_of, node_numbered, room_at, with_store_at, with_node, with_truncated, without_reference}
-use Rattle.fs_nodes.proofs.JoinedLemmas.{above, below}
+use Rattle.fs_nodes.specs.Keys.{Stores, is_second, node_numbered}
 
 pub node_root : (s : Stores) (key : ℕ) → is_second s key ≡ false → node_numbered s key ≡ codec.node_numbered s.root key
 unfolding node_numbered

@@ -6,7 +6,7 @@ use Rattle.fs_codec.specs.Store.{Node, Store}
 use Rattle.fs_codec.specs.Store as codec
 use Rattle.fs_laws.specs.Numbers.{is_free_number}
 use Rattle.fs_nodes.specs.FileSystem.{FileSystem}
-use Rattle.fs_nodes.specs.Numbers.{MakesNode, next_draw}
+use Rattle.fs_nodes.specs.Numbers.{MakesNode}
 use Rattle.fs_nodes.specs.Keys.{Stores, key_count, key_on, store_on, node_numbered, references_on}
 use Rattle.fs_nodes.proofs.KeyLemmas.{node_root, node_second}
 use Rattle.fs_nodes.proofs.NumbersMake.{draw_free}

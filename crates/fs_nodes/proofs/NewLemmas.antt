@@ -1,23 +1,22 @@
 -- A new inode on one of the disks.
-use Rattle.std.proofs.Common.{◌≡◌, ◌≢◌, ◌+◌, ◌-◌, ◌<◌, ◌≤◌, ◌⊎◌, ◌&&◌, ◌==◌, ℕ, zero, suc, Bool, true, false, cond, nat_lt, nat_le, List, [], ◌∷◌, ◌++◌, drop, take, length, slice_index, slice_set, Option, Some, None, IsSome, is_some, is_none, unwrap_or, Result, Ok, Err, MatchResult, IfOk, inl, inr, refl, sym, ap, ◌∙◌, subst, arith}
+use Rattle.std.proofs.Common.{◌≡◌, ◌≢◌, ◌+◌, ◌-◌, ◌<◌, ◌≤◌, ◌&&◌, ℕ, zero, suc, Bool, true, false, cond, nat_lt, nat_le, List, [], ◌∷◌, ◌++◌, drop, take, length, slice_index, slice_set, Option, Some, None, IsSome, is_some, is_none, unwrap_or, Result, Ok, Err, MatchResult, IfOk, inl, inr, refl, sym, ap, ◌∙◌, subst, arith}
 use Rattle.std.proofs.lemmas.Bool.{cases_eq}
 use Rattle.std.proofs.lemmas.Bool.Decides.{nat_tests}
 use Rattle.fs_nodes.proofs.JoinedLemmas.{above, below}
-use Rattle.std.proofs.lemmas.List.{take_all, take-append-le, drop-append-le, drop-drop}
+use Rattle.std.proofs.lemmas.List.{take_all, take-append-le, drop-append-le}
 use Rattle.v6_base.specs.declared.errno.Errno.{Errno}
-use Rattle.v6_base.specs.declared.errno.Errno.TheVariants.{ENOSPC, ENFILE}
 use Rattle.fs_codec.specs.Store.{Node, Store}
 use Rattle.fs_codec.specs.Store as codec
 use Rattle.fs_laws.specs.Numbers as numbers
-use Rattle.fs_laws.specs.Numbers.{Draw, is_free_number}
+use Rattle.fs_laws.specs.Numbers.{Draw}
 use Rattle.fs_nodes.specs.one_disk.FileSystem as disk
 use Rattle.fs_nodes.specs.one_disk.Numbers as disk_numbers
 use Rattle.fs_nodes.proofs.NumbersMake.{draw_free}
-use Rattle.fs_nodes.specs.Disks.{Disks, OfSecond}
-use Rattle.fs_nodes.specs.Keys.{Stores, is_second, store_at, number_of, with_node, room_at, joined}
+use Rattle.fs_nodes.specs.Disks.{OfSecond}
+use Rattle.fs_nodes.specs.Keys.{Stores, with_node, room_at, joined}
 use Rattle.fs_nodes.specs.FileSystem.{FileSystem, AreDisks, together, referenced, held_on_second}
-use Rattle.fs_nodes.specs.Numbers.{MakesNode, MakesNone, MakesNoneOn, known_after, next_draw, with_draw}
-use Rattle.fs_nodes.proofs.SideLemmas.{Side, with_root, with_second, root_side, second_side, total_is, none_to_0, one_more}
+use Rattle.fs_nodes.specs.Numbers.{MakesNode, MakesNone, MakesNoneOn, known_after, next_draw}
+use Rattle.fs_nodes.proofs.SideLemmas.{with_root, with_second, root_side, second_side, total_is, none_to_0, one_more}
 
 taken_back : (r : List ℕ) (o : Option (List ℕ)) (n : ℕ) → length r ≡ n + 1 → take (n + 1) (joined r o) ≡ r
 taken_back r None n long = take_all (n + 1) r (omega (arith, long))

@@ -1,6 +1,6 @@
 -- A disk among those that there are: what all file systems say of a key, its own says of a number, and what becomes of all where
 -- its own changes.
-use Rattle.std.proofs.Common.{◌≡◌, ◌≢◌, ◌+◌, ◌-◌, ◌<◌, ◌≤◌, ◌&&◌, ◌==◌, ◌⊎◌, ℕ, zero, suc, Bool, true, false, cond, nat_lt, List, [], ◌∷◌, not, length, replicate, drop, slice_index, slice_set, Option, Some, None, IsSome, is_some, unwrap_or, Result, Ok, Err, MatchResult, refl, sym, ap, ◌∙◌, inl, inr, subst, arith}
+use Rattle.std.proofs.Common.{◌≡◌, ◌+◌, ◌-◌, ◌<◌, ◌≤◌, ◌&&◌, ◌==◌, ◌⊎◌, ℕ, zero, suc, Bool, true, false, cond, nat_lt, List, not, length, replicate, drop, slice_index, slice_set, Option, Some, None, IsSome, is_some, unwrap_or, Result, Ok, Err, MatchResult, refl, sym, ap, ◌∙◌, inl, inr, subst, arith}
 use Rattle.std.specs.List.{count_by}
 use Rattle.std.proofs.lemmas.Bool.{cases_lt}
 use Rattle.std.proofs.lemmas.Bool.Decides.{nat_tests, leb_tells}
@@ -15,9 +15,9 @@ use Rattle.fs_laws.specs.Rest.{SameAround}
 use Rattle.fs_codec.specs.Modes.{is_device}
 use Rattle.fs_laws.specs.Truncation.{truncated, names_held}
 use Rattle.fs_nodes.specs.one_disk.FileSystem as disk
-use Rattle.fs_nodes.specs.Disks.{Disks, each, OfSecond, Between}
-use Rattle.fs_nodes.specs.Keys.{Stores, is_second, store_at, number_of, node_numbered, room_at, with_store_at, with_node, with_fields, with_truncated, without_reference, joined}
-use Rattle.fs_nodes.proofs.JoinedLemmas.{above, below, at_root, at_second, set_root, set_second, counted}
+use Rattle.fs_nodes.specs.Disks.{OfSecond, Between}
+use Rattle.fs_nodes.specs.Keys.{Stores, store_at, number_of, node_numbered, room_at, with_store_at, with_node, with_fields, with_truncated, without_reference, joined}
+use Rattle.fs_nodes.proofs.JoinedLemmas.{at_root, at_second, set_root, set_second, counted}
 use Rattle.v6_base.specs.declared.errno.Errno.{Errno}
 use Rattle.v6_base.specs.declared.errno.Errno.TheVariants.{ENFILE}
 use Rattle.fs_laws.specs.Pieces.{Moving}

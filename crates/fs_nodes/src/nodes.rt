@@ -160,10 +160,10 @@ impl Nodes {
             × (referenced self.old.references ≡ 100) × (self.new ≡ self.old)) }
         ensures stored { WritesLateEach self.old.stored self.old.blocks self.new.stored }
     {
+        see(&self.root, &self.second);
         if !self.can_refer(ino) {
             return Err(Errno::ENFILE);
         }
-        see(&self.root, &self.second);
         match &mut self.second {
             Some(second) if ino > self.first => second.take(ino - self.first),
             _ => self.root.take(ino),

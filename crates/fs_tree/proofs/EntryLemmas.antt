@@ -20,7 +20,7 @@ use Rattle.fs_tree.specs.Permission.{may_use}
 use Rattle.fs_tree.specs.Name.{is_whole, components, start_of}
 use Rattle.fs_tree.specs.Directory.{entry_count, first_below, is_empty, is_named, entry_or_room, looked}
 use Rattle.mount_tab.specs.Mounted.{MountTable, crossed}
-use Rattle.fs_tree.specs.Path.{with_node_of, used_number, entry_number, reached, looked_in, in_directory, is_last, walk, way, write_access, found_or_room, to_make, entry_to_remove, to_remove}
+use Rattle.fs_tree.specs.Path.{with_node_of, entry_number, reached, looked_in, in_directory, is_last, walk, way, write_access, found_or_room, to_make, entry_to_remove, to_remove}
 use Rattle.fs_tree.specs.Finding.{named_by_made}
 use Rattle.fs_tree.proofs.PathLemmas.{CrossesToNodes, IsUsedWay, way_used, made_used, removed_used}
 

@@ -1,10 +1,6 @@
 -- References that are taken and given back.
-use Rattle.std.proofs.Common.{◌≡◌, ◌<◌, ◌||◌, ◌⊎◌, inl, inr, ℕ, Bool, true, false, nat_lt, slice_index, Option, Some, None, IsSome, refl, ap, ◌∙◌}
-use Rattle.std.proofs.lemmas.Bool.{lt-ltb}
-use Rattle.fs_codec.specs.Store.{Node}
-use Rattle.fs_nodes.specs.Keys.{Stores}
-use Rattle.fs_nodes.specs.FileSystem.{FileSystem, SameFiles, referenced}
-use Rattle.fs_tree.specs.Finding.{Inodes, can_refer, put_in}
+use Rattle.std.proofs.Common.{refl, ◌∙◌}
+use Rattle.fs_nodes.specs.FileSystem.{FileSystem, SameFiles}
 
 -- file systems of which none but the disk has changed
 pub same_refl : (fs : FileSystem) → SameFiles fs fs

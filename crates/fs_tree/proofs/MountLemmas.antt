@@ -4,7 +4,7 @@ use Rattle.std.proofs.lemmas.Bool.Decides.{nat_tests}
 use Rattle.fs_codec.specs.Store.{Store}
 use Rattle.fs_nodes.specs.Disks.{Disks}
 use Rattle.fs_nodes.specs.Keys.{Stores, counts, second_count, key_count, node_numbered}
-use Rattle.mount_tab.specs.Mounted.{MountTable, split_of, is_the, crossed}
+use Rattle.mount_tab.specs.Mounted.{MountTable, split_of, is_the}
 use Rattle.fs_tree.specs.Mounting.{AreMounts}
 use Rattle.fs_tree.proofs.PathLemmas.{CrossesToNodes}
 

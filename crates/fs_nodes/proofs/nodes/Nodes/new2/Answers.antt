@@ -1,4 +1,4 @@
-use Rattle.std.proofs.Common.{◌≡◌, ◌+◌, ℕ, List, replicate, slice_index, Some, sym, ap, ◌∙◌}
+use Rattle.std.proofs.Common.{◌+◌, slice_index, Some, ◌∙◌}
 use Rattle.fs_nodes.specs.Keys.{joined}
 use Rattle.fs_nodes.proofs.SideLemmas.{zeros_joined}
 use Rattle.fs_nodes.proofs.nodes.Nodes.new2.Goals as goal

@@ -1,13 +1,13 @@
-use Rattle.std.proofs.Common.{◌≡◌, ◌≢◌, ◌<◌, ◌≤◌, ◌+◌, ◌-◌, ◌⊎◌, ℕ, nat_lt, Option, Some, None, IsSome, Result, MatchResult, inl, inr, sym, ap, ◌∙◌, subst, arith}
+use Rattle.std.proofs.Common.{◌≡◌, ◌+◌, ◌-◌, ℕ, nat_lt, Option, Result, MatchResult, sym, ap, ◌∙◌, subst, arith}
 use Rattle.v6_base.specs.declared.errno.Errno.{Errno}
 use Rattle.fs_nodes.specs.one_disk.FileSystem as disk
 use Rattle.fs_nodes.specs.one_disk.FileSystem.{referenced}
 use Rattle.fs_nodes.specs.Disks.{OfSecond}
-use Rattle.fs_nodes.specs.FileSystem.{FileSystem, AreDisks, held_on_second, together}
+use Rattle.fs_nodes.specs.FileSystem.{AreDisks, held_on_second, together}
 use Rattle.fs_nodes.specs.Numbers.{MakesNode, MakesNone}
 use Rattle.fs_nodes.specs.declared.nodes.Nodes.TheInside.{Inside}
 use Rattle.fs_nodes.proofs.SideLemmas.{with_second, root_changed, second_changed}
-use Rattle.fs_nodes.proofs.NewLemmas.{HasRoom, room_is, dev_zero, root_outcome, seen_second, second_outcome, key_fits, made_kept}
+use Rattle.fs_nodes.proofs.NewLemmas.{room_is, dev_zero, root_outcome, seen_second, second_outcome, key_fits, made_kept}
 use Rattle.fs_nodes.proofs.nodes.Nodes.new_node.Goals as goal
 use Rattle.fs_nodes.proofs.nodes.Nodes.new_node.Goals.{in_default-via-in-Some+else-dev-ne0, in_default-via-in_default}
 

@@ -1,7 +1,7 @@
-use Rattle.std.proofs.Common.{◌≡◌, ◌<◌, ◌≤◌, ◌&&◌, ◌⊎◌, ◌-◌, ℕ, Bool, true, false, nat_lt, is_some, slice_index, slice_set, Option, Some, None, inl, inr, refl, sym, ap, ◌∙◌, subst, arith}
+use Rattle.std.proofs.Common.{◌≡◌, ◌≤◌, ◌⊎◌, ◌-◌, slice_set, Option, None, inl, inr, sym, ap, ◌∙◌, subst, arith}
 use Rattle.fs_nodes.specs.one_disk.FileSystem as disk
 use Rattle.fs_nodes.specs.Disks.{OfSecond}
-use Rattle.fs_nodes.specs.FileSystem.{FileSystem, AreDisks, together}
+use Rattle.fs_nodes.specs.FileSystem.{AreDisks}
 use Rattle.fs_nodes.specs.declared.nodes.Nodes.TheInside.{Inside}
 use Rattle.fs_nodes.proofs.SideLemmas.{Side, with_root, with_second, root_here, second_here, root_kept, second_kept, put_done, put_lessens}
 use Rattle.fs_nodes.proofs.nodes.Nodes.put.Goals as goal

@@ -1,10 +1,10 @@
-use Rattle.std.proofs.Common.{◌≡◌, ◌<◌, ◌≤◌, ◌+◌, ◌-◌, ◌⊎◌, ℕ, Option, Some, None, IsSome, slice_index, inl, inr, sym, ap, ◌∙◌, subst, arith}
+use Rattle.std.proofs.Common.{◌≡◌, ◌<◌, ◌≤◌, ◌+◌, ◌-◌, ◌⊎◌, Option, None, slice_index, inl, inr, sym, ap, ◌∙◌, subst, arith}
 use Rattle.fs_codec.specs.Store.{Node, Store}
 use Rattle.fs_nodes.specs.one_disk.FileSystem as disk
 use Rattle.fs_nodes.specs.Disks.{OfSecond}
-use Rattle.fs_nodes.specs.FileSystem.{FileSystem, AreDisks}
+use Rattle.fs_nodes.specs.FileSystem.{AreDisks}
 use Rattle.fs_nodes.specs.declared.nodes.Nodes.TheInside.{Inside}
-use Rattle.fs_nodes.proofs.SideLemmas.{Side, with_root, with_second, root_here, second_here, root_kept, second_kept, node_is, node_lessens, set_done, cut_done, cut_count, moved}
+use Rattle.fs_nodes.proofs.SideLemmas.{Side, with_root, root_here, second_here, root_kept, second_kept, node_is, node_lessens, set_done}
 use Rattle.fs_nodes.proofs.nodes.Nodes.set_device.Goals as goal
 use Rattle.fs_nodes.proofs.nodes.Nodes.set_device.Goals.{in_default-via-in-Some+else-ino-self, in_default-via-in_default}
 

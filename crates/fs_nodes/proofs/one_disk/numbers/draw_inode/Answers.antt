@@ -1,10 +1,9 @@
-use Rattle.std.proofs.Common.{◌≡◌, List, sym, ap, ◌∙◌, subst}
-use Rattle.fs_codec.specs.Disk.{inode_count}
+use Rattle.std.proofs.Common.{List, ap, ◌∙◌, subst}
 use Rattle.fs_laws.specs.Numbers.{Draw, with_draw}
 use Rattle.fs_blocks.specs.State.{disk}
 use Rattle.fs_nodes.specs.declared.one_disk.table.Referenced.{Referenced}
 use Rattle.fs_nodes.specs.one_disk.FileSystem.{store_now}
-use Rattle.fs_nodes.specs.one_disk.Table.{references_in, seen}
+use Rattle.fs_nodes.specs.one_disk.Table.{seen}
 use Rattle.fs_nodes.proofs.SeenLemmas.{volume_seen}
 use Rattle.fs_nodes.proofs.HeldLemmas.{over}
 use Rattle.fs_nodes.proofs.NumbersMake.{same_draw, drawn_references}
