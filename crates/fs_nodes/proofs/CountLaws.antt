@@ -54,13 +54,13 @@ written_count s time = by s.mark where
 pub counts_synced : (s : Stores) (time : ℕ) → counts (synced s time) ≡ counts s
 counts_synced s time = by s.root s.second where
   by : (root : Store) (o : Option Store) → counts (synced (record { root = root; second = o }) time) ≡ counts (record { root = root; second = o })
-  by root None = ap (λ n. record { root = n; second = None }) (written_count root time)
+  by root None = ap (λ (n : ℕ). record { root = n; second = None }) (written_count root time)
   by root (Some x) =
-      ap (λ n. record { root = n; second = Some (numbers.synced x time).count }) (written_count root time)
-      ∙ ap (λ n. record { root = root.count; second = Some n }) (written_count x time)
+      ap (λ (n : ℕ). record { root = n; second = Some (numbers.synced x time).count }) (written_count root time)
+      ∙ ap (λ (n : ℕ). record { root = root.count; second = Some n }) (written_count x time)
 
 -- All keys are counted by the inodes of each disk.
-all_of : Disks ℕ → ℕ
+abbrev all_of : Disks ℕ → ℕ
 all_of n = n.root + unwrap_or n.second 0
 
 keys_are : (s : Stores) → key_count s ≡ all_of (counts s)

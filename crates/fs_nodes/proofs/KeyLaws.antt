@@ -112,7 +112,7 @@ module _ (root x : Store) (key other room : ℕ) (new : Node) (apart : other ≢
   in_root true = refl
   in_root false = set_apart root key other room new apart
 
-  set_on : Bool → Stores
+  abbrev set_on : Bool → Stores
   set_on a =
       put root x (numbers.with_node (cond {A = Store} a x root) (cond {A = ℕ} a (key - root.count) key) new room) a
 

@@ -21,7 +21,7 @@ record IsFreeHere (s : Store) (ino : ℕ) : Type 0 where
 free_here : (s : Store) (ino : ℕ) → is_free_number s ino ≡ true → IsFreeHere s ino
 free_here s ino is = by (nat_le 1 ino) refl (nat_le ino s.count) refl (codec.node_numbered s ino) refl is where
   by : (a : Bool) → nat_le 1 ino ≡ a → (b : Bool) → nat_le ino s.count ≡ b → (o : Option Node) → codec.node_numbered s ino ≡ o
-      → a && b && is_none o ≡ true → IsFreeHere s ino
+      → (a && b && is_none o) ≡ true → IsFreeHere s ino
   by true x true y None z p = record { low = leb-true 1 ino x; high = leb-true ino s.count y; none = z }
   by true x true y (Some node) z p = absurd (cc)
   by true x false y o z p = absurd (cc)

@@ -20,7 +20,7 @@ crosses_of store mounts are root key some = by mounts.covered are.covered where
   by (Some covered) there = at (covered == key) (λ is. there refl)
 
 -- A mount table fits stores with as many inodes.
-or_none : Option ℕ → ℕ
+abbrev or_none : Option ℕ → ℕ
 or_none None = 0
 or_none (Some n) = n
 
