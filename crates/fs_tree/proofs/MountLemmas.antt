@@ -29,12 +29,13 @@ count_is root None = refl
 count_is root (Some s) = refl
 
 there_is : (root : Store) (o : Option Store) (c : Disks ℕ) → counts (record { root = root; second = o }) ≡ c → IsSome c.second → IsSome o
-there_is root None c same some = let P : Disks ℕ → Type 0 = λ d. IsSome d.second in absurd (subst P (sym same) some)
-there_is root (Some s) c same some = tt
+there_is root None c same some =
+    let P : Disks ℕ → Type 0 = λ d. IsSome d.second in let none : false ≡ true = subst P (sym same) some in absurd (cc)
+there_is root (Some s) c same some = refl
 
 is_there : (root : Store) (o : Option Store) → IsSome o → IsSome (counts (record { root = root; second = o })).second
 is_there root None some = some
-is_there root (Some s) some = tt
+is_there root (Some s) some = refl
 
 pub mounts_stay : (mounts : MountTable) (old new : Stores) → counts new ≡ counts old → AreMounts mounts old → AreMounts mounts new
 mounts_stay mounts old new same are = record {
@@ -58,7 +59,7 @@ pub disk_there : (mounts : MountTable) (store : Stores) (key : ℕ) → AreMount
     → (split_of mounts key).0 ≢ 0 → IsSome store.second
 disk_there mounts store key are within other = by store.second refl where
   by : (o : Option Store) → store.second ≡ o → IsSome o
-  by (Some s) is = tt
+  by (Some s) is = refl
   by None is =
       let none : second_count store.second ≡ 0 = ap second_count is in
       let first = are.first in
