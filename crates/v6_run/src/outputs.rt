@@ -44,7 +44,8 @@ fn add_output(
         ≡ map output_value outputs.old.items ++ output port name.now ∷ []) }
 {
     let name = String::from_str(alloc, name)?;
-    outputs.push(Output { port, name })
+    outputs.push(Output { port, name })?;
+    Ok(())
 }
 
 /// The name of a line's file, by that of the console.
