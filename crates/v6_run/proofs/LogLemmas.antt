@@ -1,5 +1,5 @@
 -- The log of a run is lawful.
-use Rattle.std.proofs.Common.{◌≡◌, ◌≤◌, ℕ, true, Some, List, refl, ap, arith}
+use Rattle.std.proofs.Common.{◌≡◌, ◌≤◌, ℕ, true, Some, List, refl, ap}
 use Rattle.std.specs.Option.{option_map}
 use Rattle.v6_base.specs.Image.{AreBytes}
 use Rattle.abstract_unix.specs.declared.ends.Ends.{Ends}
@@ -14,6 +14,7 @@ whole : (ends : Ends) → is_whole ends ≡ true
 whole AtEnd = refl
 whole (Panic kind) = refl
 
-pub lawful_logs : (image : List ℕ) (core : ℕ) (m : System) → AreBytes image → 64 ≤ core → core ≤ 3968 → boots image core 1 ≡ Some m → HasLawfulLogs m
-lawful_logs image core m are low high is events =
-    (logs_are_lawful image core 1 events (course (started m) events) are low high (omega arith) (ap (option_map (λ n. course (started n) events)) is)).1 (whole _)
+pub lawful_logs : (image : List ℕ) (core lines : ℕ) (m : System) → AreBytes image → 64 ≤ core → core ≤ 3968 → lines ≤ 8 → boots image core lines ≡ Some m
+    → HasLawfulLogs m
+lawful_logs image core lines m are low high few is events =
+    (logs_are_lawful image core lines events (course (started m) events) are low high few (ap (option_map (λ n. course (started n) events)) is)).1 (whole _)

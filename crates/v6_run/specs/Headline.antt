@@ -23,7 +23,7 @@ use Rattle.v6_run.specs.declared.status.Status.{Status}
 use Rattle.v6_run.specs.declared.status.Status.TheVariants as status
 use Rattle.abstract_unix.specs.declared.ends.Ends.{Ends}
 use Rattle.abstract_unix.specs.declared.ends.Ends.TheVariants.{AtEnd, Panic}
-use Rattle.v6_run.specs.Words.{RunWords, Command, Run, Check, Make, Demo, Audit}
+use Rattle.v6_run.specs.Words.{RunWords, line_count, Command, Run, Check, Make, Demo, Audit}
 use Rattle.v6_run.specs.Logs.{lines_of, AuditEnds}
 use Rattle.v6_run.specs.Events.{events_of}
 use Rattle.v6_run.specs.Status.{has_written}
@@ -78,18 +78,18 @@ Writing = Course → OutPort → List ℕ → Type 0
 abbrev pub course_completion : Writing → Course → Completion
 course_completion writes c = record { ends = λ t. t ≡ status_at c.ending; writes = writes c }
 
--- in so much core, from an image without a fault, and a script or its first fault
-abbrev pub lines_completion : ℕ → Writing → List ℕ → Result (List Event) ScriptFault → Completion
-lines_completion core writes image (Err fault) = ends_with (status.ScriptFault fault)
-lines_completion core writes image (Ok events) = course_completion writes (run_of image core 1 (events_of events))
+-- in so much core and with so many terminal lines, from an image without a fault, and a script or its first fault
+abbrev pub lines_completion : ℕ → ℕ → Writing → List ℕ → Result (List Event) ScriptFault → Completion
+lines_completion core lines writes image (Err fault) = ends_with (status.ScriptFault fault)
+lines_completion core lines writes image (Ok events) = course_completion writes (run_of image core lines (events_of events))
 
-abbrev pub run_completion : ℕ → Writing → List ℕ → List ℕ → Completion
-run_completion core writes image bytes = lines_completion core writes image (script_of bytes)
+abbrev pub run_completion : ℕ → ℕ → Writing → List ℕ → List ℕ → Completion
+run_completion core lines writes image bytes = lines_completion core lines writes image (script_of bytes)
 
--- Of `run` the terminal and LOG get what the run shows, and FINAL the disk that it leaves. Of `memory` FINAL gets core and the
--- swap area.
+-- Of `run`, which has one line, and of `run8`, which has eight, the file of each line and LOG get what the run shows, and FINAL the
+-- disk that it leaves. Of `memory` FINAL gets core and the swap area.
 abbrev pub bytes_completion : RunWords → List ℕ → List ℕ → Completion
-bytes_completion words image bytes = run_completion words.core (run_writes words.outputs (disk_of image)) image bytes
+bytes_completion words image bytes = run_completion words.core (line_count words.outputs) (run_writes words.outputs (disk_of image)) image bytes
 
 -- from the bytes of SCRIPT, of which at most one more is read than a script may have
 abbrev pub script_completion : RunWords → Option (List ℕ) → List ℕ → MaybeCompletion
@@ -111,7 +111,7 @@ no_writing c port = exactly []
 
 abbrev pub demo_completion : ℕ → MaybeCompletion
 demo_completion number =
-    fault_completion (image_fault (build_of number)) (Known (run_completion DEMO_CORE no_writing (build_of number) demo_text))
+    fault_completion (image_fault (build_of number)) (Known (run_completion DEMO_CORE 1 no_writing (build_of number) demo_text))
 
 -- `audit` ends as the lines of its file say, and writes no file
 abbrev pub log_completion : Option (List ℕ) → MaybeCompletion

@@ -1,5 +1,6 @@
 -- The files that a command opens, in the order of docs/manual/commands.md, and what lets it go on after each.
-use Rattle.std.specs.Prelude.{◌≡◌, ⊤, ℕ, Bool, true, false, ◌||◌, if◌then◌else◌, Option, Some, None, IsSomeAnd, IsOk, List, [], ◌∷◌, take}
+use Rattle.std.specs.Prelude.{◌≡◌, ⊤, ℕ, zero, suc, ◌-◌, Bool, true, false, ◌||◌, if◌then◌else◌, Option, Some, None, IsSomeAnd, IsOk, List, [], ◌∷◌, ◌++◌, map, take, codes, decimal}
+use Rattle.std.specs.List.{range_with_len}
 use Rattle.v6_port.specs.declared.host.InPort.{InPort}
 use Rattle.v6_port.specs.declared.host.InPort.TheVariants as in_port
 use Rattle.v6_port.specs.declared.host.OutPort.{OutPort}
@@ -25,9 +26,26 @@ input p name = record { port = In p; name = name }
 abbrev pub output : OutPort → List ℕ → NamedPort
 output p name = record { port = Out p; name = name }
 
+-- the port to which the bytes of a terminal line go: those of the console, which is line 0, go to Term
+abbrev pub line_port : ℕ → OutPort
+line_port zero = out_port.Term
+line_port (suc l) = out_port.Line (suc l)
+
+-- the file of another line has the console's name, with the number of the line behind it
+abbrev pub line_name : List ℕ → ℕ → List ℕ
+line_name term l = (term ++ codes ".") ++ decimal l
+
+abbrev pub line_output : List ℕ → ℕ → NamedPort
+line_output term l = output (out_port.Line l) (line_name term l)
+
+abbrev pub line_outputs : ℕ → List ℕ → List NamedPort
+line_outputs lines term = map (line_output term) (range_with_len 1 (lines - 1))
+
 -- The ports that a command opens, in this order. All are opened before a byte is written.
 abbrev pub output_ports : Outputs → List NamedPort
-output_ports (ToDisk files) = output out_port.Term files.term ∷ output out_port.Log files.log ∷ output out_port.Final files.final_disk ∷ []
+output_ports (ToDisk files) =
+    output out_port.Term files.term
+    ∷ (line_outputs files.lines files.term ++ (output out_port.Log files.log ∷ output out_port.Final files.final_disk ∷ []))
 output_ports (ToMemory final) = output out_port.Final final ∷ []
 
 abbrev pub command_ports : Command → List NamedPort
@@ -45,6 +63,11 @@ words_ports (Some command) = command_ports command
 abbrev pub has_port : List NamedPort → Port → Bool
 has_port [] q = false
 has_port (p ∷ ports) q = same p.port q || has_port ports q
+
+-- no port is among them twice, and each can be opened
+abbrev pub AreApart : List NamedPort → Type 0
+AreApart [] = ⊤
+AreApart (p ∷ ports) = (has_port ports p.port ≡ false) × AreApart ports
 
 -- those that are opened before a port is
 abbrev pub ports_before : List NamedPort → Port → List NamedPort

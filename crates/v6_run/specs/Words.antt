@@ -3,6 +3,8 @@ use Rattle.std.specs.Prelude.{ℕ, Bool, true, false, if◌then◌else◌, Optio
 use Rattle.std.specs.declared.alloc.Global.{Global}
 use Rattle.std.specs.Cmp.Lexicographic.{pointwise}
 use Rattle.script_text.specs.Number.{number_of}
+use Rattle.v6_run.specs.declared.words.Lines as lines
+use Rattle.v6_run.specs.declared.words.Lines.TheVariants as count
 use Rattle.v6_run.specs.declared.words.DiskFiles as disk_files
 use Rattle.v6_run.specs.declared.words.Outputs as outputs
 use Rattle.v6_run.specs.declared.words.Outputs.TheVariants as output
@@ -10,13 +12,14 @@ use Rattle.v6_run.specs.declared.words.RunWords as words
 use Rattle.v6_run.specs.declared.words.Command as written
 use Rattle.v6_run.specs.declared.words.Command.TheVariants as variant
 
--- the files that `run` writes
+-- the files that `run` or `run8` writes, with how many terminal lines there are: the bytes of line 1 go to TERM.1, and so on
 pub record DiskFiles : Type 0 where
+  pub lines : ℕ
   pub term : List ℕ
   pub log : List ℕ
   pub final_disk : List ℕ
 
--- what a run leaves: the files of `run`, or the file of `memory` with the bytes of core and of the swap area
+-- what a run leaves: the files of `run` or of `run8`, or the file of `memory` with the bytes of core and of the swap area
 pub data Outputs : Type 0 where
   ToDisk : DiskFiles → Outputs
   ToMemory : List ℕ → Outputs
@@ -28,7 +31,12 @@ pub record RunWords : Type 0 where
   pub script : List ℕ
   pub outputs : Outputs
 
--- a command: what `run` or `memory` is told, the image that `check` reads, the number and the file of `make`, the number of
+-- how many terminal lines a run has: `memory` has the console alone
+abbrev pub line_count : Outputs → ℕ
+line_count (ToDisk files) = files.lines
+line_count (ToMemory final) = 1
+
+-- a command: what `run`, `run8` or `memory` is told, the image that `check` reads, the number and the file of `make`, the number of
 -- `demo`, or the log that `audit` reads
 pub data Command : Type 0 where
   Run : RunWords → Command
@@ -37,11 +45,23 @@ pub data Command : Type 0 where
   Demo : ℕ → Command
   Audit : List ℕ → Command
 
--- the words of `run` and of `memory` are good where CORE is a number
+-- the words of `run`, of `run8` and of `memory` are good where CORE is a number
 abbrev pub run_words : Bool → Option ℕ → List ℕ → List ℕ → Outputs → Option Command
 run_words true (Some core) image script outputs = Some (Run (record { image = image; core = core; script = script; outputs = outputs }))
 run_words true None image script outputs = None
 run_words false core image script outputs = None
+
+abbrev pub is_word : List ℕ → List ℕ → Bool
+is_word word name = pointwise nat_eq word name
+
+-- how many lines there are, by the verb: `run` has the console alone
+abbrev pub line_words : List ℕ → Option ℕ
+line_words verb = if is_word verb (codes "run") then Some 1 else (if is_word verb (codes "run8") then Some 8 else None)
+
+abbrev pub disk_words : Option ℕ → Option ℕ → List ℕ → List ℕ → List ℕ → List ℕ → List ℕ → Option Command
+disk_words None core image script term log final = None
+disk_words (Some lines) core image script term log final =
+    run_words true core image script (ToDisk (record { lines = lines; term = term; log = log; final_disk = final }))
 
 abbrev pub check_words : Bool → List ℕ → Option Command
 check_words true image = Some (Check image)
@@ -58,9 +78,6 @@ abbrev pub demo_words : Option ℕ → Option Command
 demo_words (Some number) = Some (Demo number)
 demo_words None = None
 
-abbrev pub is_word : List ℕ → List ℕ → Bool
-is_word word name = pointwise nat_eq word name
-
 -- demo N, audit LOG, check IMAGE
 abbrev pub short_words : List ℕ → List ℕ → Option Command
 short_words verb word =
@@ -68,10 +85,10 @@ short_words verb word =
     if is_word verb (codes "audit") then Some (Audit word)
     else check_words (is_word verb (codes "check")) word)
 
--- run IMAGE CORE SCRIPT TERM LOG FINAL, memory IMAGE CORE SCRIPT FINAL, check IMAGE, make N FINAL, demo N, audit LOG
+-- run IMAGE CORE SCRIPT TERM LOG FINAL, run8 IMAGE CORE SCRIPT TERM LOG FINAL, memory IMAGE CORE SCRIPT FINAL, check IMAGE, make N FINAL, demo N, audit LOG
 abbrev pub command_of : List (List ℕ) → Option Command
 command_of (verb ∷ image ∷ core ∷ script ∷ term ∷ log ∷ final ∷ []) =
-    run_words (is_word verb (codes "run")) (number_of core) image script (ToDisk (record { term = term; log = log; final_disk = final }))
+    disk_words (line_words verb) (number_of core) image script term log final
 command_of (verb ∷ image ∷ core ∷ script ∷ final ∷ []) = run_words (is_word verb (codes "memory")) (number_of core) image script (ToMemory final)
 command_of (verb ∷ word ∷ []) = short_words verb word
 command_of (verb ∷ number ∷ final ∷ []) = make_words (is_word verb (codes "make")) (number_of number) final
@@ -82,8 +99,12 @@ abbrev pub command_in : List (String Global) → Option Command
 command_in words = command_of (map string_bytes words)
 
 -- what the words and numbers that a program holds are
+abbrev pub lines_value : lines.Lines → ℕ
+lines_value count.One = 1
+lines_value count.Eight = 8
+
 abbrev pub disk_files_value : disk_files.DiskFiles → DiskFiles
-disk_files_value f = record { term = f.term.now; log = f.log.now; final_disk = f.final_disk.now }
+disk_files_value f = record { lines = lines_value f.lines; term = f.term.now; log = f.log.now; final_disk = f.final_disk.now }
 
 abbrev pub outputs_value : outputs.Outputs → Outputs
 outputs_value (output.Disk files) = ToDisk (disk_files_value files)

@@ -1,5 +1,5 @@
-//! The files that `run` writes.
-ghost use Rattle.std.specs.Prelude.{◌≡◌, ◌⊎◌, ℕ, List, true, false, ◌++◌, OnOk, IfErr, MatchResult};
+//! The files that `run` and `run8` write.
+ghost use Rattle.std.specs.Prelude.{◌≡◌, ◌⊎◌, ℕ, List, [], ◌∷◌, map, true, false, ◌++◌, OnOk, IfOk, MatchResult, string_bytes};
 ghost use Rattle.v6_port.specs.declared.host.OutPort.{OutPort};
 ghost use Rattle.v6_port.specs.declared.host.OutPort.TheVariants as out_port;
 ghost use Rattle.v6_port.specs.Outside.{Out, IsOpen, OnlyAt, Tells, same};
@@ -12,46 +12,95 @@ ghost use Rattle.abstract_unix.specs.Unix.{Started, Stopped, Finished};
 ghost use Rattle.image_keep.specs.Holds.{AreRangesApart, SwapHolds};
 ghost use Rattle.unix_core.specs.Memory.{kept_in};
 ghost use Rattle.abstract_unix.specs.Runs.{finished};
-ghost use Rattle.v6_run.specs.Words.{ToDisk, disk_files_value};
+ghost use Rattle.v6_run.specs.Words.{ToDisk, lines_value, disk_files_value};
 ghost use Rattle.v6_run.specs.Ports.{final_of};
 ghost use Rattle.v6_run.specs.Fronts.{HoldsFront};
 ghost use Rattle.v6_run.specs.Final.{disk_text};
-ghost use Rattle.v6_run.specs.Outputs.{is_disk_output};
-ghost use Rattle.v6_run.specs.Opened.{output_ports, ports_before, knows_port, AreGood};
+ghost use Rattle.v6_run.specs.Opened.{output, line_name, line_outputs, output_ports, has_port, AreApart};
+ghost use Rattle.v6_run.specs.Opening.{output_value, AreThere, Opens, Shuts};
 
 use crate::files::write_all;
 use crate::words::DiskFiles;
 use fs_codec::SWAP_START;
+use std::alloc::{AllocError, Global};
 use unix_core::Kernel;
 use v6_port::{Failed, Host, OutPort};
 
-/// Opens the terminal's file, the log and the disk's file, in this order, or says which could not be opened.
-pub(crate) fn open_outputs<H: Host>(files: &DiskFiles<'_>, host: &mut H) -> Result<(), OutPort>
-    requires { (p : OutPort) → is_disk_output (Out p) ≡ true → ((H.outside host.old).port (Out p)).is_open ≡ false }
-    ensures only { OnlyAt is_disk_output (H.outside host.old) (H.outside host.new) }
-    ensures bytes { (p : OutPort) → ((H.outside host.new).port (Out p)).bytes ≡ ((H.outside host.old).port (Out p)).bytes }
-    ensures is_open { OnOk result ((p : OutPort) → is_disk_output (Out p) ≡ true
-        → ((H.outside host.new).port (Out p)).is_open ≡ true) }
-    ensures cause { MatchResult result (λ _. Calm (H.outside host.old) (H.outside host.new))
-        (λ port. FaultAt (Out port)
-        (knows_port (output_ports (ToDisk (disk_files_value files.now))) (H.outside host.old).fixed (Out port))
-        (H.outside host.old) (H.outside host.new)) }
-    ensures named { IfErr result (λ port. is_disk_output (Out port) ≡ true) }
-    ensures order { Tells (H.outside host.old) → MatchResult result
-        (λ _. AreGood (H.outside host.old).fixed (output_ports (ToDisk (disk_files_value files.now))))
-        (λ port. AreGood (H.outside host.old).fixed
-        (ports_before (output_ports (ToDisk (disk_files_value files.now))) (Out port))) }
+/// A file that a run writes.
+#[derive(Drop)]
+pub(crate) struct Output {
+    pub(crate) port: OutPort,
+    pub(crate) name: String,
+}
+
+/// A file of this name comes behind those that there are.
+fn add_output(
+    alloc: Global,
+    outputs: &mut Vec<Output>,
+    port: OutPort,
+    name: &str,
+) -> Result<(), AllocError>
+    ensures { OnOk result (map output_value outputs.new.items
+        ≡ map output_value outputs.old.items ++ output port name.now ∷ []) }
 {
-    if host.open_write(OutPort::Term, files.term).is_err() {
-        return Err(OutPort::Term);
-    }
-    if host.open_write(OutPort::Log, files.log).is_err() {
-        return Err(OutPort::Log);
-    }
-    if host.open_write(OutPort::Final, files.final_disk).is_err() {
-        return Err(OutPort::Final);
+    let name = String::from_str(alloc, name)?;
+    outputs.push(Output { port, name })?;
+    Ok(())
+}
+
+/// The name of a line's file, by that of the console.
+fn line_name(alloc: Global, term: &str, line: u8) -> Result<String, AllocError>
+    ensures { IfOk result (λ name. string_bytes name ≡ line_name term.now line) }
+{
+    format!(in alloc; "{term}.{line}")
+}
+
+/// The files of the lines beside the console come behind those that there are.
+fn add_lines(
+    alloc: Global,
+    outputs: &mut Vec<Output>,
+    files: &DiskFiles<'_>,
+) -> Result<(), AllocError>
+    ensures { OnOk result (map output_value outputs.new.items
+        ≡ map output_value outputs.old.items ++ line_outputs (lines_value files.now.lines) files.now.term.now) }
+{
+    'lines: for line in 1..files.lines.count() {
+        let name = line_name(alloc, files.term, line)?;
+        add_output(alloc, outputs, OutPort::Line(line), name.as_str())?;
     }
     Ok(())
+}
+
+/// The files that `run` or `run8` writes, in the order in which they are opened: that of each line, the log, and the disk.
+pub(crate) fn disk_outputs(alloc: Global, files: &DiskFiles<'_>) -> Result<Vec<Output>, AllocError>
+    ensures { IfOk result (λ outputs.
+        map output_value outputs.items ≡ output_ports (ToDisk (disk_files_value files.now))) }
+{
+    let mut outputs = Vec::new(alloc);
+    add_output(alloc, &mut outputs, OutPort::Term, files.term)?;
+    add_lines(alloc, &mut outputs, files)?;
+    add_output(alloc, &mut outputs, OutPort::Log, files.log)?;
+    add_output(alloc, &mut outputs, OutPort::Final, files.final_disk)?;
+    Ok(outputs)
+}
+
+/// Opens these files in their order, or says which could not be opened.
+pub(crate) fn open_outputs<H: Host>(outputs: &[Output], host: &mut H) -> Result<(), OutPort>
+    requires apart { AreApart (map output_value outputs.now) }
+    requires there { AreThere (map output_value outputs.now) }
+    requires closed { (p : OutPort) → has_port (map output_value outputs.now) (Out p) ≡ true
+        → ((H.outside host.old).port (Out p)).is_open ≡ false }
+    ensures { Opens (map output_value outputs.now) result (H.outside host.old) (H.outside host.new) }
+{
+    match outputs {
+        [] => Ok(()),
+        [first, rest @ ..] => {
+            if host.open_write(first.port, first.name.as_str()).is_err() {
+                return Err(first.port);
+            }
+            open_outputs(rest, host)
+        }
+    }
 }
 
 /// Writes all blocks of the kernel's disk before its swap area.
@@ -114,25 +163,21 @@ pub(crate) fn leave_disk<H: Host>(kernel: &mut Kernel, host: &mut H) -> Result<(
     write_disk(kernel, swap, host)
 }
 
-/// Finishes the three, in the order in which they were opened.
-pub(crate) fn finish_outputs<H: Host>(host: &mut H) -> Result<(), OutPort>
-    requires { (p : OutPort) → is_disk_output (Out p) ≡ true → ((H.outside host.old).port (Out p)).is_open ≡ true }
-    ensures only { OnlyAt is_disk_output (H.outside host.old) (H.outside host.new) }
-    ensures bytes { (p : OutPort) → ((H.outside host.new).port (Out p)).bytes ≡ ((H.outside host.old).port (Out p)).bytes }
-    ensures is_open { OnOk result ((p : OutPort) → is_disk_output (Out p) ≡ true
-        → ((H.outside host.new).port (Out p)).is_open ≡ false) }
-    ensures cause { MatchResult result (λ _. Calm (H.outside host.old) (H.outside host.new))
-        (λ port. FaultAt (Out port) true (H.outside host.old) (H.outside host.new)) }
-    ensures named { IfErr result (λ port. is_disk_output (Out port) ≡ true) }
+/// Finishes them, in the order in which they were opened.
+pub(crate) fn finish_outputs<H: Host>(outputs: &[Output], host: &mut H) -> Result<(), OutPort>
+    requires apart { AreApart (map output_value outputs.now) }
+    requires there { AreThere (map output_value outputs.now) }
+    requires is_open { (p : OutPort) → has_port (map output_value outputs.now) (Out p) ≡ true
+        → ((H.outside host.old).port (Out p)).is_open ≡ true }
+    ensures { Shuts (map output_value outputs.now) result (H.outside host.old) (H.outside host.new) }
 {
-    if host.finish(OutPort::Term).is_err() {
-        return Err(OutPort::Term);
+    match outputs {
+        [] => Ok(()),
+        [first, rest @ ..] => {
+            if host.finish(first.port).is_err() {
+                return Err(first.port);
+            }
+            finish_outputs(rest, host)
+        }
     }
-    if host.finish(OutPort::Log).is_err() {
-        return Err(OutPort::Log);
-    }
-    if host.finish(OutPort::Final).is_err() {
-        return Err(OutPort::Final);
-    }
-    Ok(())
 }

@@ -1,8 +1,8 @@
-//! The commands `run` and `memory`: a run, and what it leaves.
-ghost use Rattle.std.specs.Prelude.{◌≡◌, ◌<◌, ◌≤◌, ◌^◌, length, true, false, None, Some, IfOk, OnOk, IfErr, MatchResult, ◌++◌};
+//! The commands `run`, `run8` and `memory`: a run, and what it leaves.
+ghost use Rattle.std.specs.Prelude.{◌≡◌, ℕ, ◌<◌, ◌≤◌, ◌^◌, length, map, true, false, None, Some, IfOk, OnOk, IfErr, MatchResult, ◌++◌};
 ghost use Rattle.v6_port.specs.Outside.{Out, IsOpen, OnlyAt, Tells, same};
 ghost use Rattle.v6_port.specs.declared.host.OutPort.{OutPort};
-ghost use Rattle.v6_port.specs.declared.host.OutPort.TheVariants.{Term, Log};
+ghost use Rattle.v6_port.specs.declared.host.OutPort.TheVariants.{Log};
 ghost use Rattle.v6_port.specs.Causes.{Calm, FaultAt};
 ghost use Rattle.v6_base.specs.Image.{AreBytes};
 ghost use Rattle.fs_codec.specs.Faults.{image_fault};
@@ -12,21 +12,24 @@ ghost use Rattle.abstract_unix.specs.Unix.{New};
 ghost use Rattle.abstract_unix.specs.Endings.{phase_after};
 ghost use Rattle.abstract_unix.specs.Runs.{boots, started, course, shown_by};
 ghost use Rattle.unix_core.specs.State.{KeepsRest};
+ghost use Rattle.unix_core.specs.Boots.{RefusesBoot};
 ghost use Rattle.v6_run.specs.Courses.{CanTake};
-ghost use Rattle.v6_run.specs.Words.{Run, ToDisk, disk_files_value, run_words_value};
+ghost use Rattle.v6_run.specs.Words.{Run, ToDisk, lines_value, disk_files_value, run_words_value};
+ghost use Rattle.v6_run.specs.Opened.{line_port, output_ports};
+ghost use Rattle.v6_run.specs.Opening.{output_value};
 ghost use Rattle.v6_run.specs.Events.{events_of};
 ghost use Rattle.v6_run.specs.Ports.{HasShown, HasShownFronts};
 ghost use Rattle.v6_run.specs.Errors.{end_of, run_status};
-ghost use Rattle.v6_run.specs.Outputs.{is_shown, is_disk_output, is_output, disk_writes, run_writes, HasLawfulLogs, EndsRun, StopsRun};
+ghost use Rattle.v6_run.specs.Outputs.{is_shown, is_disk_output, is_output, disk_writes, run_writes, HasLawfulLogs, EndsRun, StopsRun, StopsBy};
 ghost use Rattle.v6_run.specs.Answers.{Answers, HasFiles};
 
 use crate::files::{ReadError, read_file};
 use crate::image::{ImageError, read_image};
 use crate::memory::run_to_memory;
-use crate::outputs::{finish_outputs, leave_disk, open_outputs};
+use crate::outputs::{Output, disk_outputs, finish_outputs, leave_disk, open_outputs};
 use crate::ports::Ports;
 use crate::slots::show_run;
-use crate::words::{DiskFiles, Outputs, RunWords};
+use crate::words::{DiskFiles, Lines, Outputs, RunWords};
 use fs_codec::SWAP_START;
 use script_text::{Event, MAX_BYTES, ScriptFault, read};
 use std::alloc::Global;
@@ -94,50 +97,69 @@ fn see_bytes(bytes: &[u8])
     let _ = bytes;
 }
 
-/// The kernel for an image and so many clicks of core. Each of its runs has a lawful log.
-pub(crate) fn boot(alloc: Global, image: &[u8], core: u32) -> Result<Kernel, RunError>
+/// The kernel for an image, so many clicks of core and so many terminal lines, or what hinders it.
+fn kernel_with(alloc: Global, image: &[u8], core: u16, lines: Lines) -> Result<Kernel, BootFault>
+    requires least { 64 ≤ core }
+    requires most { core ≤ 3968 }
+    ensures system { IfOk result (λ kernel. boots image.now core (lines_value lines) ≡ Some kernel.system) }
+    ensures blocks { IfOk result (λ kernel. kernel.blocks ≡ blocks_of image.now) }
+    ensures phase { IfOk result (λ kernel. kernel.phase ≡ New) }
+    ensures refused { IfErr result (RefusesBoot image.now) }
+{
+    match lines {
+        Lines::One => Kernel::boot(alloc, image, core),
+        Lines::Eight => Kernel::boot8(alloc, image, core),
+    }
+}
+
+/// The kernel for an image, so many clicks of core and so many terminal lines. Each of its runs has a lawful log.
+pub(crate) fn boot(alloc: Global, image: &[u8], core: u32, lines: Lines) -> Result<Kernel, RunError>
     requires least { 64 ≤ core }
     requires most { core ≤ 3968 }
     requires good { image_fault image.now ≡ None }
-    ensures system { IfOk result (λ kernel. boots image.now core 1 ≡ Some kernel.system) }
+    ensures system { IfOk result (λ kernel. boots image.now core (lines_value lines) ≡ Some kernel.system) }
     ensures blocks { IfOk result (λ kernel. kernel.blocks ≡ blocks_of image.now) }
     ensures phase { IfOk result (λ kernel. kernel.phase ≡ New) }
     ensures lawful { IfOk result (λ kernel. HasLawfulLogs kernel.system) }
     ensures memory { IfErr result (λ error. error ≡ RunError.NoMemory) }
 {
     see_bytes(image);
-    match Kernel::boot(alloc, image, core as u16) {
+    match kernel_with(alloc, image, core as u16, lines) {
         Ok(kernel) => Ok(kernel),
         Err(BootFault::Image(_)) => unreachable!(),
         Err(BootFault::NoMemory) => Err(RunError::NoMemory),
     }
 }
 
-/// Runs the kernel over the events of a script, with the terminal and the log open, and tells how the run ends. Where one of
-/// the two can't be written, the run goes on without both, and then that is the answer.
-fn play<H: Host>(kernel: &mut Kernel, events: &[Event], host: &mut H) -> Result<Ends, OutPort>
-    requires term { IsOpen (H.outside host.old) (Out Term) }
+/// Runs the kernel over the events of a script, with the files of so many lines and the log open, and tells how the run ends. Where one
+/// of them can't be written, the run goes on without all, and then that is the answer.
+fn play<H: Host>(
+    kernel: &mut Kernel,
+    events: &[Event],
+    lines: Lines,
+    host: &mut H,
+) -> Result<Ends, OutPort>
+    requires lines { (l : ℕ) → l < lines_value lines → IsOpen (H.outside host.old) (Out (line_port l)) }
     requires log { IsOpen (H.outside host.old) (Out Log) }
     requires new { kernel.old.phase ≡ New }
     requires can { CanTake kernel.old.system events.now }
     ensures phase { IfOk result (λ ends. kernel.new.phase ≡ phase_after ends) }
-    ensures only { OnlyAt is_shown (H.outside host.old) (H.outside host.new) }
-    ensures term { IsOpen (H.outside host.new) (Out Term) }
-    ensures log { IsOpen (H.outside host.new) (Out Log) }
+    ensures only { OnlyAt (is_shown (lines_value lines)) (H.outside host.old) (H.outside host.new) }
+    ensures is_open { (p : OutPort) → ((H.outside host.new).port (Out p)).is_open ≡ ((H.outside host.old).port (Out p)).is_open }
     ensures ending { IfOk result (λ ends. ends ≡ (course (started kernel.old.system) (events_of events.now)).ending) }
     ensures shown { OnOk result (Tells (H.outside host.old)
-        → HasShown (shown_by (course (started kernel.old.system) (events_of events.now)))
+        → HasShown (lines_value lines) (shown_by (course (started kernel.old.system) (events_of events.now)))
         (H.outside host.old) (H.outside host.new)) }
     ensures fronts { Tells (H.outside host.old)
-        → HasShownFronts (shown_by (course (started kernel.old.system) (events_of events.now)))
+        → HasShownFronts (lines_value lines) (shown_by (course (started kernel.old.system) (events_of events.now)))
         (H.outside host.old) (H.outside host.new) }
     ensures system { kernel.new.system ≡ (course (started kernel.old.system) (events_of events.now)).system }
     ensures rest { KeepsRest kernel.old kernel.new }
     ensures cause { MatchResult result (λ _. Calm (H.outside host.old) (H.outside host.new))
         (λ port. FaultAt (Out port) true (H.outside host.old) (H.outside host.new)) }
-    ensures named { IfErr result (λ port. is_shown (Out port) ≡ true) }
+    ensures named { IfErr result (λ port. is_shown (lines_value lines) (Out port) ≡ true) }
 {
-    let mut ports = Ports::new(host);
+    let mut ports = Ports::new(host, lines.count());
     let ends = show_run(kernel, events, &mut ports);
     match ports.failed() {
         Some(port) => Err(port),
@@ -145,45 +167,84 @@ fn play<H: Host>(kernel: &mut Kernel, events: &[Event], host: &mut H) -> Result<
     }
 }
 
-/// Runs the kernel with the files of `run` opened, and tells how the run ends: the disk that it leaves is written, and then the
-/// files are finished.
-fn run_to_disk<H: Host>(
+/// Runs the kernel with the files of `run` or `run8` opened, and tells how the run ends: the disk that it leaves is written, and then
+/// the files are finished.
+fn run_opened<H: Host>(
     kernel: &mut Kernel,
     events: &[Event],
     files: &DiskFiles<'_>,
+    outputs: &[Output],
     host: &mut H,
 ) -> Result<Ends, OutPort>
-    requires closed { (p : OutPort) → is_disk_output (Out p) ≡ true
+    requires outputs { map output_value outputs.now ≡ output_ports (ToDisk (disk_files_value files.now)) }
+    requires closed { (p : OutPort) → is_disk_output (lines_value files.now.lines) (Out p) ≡ true
         → ((H.outside host.old).port (Out p)).is_open ≡ false }
     requires root { (head (block_at kernel.old.blocks)).f_size ≤ SWAP_START }
     requires new { kernel.old.phase ≡ New }
     requires lawful { HasLawfulLogs kernel.old.system }
     requires can { CanTake kernel.old.system events.now }
-    ensures only { OnlyAt is_disk_output (H.outside host.old) (H.outside host.new) }
+    ensures only { OnlyAt (is_disk_output (lines_value files.now.lines)) (H.outside host.old) (H.outside host.new) }
     ensures outcome { MatchResult result
         (λ ends. EndsRun (ToDisk (disk_files_value files.now))
-        (disk_writes (block_at kernel.old.blocks) (course (started kernel.old.system) (events_of events.now)))
+        (disk_writes (lines_value files.now.lines) (block_at kernel.old.blocks)
+        (course (started kernel.old.system) (events_of events.now)))
         (course (started kernel.old.system) (events_of events.now)) ends (H.outside host.old) (H.outside host.new))
         (λ port. StopsRun (ToDisk (disk_files_value files.now))
-        (disk_writes (block_at kernel.old.blocks) (course (started kernel.old.system) (events_of events.now))) port
+        (disk_writes (lines_value files.now.lines) (block_at kernel.old.blocks)
+        (course (started kernel.old.system) (events_of events.now))) port
         (H.outside host.old) (H.outside host.new)) }
 {
-    open_outputs(files, host)?;
-    let ends = play(kernel, events, host)?;
+    open_outputs(outputs, host)?;
+    let ends = play(kernel, events, files.lines, host)?;
     if leave_disk(kernel, host).is_err() {
         return Err(OutPort::Final);
     }
-    finish_outputs(host)?;
+    finish_outputs(outputs, host)?;
     Ok(ends)
+}
+
+/// Runs the kernel for the disk that it leaves. There has to be memory for the names of the files.
+fn run_to_disk<H: Host>(
+    alloc: Global,
+    kernel: &mut Kernel,
+    events: &[Event],
+    files: &DiskFiles<'_>,
+    host: &mut H,
+) -> Result<Ends, RunError>
+    requires closed { (p : OutPort) → is_disk_output (lines_value files.now.lines) (Out p) ≡ true
+        → ((H.outside host.old).port (Out p)).is_open ≡ false }
+    requires root { (head (block_at kernel.old.blocks)).f_size ≤ SWAP_START }
+    requires new { kernel.old.phase ≡ New }
+    requires lawful { HasLawfulLogs kernel.old.system }
+    requires can { CanTake kernel.old.system events.now }
+    ensures only { OnlyAt (is_disk_output (lines_value files.now.lines)) (H.outside host.old) (H.outside host.new) }
+    ensures outcome { MatchResult result
+        (λ ends. EndsRun (ToDisk (disk_files_value files.now))
+        (disk_writes (lines_value files.now.lines) (block_at kernel.old.blocks)
+        (course (started kernel.old.system) (events_of events.now)))
+        (course (started kernel.old.system) (events_of events.now)) ends (H.outside host.old) (H.outside host.new))
+        (λ error. StopsBy (ToDisk (disk_files_value files.now))
+        (disk_writes (lines_value files.now.lines) (block_at kernel.old.blocks)
+        (course (started kernel.old.system) (events_of events.now))) error
+        (H.outside host.old) (H.outside host.new)) }
+{
+    let Ok(outputs) = disk_outputs(alloc, files) else {
+        return Err(RunError::NoMemory);
+    };
+    match run_opened(kernel, events, files, &outputs, host) {
+        Ok(ends) => Ok(ends),
+        Err(port) => Err(RunError::Write(port)),
+    }
 }
 
 /// Runs the kernel with the files opened that the words name, and tells how the run ends.
 fn run_with_outputs<H: Host>(
+    alloc: Global,
     kernel: &mut Kernel,
     events: &[Event],
     words: &RunWords<'_>,
     host: &mut H,
-) -> Result<Ends, OutPort>
+) -> Result<Ends, RunError>
     requires closed { (p : OutPort) → is_output (run_words_value words.now).outputs (Out p) ≡ true
         → ((H.outside host.old).port (Out p)).is_open ≡ false }
     requires root { (head (block_at kernel.old.blocks)).f_size ≤ SWAP_START }
@@ -196,12 +257,12 @@ fn run_with_outputs<H: Host>(
         (run_writes (run_words_value words.now).outputs (block_at kernel.old.blocks)
         (course (started kernel.old.system) (events_of events.now)))
         (course (started kernel.old.system) (events_of events.now)) ends (H.outside host.old) (H.outside host.new))
-        (λ port. StopsRun (run_words_value words.now).outputs
+        (λ error. StopsBy (run_words_value words.now).outputs
         (run_writes (run_words_value words.now).outputs (block_at kernel.old.blocks)
-        (course (started kernel.old.system) (events_of events.now))) port (H.outside host.old) (H.outside host.new)) }
+        (course (started kernel.old.system) (events_of events.now))) error (H.outside host.old) (H.outside host.new)) }
 {
     match &words.outputs {
-        Outputs::Disk(files) => run_to_disk(kernel, events, files, host),
+        Outputs::Disk(files) => run_to_disk(alloc, kernel, events, files, host),
         Outputs::Memory(name) => run_to_memory(kernel, events, name, host),
     }
 }
@@ -225,7 +286,7 @@ fn read_files<H: Host>(alloc: Global, words: &RunWords<'_>, host: &mut H) -> Res
     Ok(Files { image, script })
 }
 
-/// The commands `run` and `memory` with good words.
+/// The commands `run`, `run8` and `memory` with good words.
 pub(crate) fn run<H: Host>(
     alloc: Global,
     words: &RunWords<'_>,
@@ -239,10 +300,10 @@ pub(crate) fn run<H: Host>(
 {
     let files = read_files(alloc, words, host)?;
     let script = read(alloc, &files.script)?;
-    let mut kernel = boot(alloc, &files.image, words.core)?;
-    match run_with_outputs(&mut kernel, &script.events, words, host) {
+    let mut kernel = boot(alloc, &files.image, words.core, words.outputs.lines())?;
+    match run_with_outputs(alloc, &mut kernel, &script.events, words, host) {
         Ok(Ends::AtEnd) => Ok(()),
         Ok(Ends::Panic(kind)) => Err(RunError::Panic(kind)),
-        Err(port) => Err(RunError::Write(port)),
+        Err(error) => Err(error),
     }
 }

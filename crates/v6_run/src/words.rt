@@ -1,13 +1,33 @@
 //! The words of a command.
 ghost use Rattle.std.specs.Prelude.{◌≡◌, option_map, string_bytes, codes};
 ghost use Rattle.script_text.specs.Number.{number_of};
-ghost use Rattle.v6_run.specs.Words.{command_in, run_words, check_words, make_words, demo_words, short_words, is_word, outputs_value, command_value};
+ghost use Rattle.v6_run.specs.Words.{command_in, line_words, disk_words, run_words, check_words, make_words, demo_words, short_words, is_word, line_count, lines_value, outputs_value, command_value};
 
 use script_text::number_of;
 
-/// The files that `run` writes.
+/// How many terminal lines a run has: the console alone, or eight.
+#[derive(Clone, Copy)]
+pub(crate) enum Lines {
+    One,
+    Eight,
+}
+
+impl Lines {
+    /// Their number.
+    pub(crate) fn count(&self) -> u8
+        ensures { result ≡ lines_value self.now }
+    {
+        match self {
+            Lines::One => 1,
+            Lines::Eight => 8,
+        }
+    }
+}
+
+/// The files that `run` and `run8` write. The bytes of line 1 go to TERM.1, and so on.
 #[derive(Clone, Copy)]
 pub(crate) struct DiskFiles<'a> {
+    pub(crate) lines: Lines,
     pub(crate) term: &'a str,
     pub(crate) log: &'a str,
     pub(crate) final_disk: &'a str,
@@ -16,10 +36,22 @@ pub(crate) struct DiskFiles<'a> {
 /// What a run leaves.
 #[derive(Clone, Copy)]
 pub(crate) enum Outputs<'a> {
-    /// The files of `run`.
+    /// The files of `run` or of `run8`.
     Disk(DiskFiles<'a>),
     /// The file of `memory`, with the bytes of core and of the swap area.
     Memory(&'a str),
+}
+
+impl<'a> Outputs<'a> {
+    /// How many terminal lines the run has.
+    pub(crate) fn lines(&self) -> Lines
+        ensures { lines_value result ≡ line_count (outputs_value self.now) }
+    {
+        match self {
+            Outputs::Disk(files) => files.lines,
+            Outputs::Memory(_) => Lines::One,
+        }
+    }
 }
 
 /// The files of a run that are read, the size of core in clicks of 64 bytes, and what is written.
@@ -34,7 +66,7 @@ pub(crate) struct RunWords<'a> {
 /// A command with its names and numbers.
 #[derive(Clone, Copy)]
 pub(crate) enum Command<'a> {
-    /// `run IMAGE CORE SCRIPT TERM LOG FINAL`, or `memory IMAGE CORE SCRIPT FINAL`
+    /// `run IMAGE CORE SCRIPT TERM LOG FINAL`, `run8 IMAGE CORE SCRIPT TERM LOG FINAL`, or `memory IMAGE CORE SCRIPT FINAL`
     Run(RunWords<'a>),
     /// `check IMAGE`
     Check(&'a str),
@@ -108,21 +140,55 @@ fn make_words<'a>(verb: &str, number: &str, name: &'a str) -> Option<Command<'a>
     Some(Command::Make(number, name))
 }
 
+/// How many terminal lines the command of this verb has.
+fn line_words(verb: &str) -> Option<Lines>
+    ensures { option_map lines_value result ≡ line_words verb.now }
+{
+    if verb == "run" {
+        return Some(Lines::One);
+    }
+    if verb == "run8" {
+        return Some(Lines::Eight);
+    }
+    None
+}
+
+/// The words of `run` and of `run8`, by the number of lines that the verb gives.
+fn disk_words<'a>(
+    lines: Option<Lines>,
+    image: &'a str,
+    core: &str,
+    script: &'a str,
+    term: &'a str,
+    log: &'a str,
+    final_disk: &'a str,
+) -> Option<Command<'a>>
+    ensures { option_map command_value result
+        ≡ disk_words (option_map lines_value lines) (number_of core.now) image.now script.now term.now log.now final_disk.now }
+{
+    let lines = lines?;
+    let files = DiskFiles {
+        lines,
+        term,
+        log,
+        final_disk,
+    };
+    run_words(true, image, core, script, Outputs::Disk(files))
+}
+
 /// The command of these words, or nothing where they are no command's.
 pub(crate) fn command_of(words: &[String]) -> Option<Command<'_>>
     ensures { option_map command_value result ≡ command_in words.now }
 {
     match words {
-        [verb, image, core, script, term, log, final_disk] => run_words(
-            verb.as_str() == "run",
+        [verb, image, core, script, term, log, final_disk] => disk_words(
+            line_words(verb.as_str()),
             image.as_str(),
             core.as_str(),
             script.as_str(),
-            Outputs::Disk(DiskFiles {
-                term: term.as_str(),
-                log: log.as_str(),
-                final_disk: final_disk.as_str(),
-            }),
+            term.as_str(),
+            log.as_str(),
+            final_disk.as_str(),
         ),
         [verb, image, core, script, final_memory] => run_words(
             verb.as_str() == "memory",
