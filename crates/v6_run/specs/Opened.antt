@@ -33,7 +33,7 @@ line_port (suc l) = out_port.Line (suc l)
 
 -- the file of another line has the console's name, with the number of the line behind it
 abbrev pub line_name : List ℕ → ℕ → List ℕ
-line_name term l = (term ++ codes ".") ++ decimal l
+line_name term l = term ++ (codes "." ++ decimal l)
 
 abbrev pub line_output : List ℕ → ℕ → NamedPort
 line_output term l = output (out_port.Line l) (line_name term l)

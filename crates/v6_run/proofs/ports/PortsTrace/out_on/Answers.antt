@@ -1,4 +1,4 @@
-use Rattle.std.proofs.Common.{◌<◌, ◌≤◌, sym, ◌∙◌, subst, refl, rules, [], ◌∷◌, arith}
+use Rattle.std.proofs.Common.{sym, ◌∙◌, subst, refl, [], ◌∷◌}
 use Rattle.v6_base.specs.Trace.{Byte, Took, Appends}
 use Rattle.v6_run.specs.Ports.{taken_by, Goes}
 use Rattle.v6_run.proofs.GoesLemmas.{goes_silently}
@@ -27,3 +27,14 @@ returns-then-is_silent-clause-frame g c =
     let o = g.H.Host.outside c.args.self.now.host.now in
     let silent = sym c.is_silent.ensures ∙ c.if-is_silent.true in
     (subst (λ k. Goes lines o c.args.self.now.kept o k) (sym c.keep.ensures) (goes_silently lines o c.args.line c.args.byte c.args.self.now.kept silent), refl, refl)
+
+-- a byte of a line that has no port is dropped, and isn't told
+pub returns-else-line-self-clause-took : goal.returns-else-line-self-clause-took
+returns-else-line-self-clause-took g c =
+    beyond_took c.args.line c.args.byte c.args.self.now.lines (g.H.Host.outside c.args.self.now.host.now) c.args.self.now.kept
+    (sym c.is_silent.ensures ∙ c.if-is_silent.false) c.if-line-self.false
+
+pub returns-else-line-self-clause-whole : goal.returns-else-line-self-clause-whole
+returns-else-line-self-clause-whole g c =
+    beyond_appended c.args.line c.args.byte c.args.self.now.lines (g.H.Host.outside c.args.self.now.host.now) c.args.self.now.kept
+    (sym c.is_silent.ensures ∙ c.if-is_silent.false) c.if-line-self.false
