@@ -41,10 +41,10 @@ enum Kept {
     Screen(ArrayVec<u8, SCREEN_ROOM>),
 }
 
-/// A trace over the ports of so many terminal lines and of the log. A byte on another line is dropped. A line of the log goes out as one piece. The trace is cut where a
-/// write fails, and keeps what was not written of that byte or line. A trace of which nothing is wanted writes nothing, and is
-/// never cut; one that counts writes nothing, and is cut where the bytes of the console have no more room. A run with each of
-/// them is the same code, so that the loop over slots stands once.
+/// A trace over the ports of so many terminal lines and of the log. A byte on another line is dropped. A line of the log goes out
+/// as one piece. The trace is cut where a write fails, and keeps what was not written of that byte or line. A trace of which
+/// nothing is wanted writes nothing, and is never cut; one that counts writes nothing, and is cut where the bytes of the console
+/// have no more room. A run with each of them is the same code, so that the loop over slots stands once.
 #[derive(Drop)]
 pub(crate) struct Ports<'a, H: Host> {
     host: &'a mut H,

@@ -131,8 +131,8 @@ pub(crate) fn boot(alloc: Global, image: &[u8], core: u32, lines: Lines) -> Resu
     }
 }
 
-/// Runs the kernel over the events of a script, with the files of so many lines and the log open, and tells how the run ends. Where one
-/// of them can't be written, the run goes on without all, and then that is the answer.
+/// Runs the kernel over the events of a script, with the files of so many lines and the log open, and tells how the run ends.
+/// Where one of them can't be written, the run goes on without all, and then that is the answer.
 fn play<H: Host>(
     kernel: &mut Kernel,
     events: &[Event],
@@ -167,8 +167,8 @@ fn play<H: Host>(
     }
 }
 
-/// Runs the kernel with the files of `run` or `run8` opened, and tells how the run ends: the disk that it leaves is written, and then
-/// the files are finished.
+/// Runs the kernel with the files of `run` or `run8` opened, and tells how the run ends: the disk that it leaves is written, and
+/// then the files are finished.
 fn run_opened<H: Host>(
     kernel: &mut Kernel,
     events: &[Event],
