@@ -15,10 +15,11 @@ Each case comes from its number, the seed, and from nothing else. The kinds are
     host     files that are missing, folders, locked, devices that are full, endless pipes, pipes that close, one file as two
              ports, files with a limit of bytes
     command  words of commands, good and bad
-    lines    programs over the lines of a terminal
+    lines    programs over the lines of a terminal, mostly under `run8`
 
 Without `--seed` cases are tried for so many hours (1), or `--count` of them, from `--first` on (by the clock where it isn't
-given). The program runs with limits of time and memory; every thousandth seed runs under valgrind too. Compared with the
+given). The program runs with limits of time and memory; every thousandth seed runs under valgrind too. A share of the other
+kinds runs under `run8` too, where programs find other lines under the console's name. Compared with the
 reference are the status, the report, the bytes of the terminals, the log line by line, what the final disk stands for, the bytes
 of the swap area, and for each third seed all that `memory` leaves. A refused command must leave its files as they were, and a
 failed one fronts of what it would have written. Of a run that the reference can't follow, as one of very many slots, all that

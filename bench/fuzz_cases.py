@@ -19,7 +19,7 @@ TOP = __file__.rsplit("/", 2)[0]
 HI = f"{TOP}/examples/hi/image"
 INODE_7, HEADER, TEXT = 1216, 33792, 33808  # of /etc/init on the disk of examples/hi
 RUN = ("run", "image", "CORE", "script", "term", "log", "final")
-RUN8 = RUN  # eight lines come with a later kernel
+RUN8 = ("run8", *RUN[1:])
 MEMORY = ("memory", "image", "CORE", "script", "final")
 KINDS = {"disk": 26, "words": 12, "hostile": 22, "script": 14, "host": 12, "command": 4, "odd": 10, "lines": 14}
 BENCH = (file_calls.Case, console.Case, processes.Case, processes.ExecCase, processes.PipeCase, processes.SignalCase)
@@ -76,7 +76,7 @@ def of_bench(rng, seed, kinds=BENCH):
 
 
 def on_lines(rng, case):
-    """The same, where programs open other lines than the console under some of its names: those that the disk has."""
+    """The same under `run8`, where programs open other lines than the console under some of its names: those that the disk has."""
     there = [line for line in range(1, 8) if b"tty%d\0" % line in case.image]
     image = re.sub(rb"(?<=/dev/tty)8(?=\0)", lambda found: b"%d" % rng.choice((8, *there)), case.image)
     return case.with_(image=image, command=RUN8)

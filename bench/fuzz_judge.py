@@ -14,7 +14,8 @@ import tempfile
 from file_calls import DISK_BYTES, SWAP_AT, first_difference, line_difference, node_differences
 from fuzz_hosts import FAULT, SENTINEL, Host, Stand, input_bytes, write_faults
 
-USAGE = (b"usage: v6 run IMAGE CORE SCRIPT TERM LOG FINAL, memory IMAGE CORE SCRIPT FINAL, check IMAGE, make N FINAL, demo N, audit LOG\n")
+USAGE = (b"usage: v6 run IMAGE CORE SCRIPT TERM LOG FINAL, run8 IMAGE CORE SCRIPT TERM LOG FINAL, "
+         b"memory IMAGE CORE SCRIPT FINAL, check IMAGE, make N FINAL, demo N, audit LOG\n")
 PANICS = {"swap": b"panic: out of swap space\n", "zombie": b"panic: out of swap\n", "text": b"panic: out of text\n"}
 OUTPUTS = ("term", "log", "final")
 LINES = tuple(f"term.{line}" for line in range(1, 8))  # what `run8` writes beside the console's

@@ -6,8 +6,8 @@
     bench/spoiled_logs.py write COMMAND COUNT [FIRST] FOLDER
 
 COMMAND is a built v6. It runs COUNT random programs of bench/processes.py, by turns those of the words `small execs`,
-`full`, `small`, `signals` and `pipes`, and programs of bench/random_lines.py over the lines of a terminal;
-seeds from FIRST on (0 where it isn't given). Each log must be lawful. Then it is spoiled in six ways, always the
+`full`, `small`, `signals` and `pipes`, and programs of bench/random_lines.py over the lines of a terminal, mostly under
+`run8`; seeds from FIRST on (0 where it isn't given). Each log must be lawful. Then it is spoiled in six ways, always the
 same for a seed: a line is left out, comes twice or changes places with the next; a number is one more or less; a slot is
 another; a word is another line's. Three judges name the first line that is at fault: `COMMAND audit`, the auditor of the
 reference, and the definition in crates/pick_rules/specs as it stands, which bench/definition.py evaluates. It can't come

@@ -5,12 +5,12 @@
 
 It needs valgrind. The /etc/init of a disk made from examples/hi/image writes 128 bytes over and over. The program runs it for
 a number of such writes and for twice that number under callgrind; printed is the difference of the two counts, divided by the
-number of bytes, for bytes that are shown and for 004, which isn't. The first
+number of bytes, for bytes that are shown and for 004, which isn't; and the same under `run8`, on line 0 and on line 7. The first
 count less the second is what showing costs. Behind each stands the most that it may be.
 
 Under `pace 1` a byte goes out after each slot. The process sleeps in its write but for one slot in 21, when it is woken and goes
 on. Printed is such a slot, less one in which nobody runs and nothing waits: a byte with its part of a wake, of a choice, and of a
-write that goes on.
+write that goes on; and the same on line 7.
 """
 import os
 import re
@@ -78,7 +78,10 @@ def main():
     program = os.path.abspath(sys.argv[1])
     row("a byte that is shown", shown(program, b"A"), "80")
     row("a byte that isn't", shown(program, bytes([4])))
+    row("a byte that is shown on line 0, under `run8`", shown(program, b"A", 0, "run8"), "80")
+    row("a byte that is shown on line 7", shown(program, b"A", 7, "run8"), "80")
     row("a byte that goes out under `pace 1`", paced(program, 0, "run"), "200")
+    row("the same on line 7", paced(program, 7, "run8"), "200")
 
 
 if __name__ == "__main__":

@@ -3,7 +3,7 @@
 _v6() {
     local word=${COMP_WORDS[COMP_CWORD]} words= rows
     case ${COMP_WORDS[0]##*/} in
-    v6) [ "$COMP_CWORD" -eq 1 ] && words='run memory check make demo audit' ;;
+    v6) [ "$COMP_CWORD" -eq 1 ] && words='run run8 memory check make demo audit' ;;
     v6-disk | disk.py)
         if [ "$COMP_CWORD" -eq 1 ]; then
             words='list cat get put new grow mkdir rm mv ln chmod chown check repair'

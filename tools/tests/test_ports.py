@@ -267,6 +267,28 @@ class Ports(Case):
                 self.assertEqual(read(self.path(name)), whole[name])
             self.untouched(other)
 
+    def test_lines(self):
+        """Each line of `run8` has a file beside that of the console. Where one can't be opened, those before it have been emptied, and
+        those behind it are as they were."""
+        lines = [f"TERM.{line}" for line in range(1, 8)]
+        for line in (None, *range(1, 8)):
+            self.renew()
+            for name in lines:
+                self.put(name, SENTINEL)
+            if line:
+                os.remove(self.path(lines[line - 1]))
+                os.mkdir(self.path(lines[line - 1]))
+            wanted = (WRITE_FAULT, f"write fault: line{line}\n") if line else (0, "")
+            self.assertEqual(self.v6(("run8", *RUN[1:])), wanted)
+            self.assertEqual(read(self.path("TERM")), b"" if line else b"HI\r\n")
+            for number, name in enumerate(lines, 1):
+                if number == line:
+                    os.rmdir(self.path(name))
+                else:
+                    self.assertEqual(read(self.path(name)), SENTINEL if line and number > line else b"")
+            if line:
+                self.untouched("LOG", "FINAL")
+
     def test_report(self):
         """Standard output that takes nothing is a fault of `check` and `demo` alone, and leaves a status that isn't done."""
         for words, status in ((CHECK, WRITE_FAULT), (("demo", "0"), WRITE_FAULT), (RUN, 0), (MAKE, 0), ((), USAGE),

@@ -16,7 +16,7 @@ pub enum InPort {
 
 /// What a command writes: the bytes of the terminal, the log, the final image of the disk, the report on how the command
 /// ended, the final image of a second disk, and the bytes of the terminal's lines 1 to 7, which stand beside its line 0. Report
-/// is always open. No command opens Second or a line yet.
+/// is always open. `run8` alone opens the lines 1 to 7, and no command opens Second yet.
 #[derive(Clone, Copy, Debug, PartialEq, Eq)]
 pub enum OutPort {
     Term,

@@ -14,17 +14,17 @@ use Rattle.abstract_unix.proofs.Uncounted.{start_timing}
 use Rattle.v6_run.specs.Courses.{CanTake}
 
 -- a kernel that was booted has taken no slot
-pub boots_fresh : (image : List ℕ) (second : Option (List ℕ)) (core : ℕ) (m : System) → boots image second core 1 ≡ Some m → m.unix.timing.passed ≡ 0
-boots_fresh image second core m is = by (is_some (image_fault image) || is_second_bad image second) is
+pub boots_fresh : (image : List ℕ) (second : Option (List ℕ)) (core lines : ℕ) (m : System) → boots image second core lines ≡ Some m → m.unix.timing.passed ≡ 0
+boots_fresh image second core lines m is = by (is_some (image_fault image) || is_second_bad image second) is
   where
-    by : (b : Bool) → cond b None (Some (system_of image second core 1)) ≡ Some m → m.unix.timing.passed ≡ 0
+    by : (b : Bool) → cond b None (Some (system_of image second core lines)) ≡ Some m → m.unix.timing.passed ≡ 0
     by true e = absurd (cc e)
-    by false e = let same : system_of image second core 1 ≡ m = cc e in sym (ap (λ (s : System). s.unix.timing.passed) same)
+    by false e = let same : system_of image second core lines ≡ m = cc e in sym (ap (λ (s : System). s.unix.timing.passed) same)
 
-pub boot_can : (image : List ℕ) (second : Option (List ℕ)) (core : ℕ) (m : System) (events : List Event) → boots image second core 1 ≡ Some m → sum_by slots_of events ≤ 200000000
+pub boot_can : (image : List ℕ) (second : Option (List ℕ)) (core lines : ℕ) (m : System) (events : List Event) → boots image second core lines ≡ Some m → sum_by slots_of events ≤ 200000000
     → AreRates events → CanTake m events
-boot_can image second core m events is few rates =
-    let none = boots_fresh image second core m is in record { fresh = omega (arith, none, few); rates = rates }
+boot_can image second core lines m events is few rates =
+    let none = boots_fresh image second core lines m is in record { fresh = omega (arith, none, few); rates = rates }
 
 -- and neither has one that was started
 pub start_can : (m next : System) (events : List Event) → (start_of m).ending ≡ AtEnd → next ≡ (start_of m).next → CanTake m events → CanTake next events

@@ -13,6 +13,7 @@ use Rattle.v6_run.specs.Words.{Outputs, ToDisk, ToMemory, RunWords, Run}
 use Rattle.v6_run.specs.Outputs.{is_output}
 use Rattle.v6_run.specs.Opened.{input, output_ports, has_port, knows_port}
 use Rattle.v6_run.specs.Headline.{is_named, is_known}
+use Rattle.v6_run.proofs.LinePorts.{disk_ports}
 
 pub by_test : (b : Bool) (P : Type 0) → (b ≡ true → P) → (b ≡ false → P) → P
 by_test true P yes_it no_it = yes_it refl
@@ -36,14 +37,9 @@ pub or_false : (b : Bool) → (b || false) ≡ b
 or_false true = refl
 or_false false = refl
 
-in_order : (a b c : Bool) → (a || (b || (c || false))) ≡ ((a || b) || c)
-in_order true b c = refl
-in_order false true c = refl
-in_order false false c = or_false c
-
 -- the ports that a run opens for writing
 pub outputs_are : (outputs : Outputs) (q : Port) → has_port (output_ports outputs) q ≡ is_output outputs q
-outputs_are (ToDisk files) q = in_order (same (Out out_port.Term) q) (same (Out out_port.Log) q) (same (Out out_port.Final) q)
+outputs_are (ToDisk files) q = disk_ports files q
 outputs_are (ToMemory final) q = or_false (same (Out out_port.Final) q)
 
 -- no port for reading is one for writing

@@ -90,8 +90,8 @@ module _ (number : ℕ) (o : Outside) where
     all = run_of (build_of number) None DEMO_CORE 1 (events_of events)
 
     complete : IsKnownAnd (demo_completion number) (IsComplete (status_at all.ending) o o)
-    complete = subst (λ f. IsKnownAnd (fault_completion f (Known (run_completion DEMO_CORE no_writing (build_of number) None demo_text))) (IsComplete (status_at all.ending) o o)) (sym good)
-        (subst (λ r. IsComplete (status_at all.ending) o o (lines_completion DEMO_CORE no_writing (build_of number) None r)) (sym read)
+    complete = subst (λ f. IsKnownAnd (fault_completion f (Known (run_completion DEMO_CORE 1 no_writing (build_of number) None demo_text))) (IsComplete (status_at all.ending) o o)) (sym good)
+        (subst (λ r. IsComplete (status_at all.ending) o o (lines_completion DEMO_CORE 1 no_writing (build_of number) None r)) (sym read)
         (complete_unwritten (status_at all.ending) o o (λ p. refl)))
 
     ends_so : (e : Ends) → all.ending ≡ e → Answers (Demo number) (status_at e) o o

@@ -1,4 +1,7 @@
+pub mod LinePorts
 pub mod PortLemmas
+pub mod GoesLemmas
+pub mod OpeningLemmas
 pub mod SlotLemmas
 pub mod FileLemmas
 pub mod FrontLemmas

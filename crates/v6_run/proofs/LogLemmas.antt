@@ -1,5 +1,5 @@
 -- The log of a run is lawful.
-use Rattle.std.proofs.Common.{◌≡◌, ◌≤◌, ℕ, true, Option, Some, List, refl, ap, arith}
+use Rattle.std.proofs.Common.{◌≡◌, ◌≤◌, ℕ, true, Option, Some, List, refl, ap}
 use Rattle.std.specs.Option.{option_map}
 use Rattle.v6_base.specs.Image.{AreBytes}
 use Rattle.abstract_unix.specs.declared.ends.Ends.{Ends}
@@ -14,7 +14,7 @@ whole : (ends : Ends) → is_whole ends ≡ true
 whole AtEnd = refl
 whole (Panic kind) = refl
 
-pub lawful_logs : (image : List ℕ) (second : Option (List ℕ)) (core : ℕ) (m : System) → AreBytes image → 64 ≤ core → core ≤ 3968
-    → boots image second core 1 ≡ Some m → HasLawfulLogs m
-lawful_logs image second core m are low high is events =
-    (logs_are_lawful image second core 1 events (course (started m) events) are low high (omega arith) (ap (option_map (λ n. course (started n) events)) is)).1 (whole _)
+pub lawful_logs : (image : List ℕ) (second : Option (List ℕ)) (core lines : ℕ) (m : System) → AreBytes image → 64 ≤ core → core ≤ 3968 → lines ≤ 8
+    → boots image second core lines ≡ Some m → HasLawfulLogs m
+lawful_logs image second core lines m are low high few is events =
+    (logs_are_lawful image second core lines events (course (started m) events) are low high few (ap (option_map (λ n. course (started n) events)) is)).1 (whole _)

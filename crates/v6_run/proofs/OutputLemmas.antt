@@ -1,7 +1,7 @@
 -- What has been written to the files of a run, step by step.
 use Rattle.std.proofs.Common.{◌≡◌, ◌≢◌, ◌||◌, ◌<◌, ◌≤◌, ◌⊎◌, inl, inr, ℕ, Bool, true, false, Result, Ok, Err, is_err, OnOk, MatchResult, List, [], ◌++◌, refl, sym, ◌∙◌, ap, subst, lit<}
 use Rattle.std.proofs.lemmas.List.{append-nil}
-use Rattle.v6_base.specs.Trace.{line_bytes, text_of}
+use Rattle.v6_base.specs.Trace.{text_of}
 use Rattle.v6_port.specs.declared.host.OutPort.{OutPort}
 use Rattle.v6_port.specs.declared.host.OutPort.TheVariants as out_port
 use Rattle.v6_port.specs.Outside.{Port, Out, same, PortState, Outside, Tells, OnlyAt}
@@ -24,13 +24,14 @@ use Rattle.unix_core.specs.Memory.{kept_in}
 use Rattle.abstract_unix.specs.Runs.{Course, shown_by, finished}
 use Rattle.fs_laws.proofs.ImageLemmas.{block_of_image}
 use Rattle.fs_nodes.specs.FileSystem.{SameAroundEach}
-use Rattle.v6_run.specs.Ports as ports
-use Rattle.v6_run.specs.Ports.{term, final_of, HasShown, HasShownFronts}
+use Rattle.v6_run.specs.declared.run.RunError.{RunError}
+use Rattle.v6_run.specs.declared.run.RunError.TheVariants as run_error
+use Rattle.v6_run.specs.Ports.{final_of, HasShown, HasShownFronts}
 use Rattle.v6_run.specs.Fronts.{HoldsFront, HoldsSome, HoldsFrontOfSome}
 use Rattle.v6_run.specs.Final.{IsFinal, disk_text}
 use Rattle.v6_run.specs.Words.{DiskFiles, Outputs, ToDisk, ToMemory}
-use Rattle.v6_run.specs.Opened.{output_ports, ports_before, knows_port, AreGood}
-use Rattle.v6_run.specs.Outputs.{is_shown, is_disk_output, disk_writes, run_writes, IsLog, EndsRun, StopsRun}
+use Rattle.v6_run.specs.Opened.{output_ports, ports_before, AreGood}
+use Rattle.v6_run.specs.Outputs.{is_shown, is_disk_output, shown_text, disk_writes, run_writes, IsLog, EndsRun, StopsRun, StopsBy}
 use Rattle.v6_port.proofs.CauseLemmas.{still_tells, calm_then, fault_then, not_line}
 use Rattle.v6_run.proofs.OpenedLemmas.{good_before}
 use Rattle.v6_run.proofs.FrontLemmas.{front_of_nothing, front_of_all}
@@ -49,12 +50,13 @@ empty_of writes old new fits is = record { text = []; fits = fits; holds = is �
 pub fault_any : (p : Port) (known : Bool) (a b : Outside) → FaultAt p true a b → FaultAt p known a b
 fault_any p known a b fault = record { rose = fault.rose; others = fault.others; missing = λ told _. fault.missing told refl }
 
--- a line shows nothing of a run
-unshown_line : (l : ℕ) → is_shown (Out (out_port.Line l)) ≡ false
-unshown_line l = rw (not_line 4 l (lit< tt), not_line 5 l (lit< tt)) refl
+module _ (files : DiskFiles) (first : Disk) (run : Course) (lawful : Lawful (log_of run)) (a b c : Outside) (opens : OnlyAt (is_disk_output files.lines) a b)
+    (opened : (p : OutPort) → (b.port (Out p)).bytes ≡ (a.port (Out p)).bytes) (good : Tells a → AreGood a.fixed (output_ports (ToDisk files)))
+    (plays : OnlyAt (is_shown files.lines) b c) where
+  -- what the run shows at a port
+  abbrev text_at : OutPort → List ℕ
+  text_at p = shown_text files.lines (shown_by run) p
 
-module _ (files : DiskFiles) (first : Disk) (run : Course) (lawful : Lawful (log_of run)) (a b c : Outside) (opens : OnlyAt is_disk_output a b)
-    (opened : (p : OutPort) → (b.port (Out p)).bytes ≡ (a.port (Out p)).bytes) (good : Tells a → AreGood a.fixed (output_ports (ToDisk files))) (plays : OnlyAt is_shown b c) where
   good_so_far : (port : OutPort) → Tells a → AreGood a.fixed (ports_before (output_ports (ToDisk files)) (Out port))
   good_so_far port told = good_before a.fixed (output_ports (ToDisk files)) (Out port) (good told)
 
@@ -67,14 +69,14 @@ module _ (files : DiskFiles) (first : Disk) (run : Course) (lawful : Lawful (log
   tells_c : Tells a → Tells c
   tells_c told = still_tells _ _ _ plays (tells_b told)
 
-  unplayed : (p : OutPort) → is_shown (Out p) ≡ false → (c.port (Out p)).bytes ≡ (a.port (Out p)).bytes
+  unplayed : (p : OutPort) → is_shown files.lines (Out p) ≡ false → (c.port (Out p)).bytes ≡ (a.port (Out p)).bytes
   unplayed p other = ap (λ (state : PortState). state.bytes) (plays.others (Out p) other) ∙ opened p
 
   calm_c : Calm a b → Calm b c → Calm a c
   calm_c first_calm second = calm_then _ _ _ first_calm second
 
-  pub stopped_playing : (port : OutPort) → is_shown (Out port) ≡ true → (Tells b → HasShownFronts (shown_by run) b c) → Calm a b → FaultAt (Out port) true b c
-      → StopsRun (ToDisk files) (disk_writes first run) port a c
+  pub stopped_playing : (port : OutPort) → is_shown files.lines (Out port) ≡ true → (Tells b → HasShownFronts files.lines (shown_by run) b c) → Calm a b → FaultAt (Out port) true b c
+      → StopsRun (ToDisk files) (disk_writes files.lines first run) port a c
   stopped_playing port named fronts calm fault = record {
     named = ap (λ s. s || same (Out out_port.Final) (Out port)) named;
     written = at;
@@ -82,43 +84,44 @@ module _ (files : DiskFiles) (first : Disk) (run : Course) (lawful : Lawful (log
     opened = λ told p grew. good told;
     fault = fault_any _ _ _ _ (fault_then _ _ a b c opens.fixed calm fault);
   } where
-    at : Tells a → (p : OutPort) → HoldsFrontOfSome (disk_writes first run p) (a.port (Out p)).bytes (c.port (Out p)).bytes
-    at told out_port.Term = record { text = line_bytes 0 (shown_by run); fits = λ _. refl; front = subst (λ l. HoldsFront l (line_bytes 0 (shown_by run)) (term c).bytes) (opened out_port.Term) (fronts (tells_b told)).terminal }
-    at told out_port.Log = record { text = text_of (shown_by run); fits = λ _. is_log; front = subst (λ l. HoldsFront l (text_of (shown_by run)) (ports.log_of c).bytes) (opened out_port.Log) (fronts (tells_b told)).log }
+    front_at : Tells a → (p : OutPort) → HoldsFront (a.port (Out p)).bytes (text_at p) (c.port (Out p)).bytes
+    front_at told p = subst (λ l. HoldsFront l (text_at p) (c.port (Out p)).bytes) (opened p) (fronts (tells_b told) p)
+
+    at : Tells a → (p : OutPort) → HoldsFrontOfSome (disk_writes files.lines first run p) (a.port (Out p)).bytes (c.port (Out p)).bytes
+    at told out_port.Term = record { text = text_at out_port.Term; fits = λ _. refl; front = front_at told out_port.Term }
+    at told out_port.Log = record { text = text_at out_port.Log; fits = λ _. is_log; front = front_at told out_port.Log }
     at told out_port.Final = nothing_of _ _ _ (unplayed out_port.Final refl)
     at told out_port.Report = nothing_of _ _ _ (unplayed out_port.Report refl)
     at told out_port.Second = nothing_of _ _ _ (unplayed out_port.Second refl)
-    at told (out_port.Line l) = nothing_of _ _ _ (unplayed (out_port.Line l) (unshown_line l))
+    at told (out_port.Line l) = record { text = text_at (out_port.Line l); fits = λ _. refl; front = front_at told (out_port.Line l) }
 
-  module _ (shown : Tells b → HasShown (shown_by run) b c) where
-    term_shown : Tells a → (term c).bytes ≡ (term a).bytes ++ line_bytes 0 (shown_by run)
-    term_shown told = (shown (tells_b told)).terminal ∙ ap (λ l. l ++ line_bytes 0 (shown_by run)) (opened out_port.Term)
-
-    log_shown : Tells a → (ports.log_of c).bytes ≡ (ports.log_of a).bytes ++ text_of (shown_by run)
-    log_shown told = (shown (tells_b told)).log ∙ ap (λ l. l ++ text_of (shown_by run)) (opened out_port.Log)
+  module _ (shown : Tells b → HasShown files.lines (shown_by run) b c) where
+    all_at : Tells a → (p : OutPort) → (c.port (Out p)).bytes ≡ (a.port (Out p)).bytes ++ text_at p
+    all_at told p = shown (tells_b told) p ∙ ap (λ l. l ++ text_at p) (opened p)
 
     -- the run has ended, and its disk is written
     module _ (ended : Ends) (last : ended ≡ run.ending) (text : List ℕ) (fits : IsFinal first (finished run.system) text) (d : Outside) (writes : OnlyAt (same (Out out_port.Final)) c d) where
       unwritten_by : (p : OutPort) → same (Out out_port.Final) (Out p) ≡ false → (d.port (Out p)).bytes ≡ (c.port (Out p)).bytes
       unwritten_by p other = ap (λ (state : PortState). state.bytes) (writes.others (Out p) other)
 
-      term_written : Tells a → HoldsSome (disk_writes first run out_port.Term) (term a).bytes (term d).bytes
-      term_written told = record { text = line_bytes 0 (shown_by run); fits = refl; holds = unwritten_by out_port.Term refl ∙ term_shown told }
+      term_written : Tells a → HoldsSome (disk_writes files.lines first run out_port.Term) (a.port (Out out_port.Term)).bytes (d.port (Out out_port.Term)).bytes
+      term_written told = record { text = text_at out_port.Term; fits = refl; holds = unwritten_by out_port.Term refl ∙ all_at told out_port.Term }
 
-      log_written : Tells a → HoldsSome (disk_writes first run out_port.Log) (ports.log_of a).bytes (ports.log_of d).bytes
-      log_written told = record { text = text_of (shown_by run); fits = is_log; holds = unwritten_by out_port.Log refl ∙ log_shown told }
+      log_written : Tells a → HoldsSome (disk_writes files.lines first run out_port.Log) (a.port (Out out_port.Log)).bytes (d.port (Out out_port.Log)).bytes
+      log_written told = record { text = text_at out_port.Log; fits = is_log; holds = unwritten_by out_port.Log refl ∙ all_at told out_port.Log }
 
-      report_written : HoldsSome (disk_writes first run out_port.Report) (a.port (Out out_port.Report)).bytes (d.port (Out out_port.Report)).bytes
+      report_written : HoldsSome (disk_writes files.lines first run out_port.Report) (a.port (Out out_port.Report)).bytes (d.port (Out out_port.Report)).bytes
       report_written = empty_of _ _ _ refl (unwritten_by out_port.Report refl ∙ unplayed out_port.Report refl)
 
-      second_written : HoldsSome (disk_writes first run out_port.Second) (a.port (Out out_port.Second)).bytes (d.port (Out out_port.Second)).bytes
+      second_written : HoldsSome (disk_writes files.lines first run out_port.Second) (a.port (Out out_port.Second)).bytes (d.port (Out out_port.Second)).bytes
       second_written = empty_of _ _ _ refl (unwritten_by out_port.Second refl ∙ unplayed out_port.Second refl)
 
-      line_written : (l : ℕ) → HoldsSome (disk_writes first run (out_port.Line l)) (a.port (Out (out_port.Line l))).bytes (d.port (Out (out_port.Line l))).bytes
-      line_written l = empty_of _ _ _ refl (unwritten_by (out_port.Line l) (not_line 6 l (lit< tt)) ∙ unplayed (out_port.Line l) (unshown_line l))
+      line_written : Tells a → (l : ℕ)
+          → HoldsSome (disk_writes files.lines first run (out_port.Line l)) (a.port (Out (out_port.Line l))).bytes (d.port (Out (out_port.Line l))).bytes
+      line_written told l = record { text = text_at (out_port.Line l); fits = refl; holds = unwritten_by (out_port.Line l) (not_line 6 l (lit< tt)) ∙ all_at told (out_port.Line l) }
 
       pub stopped_writing : (Tells c → HoldsFront (final_of c).bytes text (final_of d).bytes) → Calm a b → Calm b c → FaultAt (Out out_port.Final) true c d
-          → StopsRun (ToDisk files) (disk_writes first run) out_port.Final a d
+          → StopsRun (ToDisk files) (disk_writes files.lines first run) out_port.Final a d
       stopped_writing front calm calm_too fault = record {
         named = refl;
         written = at;
@@ -126,28 +129,28 @@ module _ (files : DiskFiles) (first : Disk) (run : Course) (lawful : Lawful (log
         opened = λ told p grew. good told;
         fault = fault_any _ _ _ _ (fault_then _ _ a c d (plays.fixed ∙ opens.fixed) (calm_c calm calm_too) fault);
       } where
-        at : Tells a → (p : OutPort) → HoldsFrontOfSome (disk_writes first run p) (a.port (Out p)).bytes (d.port (Out p)).bytes
+        at : Tells a → (p : OutPort) → HoldsFrontOfSome (disk_writes files.lines first run p) (a.port (Out p)).bytes (d.port (Out p)).bytes
         at told out_port.Term = all_of _ _ _ (term_written told)
         at told out_port.Log = all_of _ _ _ (log_written told)
         at told out_port.Final = record { text = text; fits = λ _. fits; front = subst (λ l. HoldsFront l text (final_of d).bytes) (unplayed out_port.Final refl) (front (tells_c told)) }
         at told out_port.Report = all_of _ _ _ report_written
         at told out_port.Second = all_of _ _ _ second_written
-        at told (out_port.Line l) = all_of _ _ _ (line_written l)
+        at told (out_port.Line l) = all_of _ _ _ (line_written told l)
 
       module _ (whole : Tells c → (final_of d).bytes ≡ (final_of c).bytes ++ text) (e : Outside) (finishes : (p : OutPort) → (e.port (Out p)).bytes ≡ (d.port (Out p)).bytes) where
-        written_d : Tells a → (p : OutPort) → HoldsSome (disk_writes first run p) (a.port (Out p)).bytes (d.port (Out p)).bytes
+        written_d : Tells a → (p : OutPort) → HoldsSome (disk_writes files.lines first run p) (a.port (Out p)).bytes (d.port (Out p)).bytes
         written_d told out_port.Term = term_written told
         written_d told out_port.Log = log_written told
         written_d told out_port.Final = record { text = text; fits = fits; holds = whole (tells_c told) ∙ ap (λ l. l ++ text) (unplayed out_port.Final refl) }
         written_d told out_port.Report = report_written
         written_d told out_port.Second = second_written
-        written_d told (out_port.Line l) = line_written l
+        written_d told (out_port.Line l) = line_written told l
 
-        written_e : Tells a → (p : OutPort) → HoldsSome (disk_writes first run p) (a.port (Out p)).bytes (e.port (Out p)).bytes
-        written_e told p = subst (HoldsSome (disk_writes first run p) (a.port (Out p)).bytes) (sym (finishes p)) (written_d told p)
+        written_e : Tells a → (p : OutPort) → HoldsSome (disk_writes files.lines first run p) (a.port (Out p)).bytes (e.port (Out p)).bytes
+        written_e told p = subst (HoldsSome (disk_writes files.lines first run p) (a.port (Out p)).bytes) (sym (finishes p)) (written_d told p)
 
-        pub stopped_finishing : (port : OutPort) → is_disk_output (Out port) ≡ true → Calm a b → Calm b c → Calm c d → FaultAt (Out port) true d e
-            → StopsRun (ToDisk files) (disk_writes first run) port a e
+        pub stopped_finishing : (port : OutPort) → is_disk_output files.lines (Out port) ≡ true → Calm a b → Calm b c → Calm c d → FaultAt (Out port) true d e
+            → StopsRun (ToDisk files) (disk_writes files.lines first run) port a e
         stopped_finishing port named calm calm_too calm_still fault = record {
           named = named;
           written = λ told p. all_of _ _ _ (written_e told p);
@@ -156,8 +159,8 @@ module _ (files : DiskFiles) (first : Disk) (run : Course) (lawful : Lawful (log
           fault = fault_any _ _ _ _ (fault_then _ _ a d e (writes.fixed ∙ plays.fixed ∙ opens.fixed) (calm_then _ _ _ (calm_c calm calm_too) calm_still) fault);
         }
 
-        pub came_to_end : ((p : OutPort) → is_disk_output (Out p) ≡ true → (e.port (Out p)).is_open ≡ false) → Calm a b → Calm b c → Calm c d → Calm d e
-            → EndsRun (ToDisk files) (disk_writes first run) run ended a e
+        pub came_to_end : ((p : OutPort) → is_disk_output files.lines (Out p) ≡ true → (e.port (Out p)).is_open ≡ false) → Calm a b → Calm b c → Calm c d → Calm d e
+            → EndsRun (ToDisk files) (disk_writes files.lines first run) run ended a e
         came_to_end closed calm calm_too calm_still calm_last = record {
           ended = last;
           written = written_e;
@@ -225,3 +228,12 @@ module _ (d e : Disk) (same_disk : (n : ℕ) → n < DISK_BLOCKS → e n ≡ d n
     opened = stops.opened;
     fault = stops.fault;
   }
+
+  pub stops_over_by : (outputs : Outputs) (run : Course) (error : RunError) (old new : Outside) → StopsBy outputs (run_writes outputs e run) error old new
+      → StopsBy outputs (run_writes outputs d run) error old new
+  stops_over_by outputs run (run_error.Write port) old new stops = stops_over outputs run port old new stops
+  stops_over_by outputs run run_error.NoMemory old new stops = stops
+  stops_over_by outputs run (run_error.Image error) old new stops = absurd stops
+  stops_over_by outputs run (run_error.Script error) old new stops = absurd stops
+  stops_over_by outputs run (run_error.Refused error) old new stops = absurd stops
+  stops_over_by outputs run (run_error.Panic kind) old new stops = absurd stops

@@ -1,31 +1,33 @@
 -- One byte, or one line of the log, more in the trace over a host.
-use Rattle.std.proofs.Common.{◌≡◌, ◌≢◌, ℕ, Bool, true, false, ◌&&◌, is_some, List, [], ◌∷◌, ◌++◌, length, nat_le, refl, sym, ◌∙◌, ap, subst, append_assoc, take, drop, Result, Ok, Err, is_err, eqb, eqb-true, cond, arith}
-use Rattle.std.proofs.lemmas.Bool.{ne_eqb}
+use Rattle.std.proofs.Common.{◌≡◌, ◌≢◌, ◌<◌, ◌≤◌, ℕ, Bool, true, false, ◌&&◌, is_some, List, [], ◌∷◌, ◌++◌, length, nat_le, refl, sym, ◌∙◌, ap, subst, append_assoc, take, drop, Result, Ok, Err, is_err, OnOk, IfErr, eqb, eqb-true, cond, arith}
+use Rattle.std.specs.Prelude.{nat_lt}
+use Rattle.std.proofs.lemmas.Bool.{ne_eqb, eq-eqb, eqb-false, ltb-true}
 use Rattle.std.proofs.lemmas.List.{append-nil, take-append-drop}
 use Rattle.v6_base.specs.declared.entry.Entry.{Entry}
 use Rattle.v6_base.specs.LogLine.{entry_line}
 use Rattle.v6_base.specs.Trace as trace
 use Rattle.v6_base.specs.Trace.{Item, HoldsMore, Took, Appends, line_bytes, text_of}
-use Rattle.v6_base.proofs.Took.{holds_same, took_refused, took_whole}
-use Rattle.v6_port.specs.declared.host.Failed.{Failed}
+use Rattle.v6_base.proofs.Took.{took_refused, took_whole}
+use Rattle.v6_port.specs.declared.host.OutPort.{OutPort}
 use Rattle.v6_port.specs.declared.host.OutPort.TheVariants as out_port
 use Rattle.v6_port.specs.Outside.{Out, same, PortState, Environment, Outside, Tells, OnlyAt}
-use Rattle.v6_port.specs.Calls.{Writes}
 use Rattle.v6_run.specs.declared.ports.Kept.{Kept}
 use Rattle.v6_run.specs.declared.ports.Kept.TheVariants as kept
 use Rattle.v6_run.specs.declared.ports.TheConstants.{SCREEN_ROOM}
-use Rattle.v6_run.specs.Ports.{term, log_of, failed_port, is_silent, is_wanted, is_counted, kept_byte, kept_text, of_line_0, tells_line_0, taken_of, shown_on, taken_by, screened}
+use Rattle.v6_run.specs.Opened.{line_port}
+use Rattle.v6_run.specs.Ports.{line_state, log_of, failed_port, is_silent, is_wanted, is_counted, kept_byte, kept_text, of_line_0, taken_of, shown_on, taken_by, counted, screened}
+use Rattle.v6_run.proofs.LinePorts.{lines_apart, log_apart, line_apart, both_told, one_told}
 
-pub no_byte : (k : Kept) → is_some (failed_port k) ≡ false → kept_byte k ≡ []
-no_byte kept.Nothing goes = refl
-no_byte (kept.Byte byte) goes = cc
-no_byte (kept.Line rest) goes = refl
-no_byte kept.Unwanted goes = refl
-no_byte (kept.Screen bytes) goes = refl
+pub no_byte : (k : Kept) → is_some (failed_port k) ≡ false → (l : ℕ) → kept_byte k l ≡ []
+no_byte kept.Nothing goes l = refl
+no_byte (kept.Byte line byte) goes l = cc
+no_byte (kept.Line rest) goes l = refl
+no_byte kept.Unwanted goes l = refl
+no_byte (kept.Screen bytes) goes l = refl
 
 pub no_text : (k : Kept) → is_some (failed_port k) ≡ false → kept_text k ≡ []
 no_text kept.Nothing goes = refl
-no_text (kept.Byte byte) goes = refl
+no_text (kept.Byte line byte) goes = refl
 no_text (kept.Line rest) goes = cc
 no_text kept.Unwanted goes = refl
 no_text (kept.Screen bytes) goes = refl
@@ -33,105 +35,78 @@ no_text (kept.Screen bytes) goes = refl
 -- what isn't silent has kept nothing yet, and is wanted
 pub none_failed : (k : Kept) → is_silent k ≡ false → is_some (failed_port k) ≡ false
 none_failed kept.Nothing goes = refl
-none_failed (kept.Byte byte) goes = cc
+none_failed (kept.Byte line byte) goes = cc
 none_failed (kept.Line rest) goes = cc
 none_failed kept.Unwanted goes = cc
 none_failed (kept.Screen bytes) goes = cc
 
 pub wanted : (k : Kept) → is_silent k ≡ false → is_wanted k ≡ true
 wanted kept.Nothing goes = refl
-wanted (kept.Byte byte) goes = cc
+wanted (kept.Byte line byte) goes = cc
 wanted (kept.Line rest) goes = cc
 wanted kept.Unwanted goes = cc
 wanted (kept.Screen bytes) goes = cc
 
 -- and is written, not counted
-pub uncounted : (o : Outside) (k : Kept) → is_counted k ≡ false → taken_by o k ≡ taken_of o k
-uncounted o kept.Nothing is = refl
-uncounted o (kept.Byte byte) is = refl
-uncounted o (kept.Line rest) is = refl
-uncounted o kept.Unwanted is = refl
-uncounted o (kept.Screen bytes) is = cc
+pub uncounted : (lines : ℕ) (o : Outside) (k : Kept) → is_counted k ≡ false → taken_by lines o k ≡ taken_of lines o k
+uncounted lines o kept.Nothing is = refl
+uncounted lines o (kept.Byte line byte) is = refl
+uncounted lines o (kept.Line rest) is = refl
+uncounted lines o kept.Unwanted is = refl
+uncounted lines o (kept.Screen bytes) is = cc
 
 pub loud_written : (k : Kept) → is_silent k ≡ false → is_counted k ≡ false
 loud_written kept.Nothing goes = refl
-loud_written (kept.Byte byte) goes = cc
+loud_written (kept.Byte line byte) goes = cc
 loud_written (kept.Line rest) goes = cc
 loud_written kept.Unwanted goes = cc
 loud_written (kept.Screen bytes) goes = cc
 
-took_by : (old new : Outside) (before after : Kept) (items : List Item) → is_silent before ≡ false → is_counted after ≡ false
-    → Took (taken_of old before) items (taken_of new after) → Took (taken_by old before) items (taken_by new after)
-took_by old new before after items loud plain took =
-    subst (λ t. Took t items (taken_by new after)) (sym (uncounted old before (loud_written before loud)))
-    (subst (λ t. Took (taken_of old before) items t) (sym (uncounted new after plain)) took)
+module _ (lines : ℕ) (old new : Outside) (before after : Kept) (item : Item) (loud : is_silent before ≡ false) (plain : is_counted after ≡ false) where
+  took_by : Took (taken_of lines old before) (item ∷ []) (taken_of lines new after) → Took (taken_by lines old before) (item ∷ []) (taken_by lines new after)
+  took_by took =
+      subst (λ t. Took t (item ∷ []) (taken_by lines new after)) (sym (uncounted lines old before (loud_written before loud)))
+      (subst (λ t. Took (taken_of lines old before) (item ∷ []) t) (sym (uncounted lines new after plain)) took)
 
-both_told : (a b : Bool) → (a && b) ≡ true → b ≡ true
-both_told true b is = is
-both_told false b is = cc
-
-one_told : (a b : Bool) → (a && b) ≡ true → a ≡ true
-one_told true b is = refl
-one_told false b is = cc
+  appends_by : HoldsMore (taken_of lines old before) (item ∷ []) (taken_of lines new after) → Appends (taken_by lines old before) item (taken_by lines new after)
+  appends_by holds uncut =
+      subst (λ t. HoldsMore t (item ∷ []) (taken_by lines new after)) (sym (uncounted lines old before (loud_written before loud)))
+      (subst (λ t. HoldsMore (taken_of lines old before) (item ∷ []) t) (sym (uncounted lines new after plain)) holds)
 
 -- an item is taken, where none of it is lost
-module _ (old new : Outside) (before after : Kept) (item : Item) (was : is_wanted before ≡ true) (stays : is_wanted after ≡ true) (fixed : new.fixed ≡ old.fixed)
-    (bytes : Tells old → (line : ℕ) → of_line_0 ((term new).bytes ++ kept_byte after) line ≡ of_line_0 ((term old).bytes ++ kept_byte before) line ++ line_bytes line (item ∷ []))
+module _ (lines : ℕ) (old new : Outside) (before after : Kept) (item : Item) (was : is_wanted before ≡ true) (stays : is_wanted after ≡ true) (fixed : new.fixed ≡ old.fixed)
+    (bytes : Tells old → (l : ℕ) → (line_state new l).bytes ++ kept_byte after l ≡ ((line_state old l).bytes ++ kept_byte before l) ++ line_bytes l (item ∷ []))
     (text : Tells old → (log_of new).bytes ++ kept_text after ≡ ((log_of old).bytes ++ kept_text before) ++ text_of (item ∷ [])) where
   still_told : (is_wanted after && new.fixed.tells) ≡ (is_wanted before && old.fixed.tells)
   still_told = ap (λ (f : Environment). is_wanted after && f.tells) fixed ∙ ap (λ w. w && old.fixed.tells) (stays ∙ sym was)
 
-  holds_item : HoldsMore (taken_of old before) (item ∷ []) (taken_of new after)
+  holds_item : HoldsMore (taken_of lines old before) (item ∷ []) (taken_of lines new after)
   holds_item = record {
-    tells_bytes = λ line. ap (λ b. tells_line_0 b line) still_told;
-    bytes = λ line told. bytes (both_told (is_wanted before) old.fixed.tells (one_told _ _ told)) line;
+    tells_bytes = λ l. ap (λ b. nat_lt l lines && b) still_told;
+    bytes = λ l told. bytes (both_told (is_wanted before) old.fixed.tells (both_told (nat_lt l lines) (is_wanted before && old.fixed.tells) told)) l;
     tells_entries = refl;
     entries = λ told. absurd (let no_entries : false ≡ true = told in cc);
     tells_text = still_told;
     text = λ told. text (both_told (is_wanted before) old.fixed.tells told);
   }
 
-  took_item : is_some (failed_port before) ≡ false → Took (taken_of old before) (item ∷ []) (taken_of new after)
-  took_item goes = record {
-    part = item ∷ [];
-    rest = [];
-    split = refl;
-    holds = holds_item;
-    whole = λ uncut. refl;
-    refused = λ is_cut. absurd (cc);
+  took_item : is_some (failed_port before) ≡ false → Took (taken_of lines old before) (item ∷ []) (taken_of lines new after)
+  took_item goes = took_whole (taken_of lines old before) (taken_of lines new after) (item ∷ []) goes holds_item
+
+-- a trace of which nothing is wanted takes all, and tells nothing
+module _ (lines : ℕ) (o : Outside) (item : Item) where
+  holds_unwanted : HoldsMore (taken_of lines o kept.Unwanted) (item ∷ []) (taken_of lines o kept.Unwanted)
+  holds_unwanted = record {
+    tells_bytes = λ l. refl;
+    bytes = λ l told. absurd (let untold : false ≡ true = both_told (nat_lt l lines) false told in cc);
+    tells_entries = refl;
+    entries = λ told. absurd (let untold : false ≡ true = told in cc);
+    tells_text = refl;
+    text = λ told. absurd (let untold : false ≡ true = told in cc);
   }
 
--- a trace that is cut takes nothing
-took_while_cut : (o : Outside) (k : Kept) (item : Item) → is_some (failed_port k) ≡ true → Took (taken_of o k) (item ∷ []) (taken_of o k)
-took_while_cut o k item is_cut = record {
-  part = [];
-  rest = item ∷ [];
-  split = refl;
-  holds = holds_same (taken_of o k);
-  whole = λ uncut. absurd (cc);
-  refused = λ _. (is_cut, refl);
-}
-
--- and one of which nothing is wanted takes all, and tells nothing
-holds_unwanted : (o : Outside) (item : Item) → HoldsMore (taken_of o kept.Unwanted) (item ∷ []) (taken_of o kept.Unwanted)
-holds_unwanted o item = record {
-  tells_bytes = λ line. refl;
-  bytes = λ line told. absurd (let untold : false ≡ true = told in cc);
-  tells_entries = refl;
-  entries = λ told. absurd (let untold : false ≡ true = told in cc);
-  tells_text = refl;
-  text = λ told. absurd (let untold : false ≡ true = told in cc);
-}
-
-took_unwanted : (o : Outside) (item : Item) → Took (taken_of o kept.Unwanted) (item ∷ []) (taken_of o kept.Unwanted)
-took_unwanted o item = record {
-  part = item ∷ [];
-  rest = [];
-  split = refl;
-  holds = holds_unwanted o item;
-  whole = λ uncut. refl;
-  refused = λ is_cut. absurd (let never : false ≡ true = is_cut in cc);
-}
+  took_unwanted : Took (taken_of lines o kept.Unwanted) (item ∷ []) (taken_of lines o kept.Unwanted)
+  took_unwanted = took_whole (taken_of lines o kept.Unwanted) (taken_of lines o kept.Unwanted) (item ∷ []) refl holds_unwanted
 
 -- one byte more on line 0 is none on another
 on_line : (line byte : ℕ) (old new : List ℕ) → new ≡ old ++ byte ∷ [] → of_line_0 new line ≡ of_line_0 old line ++ line_bytes line (trace.Byte 0 byte ∷ [])
@@ -151,7 +126,7 @@ holds_uncounted bytes entry = record {
   text = λ told. absurd (let untold : false ≡ true = told in cc);
 }
 
--- and it takes a byte, where there is room
+-- and it takes a byte of the console, where there is room
 holds_counted : (bytes : List ℕ) (byte : ℕ) → HoldsMore (shown_on bytes) (trace.Byte 0 byte ∷ []) (shown_on (bytes ++ byte ∷ []))
 holds_counted bytes byte = record {
   tells_bytes = λ line. refl;
@@ -163,164 +138,239 @@ holds_counted bytes byte = record {
 }
 
 -- without room it takes nothing
-took_full : (bytes : List ℕ) (item : Item) → nat_le SCREEN_ROOM (length bytes) ≡ true → Took (shown_on bytes) (item ∷ []) (shown_on bytes)
-took_full bytes item full = record {
-  part = [];
-  rest = item ∷ [];
-  split = refl;
-  holds = holds_same (shown_on bytes);
-  whole = λ uncut. absurd (let never : true ≡ false = sym full ∙ uncut in cc);
-  refused = λ _. (full, refl);
-}
+counted_by_room : (bytes : List ℕ) (item : Item) (new : trace.Taken) → HoldsMore (shown_on bytes) (item ∷ []) new
+    → nat_le SCREEN_ROOM (length bytes) ≡ false → Took (shown_on bytes) (item ∷ []) new
+counted_by_room bytes item new holds room = took_whole (shown_on bytes) new (item ∷ []) room holds
 
-took_with_room : (bytes : List ℕ) (item : Item) (new : trace.Taken) → nat_le SCREEN_ROOM (length bytes) ≡ false → HoldsMore (shown_on bytes) (item ∷ []) new → Took (shown_on bytes) (item ∷ []) new
-took_with_room bytes item new room holds = record {
-  part = item ∷ [];
-  rest = [];
-  split = refl;
-  holds = holds;
-  whole = λ uncut. refl;
-  refused = λ is_cut. absurd (let never : false ≡ true = sym room ∙ is_cut in cc);
-}
+full_takes_none : (bytes : List ℕ) (item : Item) → nat_le SCREEN_ROOM (length bytes) ≡ true → Took (shown_on bytes) (item ∷ []) (shown_on bytes)
+full_takes_none bytes item full = took_refused (shown_on bytes) (item ∷ []) full
 
-took_uncounted : (bytes : List ℕ) (entry : Entry) (full : Bool) → nat_le SCREEN_ROOM (length bytes) ≡ full → Took (shown_on bytes) (trace.Log entry ∷ []) (shown_on bytes)
-took_uncounted bytes entry true is = took_full bytes (trace.Log entry) is
-took_uncounted bytes entry false is = took_with_room bytes (trace.Log entry) (shown_on bytes) is (holds_uncounted bytes entry)
+-- What tells nothing of an item takes it, or is cut.
+took_untold : (t : trace.Taken) (item : Item) → HoldsMore t (item ∷ []) t → Took t (item ∷ []) t
+took_untold t item holds = by t.cut refl
+  where
+    by : (is_cut : Bool) → t.cut ≡ is_cut → Took t (item ∷ []) t
+    by true is = took_refused t (item ∷ []) is
+    by false is = took_whole t t (item ∷ []) is holds
 
 -- A line of the log, where nothing is written.
-pub line_silently : (o : Outside) (k : Kept) (entry : Entry) → is_silent k ≡ true → Took (taken_by o k) (trace.Log entry ∷ []) (taken_by o k)
-line_silently o kept.Nothing entry silent = cc
-line_silently o (kept.Byte byte) entry silent = took_while_cut o (kept.Byte byte) (trace.Log entry) refl
-line_silently o (kept.Line rest) entry silent = took_while_cut o (kept.Line rest) (trace.Log entry) refl
-line_silently o kept.Unwanted entry silent = took_unwanted o (trace.Log entry)
-line_silently o (kept.Screen bytes) entry silent = took_uncounted bytes.items entry _ refl
+module _ (lines : ℕ) (o : Outside) (entry : Entry) where
+  pub line_silently : (k : Kept) → is_silent k ≡ true → Took (taken_by lines o k) (trace.Log entry ∷ []) (taken_by lines o k)
+  line_silently kept.Nothing silent = cc
+  line_silently (kept.Byte line byte) silent = took_refused (taken_of lines o (kept.Byte line byte)) (trace.Log entry ∷ []) refl
+  line_silently (kept.Line rest) silent = took_refused (taken_of lines o (kept.Line rest)) (trace.Log entry ∷ []) refl
+  line_silently kept.Unwanted silent = took_unwanted lines o (trace.Log entry)
+  line_silently (kept.Screen bytes) silent = took_untold (shown_on bytes.items) (trace.Log entry) (holds_uncounted bytes.items entry)
 
-pub line_appended : (o : Outside) (k : Kept) (entry : Entry) → is_silent k ≡ true → Appends (taken_by o k) (trace.Log entry) (taken_by o k)
-line_appended o kept.Nothing entry silent = cc
-line_appended o (kept.Byte byte) entry silent = λ uncut. absurd (let never : true ≡ false = uncut in cc)
-line_appended o (kept.Line rest) entry silent = λ uncut. absurd (let never : true ≡ false = uncut in cc)
-line_appended o kept.Unwanted entry silent = λ uncut. holds_unwanted o (trace.Log entry)
-line_appended o (kept.Screen bytes) entry silent = λ uncut. holds_uncounted bytes.items entry
+  pub line_appended : (k : Kept) → is_silent k ≡ true → Appends (taken_by lines o k) (trace.Log entry) (taken_by lines o k)
+  line_appended kept.Nothing silent = cc
+  line_appended (kept.Byte line byte) silent = λ uncut. absurd (let never : true ≡ false = uncut in cc)
+  line_appended (kept.Line rest) silent = λ uncut. absurd (let never : true ≡ false = uncut in cc)
+  line_appended kept.Unwanted silent = λ uncut. holds_unwanted lines o (trace.Log entry)
+  line_appended (kept.Screen bytes) silent = λ uncut. holds_uncounted bytes.items entry
 
--- A byte, where nothing is written.
-module _ (o : Outside) (byte : ℕ) where
-  took_on : (k : Kept) (bytes : List ℕ) (full : Bool) → nat_le SCREEN_ROOM (length bytes) ≡ full → taken_by o k ≡ shown_on bytes
-      → Took (shown_on bytes) (trace.Byte 0 byte ∷ []) (taken_by o (cond full k (kept.Screen (record { items = bytes ++ byte ∷ [] }))))
-  took_on k bytes true is same_taken = subst (λ t. Took (shown_on bytes) (trace.Byte 0 byte ∷ []) t) (sym same_taken) (took_full bytes (trace.Byte 0 byte) is)
-  took_on k bytes false is same_taken = took_with_room bytes (trace.Byte 0 byte) (shown_on (bytes ++ byte ∷ [])) is (holds_counted bytes byte)
+-- A byte of the console, where nothing is written.
+module _ (lines : ℕ) (o : Outside) (byte : ℕ) where
+  took_on : (bytes : List ℕ) (full : Bool) → nat_le SCREEN_ROOM (length bytes) ≡ full
+      → Took (shown_on bytes) (trace.Byte 0 byte ∷ []) (taken_by lines o (cond full (kept.Screen (record { items = bytes })) (kept.Screen (record { items = bytes ++ byte ∷ [] }))))
+  took_on bytes true is = full_takes_none bytes (trace.Byte 0 byte) is
+  took_on bytes false is = counted_by_room bytes (trace.Byte 0 byte) (shown_on (bytes ++ byte ∷ [])) (holds_counted bytes byte) is
 
-  appended_on : (k : Kept) (bytes : List ℕ) (full : Bool) → nat_le SCREEN_ROOM (length bytes) ≡ full
-      → Appends (shown_on bytes) (trace.Byte 0 byte) (taken_by o (cond full k (kept.Screen (record { items = bytes ++ byte ∷ [] }))))
-  appended_on k bytes true is = λ uncut. absurd (let never : true ≡ false = sym is ∙ uncut in cc)
-  appended_on k bytes false is = λ uncut. holds_counted bytes byte
+  appended_on : (bytes : List ℕ) (full : Bool) → nat_le SCREEN_ROOM (length bytes) ≡ full
+      → Appends (shown_on bytes) (trace.Byte 0 byte) (taken_by lines o (cond full (kept.Screen (record { items = bytes })) (kept.Screen (record { items = bytes ++ byte ∷ [] }))))
+  appended_on bytes true is = λ uncut. absurd (let never : true ≡ false = sym is ∙ uncut in cc)
+  appended_on bytes false is = λ uncut. holds_counted bytes byte
 
-  pub byte_silently : (k : Kept) → is_silent k ≡ true → Took (taken_by o k) (trace.Byte 0 byte ∷ []) (taken_by o (screened k byte))
+  pub byte_silently : (k : Kept) → is_silent k ≡ true → Took (taken_by lines o k) (trace.Byte 0 byte ∷ []) (taken_by lines o (counted k byte))
   byte_silently kept.Nothing silent = cc
-  byte_silently (kept.Byte kept_byte) silent = took_while_cut o (kept.Byte kept_byte) (trace.Byte 0 byte) refl
-  byte_silently (kept.Line rest) silent = took_while_cut o (kept.Line rest) (trace.Byte 0 byte) refl
-  byte_silently kept.Unwanted silent = took_unwanted o (trace.Byte 0 byte)
-  byte_silently (kept.Screen bytes) silent = took_on (kept.Screen bytes) bytes.items _ refl refl
+  byte_silently (kept.Byte line other) silent = took_refused (taken_of lines o (kept.Byte line other)) (trace.Byte 0 byte ∷ []) refl
+  byte_silently (kept.Line rest) silent = took_refused (taken_of lines o (kept.Line rest)) (trace.Byte 0 byte ∷ []) refl
+  byte_silently kept.Unwanted silent = took_unwanted lines o (trace.Byte 0 byte)
+  byte_silently (kept.Screen bytes) silent = took_on bytes.items _ refl
 
-  pub byte_appended : (k : Kept) → is_silent k ≡ true → Appends (taken_by o k) (trace.Byte 0 byte) (taken_by o (screened k byte))
+  pub byte_appended : (k : Kept) → is_silent k ≡ true → Appends (taken_by lines o k) (trace.Byte 0 byte) (taken_by lines o (counted k byte))
   byte_appended kept.Nothing silent = cc
-  byte_appended (kept.Byte kept_byte) silent = λ uncut. absurd (let never : true ≡ false = uncut in cc)
+  byte_appended (kept.Byte line other) silent = λ uncut. absurd (let never : true ≡ false = uncut in cc)
   byte_appended (kept.Line rest) silent = λ uncut. absurd (let never : true ≡ false = uncut in cc)
-  byte_appended kept.Unwanted silent = λ uncut. holds_unwanted o (trace.Byte 0 byte)
-  byte_appended (kept.Screen bytes) silent = appended_on (kept.Screen bytes) bytes.items _ refl
+  byte_appended kept.Unwanted silent = λ uncut. holds_unwanted lines o (trace.Byte 0 byte)
+  byte_appended (kept.Screen bytes) silent = appended_on bytes.items _ refl
 
--- A byte on another line than line 0 is none of what is told.
-module _ (line byte : ℕ) (other : line ≢ 0) where
-  unseen : (told_line : ℕ) → eqb 0 told_line ≡ true → line_bytes told_line (trace.Byte line byte ∷ []) ≡ []
-  unseen told_line first = subst (λ l. line_bytes l (trace.Byte line byte ∷ []) ≡ []) (eqb-true 0 told_line first) (ap (λ b. cond b (byte ∷ []) []) (ne_eqb line 0 other))
+-- A byte on a line of which nothing is told.
+module _ (line byte : ℕ) where
+  holds_elsewhere : (t : trace.Taken) → ((l : ℕ) → t.tells_bytes l ≡ true → line ≢ l) → HoldsMore t (trace.Byte line byte ∷ []) t
+  holds_elsewhere t other = record {
+    tells_bytes = λ l. refl;
+    bytes = λ l told. sym (ap (λ b. t.bytes l ++ cond b (byte ∷ []) []) (ne_eqb line l (other l told)) ∙ append-nil (t.bytes l));
+    tells_entries = refl;
+    entries = λ told. sym (append-nil t.entries);
+    tells_text = refl;
+    text = λ told. sym (append-nil t.text);
+  }
 
-  module _ (t : trace.Taken) (first : (l : ℕ) → t.tells_bytes l ≡ true → eqb 0 l ≡ true) where
-    holds_elsewhere : HoldsMore t (trace.Byte line byte ∷ []) t
-    holds_elsewhere = record {
-      tells_bytes = λ l. refl;
-      bytes = λ l told. sym (ap (λ bytes. t.bytes l ++ bytes) (unseen l (first l told)) ∙ append-nil (t.bytes l));
-      tells_entries = refl;
-      entries = λ told. sym (append-nil t.entries);
-      tells_text = refl;
-      text = λ told. sym (append-nil t.text);
-    }
+  -- line 0 alone is counted
+  module _ (lines : ℕ) (o : Outside) (other : line ≢ 0) where
+    uncounted_byte : (bytes : List ℕ) → HoldsMore (shown_on bytes) (trace.Byte line byte ∷ []) (shown_on bytes)
+    uncounted_byte bytes = holds_elsewhere (shown_on bytes) (λ l told is. other (is ∙ sym (eqb-true 0 l told)))
 
-    took_by_cut : (is_cut : Bool) → t.cut ≡ is_cut → Took t (trace.Byte line byte ∷ []) t
-    took_by_cut true is = took_refused t (trace.Byte line byte ∷ []) is
-    took_by_cut false is = took_whole t t (trace.Byte line byte ∷ []) is holds_elsewhere
+    pub other_silently : (k : Kept) → is_silent k ≡ true → Took (taken_by lines o k) (trace.Byte line byte ∷ []) (taken_by lines o k)
+    other_silently kept.Nothing silent = cc
+    other_silently (kept.Byte l b) silent = took_refused (taken_of lines o (kept.Byte l b)) (trace.Byte line byte ∷ []) refl
+    other_silently (kept.Line rest) silent = took_refused (taken_of lines o (kept.Line rest)) (trace.Byte line byte ∷ []) refl
+    other_silently kept.Unwanted silent = took_unwanted lines o (trace.Byte line byte)
+    other_silently (kept.Screen bytes) silent = took_untold (shown_on bytes.items) (trace.Byte line byte) (uncounted_byte bytes.items)
 
-  tells_first : (o : Outside) (k : Kept) (l : ℕ) → (taken_by o k).tells_bytes l ≡ true → eqb 0 l ≡ true
-  tells_first o kept.Nothing l told = both_told (is_wanted kept.Nothing && o.fixed.tells) (eqb 0 l) told
-  tells_first o (kept.Byte kept_byte) l told = both_told (is_wanted (kept.Byte kept_byte) && o.fixed.tells) (eqb 0 l) told
-  tells_first o (kept.Line rest) l told = both_told (is_wanted (kept.Line rest) && o.fixed.tells) (eqb 0 l) told
-  tells_first o kept.Unwanted l told = both_told (is_wanted kept.Unwanted && o.fixed.tells) (eqb 0 l) told
-  tells_first o (kept.Screen bytes) l told = told
+    pub other_appended : (k : Kept) → is_silent k ≡ true → Appends (taken_by lines o k) (trace.Byte line byte) (taken_by lines o k)
+    other_appended kept.Nothing silent = cc
+    other_appended (kept.Byte l b) silent = λ uncut. absurd (let never : true ≡ false = uncut in cc)
+    other_appended (kept.Line rest) silent = λ uncut. absurd (let never : true ≡ false = uncut in cc)
+    other_appended kept.Unwanted silent = λ uncut. holds_unwanted lines o (trace.Byte line byte)
+    other_appended (kept.Screen bytes) silent = λ uncut. uncounted_byte bytes.items
 
-  pub byte_elsewhere : (o : Outside) (k : Kept) → Took (taken_by o k) (trace.Byte line byte ∷ []) (taken_by o k)
-  byte_elsewhere o k = took_by_cut (taken_by o k) (tells_first o k) (taken_by o k).cut refl
+  -- a byte of any line
+  module _ (lines : ℕ) (o : Outside) (k : Kept) (silent : is_silent k ≡ true) where
+    pub kept_silently : Took (taken_by lines o k) (trace.Byte line byte ∷ []) (taken_by lines o (screened k line byte))
+    kept_silently = by (eqb line 0) refl
+      where
+        by : (b : Bool) → eqb line 0 ≡ b → Took (taken_by lines o k) (trace.Byte line byte ∷ []) (taken_by lines o (cond b (counted k byte) k))
+        by true is = subst (λ l. Took (taken_by lines o k) (trace.Byte l byte ∷ []) (taken_by lines o (counted k byte))) (sym (eqb-true line 0 is)) (byte_silently lines o byte k silent)
+        by false is = other_silently lines o (eqb-false line 0 is) k silent
 
-  pub elsewhere_appended : (o : Outside) (k : Kept) → Appends (taken_by o k) (trace.Byte line byte) (taken_by o k)
-  elsewhere_appended o k = λ uncut. holds_elsewhere (taken_by o k) (tells_first o k)
+    pub kept_quietly : Appends (taken_by lines o k) (trace.Byte line byte) (taken_by lines o (screened k line byte))
+    kept_quietly = by (eqb line 0) refl
+      where
+        by : (b : Bool) → eqb line 0 ≡ b → Appends (taken_by lines o k) (trace.Byte line byte) (taken_by lines o (cond b (counted k byte) k))
+        by true is = subst (λ l. Appends (taken_by lines o k) (trace.Byte l byte) (taken_by lines o (counted k byte))) (sym (eqb-true line 0 is)) (byte_appended lines o byte k silent)
+        by false is = other_appended lines o (eqb-false line 0 is) k silent
 
--- the byte is written, or kept
-module _ (old new : Outside) (before after : Kept) (byte : ℕ) (was : is_wanted before ≡ true) (stays : is_wanted after ≡ true) (goes : is_some (failed_port before) ≡ false) (only : OnlyAt (same (Out out_port.Term)) old new)
-    (quiet : kept_text after ≡ []) (takes : Tells old → (term new).bytes ++ kept_byte after ≡ (term old).bytes ++ byte ∷ []) where
-  byte_bytes : Tells old → (line : ℕ) → of_line_0 ((term new).bytes ++ kept_byte after) line ≡ of_line_0 ((term old).bytes ++ kept_byte before) line ++ line_bytes line (trace.Byte 0 byte ∷ [])
-  byte_bytes told line = on_line line byte _ _ (takes told ∙ ap (λ l. l ++ byte ∷ []) (sym (append-nil (term old).bytes) ∙ ap (λ l. (term old).bytes ++ l) (sym (no_byte before goes))))
+  -- and no more than so many lines are written
+  module _ (lines : ℕ) (o : Outside) (k : Kept) (loud : is_silent k ≡ false) (past : lines ≤ line) where
+    beyond : HoldsMore (taken_of lines o k) (trace.Byte line byte ∷ []) (taken_of lines o k)
+    beyond = holds_elsewhere (taken_of lines o k) (λ l told is.
+        let below : l < lines = ltb-true l lines (one_told (nat_lt l lines) (is_wanted k && o.fixed.tells) told) in omega (arith, past, below, is))
 
-  byte_text : Tells old → (log_of new).bytes ++ kept_text after ≡ ((log_of old).bytes ++ kept_text before) ++ text_of (trace.Byte 0 byte ∷ [])
+    pub beyond_took : Took (taken_by lines o k) (trace.Byte line byte ∷ []) (taken_by lines o k)
+    beyond_took = took_by lines o o k k (trace.Byte line byte) loud (loud_written k loud) (took_untold (taken_of lines o k) (trace.Byte line byte) beyond)
+
+    pub beyond_appended : Appends (taken_by lines o k) (trace.Byte line byte) (taken_by lines o k)
+    beyond_appended = appends_by lines o o k k (trace.Byte line byte) loud (loud_written k loud) beyond
+
+-- the byte is written to the port of its line, or kept
+module _ (lines : ℕ) (old new : Outside) (before after : Kept) (line byte : ℕ) (was : is_wanted before ≡ true) (stays : is_wanted after ≡ true) (goes : is_some (failed_port before) ≡ false)
+    (only : OnlyAt (same (Out (line_port line))) old new) (quiet : kept_text after ≡ []) (elsewhere : (l : ℕ) → line ≢ l → kept_byte after l ≡ [])
+    (takes : Tells old → (line_state new line).bytes ++ kept_byte after line ≡ (line_state old line).bytes ++ byte ∷ []) where
+  at_line : Tells old → (line_state new line).bytes ++ kept_byte after line ≡ ((line_state old line).bytes ++ kept_byte before line) ++ byte ∷ []
+  at_line told = takes told ∙ ap (λ l. l ++ byte ∷ []) (sym (append-nil (line_state old line).bytes) ∙ ap (λ l. (line_state old line).bytes ++ l) (sym (no_byte before goes line)))
+
+  at_other : (l : ℕ) → line ≢ l → (line_state new l).bytes ++ kept_byte after l ≡ ((line_state old l).bytes ++ kept_byte before l) ++ []
+  at_other l other =
+      ap (λ (state : PortState). state.bytes ++ kept_byte after l) (only.others (Out (line_port l)) (lines_apart line l other))
+      ∙ ap (λ k. (line_state old l).bytes ++ k) (elsewhere l other ∙ sym (no_byte before goes l)) ∙ sym (append-nil ((line_state old l).bytes ++ kept_byte before l))
+
+  byte_bytes : Tells old → (l : ℕ) → (line_state new l).bytes ++ kept_byte after l ≡ ((line_state old l).bytes ++ kept_byte before l) ++ line_bytes l (trace.Byte line byte ∷ [])
+  byte_bytes told l = by (eqb line l) refl
+    where
+      by : (here : Bool) → eqb line l ≡ here
+          → (line_state new l).bytes ++ kept_byte after l ≡ ((line_state old l).bytes ++ kept_byte before l) ++ cond here (byte ∷ []) []
+      by true is = subst (λ k. (line_state new k).bytes ++ kept_byte after k ≡ ((line_state old k).bytes ++ kept_byte before k) ++ byte ∷ []) (eqb-true line l is) (at_line told)
+      by false is = at_other l (eqb-false line l is)
+
+  byte_text : Tells old → (log_of new).bytes ++ kept_text after ≡ ((log_of old).bytes ++ kept_text before) ++ text_of (trace.Byte line byte ∷ [])
   byte_text told =
-      ap (λ (state : PortState). state.bytes ++ kept_text after) (only.others (Out out_port.Log) refl) ∙ ap (λ l. (log_of old).bytes ++ l) (quiet ∙ sym (no_text before goes))
+      ap (λ (state : PortState). state.bytes ++ kept_text after) (only.others (Out out_port.Log) (line_apart line)) ∙ ap (λ l. (log_of old).bytes ++ l) (quiet ∙ sym (no_text before goes))
       ∙ sym (append-nil ((log_of old).bytes ++ kept_text before))
 
-  holds_byte : HoldsMore (taken_of old before) (trace.Byte 0 byte ∷ []) (taken_of new after)
-  holds_byte = holds_item old new before after (trace.Byte 0 byte) was stays only.fixed byte_bytes byte_text
+  holds_byte : HoldsMore (taken_of lines old before) (trace.Byte line byte ∷ []) (taken_of lines new after)
+  holds_byte = holds_item lines old new before after (trace.Byte line byte) was stays only.fixed byte_bytes byte_text
 
-  took_byte : Took (taken_of old before) (trace.Byte 0 byte ∷ []) (taken_of new after)
-  took_byte = took_item old new before after (trace.Byte 0 byte) was stays only.fixed byte_bytes byte_text goes
+  took_byte : Took (taken_of lines old before) (trace.Byte line byte ∷ []) (taken_of lines new after)
+  took_byte = took_item lines old new before after (trace.Byte line byte) was stays only.fixed byte_bytes byte_text goes
 
 -- the line is written, or the rest of it kept
-module _ (old new : Outside) (before after : Kept) (entry : Entry) (was : is_wanted before ≡ true) (stays : is_wanted after ≡ true) (goes : is_some (failed_port before) ≡ false) (only : OnlyAt (same (Out out_port.Log)) old new)
-    (quiet : kept_byte after ≡ []) (takes : Tells old → (log_of new).bytes ++ kept_text after ≡ (log_of old).bytes ++ (entry_line entry ++ 0o012 ∷ [])) where
-  line_bytes_same : Tells old → (line : ℕ) → of_line_0 ((term new).bytes ++ kept_byte after) line ≡ of_line_0 ((term old).bytes ++ kept_byte before) line ++ line_bytes line (trace.Log entry ∷ [])
-  line_bytes_same told line =
-      ap (λ l. of_line_0 l line)
-      (ap (λ (state : PortState). state.bytes ++ kept_byte after) (only.others (Out out_port.Term) refl) ∙ ap (λ l. (term old).bytes ++ l) (quiet ∙ sym (no_byte before goes)))
-      ∙ sym (append-nil (of_line_0 ((term old).bytes ++ kept_byte before) line))
+module _ (lines : ℕ) (old new : Outside) (before after : Kept) (entry : Entry) (was : is_wanted before ≡ true) (stays : is_wanted after ≡ true) (goes : is_some (failed_port before) ≡ false)
+    (only : OnlyAt (same (Out out_port.Log)) old new) (quiet : (l : ℕ) → kept_byte after l ≡ [])
+    (takes : Tells old → (log_of new).bytes ++ kept_text after ≡ (log_of old).bytes ++ (entry_line entry ++ 0o012 ∷ [])) where
+  line_bytes_same : Tells old → (l : ℕ) → (line_state new l).bytes ++ kept_byte after l ≡ ((line_state old l).bytes ++ kept_byte before l) ++ line_bytes l (trace.Log entry ∷ [])
+  line_bytes_same told l =
+      ap (λ (state : PortState). state.bytes ++ kept_byte after l) (only.others (Out (line_port l)) (log_apart l))
+      ∙ ap (λ k. (line_state old l).bytes ++ k) (quiet l ∙ sym (no_byte before goes l)) ∙ sym (append-nil ((line_state old l).bytes ++ kept_byte before l))
 
   line_text : Tells old → (log_of new).bytes ++ kept_text after ≡ ((log_of old).bytes ++ kept_text before) ++ text_of (trace.Log entry ∷ [])
   line_text told =
       takes told ∙ ap (λ l. l ++ (entry_line entry ++ 0o012 ∷ [])) (sym (append-nil (log_of old).bytes) ∙ ap (λ l. (log_of old).bytes ++ l) (sym (no_text before goes)))
       ∙ ap (λ l. ((log_of old).bytes ++ kept_text before) ++ l) (sym (append-nil (entry_line entry ++ 0o012 ∷ [])))
 
-  took_line : Took (taken_of old before) (trace.Log entry ∷ []) (taken_of new after)
-  took_line = took_item old new before after (trace.Log entry) was stays only.fixed line_bytes_same line_text goes
+  took_line : Took (taken_of lines old before) (trace.Log entry ∷ []) (taken_of lines new after)
+  took_line = took_item lines old new before after (trace.Log entry) was stays only.fixed line_bytes_same line_text goes
 
--- A byte goes out.
-module _ (old new : Outside) (before : Kept) (byte : ℕ) (r : Result ℕ Failed) (loud : is_silent before ≡ false) (write : Writes out_port.Term old (byte ∷ []) r new) where
+  holds_line : HoldsMore (taken_of lines old before) (trace.Log entry ∷ []) (taken_of lines new after)
+  holds_line = holds_item lines old new before after (trace.Log entry) was stays only.fixed line_bytes_same line_text
+
+-- A byte goes out on the port of its line.
+module _ (lines : ℕ) (old new : Outside) (before : Kept) (line byte : ℕ) (loud : is_silent before ≡ false) (q : OutPort) (q_is : q ≡ line_port line) (only : OnlyAt (same (Out q)) old new) where
   goes : is_some (failed_port before) ≡ false
   goes = none_failed before loud
 
-  written : (s : Result ℕ Failed) → Writes out_port.Term old (byte ∷ []) s new → is_err s ≡ false → Tells old → (term new).bytes ++ kept_byte before ≡ (term old).bytes ++ byte ∷ []
-  written (Ok n) writes good told =
-      let one : n ≡ 1 = omega (arith, writes.outcome.0, writes.outcome.1) in
-      let taken : (term new).bytes ≡ (term old).bytes ++ take n (byte ∷ []) = writes.outcome.3 told in
-      ap (λ l. (term new).bytes ++ l) (no_byte before goes) ∙ append-nil (term new).bytes ∙ taken ∙ ap (λ k. (term old).bytes ++ take k (byte ∷ [])) one
-  written (Err e) writes good told = cc
+  only_line : OnlyAt (same (Out (line_port line))) old new
+  only_line = subst (λ p. OnlyAt (same (Out p)) old new) q_is only
 
-  failed : (s : Result ℕ Failed) → Writes out_port.Term old (byte ∷ []) s new → is_err s ≡ true → Tells old → (term new).bytes ++ byte ∷ [] ≡ (term old).bytes ++ byte ∷ []
-  failed (Ok n) writes bad told = cc
-  failed (Err e) writes bad told = ap (λ l. l ++ byte ∷ []) writes.outcome.failed.bytes
+  module _ (whole : Tells old → (new.port (Out q)).bytes ≡ (old.port (Out q)).bytes ++ byte ∷ []) where
+    written : Tells old → (line_state new line).bytes ++ kept_byte before line ≡ (line_state old line).bytes ++ byte ∷ []
+    written told =
+        ap (λ l. (line_state new line).bytes ++ l) (no_byte before goes line) ∙ append-nil (line_state new line).bytes
+        ∙ subst (λ p. (new.port (Out p)).bytes ≡ (old.port (Out p)).bytes ++ byte ∷ []) q_is (whole told)
 
-  pub took_written : is_err r ≡ false → Took (taken_by old before) (trace.Byte 0 byte ∷ []) (taken_by new before)
-  took_written good = took_by old new before before _ loud (loud_written before loud)
-      (took_byte old new before before byte (wanted before loud) (wanted before loud) goes write.only (no_text before goes) (written r write good))
+    pub took_written : Took (taken_by lines old before) (trace.Byte line byte ∷ []) (taken_by lines new before)
+    took_written = took_by lines old new before before (trace.Byte line byte) loud (loud_written before loud)
+        (took_byte lines old new before before line byte (wanted before loud) (wanted before loud) goes only_line (no_text before goes) (λ l _. no_byte before goes l) written)
 
-  pub took_kept : is_err r ≡ true → Took (taken_by old before) (trace.Byte 0 byte ∷ []) (taken_by new (kept.Byte byte))
-  took_kept bad = took_by old new before (kept.Byte byte) _ loud refl
-      (took_byte old new before (kept.Byte byte) byte (wanted before loud) refl goes write.only refl (failed r write bad))
+    pub written_appended : Appends (taken_by lines old before) (trace.Byte line byte) (taken_by lines new before)
+    written_appended = appends_by lines old new before before (trace.Byte line byte) loud (loud_written before loud)
+        (holds_byte lines old new before before line byte (wanted before loud) (wanted before loud) goes only_line (no_text before goes) (λ l _. no_byte before goes l) written)
+
+  module _ (count : ℕ) (short : count < 1) (front : Tells old → (new.port (Out q)).bytes ≡ (old.port (Out q)).bytes ++ take count (byte ∷ [])) where
+    byte_kept : Tells old → (line_state new line).bytes ++ kept_byte (kept.Byte line byte) line ≡ (line_state old line).bytes ++ byte ∷ []
+    byte_kept told =
+        let none : count ≡ 0 = omega (arith, short) in
+        let same_bytes : (line_state new line).bytes ≡ (line_state old line).bytes =
+        subst (λ p. (new.port (Out p)).bytes ≡ (old.port (Out p)).bytes ++ take 0 (byte ∷ [])) q_is (front told ∙ ap (λ n. (old.port (Out q)).bytes ++ take n (byte ∷ [])) none) ∙ append-nil (line_state old line).bytes in
+        ap (λ l. l ++ kept_byte (kept.Byte line byte) line) same_bytes ∙ ap (λ b. (line_state old line).bytes ++ cond b (byte ∷ []) []) (eq-eqb line line refl)
+
+    none_elsewhere : (l : ℕ) → line ≢ l → kept_byte (kept.Byte line byte) l ≡ []
+    none_elsewhere l other = ap (λ b. cond b (byte ∷ []) []) (ne_eqb line l other)
+
+    pub took_kept : Took (taken_by lines old before) (trace.Byte line byte ∷ []) (taken_by lines new (kept.Byte line byte))
+    took_kept = took_by lines old new before (kept.Byte line byte) (trace.Byte line byte) loud refl
+        (took_byte lines old new before (kept.Byte line byte) line byte (wanted before loud) refl goes only_line refl none_elsewhere byte_kept)
+
+    pub kept_appended : Appends (taken_by lines old before) (trace.Byte line byte) (taken_by lines new (kept.Byte line byte))
+    kept_appended = appends_by lines old new before (kept.Byte line byte) (trace.Byte line byte) loud refl
+        (holds_byte lines old new before (kept.Byte line byte) line byte (wanted before loud) refl goes only_line refl none_elsewhere byte_kept)
+
+  -- by how the write has ended
+  pub byte_took : (r : Result (Unit {0}) ℕ) → is_err r ≡ false → OnOk r (Tells old → (new.port (Out q)).bytes ≡ (old.port (Out q)).bytes ++ byte ∷ [])
+      → Took (taken_by lines old before) (trace.Byte line byte ∷ []) (taken_by lines new before)
+  byte_took (Ok x) good whole = took_written whole
+  byte_took (Err count) good whole = absurd (cc)
+
+  pub byte_all : (r : Result (Unit {0}) ℕ) → is_err r ≡ false → OnOk r (Tells old → (new.port (Out q)).bytes ≡ (old.port (Out q)).bytes ++ byte ∷ [])
+      → Appends (taken_by lines old before) (trace.Byte line byte) (taken_by lines new before)
+  byte_all (Ok x) good whole = written_appended whole
+  byte_all (Err count) good whole = absurd (cc)
+
+  pub kept_took : (r : Result (Unit {0}) ℕ) → is_err r ≡ true → IfErr r (λ count. count < 1)
+      → IfErr r (λ count. Tells old → (new.port (Out q)).bytes ≡ (old.port (Out q)).bytes ++ take count (byte ∷ []))
+      → Took (taken_by lines old before) (trace.Byte line byte ∷ []) (taken_by lines new (kept.Byte line byte))
+  kept_took (Ok x) bad short front = absurd (cc)
+  kept_took (Err count) bad short front = took_kept count short front
+
+  pub kept_all : (r : Result (Unit {0}) ℕ) → is_err r ≡ true → IfErr r (λ count. count < 1)
+      → IfErr r (λ count. Tells old → (new.port (Out q)).bytes ≡ (old.port (Out q)).bytes ++ take count (byte ∷ []))
+      → Appends (taken_by lines old before) (trace.Byte line byte) (taken_by lines new (kept.Byte line byte))
+  kept_all (Ok x) bad short front = absurd (cc)
+  kept_all (Err count) bad short front = kept_appended count short front
 
 -- A line goes out, which is the bytes of `line`, in as many writes as it takes.
-module _ (old new : Outside) (before : Kept) (entry : Entry) (line : List ℕ) (loud : is_silent before ≡ false) (only : OnlyAt (same (Out out_port.Log)) old new)
+module _ (lines : ℕ) (old new : Outside) (before : Kept) (entry : Entry) (line : List ℕ) (loud : is_silent before ≡ false) (only : OnlyAt (same (Out out_port.Log)) old new)
     (line_is : line ≡ entry_line entry ++ 0o012 ∷ []) where
   line_goes : is_some (failed_port before) ≡ false
   line_goes = none_failed before loud
@@ -331,9 +381,13 @@ module _ (old new : Outside) (before : Kept) (entry : Entry) (line : List ℕ) (
     line_written told =
         ap (λ l. (log_of new).bytes ++ l) (no_text before line_goes) ∙ append-nil (log_of new).bytes ∙ whole told ∙ ap (λ l. (log_of old).bytes ++ l) line_is
 
-    pub took_all : Took (taken_by old before) (trace.Log entry ∷ []) (taken_by new before)
-    took_all = took_by old new before before _ loud (loud_written before loud)
-        (took_line old new before before entry (wanted before loud) (wanted before loud) line_goes only (no_byte before line_goes) line_written)
+    pub took_all : Took (taken_by lines old before) (trace.Log entry ∷ []) (taken_by lines new before)
+    took_all = took_by lines old new before before (trace.Log entry) loud (loud_written before loud)
+        (took_line lines old new before before entry (wanted before loud) (wanted before loud) line_goes only (no_byte before line_goes) line_written)
+
+    pub all_appended : Appends (taken_by lines old before) (trace.Log entry) (taken_by lines new before)
+    all_appended = appends_by lines old new before before (trace.Log entry) loud (loud_written before loud)
+        (holds_line lines old new before before entry (wanted before loud) (wanted before loud) line_goes only (no_byte before line_goes) line_written)
 
   -- its first bytes
   module _ (count : ℕ) (front : Tells old → (log_of new).bytes ≡ (log_of old).bytes ++ take count line) (rest : List ℕ) (rest_is : rest ≡ drop count line) where
@@ -342,6 +396,10 @@ module _ (old new : Outside) (before : Kept) (entry : Entry) (line : List ℕ) (
         ap (λ l. l ++ rest) (front told) ∙ append_assoc (log_of old).bytes (take count line) rest ∙ ap (λ l. (log_of old).bytes ++ (take count line ++ l)) rest_is
         ∙ ap (λ l. (log_of old).bytes ++ l) (take-append-drop count line ∙ line_is)
 
-    pub took_front : Took (taken_by old before) (trace.Log entry ∷ []) (taken_by new (kept.Line (record { items = rest })))
-    took_front = took_by old new before (kept.Line (record { items = rest })) _ loud refl
-        (took_line old new before (kept.Line (record { items = rest })) entry (wanted before loud) refl line_goes only refl line_kept)
+    pub took_front : Took (taken_by lines old before) (trace.Log entry ∷ []) (taken_by lines new (kept.Line (record { items = rest })))
+    took_front = took_by lines old new before (kept.Line (record { items = rest })) (trace.Log entry) loud refl
+        (took_line lines old new before (kept.Line (record { items = rest })) entry (wanted before loud) refl line_goes only (λ l. refl) line_kept)
+
+    pub front_appended : Appends (taken_by lines old before) (trace.Log entry) (taken_by lines new (kept.Line (record { items = rest })))
+    front_appended = appends_by lines old new before (kept.Line (record { items = rest })) (trace.Log entry) loud refl
+        (holds_line lines old new before (kept.Line (record { items = rest })) entry (wanted before loud) refl line_goes only (λ l. refl) line_kept)

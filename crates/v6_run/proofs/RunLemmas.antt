@@ -22,17 +22,19 @@ use Rattle.abstract_unix.specs.declared.ends.Ends.TheVariants.{AtEnd}
 use Rattle.v6_run.specs.declared.files.ReadError.{ReadError}
 use Rattle.v6_run.specs.declared.files.ReadError.TheVariants as reading
 use Rattle.v6_run.specs.declared.image.ImageError.{ImageError}
-use Rattle.v6_run.specs.Words.{Outputs, RunWords, Run}
+use Rattle.v6_run.specs.declared.run.RunError.{RunError}
+use Rattle.v6_run.specs.declared.run.RunError.TheVariants as run_error
+use Rattle.v6_run.specs.Words.{Outputs, RunWords, line_count, Run}
 use Rattle.script_text.specs.declared.script.Event as asked
 use Rattle.script_text.specs.declared.script.ScriptFault as text
 use Rattle.script_text.specs.declared.script.ScriptFault.TheVariants as fault
 use Rattle.script_text.specs.Script.{script_of, Refuses}
 use Rattle.v6_run.specs.Events.{events_of}
 use Rattle.v6_run.specs.Status.{is_decided, has_written}
-use Rattle.v6_run.specs.Errors.{read_status, image_status, script_status}
+use Rattle.v6_run.specs.Errors.{read_status, image_status, script_status, run_status}
 use Rattle.v6_run.specs.Fronts.{HoldsSome, HoldsFrontOfSome}
 use Rattle.v6_run.specs.Opened.{NamedPort, input, output_ports, ports_before, command_ports, knows_port, TellsInputs, IsGoodAt, AreGood, ports_passed}
-use Rattle.v6_run.specs.Outputs.{is_output, run_writes, EndsRun, StopsRun}
+use Rattle.v6_run.specs.Outputs.{is_output, run_writes, EndsRun, StopsRun, StopsBy}
 use Rattle.v6_run.specs.Causes.{IsCaused}
 use Rattle.v6_run.specs.Steps.{StopsReading, StopsImage}
 use Rattle.v6_run.specs.Headline.{Known, IsKnownAnd, ends_with, course_completion, lines_completion, bytes_completion, script_completion, fault_completion, image_completion, command_completion, IsComplete, IsPartial, status_at, is_named, may_end, is_known}
@@ -121,7 +123,7 @@ module _ (words : RunWords) (image bytes : List ℕ) (old middle : Outside) (fil
 
   faulty : (fault : text.ScriptFault) → may_end (Run words) (ScriptFault fault) ≡ true → script_of bytes ≡ Err fault → Answers (Run words) (ScriptFault fault) old middle
   faulty fault may is = before_run (ScriptFault fault) may refl (λ told. (image_good told, tt))
-      (λ _ told. early_complete (ScriptFault fault) (ap (λ s. lines_completion words.core (run_writes words.outputs (disk_of image)) image s) is) (told refl)) files.calm
+      (λ _ told. early_complete (ScriptFault fault) (ap (λ s. lines_completion words.core (line_count words.outputs) (run_writes words.outputs (disk_of image)) image s) is) (told refl)) files.calm
 
   pub script_refused : (fault : text.ScriptFault) → Refuses bytes fault → Answers (Run words) (script_status fault) old middle
   script_refused fault.TooLong refused = faulty fault.TooLong refl refused
@@ -132,14 +134,14 @@ module _ (words : RunWords) (image bytes : List ℕ) (old middle : Outside) (fil
   module _ (events : List asked.Event) (script_is : script_of bytes ≡ Ok events) where
     -- the system that was booted is that of the image
     is_of : (o : Option codec.ImageFault) (system : System)
-        → (if is_some o then None else Some (system_of image words.core 1)) ≡ Some system → system_of image words.core 1 ≡ system
+        → (if is_some o then None else Some (system_of image words.core (line_count words.outputs))) ≡ Some system → system_of image words.core (line_count words.outputs) ≡ system
     is_of None system is = cc is
     is_of (Some fault) system is = absurd (cc is)
 
-    boots_as : (system : System) → boots image words.core 1 ≡ Some system
+    boots_as : (system : System) → boots image words.core (line_count words.outputs) ≡ Some system
         → bytes_completion words image bytes ≡ course_completion (run_writes words.outputs (disk_of image)) (course (started system) (events_of events))
     boots_as system is =
-        ap (λ s. lines_completion words.core (run_writes words.outputs (disk_of image)) image s) script_is
+        ap (λ s. lines_completion words.core (line_count words.outputs) (run_writes words.outputs (disk_of image)) image s) script_is
         ∙ ap (λ m. course_completion (run_writes words.outputs (disk_of image)) (course (started m) (events_of events))) (is_of (image_fault image) system is)
 
     pub boot_refused : Answers (Run words) NoMemory old middle
@@ -153,7 +155,7 @@ module _ (words : RunWords) (image bytes : List ℕ) (old middle : Outside) (fil
     with_inputs outputs good told = subst (λ f. AreGood f outputs) files.only.fixed (good (still_tells _ _ _ files.only told))
 
     -- the run, with its files
-    module _ (system : System) (boots_is : boots image words.core 1 ≡ Some system) (new : Outside) (only : OnlyAt (is_output words.outputs) middle new) where
+    module _ (system : System) (boots_is : boots image words.core (line_count words.outputs) ≡ Some system) (new : Outside) (only : OnlyAt (is_output words.outputs) middle new) where
       abbrev run : Course
       run = course (started system) (events_of events)
 
@@ -230,3 +232,13 @@ module _ (words : RunWords) (image bytes : List ℕ) (old middle : Outside) (fil
               closed = λ is. absurd (cc);
               cause = fault_known (Out port) _ _ old new known (fault_then _ _ old middle new files.only.fixed files.calm stops.fault);
             }
+
+      -- it stops for want of memory, or at one of its files
+      pub run_stopped_by : (error : RunError) → StopsBy words.outputs (run_writes words.outputs (disk_of image) run) error middle new
+          → Answers (Run words) (run_status error) old new
+      run_stopped_by (run_error.Write port) stops = run_stopped port stops
+      run_stopped_by run_error.NoMemory stops = subst (λ o. Answers (Run words) NoMemory old o) (sym stops) boot_refused
+      run_stopped_by (run_error.Image e) stops = absurd stops
+      run_stopped_by (run_error.Script e) stops = absurd stops
+      run_stopped_by (run_error.Refused e) stops = absurd stops
+      run_stopped_by (run_error.Panic kind) stops = absurd stops

@@ -1,5 +1,5 @@
 -- What a run leaves: its disk, by docs/manual/final-image.md, or its core and its swap area, by docs/manual/memory.md.
-use Rattle.std.specs.Prelude.{◌≡◌, ◌<◌, ◌≤◌, ◌*◌, ℕ, List, ◌++◌, length, flat_map}
+use Rattle.std.specs.Prelude.{◌≡◌, ◌<◌, ◌≤◌, ◌*◌, ℕ, Option, Some, None, List, [], ◌++◌, length, flat_map}
 use Rattle.std.specs.List.{range_with_len}
 use Rattle.fs_codec.specs.Disk.{Disk, disk_of, head}
 use Rattle.fs_codec.specs.Stands.{StandsFor}
@@ -38,9 +38,13 @@ pub record IsFinalSecond (first : Disk) (store : Store) (text : List ℕ) : Type
   pub size : (head (disk_of text)).f_size ≡ (head first).f_size
   pub behind : (n : ℕ) → (head first).f_size ≤ n → n < DISK_BLOCKS → disk_of text n ≡ first n
 
--- the bytes of all its blocks, in order
-unfoldable pub second_text : List (List ℕ) → List ℕ
-second_text blocks = flat_map (block_at blocks) (range_with_len 0 DISK_BLOCKS)
+-- the bytes of all its blocks, in order, where there is one
+unfoldable pub whole_text : List (List ℕ) → List ℕ
+whole_text blocks = flat_map (block_at blocks) (range_with_len 0 DISK_BLOCKS)
+
+abbrev pub second_text : Option (List (List ℕ)) → List ℕ
+second_text None = []
+second_text (Some blocks) = whole_text blocks
 
 -- These bytes are those of core and then those of the swap area, which hold what a system keeps there.
 pub record IsMemory (m : System) (text : List ℕ) : Type 0 where

@@ -27,7 +27,7 @@ use Rattle.abstract_unix.specs.declared.ends.Ends.{Ends}
 use Rattle.abstract_unix.specs.declared.ends.Ends.TheVariants.{AtEnd, Panic}
 use Rattle.unix_core.specs.declared.boot.SecondFault.{SecondFault}
 use Rattle.unix_core.specs.Boots.{second_fault_of}
-use Rattle.v6_run.specs.Words.{RunWords, second_image, Command, Run, Check, Make, Demo, Audit}
+use Rattle.v6_run.specs.Words.{RunWords, line_count, second_image, Command, Run, Check, Make, Demo, Audit}
 use Rattle.v6_run.specs.Logs.{lines_of, AuditEnds}
 use Rattle.v6_run.specs.Events.{events_of}
 use Rattle.v6_run.specs.Status.{has_written}
@@ -82,19 +82,19 @@ Writing = Course → OutPort → List ℕ → Type 0
 abbrev pub course_completion : Writing → Course → Completion
 course_completion writes c = record { ends = λ t. t ≡ status_at c.ending; writes = writes c }
 
--- in so much core, from an image without a fault, and a script or its first fault
-abbrev pub lines_completion : ℕ → Writing → List ℕ → Option (List ℕ) → Result (List Event) ScriptFault → Completion
-lines_completion core writes image second (Err fault) = ends_with (status.ScriptFault fault)
-lines_completion core writes image second (Ok events) = course_completion writes (run_of image second core 1 (events_of events))
+-- in so much core and with so many terminal lines, from images without a fault, and a script or its first fault
+abbrev pub lines_completion : ℕ → ℕ → Writing → List ℕ → Option (List ℕ) → Result (List Event) ScriptFault → Completion
+lines_completion core lines writes image second (Err fault) = ends_with (status.ScriptFault fault)
+lines_completion core lines writes image second (Ok events) = course_completion writes (run_of image second core lines (events_of events))
 
-abbrev pub run_completion : ℕ → Writing → List ℕ → Option (List ℕ) → List ℕ → Completion
-run_completion core writes image second bytes = lines_completion core writes image second (script_of bytes)
+abbrev pub run_completion : ℕ → ℕ → Writing → List ℕ → Option (List ℕ) → List ℕ → Completion
+run_completion core lines writes image second bytes = lines_completion core lines writes image second (script_of bytes)
 
--- Of `run` the terminal and LOG get what the run shows, and FINAL the disk that it leaves; of `run2` FINAL2 gets the second disk too.
--- Of `memory` FINAL gets core and the swap area.
+-- Of `run` and `run2`, which have one line, and of `run8`, which has eight, the file of each line and LOG get what the run shows, and
+-- FINAL the disk that it leaves; of `run2` FINAL2 gets the second disk too. Of `memory` FINAL gets core and the swap area.
 abbrev pub bytes_completion : RunWords → List ℕ → Option (List ℕ) → List ℕ → Completion
 bytes_completion words image second bytes =
-    run_completion words.core (run_writes words.outputs (disk_of image) (option_map disk_of second)) image second bytes
+    run_completion words.core (line_count words.outputs) (run_writes words.outputs (disk_of image) (option_map disk_of second)) image second bytes
 
 -- from the bytes of SCRIPT, of which at most one more is read than a script may have
 abbrev pub script_completion : RunWords → Option (List ℕ) → List ℕ → Option (List ℕ) → MaybeCompletion
@@ -130,7 +130,7 @@ no_writing c port = exactly []
 
 abbrev pub demo_completion : ℕ → MaybeCompletion
 demo_completion number =
-    fault_completion (image_fault (build_of number)) (Known (run_completion DEMO_CORE no_writing (build_of number) None demo_text))
+    fault_completion (image_fault (build_of number)) (Known (run_completion DEMO_CORE 1 no_writing (build_of number) None demo_text))
 
 -- `audit` ends as the lines of its file say, and writes no file
 abbrev pub log_completion : Option (List ℕ) → MaybeCompletion

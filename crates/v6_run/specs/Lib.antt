@@ -12,6 +12,7 @@ pub mod Clocks
 pub mod Courses
 pub mod Final
 pub mod Opened
+pub mod Opening
 pub mod Logs
 pub mod Audit
 pub mod Outputs

@@ -1,5 +1,6 @@
 -- The files that a command opens, in the order of docs/manual/commands.md, and what lets it go on after each.
-use Rattle.std.specs.Prelude.{◌≡◌, ⊤, ℕ, Bool, true, false, ◌||◌, if◌then◌else◌, Option, Some, None, IsSomeAnd, IsOk, List, [], ◌∷◌, ◌++◌, take}
+use Rattle.std.specs.Prelude.{◌≡◌, ⊤, ℕ, zero, suc, ◌-◌, Bool, true, false, ◌||◌, if◌then◌else◌, Option, Some, None, IsSomeAnd, IsOk, List, [], ◌∷◌, ◌++◌, map, take, codes, decimal}
+use Rattle.std.specs.List.{range_with_len}
 use Rattle.v6_port.specs.declared.host.InPort.{InPort}
 use Rattle.v6_port.specs.declared.host.InPort.TheVariants as in_port
 use Rattle.v6_port.specs.declared.host.OutPort.{OutPort}
@@ -13,7 +14,7 @@ use Rattle.v6_run.specs.declared.image.TheConstants.{IMAGE_LIMIT}
 use Rattle.v6_run.specs.declared.run.TheConstants.{SCRIPT_LIMIT}
 use Rattle.v6_run.specs.declared.status.Status.{Status}
 use Rattle.v6_run.specs.declared.status.Status.TheVariants as status
-use Rattle.v6_run.specs.Words.{Outputs, ToDisk, ToDisks, ToMemory, second_image, Command, Run, Check, Make, Demo, Audit}
+use Rattle.v6_run.specs.Words.{SecondFiles, Outputs, ToDisk, ToMemory, second_image, Command, Run, Check, Make, Demo, Audit}
 
 -- a port, and the name that a command's words give for it
 pub record NamedPort : Type 0 where
@@ -26,22 +27,42 @@ input p name = record { port = In p; name = name }
 abbrev pub output : OutPort → List ℕ → NamedPort
 output p name = record { port = Out p; name = name }
 
+-- the port to which the bytes of a terminal line go: those of the console, which is line 0, go to Term
+abbrev pub line_port : ℕ → OutPort
+line_port zero = out_port.Term
+line_port (suc l) = out_port.Line (suc l)
+
+-- the file of another line has the console's name, with the number of the line behind it
+abbrev pub line_name : List ℕ → ℕ → List ℕ
+line_name term l = term ++ (codes "." ++ decimal l)
+
+abbrev pub line_output : List ℕ → ℕ → NamedPort
+line_output term l = output (out_port.Line l) (line_name term l)
+
+abbrev pub line_outputs : ℕ → List ℕ → List NamedPort
+line_outputs lines term = map (line_output term) (range_with_len 1 (lines - 1))
+
+-- the file that is left of a second disk, where there is one
+abbrev pub second_outputs : Option SecondFiles → List NamedPort
+second_outputs None = []
+second_outputs (Some second) = output out_port.Second second.final_disk ∷ []
+
 -- The ports that a command opens, in this order. All are opened before a byte is written.
 abbrev pub output_ports : Outputs → List NamedPort
-output_ports (ToDisk files) = output out_port.Term files.term ∷ output out_port.Log files.log ∷ output out_port.Final files.final_disk ∷ []
-output_ports (ToDisks files second) =
-    output out_port.Term files.term ∷ output out_port.Log files.log ∷ output out_port.Final files.final_disk
-    ∷ output out_port.Second second.final_disk ∷ []
+output_ports (ToDisk files) =
+    output out_port.Term files.term
+    ∷ (line_outputs files.lines files.term
+    ++ (output out_port.Log files.log ∷ output out_port.Final files.final_disk ∷ second_outputs files.second))
 output_ports (ToMemory final) = output out_port.Final final ∷ []
 
 -- the second image's, where there is one
-abbrev pub second_ports : Option (List ℕ) → List NamedPort
-second_ports None = []
-second_ports (Some name) = input in_port.Second name ∷ []
+abbrev pub second_inputs : Option (List ℕ) → List NamedPort
+second_inputs None = []
+second_inputs (Some name) = input in_port.Second name ∷ []
 
 abbrev pub command_ports : Command → List NamedPort
 command_ports (Run words) =
-    input in_port.Image words.image ∷ second_ports (second_image words.outputs)
+    input in_port.Image words.image ∷ second_inputs (second_image words.outputs)
     ++ (input in_port.Script words.script ∷ output_ports words.outputs)
 command_ports (Check image) = input in_port.Image image ∷ []
 command_ports (Make number final) = output out_port.Final final ∷ []
@@ -56,6 +77,11 @@ words_ports (Some command) = command_ports command
 abbrev pub has_port : List NamedPort → Port → Bool
 has_port [] q = false
 has_port (p ∷ ports) q = same p.port q || has_port ports q
+
+-- no port is among them twice, and each can be opened
+abbrev pub AreApart : List NamedPort → Type 0
+AreApart [] = ⊤
+AreApart (p ∷ ports) = (has_port ports p.port ≡ false) × AreApart ports
 
 -- those that are opened before a port is
 abbrev pub ports_before : List NamedPort → Port → List NamedPort

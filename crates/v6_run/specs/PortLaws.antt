@@ -1,5 +1,5 @@
 -- What goes out on two ports, one thing after another: the laws of the trace over a host.
-use Rattle.std.proofs.Common.{◌≡◌, true, Option, Some, None, MatchOption, [], ◌++◌, refl, sym, ◌∙◌, ap, subst, append_assoc}
+use Rattle.std.proofs.Common.{◌≡◌, ℕ, true, Option, Some, None, MatchOption, [], ◌++◌, refl, sym, ◌∙◌, ap, subst, append_assoc}
 use Rattle.std.proofs.lemmas.List.{append-nil}
 use Rattle.v6_port.specs.declared.host.OutPort.{OutPort}
 use Rattle.v6_port.specs.Outside.{Out, PortState, Outside, Tells}
@@ -8,7 +8,7 @@ use Rattle.v6_port.proofs.CauseLemmas.{calm_still, calm_then, fault_then, only_t
 use Rattle.v6_run.specs.declared.ports.Kept.{Kept}
 use Rattle.v6_run.specs.declared.ports.Kept.TheVariants as kept
 use Rattle.v6_run.specs.Outputs.{is_shown}
-use Rattle.v6_run.specs.Ports.{term, log_of, failed_port, is_silent, Grows, Goes}
+use Rattle.v6_run.specs.Ports.{failed_port, is_silent, Grows, Goes}
 
 pub grows_not : (told : Type 0) (p : PortState) → Grows told p p
 grows_not told p = record { is_open = refl; bytes = λ _. record { more = []; is = sym (append-nil p.bytes) } }
@@ -27,11 +27,10 @@ calm_at : (o : Outside) (failed : Option OutPort) → failed ≡ None → MatchO
 calm_at o None is = calm_still o
 calm_at o (Some port) is = absurd (cc)
 
-pub Goes-same : (o : Outside) (kept : Kept) → Goes o kept o kept
-Goes-same o kept = record {
+pub Goes-same : (lines : ℕ) (o : Outside) (kept : Kept) → Goes lines o kept o kept
+Goes-same lines o kept = record {
   only = record { fixed = refl; others = λ q other. refl };
-  terminal = grows_not (Tells o) (term o);
-  log = grows_not (Tells o) (log_of o);
+  grows = λ p. grows_not (Tells o) (o.port (Out p));
   cause = calm_at o (failed_port kept);
   stopped = λ is_cut. (refl, is_cut, refl);
   counted = refl;
@@ -40,13 +39,13 @@ Goes-same o kept = record {
 -- after a failure nothing is written
 silent_failed : (k : Kept) (port : OutPort) → failed_port k ≡ Some port → is_silent k ≡ true
 silent_failed kept.Nothing port is = absurd (cc is)
-silent_failed (kept.Byte byte) port is = refl
+silent_failed (kept.Byte line byte) port is = refl
 silent_failed (kept.Line rest) port is = refl
 silent_failed kept.Unwanted port is = refl
 silent_failed (kept.Screen bytes) port is = refl
 
 -- a fault comes after calm, or else nothing changes after it
-module _ (a b c : Outside) (b_kept c_kept : Kept) (second : Goes b b_kept c c_kept) (fixed : b.fixed ≡ a.fixed) where
+module _ (lines : ℕ) (a b c : Outside) (b_kept c_kept : Kept) (second : Goes lines b b_kept c c_kept) (fixed : b.fixed ≡ a.fixed) where
   after_calm : (failed : Option OutPort) → Calm a b → MatchOption failed (Calm b c) (λ p. FaultAt (Out p) true b c)
       → MatchOption failed (Calm a c) (λ p. FaultAt (Out p) true a c)
   after_calm None calm calm_too = calm_then a b c calm calm_too
@@ -60,16 +59,22 @@ module _ (a b c : Outside) (b_kept c_kept : Kept) (second : Goes b b_kept c c_ke
       subst (λ o. MatchOption o (Calm a c) (λ p. FaultAt (Out p) true a c)) (sym (still.2 ∙ is))
       (subst (λ o. FaultAt (Out port) true a o) (sym still.0) fault)
 
-pub Goes-on : (a : Outside) (a_kept : Kept) (b : Outside) (b_kept : Kept) (c : Outside) (c_kept : Kept)
-    → Goes a a_kept b b_kept → Goes b b_kept c c_kept → Goes a a_kept c c_kept
-Goes-on a a_kept b b_kept c c_kept first second = record {
-  only = only_then is_shown a b c first.only second.only;
-  terminal = grows_on (Tells a) (Tells b) (term a) (term b) (term c) (still_tells is_shown a b first.only) first.terminal second.terminal;
-  log = grows_on (Tells a) (Tells b) (log_of a) (log_of b) (log_of c) (still_tells is_shown a b first.only) first.log second.log;
-  cause = λ goes. cause_on a b c b_kept c_kept second first.only.fixed (failed_port b_kept) refl (first.cause goes);
+pub Goes-on : (lines : ℕ) (a : Outside) (a_kept : Kept) (b : Outside) (b_kept : Kept) (c : Outside) (c_kept : Kept)
+    → Goes lines a a_kept b b_kept → Goes lines b b_kept c c_kept → Goes lines a a_kept c c_kept
+Goes-on lines a a_kept b b_kept c c_kept first second = record {
+  only = only_then (is_shown lines) a b c first.only second.only;
+  grows = λ p. grows_on (Tells a) (Tells b) (a.port (Out p)) (b.port (Out p)) (c.port (Out p)) (still_tells (is_shown lines) a b first.only)
+      (first.grows p) (second.grows p);
+  cause = λ goes. cause_on lines a b c b_kept c_kept second first.only.fixed (failed_port b_kept) refl (first.cause goes);
   stopped = λ is_cut.
       let one = first.stopped is_cut in
       let two = second.stopped one.1 in
       (two.0 ∙ one.0, two.1, two.2 ∙ one.2);
   counted = second.counted ∙ first.counted;
 }
+
+-- the same, where the number of lines is that of another
+pub goes_then : (lines more : ℕ) (a : Outside) (a_kept : Kept) (b : Outside) (b_kept : Kept) (c : Outside) (c_kept : Kept)
+    → more ≡ lines → Goes lines a a_kept b b_kept → Goes more b b_kept c c_kept → Goes lines a a_kept c c_kept
+goes_then lines more a a_kept b b_kept c c_kept is first second =
+    Goes-on lines a a_kept b b_kept c c_kept first (subst (λ n. Goes n b b_kept c c_kept) is second)

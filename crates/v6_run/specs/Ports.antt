@@ -1,6 +1,6 @@
--- The ports of a host as a trace of what a run shows: the terminal's bytes go to Term, and the lines of the log to Log.
-use Rattle.std.specs.Prelude.{◌≡◌, ℕ, Bool, true, false, ◌&&◌, Option, Some, None, is_some, MatchOption, List, [], ◌∷◌, ◌++◌, length, ◌==◌, nat_le, if◌then◌else◌}
-use Rattle.v6_base.specs.Trace.{Taken, Item, line_bytes, text_of}
+-- The ports of a host as a trace of what a run shows: the bytes of each terminal line go to its port, and the lines of the log to Log.
+use Rattle.std.specs.Prelude.{◌≡◌, ℕ, Bool, true, false, ◌&&◌, Option, Some, None, is_some, MatchOption, List, [], ◌∷◌, ◌++◌, length, ◌==◌, nat_le, nat_lt, if◌then◌else◌}
+use Rattle.v6_base.specs.Trace.{Taken, Item}
 use Rattle.v6_port.specs.declared.host.OutPort.{OutPort}
 use Rattle.v6_port.specs.declared.host.OutPort.TheVariants as out_port
 use Rattle.v6_port.specs.Outside.{Out, PortState, Outside, Tells, OnlyAt}
@@ -9,10 +9,12 @@ use Rattle.v6_run.specs.declared.ports.Kept.{Kept}
 use Rattle.v6_run.specs.declared.ports.Kept.TheVariants as kept
 use Rattle.v6_run.specs.declared.ports.TheConstants.{SCREEN_ROOM}
 use Rattle.v6_run.specs.Fronts.{HoldsFront}
-use Rattle.v6_run.specs.Outputs.{is_shown}
+use Rattle.v6_run.specs.Opened.{line_port}
+use Rattle.v6_run.specs.Outputs.{is_shown, shown_text}
 
-abbrev pub term : Outside → PortState
-term o = o.port (Out out_port.Term)
+-- the port of a terminal line
+abbrev pub line_state : Outside → ℕ → PortState
+line_state o l = o.port (Out (line_port l))
 
 abbrev pub log_of : Outside → PortState
 log_of o = o.port (Out out_port.Log)
@@ -26,15 +28,15 @@ final_of o = o.port (Out out_port.Final)
 -- the port at which a write has failed, where one has
 abbrev pub failed_port : Kept → Option OutPort
 failed_port kept.Nothing = None
-failed_port (kept.Byte byte) = Some out_port.Term
+failed_port (kept.Byte line byte) = Some (line_port line)
 failed_port (kept.Line rest) = Some out_port.Log
 failed_port kept.Unwanted = None
 failed_port (kept.Screen bytes) = None
 
--- the byte that could not be written
-abbrev pub kept_byte : Kept → List ℕ
-kept_byte (kept.Byte byte) = byte ∷ []
-kept_byte _ = []
+-- the byte that could not be written, on its line
+abbrev pub kept_byte : Kept → ℕ → List ℕ
+kept_byte (kept.Byte line byte) l = if line == l then byte ∷ [] else []
+kept_byte _ l = []
 
 -- what was not written of a line
 abbrev pub kept_text : Kept → List ℕ
@@ -52,14 +54,14 @@ tells_line_0 tells line = tells && (0 == line)
 -- nothing is written any more, or nothing is to be written
 abbrev pub is_silent : Kept → Bool
 is_silent kept.Nothing = false
-is_silent (kept.Byte byte) = true
+is_silent (kept.Byte line byte) = true
 is_silent (kept.Line rest) = true
 is_silent kept.Unwanted = true
 is_silent (kept.Screen bytes) = true
 
 abbrev pub is_wanted : Kept → Bool
 is_wanted kept.Nothing = true
-is_wanted (kept.Byte byte) = true
+is_wanted (kept.Byte line byte) = true
 is_wanted (kept.Line rest) = true
 is_wanted kept.Unwanted = false
 is_wanted (kept.Screen bytes) = false
@@ -69,14 +71,14 @@ abbrev pub is_counted : Kept → Bool
 is_counted (kept.Screen bytes) = true
 is_counted _ = false
 
--- What has been taken are the bytes of line 0, those written to Term, and the text of the log, what was written to Log: each
--- with the byte, or the rest of the line, that is kept because its writing failed. With that the trace is cut. A trace of which
--- nothing is wanted is never cut, and tells nothing.
-abbrev pub taken_of : Outside → Kept → Taken
-taken_of o k = record {
+-- What has been taken are the bytes of each of so many lines, those written to its port, and the text of the log, what was written to
+-- Log: each with the byte, or the rest of the line, that is kept because its writing failed. With that the trace is cut. A trace of
+-- which nothing is wanted is never cut, and tells nothing.
+abbrev pub taken_of : ℕ → Outside → Kept → Taken
+taken_of lines o k = record {
   cut = is_some (failed_port k);
-  tells_bytes = tells_line_0 (is_wanted k && o.fixed.tells);
-  bytes = of_line_0 ((term o).bytes ++ kept_byte k);
+  tells_bytes = λ l. nat_lt l lines && (is_wanted k && o.fixed.tells);
+  bytes = λ l. (line_state o l).bytes ++ kept_byte k l;
   tells_entries = false;
   entries = [];
   tells_text = is_wanted k && o.fixed.tells;
@@ -95,19 +97,23 @@ shown_on bytes = record {
   text = [];
 }
 
-abbrev pub taken_by : Outside → Kept → Taken
-taken_by o (kept.Screen bytes) = shown_on bytes.items
-taken_by o kept.Nothing = taken_of o kept.Nothing
-taken_by o (kept.Byte byte) = taken_of o (kept.Byte byte)
-taken_by o (kept.Line rest) = taken_of o (kept.Line rest)
-taken_by o kept.Unwanted = taken_of o kept.Unwanted
+abbrev pub taken_by : ℕ → Outside → Kept → Taken
+taken_by lines o (kept.Screen bytes) = shown_on bytes.items
+taken_by lines o kept.Nothing = taken_of lines o kept.Nothing
+taken_by lines o (kept.Byte line byte) = taken_of lines o (kept.Byte line byte)
+taken_by lines o (kept.Line rest) = taken_of lines o (kept.Line rest)
+taken_by lines o kept.Unwanted = taken_of lines o kept.Unwanted
 
 -- one byte more is counted, where there is room
-abbrev pub screened : Kept → ℕ → Kept
-screened (kept.Screen bytes) byte =
+abbrev pub counted : Kept → ℕ → Kept
+counted (kept.Screen bytes) byte =
     if nat_le SCREEN_ROOM (length bytes.items) then kept.Screen bytes
     else kept.Screen (record { items = bytes.items ++ byte ∷ [] })
-screened k byte = k
+counted k byte = k
+
+-- those of the console alone are
+abbrev pub screened : Kept → ℕ → ℕ → Kept
+screened k line byte = if line == 0 then counted k byte else k
 
 -- so many have been, and there was room for them all
 abbrev pub HasCounted : Kept → ℕ → Type 0
@@ -123,23 +129,21 @@ pub record Grows (told : Type 0) (old new : PortState) : Type 0 where
   pub is_open : new.is_open ≡ old.is_open
   pub bytes : told → Extends old.bytes new.bytes
 
--- What stays while bytes and lines go out: only Term and Log change, and more is written to them. No count changes until a write has
--- failed: then the faults of its port have risen, and from then on nothing changes; nor does it where nothing is to be written.
-pub record Goes (a : Outside) (a_kept : Kept) (b : Outside) (b_kept : Kept) : Type 0 where
-  pub only : OnlyAt is_shown a b
-  pub terminal : Grows (Tells a) (term a) (term b)
-  pub log : Grows (Tells a) (log_of a) (log_of b)
+-- What stays while bytes and lines go out: only the ports of the lines and Log change, and more is written to them. No count changes
+-- until a write has failed: then the faults of its port have risen, and from then on nothing changes; nor does it where nothing is to
+-- be written.
+pub record Goes (lines : ℕ) (a : Outside) (a_kept : Kept) (b : Outside) (b_kept : Kept) : Type 0 where
+  pub only : OnlyAt (is_shown lines) a b
+  pub grows : (p : OutPort) → Grows (Tells a) (a.port (Out p)) (b.port (Out p))
   pub cause : failed_port a_kept ≡ None
       → MatchOption (failed_port b_kept) (Calm a b) (λ p. FaultAt (Out p) true a b)
   pub stopped : is_silent a_kept ≡ true → (b ≡ a) × (is_silent b_kept ≡ true) × (failed_port b_kept ≡ failed_port a_kept)
   pub counted : is_counted b_kept ≡ is_counted a_kept
 
--- the terminal and the log have got all of what is shown
-pub record HasShown (items : List Item) (old new : Outside) : Type 0 where
-  pub terminal : (term new).bytes ≡ (term old).bytes ++ line_bytes 0 items
-  pub log : (log_of new).bytes ≡ (log_of old).bytes ++ text_of items
+-- each port has got all of what is shown there
+abbrev pub HasShown : ℕ → List Item → Outside → Outside → Type 0
+HasShown lines items old new = (p : OutPort) → (new.port (Out p)).bytes ≡ (old.port (Out p)).bytes ++ shown_text lines items p
 
--- each has got a front of it
-pub record HasShownFronts (items : List Item) (old new : Outside) : Type 0 where
-  pub terminal : HoldsFront (term old).bytes (line_bytes 0 items) (term new).bytes
-  pub log : HoldsFront (log_of old).bytes (text_of items) (log_of new).bytes
+-- or a front of it
+abbrev pub HasShownFronts : ℕ → List Item → Outside → Outside → Type 0
+HasShownFronts lines items old new = (p : OutPort) → HoldsFront (old.port (Out p)).bytes (shown_text lines items p) (new.port (Out p)).bytes

@@ -110,18 +110,20 @@ fn answer<H: Host>(
 /// - `run IMAGE CORE SCRIPT TERM LOG FINAL` boots the disk IMAGE with CORE clicks of memory, takes it through what SCRIPT
 ///   asks for, and writes to TERM what the terminal shows, to LOG what the kernel decides, and to FINAL the disk that is
 ///   left.
-/// - `run2 IMAGE CORE SCRIPT TERM LOG FINAL IMAGE2 FINAL2` does the same with a second disk, IMAGE2, which may be mounted, and
-///   writes to FINAL2 what is left of it.
-/// - `memory IMAGE CORE SCRIPT FINAL` does the same with one disk, and writes to FINAL alone: the bytes of core and then those of the swap
-///   area.
+/// - `run8 IMAGE CORE SCRIPT TERM LOG FINAL` does the same with eight terminal lines. Line 0 is the console, whose bytes go to
+///   TERM; those of line 1 go to TERM.1, and so on to TERM.7.
+/// - `run2 IMAGE CORE SCRIPT TERM LOG FINAL IMAGE2 FINAL2` does the same as `run` with a second disk, IMAGE2, which may be
+///   mounted, and writes to FINAL2 what is left of it.
+/// - `memory IMAGE CORE SCRIPT FINAL` does the same as `run`, and writes to FINAL alone: the bytes of core and then those of the
+///   swap area.
 /// - `check IMAGE` tells how many nodes and free blocks the disk IMAGE has, or the first of its faults.
 /// - `make N FINAL` writes the disk image of the number N to FINAL.
 /// - `demo N` takes this disk, with 100 clicks of core, through a script that shows the most of the kernel, and tells what that
 ///   came to. It reads and writes no file.
 /// - `audit LOG` tells whether the lines of LOG are a lawful log, or the first line that is at fault. It goes by the lines alone.
 ///
-/// Any other words are [`Status::Usage`]. `run`, `run2`, `memory` and `make` report nothing where they were done; any other status is reported in
-/// one line.
+/// Any other words are [`Status::Usage`]. `run`, `run8`, `run2`, `memory` and `make` report nothing where they were done; any
+/// other status is reported in one line.
 pub fn v6<H: Host>(alloc: Global, words: &Vec<String>, host: &mut H) -> Status
     requires { IsIdle (H.outside host.old) }
 

@@ -27,6 +27,7 @@ use crate::ports::Ports;
 use crate::run::{RunError, boot};
 use crate::slots::show_run;
 use crate::status::Status;
+use crate::words::Lines;
 use fs_check::{Tally, accept, tally};
 use fs_codec::{BLOCK_SIZE, SWAP_START};
 use make_image::{build, demo_script};
@@ -181,6 +182,6 @@ pub(crate) fn demo<H: Host>(alloc: Global, number: u32, host: &mut H) -> Result<
 {
     let mut image = demo_disk(alloc, number)?;
     let script = demo_events(alloc)?;
-    let mut kernel = boot(alloc, &image, DEMO_CORE)?;
+    let mut kernel = boot(alloc, &image, DEMO_CORE, Lines::One)?;
     run_counted(&mut kernel, number, &script.events, &mut image, host)
 }

@@ -14,10 +14,11 @@ ghost use Rattle.v6_run.specs.Events.{events_of};
 ghost use Rattle.v6_run.specs.Words.{ToMemory};
 ghost use Rattle.v6_run.specs.Ports.{final_of};
 ghost use Rattle.v6_run.specs.Fronts.{HoldsFront};
-ghost use Rattle.v6_run.specs.Outputs.{memory_writes, core_writes, EndsRun, StopsRun};
+ghost use Rattle.v6_run.specs.Outputs.{memory_writes, core_writes, EndsRun, StopsBy};
 
 use crate::files::write_all;
 use crate::ports::Ports;
+use crate::run::RunError;
 use crate::slots::show_run;
 use script_text::Event;
 use unix_core::{Ends, Kernel};
@@ -126,7 +127,7 @@ pub(crate) fn run_to_memory<H: Host>(
     events: &[Event],
     name: &str,
     host: &mut H,
-) -> Result<Ends, OutPort>
+) -> Result<Ends, RunError>
     requires closed { ((H.outside host.old).port (Out out_port.Final)).is_open ≡ false }
     requires new { kernel.old.phase ≡ New }
     requires can { CanTake kernel.old.system events.now }
@@ -135,19 +136,19 @@ pub(crate) fn run_to_memory<H: Host>(
         (λ ends. EndsRun (ToMemory name.now)
         (core_writes (course (started kernel.old.system) (events_of events.now)))
         (course (started kernel.old.system) (events_of events.now)) ends (H.outside host.old) (H.outside host.new))
-        (λ port. StopsRun (ToMemory name.now)
-        (core_writes (course (started kernel.old.system) (events_of events.now))) port
+        (λ error. StopsBy (ToMemory name.now)
+        (core_writes (course (started kernel.old.system) (events_of events.now))) error
         (H.outside host.old) (H.outside host.new)) }
 {
     if open_final(name, host).is_err() {
-        return Err(OutPort::Final);
+        return Err(RunError::Write(OutPort::Final));
     }
     let ends = play_unshown(kernel, events, host);
     if leave_memory(kernel, ends, host).is_err() {
-        return Err(OutPort::Final);
+        return Err(RunError::Write(OutPort::Final));
     }
     if finish_final(host).is_err() {
-        return Err(OutPort::Final);
+        return Err(RunError::Write(OutPort::Final));
     }
     Ok(ends)
 }

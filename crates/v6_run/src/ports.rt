@@ -1,42 +1,56 @@
 //! What a run shows, written to the ports of a host.
-ghost use Rattle.std.specs.Prelude.{◌≡◌, false, ◌++◌, ◌∷◌, [], ◌≤◌, drop, length, IfSome};
+ghost use Rattle.std.specs.Prelude.{◌≡◌, ℕ, false, ◌++◌, ◌∷◌, [], ◌<◌, ◌≤◌, drop, length, IfSome};
 ghost use Rattle.v6_base.specs.LogLine.{entry_line};
 ghost use Rattle.v6_port.specs.Outside.{Out, IsOpen};
-ghost use Rattle.v6_port.specs.declared.host.OutPort.TheVariants.{Term, Log};
-ghost use Rattle.v6_run.specs.Ports.{is_silent, failed_port, screened, HasCounted};
+ghost use Rattle.v6_port.specs.declared.host.OutPort.TheVariants.{Log};
+ghost use Rattle.v6_run.specs.Opened.{line_port};
+ghost use Rattle.v6_run.specs.Ports.{is_silent, failed_port, counted, screened, HasCounted};
 
 use crate::files::write_text;
 use arrayvec::ArrayVec;
 use log_text::{Line, put_line};
-use v6_base::{Entry, Trace};
+use v6_base::{Entry, LINES, Trace};
 use v6_port::{Host, OutPort};
 
-/// For how many bytes of the terminal there is room where they aren't written.
+/// The port to which the bytes of a terminal line go.
+#[tactic(auto, using(crate::proofs::LinePorts::first_port, crate::proofs::LinePorts::other_port))]
+pub(crate) fn line_port(line: u8) -> OutPort
+    ensures { result ≡ line_port line }
+{
+    if line == 0 {
+        OutPort::Term
+    } else {
+        OutPort::Line(line)
+    }
+}
+
+/// For how many bytes of the console there is room where they aren't written.
 const SCREEN_ROOM: usize = 4096;
 
 /// What was not written.
 #[derive(Drop)]
 enum Kept {
     Nothing,
-    /// A byte of the terminal.
-    Byte(u8),
+    /// A byte of a terminal line, with the line's number.
+    Byte(u8, u8),
     /// The rest of a line of the log, with its line feed.
     Line(Line),
     /// All of it: nobody wants what the run shows.
     Unwanted,
-    /// All bytes of the terminal: nobody wants more than to count them.
+    /// All bytes of the console: nobody wants more than to count them.
     Screen(ArrayVec<u8, SCREEN_ROOM>),
 }
 
-/// A trace over the ports of the terminal and the log. A line of the log goes out as one piece. The trace is cut where a
-/// write fails, and keeps what was not written of that byte or line. A trace of which nothing is wanted writes nothing, and is
-/// never cut; one that counts writes nothing, and is cut where the bytes of the terminal have no more room. A run with each of
-/// them is the same code, so that the loop over slots stands once.
+/// A trace over the ports of so many terminal lines and of the log. A byte on another line is dropped. A line of the log goes out
+/// as one piece. The trace is cut where a write fails, and keeps what was not written of that byte or line. A trace of which
+/// nothing is wanted writes nothing, and is never cut; one that counts writes nothing, and is cut where the bytes of the console
+/// have no more room. A run with each of them is the same code, so that the loop over slots stands once.
 #[derive(Drop)]
 pub(crate) struct Ports<'a, H: Host> {
     host: &'a mut H,
+    lines: u8,
     kept: Kept,
-    ghost term_is_open: { is_silent kept ≡ false → IsOpen (H.outside host.now) (Out Term) },
+    ghost lines_are_open: { is_silent kept ≡ false → (l : ℕ) → l < lines → IsOpen (H.outside host.now) (Out (line_port l)) },
     ghost log_is_open: { is_silent kept ≡ false → IsOpen (H.outside host.now) (Out Log) },
 }
 
@@ -44,16 +58,18 @@ impl<'a, H: Host> Ports<'a, H> {
     ghost use Rattle.std.specs.Prelude.{◌∷◌, []};
     ghost use Rattle.v6_run.specs.declared.ports.Kept.TheVariants.{Nothing, Unwanted, Screen};
 
-    /// A trace of which nothing is taken yet.
-    pub(crate) fn new(host: &'a mut H) -> Self
-        requires term { IsOpen (H.outside host.old) (Out Term) }
+    /// A trace over so many lines of which nothing is taken yet.
+    pub(crate) fn new(host: &'a mut H, lines: u8) -> Self
+        requires lines { (l : ℕ) → l < lines → IsOpen (H.outside host.old) (Out (line_port l)) }
         requires log { IsOpen (H.outside host.old) (Out Log) }
         ensures same_reference { result.host.ghost_name ≡ host.entry.ghost_name }
         ensures outside { result.host.now ≡ host.old }
         ensures kept { result.kept ≡ Nothing }
+        ensures lines { result.lines ≡ lines }
     {
         Ports {
             host,
+            lines,
             kept: Kept::Nothing,
         }
     }
@@ -66,11 +82,12 @@ impl<'a, H: Host> Ports<'a, H> {
     {
         Ports {
             host,
+            lines: 0,
             kept: Kept::Unwanted,
         }
     }
 
-    /// A trace that writes nothing and counts the bytes of the terminal.
+    /// A trace that writes nothing and counts the bytes of the console.
     pub(crate) fn counting(host: &'a mut H) -> Self
         ensures same_reference { result.host.ghost_name ≡ host.entry.ghost_name }
         ensures outside { result.host.now ≡ host.old }
@@ -78,6 +95,7 @@ impl<'a, H: Host> Ports<'a, H> {
     {
         Ports {
             host,
+            lines: 0,
             kept: Kept::Screen(ArrayVec::new()),
         }
     }
@@ -88,7 +106,7 @@ impl<'a, H: Host> Ports<'a, H> {
     {
         match &self.kept {
             Kept::Nothing => false,
-            Kept::Byte(_) | Kept::Line(_) | Kept::Unwanted | Kept::Screen(_) => true,
+            Kept::Byte(..) | Kept::Line(_) | Kept::Unwanted | Kept::Screen(_) => true,
         }
     }
 
@@ -98,12 +116,12 @@ impl<'a, H: Host> Ports<'a, H> {
     {
         match &self.kept {
             Kept::Nothing | Kept::Unwanted | Kept::Screen(_) => None,
-            Kept::Byte(_) => Some(OutPort::Term),
+            Kept::Byte(line, _) => Some(line_port(*line)),
             Kept::Line(_) => Some(OutPort::Log),
         }
     }
 
-    /// How many bytes the terminal was shown, of a trace that counts them, where they had room.
+    /// How many bytes the console was shown, of a trace that counts them, where they had room.
     pub(crate) fn count(&self) -> Option<u16>
         ensures { IfSome result (λ count. HasCounted self.now.kept count) }
     {
@@ -114,13 +132,22 @@ impl<'a, H: Host> Ports<'a, H> {
     }
 }
 
-/// Takes a byte of the terminal that isn't written, where such bytes are counted.
+/// Counts a byte of the console, where such bytes are counted.
 #[inline(never)]
-fn keep(kept: &mut Kept, byte: u8)
-    ensures { kept.new ≡ screened kept.old byte }
+fn count_byte(kept: &mut Kept, byte: u8)
+    ensures { kept.new ≡ counted kept.old byte }
 {
     if let Kept::Screen(bytes) = kept {
         let _ = bytes.try_push(byte);
+    }
+}
+
+/// Takes a byte of a terminal line that isn't written. Those of the console alone are counted.
+fn keep(kept: &mut Kept, line: u8, byte: u8)
+    ensures { kept.new ≡ screened kept.old line byte }
+{
+    if line == 0 {
+        count_byte(kept, byte);
     }
 }
 
@@ -139,10 +166,10 @@ fn rest_of(line: &Line, count: usize) -> Line
 /// A byte could not be written. It stands by itself, as the next does, so that a byte that is written pays nothing for the room
 /// of what is kept.
 #[inline(never)]
-fn keep_byte(kept: &mut Kept, byte: u8)
-    ensures { kept.new ≡ Kept.Byte byte }
+fn keep_byte(kept: &mut Kept, line: u8, byte: u8)
+    ensures { kept.new ≡ Kept.Byte line byte }
 {
-    *kept = Kept::Byte(byte);
+    *kept = Kept::Byte(line, byte);
 }
 
 /// So many bytes of a line were written, and the others could not be.
@@ -157,23 +184,42 @@ fn keep_line(kept: &mut Kept, line: &Line, count: usize)
 impl<'a, H: Host> Ports<'a, H> {
     ghost use Rattle.std.specs.Prelude.{◌∷◌, []};
     ghost use Rattle.v6_base.specs.Trace.{Byte, Took, Appends};
+    ghost use Rattle.v6_base.specs.Trace as trace;
     ghost use Rattle.v6_run.specs.Ports.{taken_by, Goes};
 
-    /// Takes a byte of the terminal.
-    fn show(&mut self, byte: u8)
-        ensures took { Took (taken_by (H.outside self.old.host.now) self.old.kept) (Byte 0 byte ∷ [])
-            (taken_by (H.outside self.new.host.now) self.new.kept) }
-        ensures whole { Appends (taken_by (H.outside self.old.host.now) self.old.kept) (Byte 0 byte)
-            (taken_by (H.outside self.new.host.now) self.new.kept) }
-        ensures goes { Goes (H.outside self.old.host.now) self.old.kept (H.outside self.new.host.now) self.new.kept }
+    /// Writes a line of the log, where such are written.
+    fn show_entry(&mut self, e: &Entry)
+        requires loud { is_silent self.old.kept ≡ false }
+        ensures took { Took (taken_by self.old.lines (H.outside self.old.host.now) self.old.kept) (trace.Log e.now ∷ [])
+            (taken_by self.new.lines (H.outside self.new.host.now) self.new.kept) }
+        ensures whole { Appends (taken_by self.old.lines (H.outside self.old.host.now) self.old.kept) (trace.Log e.now)
+            (taken_by self.new.lines (H.outside self.new.host.now) self.new.kept) }
+        ensures goes { Goes self.old.lines (H.outside self.old.host.now) self.old.kept (H.outside self.new.host.now) self.new.kept }
         ensures same_reference { self.new.host.ghost_name ≡ self.old.host.ghost_name }
+        ensures lines { self.new.lines ≡ self.old.lines }
     {
-        if self.is_silent() {
-            keep(&mut self.kept, byte);
-            return;
+        let mut line = Line::new();
+        put_line(&mut line, e);
+        if let Err(count) = write_text(self.host, OutPort::Log, line.as_slice()) {
+            keep_line(&mut self.kept, &line, count);
         }
-        if self.host.write(OutPort::Term, &[byte]).is_err() {
-            keep_byte(&mut self.kept, byte);
+    }
+
+    /// Writes a byte of a line that has a port, where bytes are written.
+    fn show(&mut self, line: u8, byte: u8)
+        requires loud { is_silent self.old.kept ≡ false }
+        requires there { line < self.old.lines }
+        requires eight { line < LINES }
+        ensures took { Took (taken_by self.old.lines (H.outside self.old.host.now) self.old.kept) (Byte line byte ∷ [])
+            (taken_by self.new.lines (H.outside self.new.host.now) self.new.kept) }
+        ensures whole { Appends (taken_by self.old.lines (H.outside self.old.host.now) self.old.kept) (Byte line byte)
+            (taken_by self.new.lines (H.outside self.new.host.now) self.new.kept) }
+        ensures goes { Goes self.old.lines (H.outside self.old.host.now) self.old.kept (H.outside self.new.host.now) self.new.kept }
+        ensures same_reference { self.new.host.ghost_name ≡ self.old.host.ghost_name }
+        ensures lines { self.new.lines ≡ self.old.lines }
+    {
+        if write_text(self.host, line_port(line), &[byte]).is_err() {
+            keep_byte(&mut self.kept, line, byte);
         }
     }
 }
@@ -181,31 +227,31 @@ impl<'a, H: Host> Ports<'a, H> {
 impl<'a, H: Host> Trace for Ports<'a, H> {
     ghost use Rattle.std.proofs.Common.{refl, ◌∙◌};
     ghost use Rattle.v6_run.specs.Ports.{taken_by, Goes};
-    ghost use Rattle.v6_run.specs.PortLaws.{Goes-same, Goes-on};
+    ghost use Rattle.v6_run.specs.PortLaws.{Goes-same, goes_then};
 
-    ghost taken = { λ t. taken_by (H.outside t.host.now) t.kept };
+    ghost taken = { λ t. taken_by t.lines (H.outside t.host.now) t.kept };
 
-    ghost leads_to = { λ a b. Goes (H.outside a.host.now) a.kept (H.outside b.host.now) b.kept
-        × (b.host.ghost_name ≡ a.host.ghost_name) };
+    ghost leads_to = { λ a b. Goes a.lines (H.outside a.host.now) a.kept (H.outside b.host.now) b.kept
+        × (b.host.ghost_name ≡ a.host.ghost_name) × (b.lines ≡ a.lines) };
 
-    ghost stays = { λ t. (Goes-same (H.outside t.host.now) t.kept, refl) };
+    ghost stays = { λ t. (Goes-same t.lines (H.outside t.host.now) t.kept, refl, refl) };
 
-    ghost goes_on = { λ a b c first second. (Goes-on _ _ _ _ _ _ first.0 second.0, second.1 ∙ first.1) };
+    ghost goes_on = { λ a b c first second. (goes_then _ _ _ _ _ _ _ _ first.2 first.0 second.0, second.1 ∙ first.1, second.2 ∙ first.2) };
 
     fn entry(&mut self, e: Entry) {
         if self.is_silent() {
             return;
         }
-        let mut line = Line::new();
-        put_line(&mut line, &e);
-        if let Err(count) = write_text(self.host, OutPort::Log, line.as_slice()) {
-            keep_line(&mut self.kept, &line, count);
-        }
+        self.show_entry(&e);
     }
 
     fn out_on(&mut self, line: u8, byte: u8) {
-        if line == 0 {
-            self.show(byte);
+        if self.is_silent() {
+            keep(&mut self.kept, line, byte);
+            return;
+        }
+        if line < self.lines {
+            self.show(line, byte);
         }
     }
 }

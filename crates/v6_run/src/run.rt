@@ -1,10 +1,10 @@
-//! The commands `run`, `run2` and `memory`: a run, and what it leaves.
-ghost use Rattle.std.specs.Prelude.{◌≡◌, ◌<◌, ◌≤◌, ◌^◌, length, true, false, None, Some, IsSome, IfSome, IfOk, OnOk, IfErr, MatchResult, ◌++◌};
+//! The commands `run`, `run8`, `run2` and `memory`: a run, and what it leaves.
+ghost use Rattle.std.specs.Prelude.{◌≡◌, ℕ, ◌<◌, ◌≤◌, ◌^◌, length, map, true, false, is_some, None, Some, IsSome, IsSomeAnd, IfSome, IfOk, OnOk, IfErr, MatchResult, ◌++◌};
 ghost use Rattle.std.specs.Option.{option_map};
 ghost use Rattle.v6_port.specs.Outside.{In, Out, IsOpen, OnlyAt, Tells, same};
 ghost use Rattle.v6_port.specs.declared.host.InPort.TheVariants.{Second};
 ghost use Rattle.v6_port.specs.declared.host.OutPort.{OutPort};
-ghost use Rattle.v6_port.specs.declared.host.OutPort.TheVariants.{Term, Log};
+ghost use Rattle.v6_port.specs.declared.host.OutPort.TheVariants.{Log};
 ghost use Rattle.v6_port.specs.Causes.{Calm, FaultAt};
 ghost use Rattle.v6_base.specs.Image.{AreBytes};
 ghost use Rattle.fs_codec.specs.Faults.{image_fault};
@@ -13,24 +13,26 @@ ghost use Rattle.buf_cache.specs.Blocks.{block_at};
 ghost use Rattle.abstract_unix.specs.Unix.{New};
 ghost use Rattle.abstract_unix.specs.Endings.{phase_after};
 ghost use Rattle.abstract_unix.specs.Runs.{boots, started, course, shown_by};
-ghost use Rattle.unix_core.specs.Boots.{blocks_on, second_fault_of};
+ghost use Rattle.unix_core.specs.Boots.{RefusesBoot, blocks_on, second_fault_of};
 ghost use Rattle.unix_core.specs.State.{KeepsRest};
 ghost use Rattle.v6_run.specs.Courses.{CanTake};
-ghost use Rattle.v6_run.specs.Words.{Run, ToDisk, ToDisks, disk_files_value, second_files_value, run_words_value, second_image, bytes_value};
+ghost use Rattle.v6_run.specs.Words.{Run, ToDisk, lines_value, disk_files_value, run_words_value, second_files, second_image, bytes_value};
+ghost use Rattle.v6_run.specs.Opened.{line_port, output_ports};
+ghost use Rattle.v6_run.specs.Opening.{output_value};
 ghost use Rattle.v6_run.specs.Events.{events_of};
 ghost use Rattle.v6_run.specs.Ports.{HasShown, HasShownFronts};
 ghost use Rattle.v6_run.specs.Errors.{end_of, run_status};
-ghost use Rattle.v6_run.specs.Outputs.{is_shown, is_disk_output, is_disks_output, is_output, disk_writes, disks_writes, run_writes, HasLawfulLogs, EndsRun, StopsRun};
+ghost use Rattle.v6_run.specs.Outputs.{is_shown, is_disk_output, is_output, disk_writes, run_writes, HasLawfulLogs, EndsRun, StopsRun, StopsBy};
 ghost use Rattle.v6_run.specs.Answers.{Answers, HasSecond, HasFiles};
 ghost use Rattle.v6_run.specs.Steps.{StopsSecond};
 
 use crate::files::{ReadError, read_file};
 use crate::image::{ImageError, SecondError, read_image, read_second};
 use crate::memory::run_to_memory;
-use crate::outputs::{finish_both, finish_outputs, leave_both, leave_disk, open_both, open_outputs};
+use crate::outputs::{Output, disk_outputs, finish_outputs, leave_disks, open_outputs};
 use crate::ports::Ports;
 use crate::slots::show_run;
-use crate::words::{DiskFiles, Outputs, RunWords, SecondFiles};
+use crate::words::{DiskFiles, Lines, Outputs, RunWords};
 use fs_codec::SWAP_START;
 use script_text::{Event, MAX_BYTES, ScriptFault, read};
 use std::alloc::Global;
@@ -111,19 +113,34 @@ fn see_bytes(bytes: &[u8])
     let _ = bytes;
 }
 
-/// The kernel for an image and so many clicks of core. Each of its runs has a lawful log.
-pub(crate) fn boot(alloc: Global, image: &[u8], core: u32) -> Result<Kernel, RunError>
+/// The kernel for an image, so many clicks of core and so many terminal lines, or what hinders it.
+fn kernel_with(alloc: Global, image: &[u8], core: u16, lines: Lines) -> Result<Kernel, BootFault>
+    requires least { 64 ≤ core }
+    requires most { core ≤ 3968 }
+    ensures system { IfOk result (λ kernel. boots image.now None core (lines_value lines) ≡ Some kernel.system) }
+    ensures blocks { IfOk result (λ kernel. kernel.blocks ≡ blocks_on image.now None) }
+    ensures phase { IfOk result (λ kernel. kernel.phase ≡ New) }
+    ensures refused { IfErr result (RefusesBoot image.now) }
+{
+    match lines {
+        Lines::One => Kernel::boot(alloc, image, core),
+        Lines::Eight => Kernel::boot8(alloc, image, core),
+    }
+}
+
+/// The kernel for an image, so many clicks of core and so many terminal lines. Each of its runs has a lawful log.
+pub(crate) fn boot(alloc: Global, image: &[u8], core: u32, lines: Lines) -> Result<Kernel, RunError>
     requires least { 64 ≤ core }
     requires most { core ≤ 3968 }
     requires good { image_fault image.now ≡ None }
-    ensures system { IfOk result (λ kernel. boots image.now None core 1 ≡ Some kernel.system) }
+    ensures system { IfOk result (λ kernel. boots image.now None core (lines_value lines) ≡ Some kernel.system) }
     ensures blocks { IfOk result (λ kernel. kernel.blocks ≡ blocks_on image.now None) }
     ensures phase { IfOk result (λ kernel. kernel.phase ≡ New) }
     ensures lawful { IfOk result (λ kernel. HasLawfulLogs kernel.system) }
     ensures memory { IfErr result (λ error. error ≡ RunError.NoMemory) }
 {
     see_bytes(image);
-    match Kernel::boot(alloc, image, core as u16) {
+    match kernel_with(alloc, image, core as u16, lines) {
         Ok(kernel) => Ok(kernel),
         Err(BootFault::Image(_)) => unreachable!(),
         Err(BootFault::NoMemory) => Err(RunError::NoMemory),
@@ -150,13 +167,15 @@ fn boot2(alloc: Global, image: &[u8], second: &[u8], core: u32) -> Result<Kernel
     }
 }
 
-/// The kernel for the images that were read.
-fn boot_files(alloc: Global, files: &Files, core: u32) -> Result<Kernel, RunError>
+/// The kernel for the images that were read. With a second one there is one terminal line.
+fn boot_files(alloc: Global, files: &Files, core: u32, lines: Lines) -> Result<Kernel, RunError>
     requires least { 64 ≤ core }
     requires most { core ≤ 3968 }
     requires good { image_fault files.now.image.items ≡ None }
     requires second { IfSome files.now.second (λ second. second_fault_of files.now.image.items second.items ≡ None) }
-    ensures system { IfOk result (λ kernel. boots files.now.image.items (bytes_value files.now.second) core 1 ≡ Some kernel.system) }
+    requires one { IsSome files.now.second → lines_value lines ≡ 1 }
+    ensures system { IfOk result (λ kernel. boots files.now.image.items (bytes_value files.now.second) core (lines_value lines)
+        ≡ Some kernel.system) }
     ensures blocks { IfOk result (λ kernel. kernel.blocks ≡ blocks_on files.now.image.items (bytes_value files.now.second)) }
     ensures phase { IfOk result (λ kernel. kernel.phase ≡ New) }
     ensures lawful { IfOk result (λ kernel. HasLawfulLogs kernel.system) }
@@ -164,35 +183,39 @@ fn boot_files(alloc: Global, files: &Files, core: u32) -> Result<Kernel, RunErro
 {
     match &files.second {
         Some(second) => boot2(alloc, &files.image, second, core),
-        None => boot(alloc, &files.image, core),
+        None => boot(alloc, &files.image, core, lines),
     }
 }
 
-/// Runs the kernel over the events of a script, with the terminal and the log open, and tells how the run ends. Where one of
-/// the two can't be written, the run goes on without both, and then that is the answer.
-fn play<H: Host>(kernel: &mut Kernel, events: &[Event], host: &mut H) -> Result<Ends, OutPort>
-    requires term { IsOpen (H.outside host.old) (Out Term) }
+/// Runs the kernel over the events of a script, with the files of so many lines and the log open, and tells how the run ends.
+/// Where one of them can't be written, the run goes on without all, and then that is the answer.
+fn play<H: Host>(
+    kernel: &mut Kernel,
+    events: &[Event],
+    lines: Lines,
+    host: &mut H,
+) -> Result<Ends, OutPort>
+    requires lines { (l : ℕ) → l < lines_value lines → IsOpen (H.outside host.old) (Out (line_port l)) }
     requires log { IsOpen (H.outside host.old) (Out Log) }
     requires new { kernel.old.phase ≡ New }
     requires can { CanTake kernel.old.system events.now }
     ensures phase { IfOk result (λ ends. kernel.new.phase ≡ phase_after ends) }
-    ensures only { OnlyAt is_shown (H.outside host.old) (H.outside host.new) }
-    ensures term { IsOpen (H.outside host.new) (Out Term) }
-    ensures log { IsOpen (H.outside host.new) (Out Log) }
+    ensures only { OnlyAt (is_shown (lines_value lines)) (H.outside host.old) (H.outside host.new) }
+    ensures is_open { (p : OutPort) → ((H.outside host.new).port (Out p)).is_open ≡ ((H.outside host.old).port (Out p)).is_open }
     ensures ending { IfOk result (λ ends. ends ≡ (course (started kernel.old.system) (events_of events.now)).ending) }
     ensures shown { OnOk result (Tells (H.outside host.old)
-        → HasShown (shown_by (course (started kernel.old.system) (events_of events.now)))
+        → HasShown (lines_value lines) (shown_by (course (started kernel.old.system) (events_of events.now)))
         (H.outside host.old) (H.outside host.new)) }
     ensures fronts { Tells (H.outside host.old)
-        → HasShownFronts (shown_by (course (started kernel.old.system) (events_of events.now)))
+        → HasShownFronts (lines_value lines) (shown_by (course (started kernel.old.system) (events_of events.now)))
         (H.outside host.old) (H.outside host.new) }
     ensures system { kernel.new.system ≡ (course (started kernel.old.system) (events_of events.now)).system }
     ensures rest { KeepsRest kernel.old kernel.new }
     ensures cause { MatchResult result (λ _. Calm (H.outside host.old) (H.outside host.new))
         (λ port. FaultAt (Out port) true (H.outside host.old) (H.outside host.new)) }
-    ensures named { IfErr result (λ port. is_shown (Out port) ≡ true) }
+    ensures named { IfErr result (λ port. is_shown (lines_value lines) (Out port) ≡ true) }
 {
-    let mut ports = Ports::new(host);
+    let mut ports = Ports::new(host, lines.count());
     let ends = show_run(kernel, events, &mut ports);
     match ports.failed() {
         Some(port) => Err(port),
@@ -200,82 +223,92 @@ fn play<H: Host>(kernel: &mut Kernel, events: &[Event], host: &mut H) -> Result<
     }
 }
 
-/// Runs the kernel with the files of `run` opened, and tells how the run ends: the disk that it leaves is written, and then the
-/// files are finished.
-fn run_to_disk<H: Host>(
+/// Runs the kernel with the files of `run`, `run8` or `run2` opened, and tells how the run ends: the disks that it leaves are
+/// written, and then the files are finished.
+fn run_opened<H: Host>(
     kernel: &mut Kernel,
     events: &[Event],
     files: &DiskFiles<'_>,
+    outputs: &[Output],
     host: &mut H,
 ) -> Result<Ends, OutPort>
-    requires closed { (p : OutPort) → is_disk_output (Out p) ≡ true
+    requires outputs { map output_value outputs.now ≡ output_ports (ToDisk (disk_files_value files.now)) }
+    requires closed { (p : OutPort) → is_disk_output (disk_files_value files.now) (Out p) ≡ true
         → ((H.outside host.old).port (Out p)).is_open ≡ false }
     requires root { (head (block_at kernel.old.blocks.root)).f_size ≤ SWAP_START }
+    requires second { is_some kernel.old.system.unix.store.second ≡ is_some (disk_files_value files.now).second }
     requires new { kernel.old.phase ≡ New }
     requires lawful { HasLawfulLogs kernel.old.system }
     requires can { CanTake kernel.old.system events.now }
-    ensures only { OnlyAt is_disk_output (H.outside host.old) (H.outside host.new) }
+    ensures only { OnlyAt (is_disk_output (disk_files_value files.now)) (H.outside host.old) (H.outside host.new) }
     ensures outcome { MatchResult result
         (λ ends. EndsRun (ToDisk (disk_files_value files.now))
-        (disk_writes (block_at kernel.old.blocks.root) (course (started kernel.old.system) (events_of events.now)))
-        (course (started kernel.old.system) (events_of events.now)) ends (H.outside host.old) (H.outside host.new))
-        (λ port. StopsRun (ToDisk (disk_files_value files.now))
-        (disk_writes (block_at kernel.old.blocks.root) (course (started kernel.old.system) (events_of events.now))) port
-        (H.outside host.old) (H.outside host.new)) }
-{
-    open_outputs(files, host)?;
-    let ends = play(kernel, events, host)?;
-    if leave_disk(kernel, host).is_err() {
-        return Err(OutPort::Final);
-    }
-    finish_outputs(host)?;
-    Ok(ends)
-}
-
-/// The same of `run2`: the second disk is written after the root's, and its file is finished last.
-fn run_to_disks<H: Host>(
-    kernel: &mut Kernel,
-    events: &[Event],
-    files: &DiskFiles<'_>,
-    second: &SecondFiles<'_>,
-    host: &mut H,
-) -> Result<Ends, OutPort>
-    requires closed { (p : OutPort) → is_disks_output (Out p) ≡ true
-        → ((H.outside host.old).port (Out p)).is_open ≡ false }
-    requires root { (head (block_at kernel.old.blocks.root)).f_size ≤ SWAP_START }
-    requires second { IsSome kernel.old.system.unix.store.second }
-    requires new { kernel.old.phase ≡ New }
-    requires lawful { HasLawfulLogs kernel.old.system }
-    requires can { CanTake kernel.old.system events.now }
-    ensures only { OnlyAt is_disks_output (H.outside host.old) (H.outside host.new) }
-    ensures outcome { MatchResult result
-        (λ ends. EndsRun (ToDisks (disk_files_value files.now) (second_files_value second.now))
-        (disks_writes (block_at kernel.old.blocks.root) (option_map block_at kernel.old.blocks.second)
+        (disk_writes (disk_files_value files.now).lines (block_at kernel.old.blocks.root)
+        (option_map block_at kernel.old.blocks.second)
         (course (started kernel.old.system) (events_of events.now)))
         (course (started kernel.old.system) (events_of events.now)) ends (H.outside host.old) (H.outside host.new))
-        (λ port. StopsRun (ToDisks (disk_files_value files.now) (second_files_value second.now))
-        (disks_writes (block_at kernel.old.blocks.root) (option_map block_at kernel.old.blocks.second)
+        (λ port. StopsRun (ToDisk (disk_files_value files.now))
+        (disk_writes (disk_files_value files.now).lines (block_at kernel.old.blocks.root)
+        (option_map block_at kernel.old.blocks.second)
         (course (started kernel.old.system) (events_of events.now))) port
         (H.outside host.old) (H.outside host.new)) }
 {
-    open_both(files, second, host)?;
-    let ends = play(kernel, events, host)?;
-    leave_both(kernel, host)?;
-    finish_both(host)?;
+    open_outputs(outputs, host)?;
+    let ends = play(kernel, events, files.lines(), host)?;
+    leave_disks(kernel, files.second().is_some(), host)?;
+    finish_outputs(outputs, host)?;
     Ok(ends)
+}
+
+/// Runs the kernel for the disks that it leaves. There has to be memory for the names of the files.
+fn run_to_disk<H: Host>(
+    alloc: Global,
+    kernel: &mut Kernel,
+    events: &[Event],
+    files: &DiskFiles<'_>,
+    host: &mut H,
+) -> Result<Ends, RunError>
+    requires closed { (p : OutPort) → is_disk_output (disk_files_value files.now) (Out p) ≡ true
+        → ((H.outside host.old).port (Out p)).is_open ≡ false }
+    requires root { (head (block_at kernel.old.blocks.root)).f_size ≤ SWAP_START }
+    requires second { is_some kernel.old.system.unix.store.second ≡ is_some (disk_files_value files.now).second }
+    requires new { kernel.old.phase ≡ New }
+    requires lawful { HasLawfulLogs kernel.old.system }
+    requires can { CanTake kernel.old.system events.now }
+    ensures only { OnlyAt (is_disk_output (disk_files_value files.now)) (H.outside host.old) (H.outside host.new) }
+    ensures outcome { MatchResult result
+        (λ ends. EndsRun (ToDisk (disk_files_value files.now))
+        (disk_writes (disk_files_value files.now).lines (block_at kernel.old.blocks.root)
+        (option_map block_at kernel.old.blocks.second)
+        (course (started kernel.old.system) (events_of events.now)))
+        (course (started kernel.old.system) (events_of events.now)) ends (H.outside host.old) (H.outside host.new))
+        (λ error. StopsBy (ToDisk (disk_files_value files.now))
+        (disk_writes (disk_files_value files.now).lines (block_at kernel.old.blocks.root)
+        (option_map block_at kernel.old.blocks.second)
+        (course (started kernel.old.system) (events_of events.now))) error
+        (H.outside host.old) (H.outside host.new)) }
+{
+    let Ok(outputs) = disk_outputs(alloc, files) else {
+        return Err(RunError::NoMemory);
+    };
+    match run_opened(kernel, events, files, &outputs, host) {
+        Ok(ends) => Ok(ends),
+        Err(port) => Err(RunError::Write(port)),
+    }
 }
 
 /// Runs the kernel with the files opened that the words name, and tells how the run ends.
 fn run_with_outputs<H: Host>(
+    alloc: Global,
     kernel: &mut Kernel,
     events: &[Event],
     words: &RunWords<'_>,
     host: &mut H,
-) -> Result<Ends, OutPort>
+) -> Result<Ends, RunError>
     requires closed { (p : OutPort) → is_output (run_words_value words.now).outputs (Out p) ≡ true
         → ((H.outside host.old).port (Out p)).is_open ≡ false }
     requires root { (head (block_at kernel.old.blocks.root)).f_size ≤ SWAP_START }
-    requires second { IsSome (second_image (run_words_value words.now).outputs) → IsSome kernel.old.system.unix.store.second }
+    requires second { is_some kernel.old.system.unix.store.second ≡ is_some (second_files (run_words_value words.now).outputs) }
     requires new { kernel.old.phase ≡ New }
     requires lawful { HasLawfulLogs kernel.old.system }
     requires can { CanTake kernel.old.system events.now }
@@ -286,14 +319,13 @@ fn run_with_outputs<H: Host>(
         (option_map block_at kernel.old.blocks.second)
         (course (started kernel.old.system) (events_of events.now)))
         (course (started kernel.old.system) (events_of events.now)) ends (H.outside host.old) (H.outside host.new))
-        (λ port. StopsRun (run_words_value words.now).outputs
+        (λ error. StopsBy (run_words_value words.now).outputs
         (run_writes (run_words_value words.now).outputs (block_at kernel.old.blocks.root)
         (option_map block_at kernel.old.blocks.second)
-        (course (started kernel.old.system) (events_of events.now))) port (H.outside host.old) (H.outside host.new)) }
+        (course (started kernel.old.system) (events_of events.now))) error (H.outside host.old) (H.outside host.new)) }
 {
     match &words.outputs {
-        Outputs::Disk(files) => run_to_disk(kernel, events, files, host),
-        Outputs::Disks(files, second) => run_to_disks(kernel, events, files, second, host),
+        Outputs::Disk(files) => run_to_disk(alloc, kernel, events, files, host),
         Outputs::Memory(name) => run_to_memory(kernel, events, name, host),
     }
 }
@@ -319,12 +351,12 @@ fn read_other<H: Host>(
     ensures second { IfOk result (λ second.
         HasSecond image.now (second_image (run_words_value words.now).outputs) (bytes_value second) (H.outside host.old)) }
     ensures cause { MatchResult result (λ _. Calm (H.outside host.old) (H.outside host.new))
-        (λ error. IfSome (second_image (run_words_value words.now).outputs) (λ name.
+        (λ error. IsSomeAnd (second_image (run_words_value words.now).outputs) (λ name.
         StopsSecond image.now name error (H.outside host.old) (H.outside host.new))) }
 {
-    match &words.outputs {
-        Outputs::Disks(_, second) => Ok(Some(read_second(alloc, image, second.image, host)?)),
-        Outputs::Disk(_) | Outputs::Memory(_) => Ok(None),
+    match words.outputs.second() {
+        Some(second) => Ok(Some(read_second(alloc, image, second.image, host)?)),
+        None => Ok(None),
     }
 }
 
@@ -346,7 +378,7 @@ fn read_files<H: Host>(alloc: Global, words: &RunWords<'_>, host: &mut H) -> Res
     })
 }
 
-/// The commands `run`, `run2` and `memory` with good words.
+/// The commands `run`, `run8`, `run2` and `memory` with good words.
 pub(crate) fn run<H: Host>(
     alloc: Global,
     words: &RunWords<'_>,
@@ -360,10 +392,10 @@ pub(crate) fn run<H: Host>(
 {
     let files = read_files(alloc, words, host)?;
     let script = read(alloc, &files.script)?;
-    let mut kernel = boot_files(alloc, &files, words.core)?;
-    match run_with_outputs(&mut kernel, &script.events, words, host) {
+    let mut kernel = boot_files(alloc, &files, words.core, words.outputs.lines())?;
+    match run_with_outputs(alloc, &mut kernel, &script.events, words, host) {
         Ok(Ends::AtEnd) => Ok(()),
         Ok(Ends::Panic(kind)) => Err(RunError::Panic(kind)),
-        Err(port) => Err(RunError::Write(port)),
+        Err(error) => Err(error),
     }
 }

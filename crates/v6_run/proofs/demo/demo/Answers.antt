@@ -32,7 +32,7 @@ run_counted-requires-clause-can g c =
     let image = c.in_ok-image.image.items in
     let boots_is = subst (λ l. boots l None DEMO_CORE 1 ≡ Some kernel.system) c.deref.ensures.value c.in_ok-kernel.ensures.system in
     subst (λ l. CanTake kernel.system l) (sym c.deref-2.ensures.value)
-    (boot_can image None DEMO_CORE kernel.system c.in_ok-script.script.events.items boots_is c.in_ok-script.ensures.slots c.in_ok-script.ensures.rates)
+    (boot_can image None DEMO_CORE 1 kernel.system c.in_ok-script.script.events.items boots_is c.in_ok-script.ensures.slots c.in_ok-script.ensures.rates)
 
 pub returns-clause-answers : goal.returns-clause-answers
 returns-clause-answers g c =

@@ -9,16 +9,16 @@ use Rattle.abstract_unix.specs.declared.ends.Ends.TheVariants.{AtEnd}
 use Rattle.abstract_unix.specs.Runs.{boots, started, course}
 use Rattle.v6_run.specs.Events.{events_of}
 use Rattle.v6_run.specs.Outputs.{run_writes, EndsRun}
-use Rattle.v6_run.specs.Words.{Run, run_words_value}
+use Rattle.v6_run.specs.Words.{Run, line_count, run_words_value}
 use Rattle.script_text.specs.Script.{script_of, Refuses}
 use Rattle.v6_run.specs.Errors.{run_status}
 use Rattle.v6_run.specs.Answers.{Answers}
 use Rattle.v6_run.proofs.ResultLemmas.{value_where_ok, error_where_err, end_passed}
-use Rattle.v6_run.proofs.RunLemmas.{script_refused, boot_refused, run_ended, run_stopped}
+use Rattle.v6_run.proofs.RunLemmas.{script_refused, boot_refused, run_ended, run_stopped_by}
 use Rattle.v6_run.specs.Courses.{CanTake}
 use Rattle.v6_run.proofs.CanLemmas.{boot_can}
 use Rattle.v6_run.proofs.FinalLemmas.{image_below}
-use Rattle.v6_run.proofs.OutputLemmas.{same_blocks, ends_over, stops_over}
+use Rattle.v6_run.proofs.OutputLemmas.{same_blocks, ends_over, stops_over_by}
 use Rattle.v6_run.proofs.run.run.Goals as goal
 
 pub returns-in_err-files : goal.returns-in_err-files
@@ -65,7 +65,7 @@ run_with_outputs-requires-clause-can g c =
     let kernel = c.in_ok-kernel.kernel in
     let boots_is = value_where_ok _ _ _ c.in_ok-kernel.was c.boot.ensures.system in
     subst (λ l. CanTake kernel.system l) (sym c.deref-3.ensures.value)
-    (boot_can _ _ kernel.system c.in_ok-script.script.events.items boots_is (value_where_ok _ _ _ c.in_ok-script.was c.read.ensures.slots)
+    (boot_can _ _ _ kernel.system c.in_ok-script.script.events.items boots_is (value_where_ok _ _ _ c.in_ok-script.was c.read.ensures.slots)
     (value_where_ok _ _ _ c.in_ok-script.was c.read.ensures.rates))
 
 pub returns-in-Ok-AtEnd : goal.returns-in-Ok-AtEnd
@@ -81,7 +81,8 @@ returns-in-Ok-AtEnd g c =
     let kernel = c.in_ok-kernel.kernel in
     let read = subst (λ l. script_of l ≡ Ok events) c.deref.ensures.value (value_where_ok _ _ _ c.in_ok-script.was c.read.ensures.events) in
     let script_is = subst (λ l. script_of bytes ≡ Ok l) (sym c.deref-3.ensures.value) read in
-    let boots_is = subst (λ l. boots l words.core 1 ≡ Some kernel.system) c.deref-2.ensures.value (value_where_ok _ _ _ c.in_ok-kernel.was c.boot.ensures.system) in
+    let boots_is = subst (λ l. boots l words.core (line_count words.outputs) ≡ Some kernel.system) c.deref-2.ensures.value
+    (subst (λ n. boots c.deref-2.result.now words.core n ≡ Some kernel.system) c.lines.ensures (value_where_ok _ _ _ c.in_ok-kernel.was c.boot.ensures.system)) in
     let blocks_is = subst (λ l. kernel.blocks ≡ blocks_of l) c.deref-2.ensures.value (value_where_ok _ _ _ c.in_ok-kernel.was c.boot.ensures.blocks) in
     let only = c.run_with_outputs.ensures.only in
     let field = c.in-Ok-AtEnd.field-0-is in
@@ -102,7 +103,8 @@ returns-in-Ok-Panic g c =
     let kernel = c.in_ok-kernel.kernel in
     let read = subst (λ l. script_of l ≡ Ok events) c.deref.ensures.value (value_where_ok _ _ _ c.in_ok-script.was c.read.ensures.events) in
     let script_is = subst (λ l. script_of bytes ≡ Ok l) (sym c.deref-3.ensures.value) read in
-    let boots_is = subst (λ l. boots l words.core 1 ≡ Some kernel.system) c.deref-2.ensures.value (value_where_ok _ _ _ c.in_ok-kernel.was c.boot.ensures.system) in
+    let boots_is = subst (λ l. boots l words.core (line_count words.outputs) ≡ Some kernel.system) c.deref-2.ensures.value
+    (subst (λ n. boots c.deref-2.result.now words.core n ≡ Some kernel.system) c.lines.ensures (value_where_ok _ _ _ c.in_ok-kernel.was c.boot.ensures.system)) in
     let blocks_is = subst (λ l. kernel.blocks ≡ blocks_of l) c.deref-2.ensures.value (value_where_ok _ _ _ c.in_ok-kernel.was c.boot.ensures.blocks) in
     let only = c.run_with_outputs.ensures.only in
     let field = c.in-Ok-Panic.field-0-is in
@@ -124,7 +126,8 @@ returns g c =
     let kernel = c.in_ok-kernel.kernel in
     let read = subst (λ l. script_of l ≡ Ok events) c.deref.ensures.value (value_where_ok _ _ _ c.in_ok-script.was c.read.ensures.events) in
     let script_is = subst (λ l. script_of bytes ≡ Ok l) (sym c.deref-3.ensures.value) read in
-    let boots_is = subst (λ l. boots l words.core 1 ≡ Some kernel.system) c.deref-2.ensures.value (value_where_ok _ _ _ c.in_ok-kernel.was c.boot.ensures.system) in
+    let boots_is = subst (λ l. boots l words.core (line_count words.outputs) ≡ Some kernel.system) c.deref-2.ensures.value
+    (subst (λ n. boots c.deref-2.result.now words.core n ≡ Some kernel.system) c.lines.ensures (value_where_ok _ _ _ c.in_ok-kernel.was c.boot.ensures.system)) in
     let blocks_is = subst (λ l. kernel.blocks ≡ blocks_of l) c.deref-2.ensures.value (value_where_ok _ _ _ c.in_ok-kernel.was c.boot.ensures.blocks) in
     let only = c.run_with_outputs.ensures.only in
-    run_stopped words image bytes old middle files _ script_is kernel.system boots_is new only _ (stops_over (disk_of image) (block_at kernel.blocks) (same_blocks image kernel.blocks blocks_is) words.outputs _ _ _ _ c.in-Err.ensures.outcome)
+    run_stopped_by words image bytes old middle files _ script_is kernel.system boots_is new only _ (stops_over_by (disk_of image) (block_at kernel.blocks) (same_blocks image kernel.blocks blocks_is) words.outputs _ _ _ _ c.in-Err.ensures.outcome)

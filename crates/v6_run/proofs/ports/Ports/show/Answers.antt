@@ -1,34 +1,66 @@
 use Rattle.std.proofs.Common.{sym, ◌∙◌, subst, [], ◌∷◌}
 use Rattle.v6_base.specs.Trace.{Byte, Took, Appends}
-use Rattle.v6_run.specs.Ports.{taken_by}
-use Rattle.v6_run.proofs.PortLemmas.{took_written, took_kept, byte_silently, byte_appended}
+use Rattle.v6_port.specs.Outside.{Out, IsOpen, IsThere}
+use Rattle.v6_run.specs.Ports.{taken_by, Goes}
+use Rattle.v6_run.proofs.LinePorts.{line_there}
+use Rattle.v6_run.proofs.GoesLemmas.{byte_goes, kept_goes}
+use Rattle.v6_run.proofs.PortLemmas.{byte_took, byte_all, kept_took, kept_all}
 use Rattle.v6_run.proofs.ports.Ports.show.Goals as goal
 
-pub returns-then-is_silent-clause-took : goal.returns-then-is_silent-clause-took
-returns-then-is_silent-clause-took g c =
-    let o = g.H.Host.outside c.args.self.now.host.now in
-    let byte = c.args.byte in
-    let silent = sym c.is_silent.ensures ∙ c.if-is_silent.true in
-    subst (λ k. Took (taken_by o c.args.self.now.kept) (Byte 0 byte ∷ []) (taken_by o k)) (sym c.keep.ensures) (byte_silently o byte c.args.self.now.kept silent)
-
-pub returns-then-is_silent-clause-whole : goal.returns-then-is_silent-clause-whole
-returns-then-is_silent-clause-whole g c =
-    let o = g.H.Host.outside c.args.self.now.host.now in
-    let byte = c.args.byte in
-    let silent = sym c.is_silent.ensures ∙ c.if-is_silent.true in
-    subst (λ k. Appends (taken_by o c.args.self.now.kept) (Byte 0 byte) (taken_by o k)) (sym c.keep.ensures) (byte_appended o byte c.args.self.now.kept silent)
-
-pub write-requires : goal.write-requires
-write-requires g c = record { is_open = c.args.self.now.term_is_open (sym c.is_silent.ensures ∙ c.if-is_silent.false); there = tt }
+pub write_text-requires : goal.write_text-requires
+write_text-requires g c =
+    let old = g.H.Host.outside c.args.self.now.host.now in record {
+      is_open = subst (λ p. IsOpen old (Out p)) (sym c.line_port.ensures) (c.args.self.now.lines_are_open c.requires.loud c.args.line c.requires.there);
+      there = subst IsThere (sym c.line_port.ensures) (line_there c.args.line c.requires.eight);
+    }
 
 pub returns-then-is_err-clause-took : goal.returns-then-is_err-clause-took
 returns-then-is_err-clause-took g c =
+    let lines = c.args.self.now.lines in
     let old = g.H.Host.outside c.args.self.now.host.now in
-    let new = g.H.Host.outside c.write.new.self in
-    let took = took_kept old new c.args.self.now.kept c.args.byte _ (sym c.is_silent.ensures ∙ c.if-is_silent.false) c.write.ensures
-    (sym c.is_err.ensures.value ∙ c.if-is_err.true) in
-    subst (λ k. Took (taken_by old c.args.self.now.kept) (Byte 0 c.args.byte ∷ []) (taken_by new k)) (sym c.keep_byte.ensures) took
+    let new = g.H.Host.outside c.write_text.new.host in
+    let wrote = c.write_text.ensures in
+    subst (λ k. Took (taken_by lines old c.args.self.now.kept) (Byte c.args.line c.args.byte ∷ []) (taken_by lines new k)) (sym c.keep_byte.ensures)
+    (kept_took lines old new c.args.self.now.kept c.args.line c.args.byte c.requires.loud _ c.line_port.ensures wrote.only c.write_text.result
+    (sym c.is_err.ensures.value ∙ c.if-is_err.true) wrote.short wrote.front)
+
+pub returns-then-is_err-clause-whole : goal.returns-then-is_err-clause-whole
+returns-then-is_err-clause-whole g c =
+    let lines = c.args.self.now.lines in
+    let old = g.H.Host.outside c.args.self.now.host.now in
+    let new = g.H.Host.outside c.write_text.new.host in
+    let wrote = c.write_text.ensures in
+    subst (λ k. Appends (taken_by lines old c.args.self.now.kept) (Byte c.args.line c.args.byte) (taken_by lines new k)) (sym c.keep_byte.ensures)
+    (kept_all lines old new c.args.self.now.kept c.args.line c.args.byte c.requires.loud _ c.line_port.ensures wrote.only c.write_text.result
+    (sym c.is_err.ensures.value ∙ c.if-is_err.true) wrote.short wrote.front)
+
+pub returns-then-is_err-clause-goes : goal.returns-then-is_err-clause-goes
+returns-then-is_err-clause-goes g c =
+    let lines = c.args.self.now.lines in
+    let old = g.H.Host.outside c.args.self.now.host.now in
+    let new = g.H.Host.outside c.write_text.new.host in
+    let wrote = c.write_text.ensures in
+    let was_open = subst (λ p. IsOpen old (Out p)) (sym c.line_port.ensures) (c.args.self.now.lines_are_open c.requires.loud c.args.line c.requires.there) in
+    subst (λ k. Goes lines old c.args.self.now.kept new k) (sym c.keep_byte.ensures)
+    (kept_goes lines old new c.args.self.now.kept c.args.line c.args.byte c.requires.loud c.requires.there _ c.line_port.ensures wrote.only was_open wrote.is_open c.write_text.result
+    (sym c.is_err.ensures.value ∙ c.if-is_err.true) wrote.front wrote.cause)
 
 pub returns-else-is_err-clause-took : goal.returns-else-is_err-clause-took
 returns-else-is_err-clause-took g c =
-    took_written _ _ c.args.self.now.kept _ _ (sym c.is_silent.ensures ∙ c.if-is_silent.false) c.write.ensures (sym c.is_err.ensures.value ∙ c.if-is_err.false)
+    let wrote = c.write_text.ensures in
+    byte_took c.args.self.now.lines _ _ c.args.self.now.kept c.args.line c.args.byte c.requires.loud _ c.line_port.ensures wrote.only c.write_text.result
+    (sym c.is_err.ensures.value ∙ c.if-is_err.false) wrote.whole
+
+pub returns-else-is_err-clause-whole : goal.returns-else-is_err-clause-whole
+returns-else-is_err-clause-whole g c =
+    let wrote = c.write_text.ensures in
+    byte_all c.args.self.now.lines _ _ c.args.self.now.kept c.args.line c.args.byte c.requires.loud _ c.line_port.ensures wrote.only c.write_text.result
+    (sym c.is_err.ensures.value ∙ c.if-is_err.false) wrote.whole
+
+pub returns-else-is_err-clause-goes : goal.returns-else-is_err-clause-goes
+returns-else-is_err-clause-goes g c =
+    let old = g.H.Host.outside c.args.self.now.host.now in
+    let wrote = c.write_text.ensures in
+    let was_open = subst (λ p. IsOpen old (Out p)) (sym c.line_port.ensures) (c.args.self.now.lines_are_open c.requires.loud c.args.line c.requires.there) in
+    byte_goes c.args.self.now.lines _ _ c.args.self.now.kept c.args.line c.args.byte c.requires.loud c.requires.there _ c.line_port.ensures wrote.only was_open wrote.is_open c.write_text.result
+    (sym c.is_err.ensures.value ∙ c.if-is_err.false) wrote.whole wrote.cause

@@ -1,0 +1,114 @@
+-- What stays while a byte, or a line of the log, goes out.
+use Rattle.std.proofs.Common.{◌≡◌, ◌<◌, ℕ, Bool, true, false, Some, None, MatchOption, Result, Ok, Err, is_err, OnOk, IfErr, MatchResult, take, refl, sym, ◌∙◌, ap, subst, length, nat_le, cond, List, [], ◌∷◌, ◌++◌}
+use Rattle.std.specs.Prelude.{◌==◌}
+use Rattle.v6_port.specs.declared.host.OutPort.{OutPort}
+use Rattle.v6_port.specs.declared.host.OutPort.TheVariants as out_port
+use Rattle.v6_port.specs.Outside.{Port, Out, same, PortState, Outside, Tells, IsOpen, OnlyAt}
+use Rattle.v6_port.specs.Causes.{Calm, FaultAt}
+use Rattle.v6_port.proofs.CauseLemmas.{same_is, calm_still}
+use Rattle.v6_run.specs.declared.ports.Kept.{Kept}
+use Rattle.v6_run.specs.declared.ports.Kept.TheVariants as kept
+use Rattle.v6_run.specs.declared.ports.TheConstants.{SCREEN_ROOM}
+use Rattle.v6_run.specs.Opened.{line_port}
+use Rattle.v6_run.specs.Outputs.{is_shown}
+use Rattle.v6_run.specs.Ports.{failed_port, is_silent, is_counted, counted, screened, Extends, Grows, Goes}
+use Rattle.v6_run.specs.PortLaws.{grows_not, Goes-same}
+use Rattle.v6_run.proofs.CauseLemmas.{by_test, only_within}
+use Rattle.v6_run.proofs.LinePorts.{line_shown}
+use Rattle.v6_run.proofs.PortLemmas.{loud_written}
+
+-- one port grows, and the others stay
+grows_at : (q : OutPort) (a b : Outside) → OnlyAt (same (Out q)) a b → Grows (Tells a) (a.port (Out q)) (b.port (Out q)) → (p : OutPort)
+    → Grows (Tells a) (a.port (Out p)) (b.port (Out p))
+grows_at q a b only here p = by_test (same (Out q) (Out p)) _
+    (λ is. subst (λ (r : Port). Grows (Tells a) (a.port r) (b.port r)) (same_is (Out q) (Out p) is) here)
+    (λ other. subst (λ (s : PortState). Grows (Tells a) (a.port (Out p)) s) (sym (only.others (Out p) other)) (grows_not (Tells a) (a.port (Out p))))
+
+shown_within : (lines : ℕ) (q : OutPort) → is_shown lines (Out q) ≡ true → (r : Port) → is_shown lines r ≡ false → same (Out q) r ≡ false
+shown_within lines q shown r other = by_test (same (Out q) r) (same (Out q) r ≡ false)
+    (λ is. absurd (let never : true ≡ false = sym shown ∙ ap (is_shown lines) (same_is (Out q) r is) ∙ other in cc))
+    (λ apart. apart)
+
+-- something is written to one of the ports
+pub goes_written : (lines : ℕ) (q : OutPort) (a b : Outside) (before after : Kept) → is_shown lines (Out q) ≡ true → is_silent before ≡ false → OnlyAt (same (Out q)) a b
+    → IsOpen a (Out q) → IsOpen b (Out q) → (Tells a → Extends (a.port (Out q)).bytes (b.port (Out q)).bytes)
+    → MatchOption (failed_port after) (Calm a b) (λ p. FaultAt (Out p) true a b) → is_counted before ≡ false → is_counted after ≡ false → Goes lines a before b after
+goes_written lines q a b before after shown loud only was_open is_open more cause plain still_plain = record {
+  only = only_within _ _ _ _ (shown_within lines q shown) only;
+  grows = grows_at q a b only (record { is_open = is_open ∙ sym was_open; bytes = more });
+  cause = λ _. cause;
+  stopped = λ silent. absurd (let never : true ≡ false = sym silent ∙ loud in cc);
+  counted = still_plain ∙ sym plain;
+}
+
+-- nothing is written, and a byte may be counted
+goes_counting : (lines : ℕ) (o : Outside) (byte : ℕ) (k : Kept) → is_silent k ≡ true → Goes lines o k o (counted k byte)
+goes_counting lines o byte kept.Nothing silent = cc
+goes_counting lines o byte (kept.Byte line other) silent = Goes-same lines o (kept.Byte line other)
+goes_counting lines o byte (kept.Line rest) silent = Goes-same lines o (kept.Line rest)
+goes_counting lines o byte kept.Unwanted silent = Goes-same lines o kept.Unwanted
+goes_counting lines o byte (kept.Screen bytes) silent = by (nat_le SCREEN_ROOM (length bytes.items))
+  where
+    by : (full : Bool) → Goes lines o (kept.Screen bytes) o (cond full (kept.Screen bytes) (kept.Screen (record { items = bytes.items ++ byte ∷ [] })))
+    by true = Goes-same lines o (kept.Screen bytes)
+    by false = record {
+      only = record { fixed = refl; others = λ q other. refl };
+      grows = λ p. grows_not (Tells o) (o.port (Out p));
+      cause = λ _. calm_still o;
+      stopped = λ _. (refl, refl, refl);
+      counted = refl;
+    }
+
+pub goes_silently : (lines : ℕ) (o : Outside) (line byte : ℕ) (k : Kept) → is_silent k ≡ true → Goes lines o k o (screened k line byte)
+goes_silently lines o line byte k silent = by (line == 0)
+  where
+    by : (b : Bool) → Goes lines o k o (cond b (counted k byte) k)
+    by true = goes_counting lines o byte k silent
+    by false = Goes-same lines o k
+
+-- the ports of the lines stay open
+pub lines_open : (lines : ℕ) (a b : Outside) (before after : Kept) → Goes lines a before b after → ((l : ℕ) → l < lines → IsOpen a (Out (line_port l)))
+    → (l : ℕ) → l < lines → IsOpen b (Out (line_port l))
+lines_open lines a b before after goes were l below = (goes.grows (line_port l)).is_open ∙ were l below
+
+-- what isn't silent hasn't failed
+unfailed : (k : Kept) → is_silent k ≡ false → failed_port k ≡ None
+unfailed kept.Nothing loud = refl
+unfailed (kept.Byte line byte) loud = cc
+unfailed (kept.Line rest) loud = cc
+unfailed kept.Unwanted loud = refl
+unfailed (kept.Screen bytes) loud = refl
+
+calm_cause : (k : Kept) (a b : Outside) → is_silent k ≡ false → Calm a b → MatchOption (failed_port k) (Calm a b) (λ p. FaultAt (Out p) true a b)
+calm_cause k a b loud calm = subst (λ o. MatchOption o (Calm a b) (λ p. FaultAt (Out p) true a b)) (sym (unfailed k loud)) calm
+
+-- A byte goes out on the port of its line.
+module _ (lines : ℕ) (a b : Outside) (before : Kept) (line byte : ℕ) (loud : is_silent before ≡ false) (below : line < lines) (q : OutPort) (q_is : q ≡ line_port line)
+    (only : OnlyAt (same (Out q)) a b) (was_open : IsOpen a (Out q)) (is_open : IsOpen b (Out q)) where
+  shown : is_shown lines (Out q) ≡ true
+  shown = ap (λ p. is_shown lines (Out p)) q_is ∙ line_shown lines line below
+
+  pub byte_goes : (r : Result (Unit {0}) ℕ) → is_err r ≡ false → OnOk r (Tells a → (b.port (Out q)).bytes ≡ (a.port (Out q)).bytes ++ byte ∷ [])
+      → MatchResult r (λ _. Calm a b) (λ _. FaultAt (Out q) true a b) → Goes lines a before b before
+  byte_goes (Ok x) good whole cause = goes_written lines q a b before before shown loud only was_open is_open (λ told. record { more = byte ∷ []; is = whole told })
+      (calm_cause before a b loud cause) (loud_written before loud) (loud_written before loud)
+  byte_goes (Err count) good whole cause = absurd (cc)
+
+  pub kept_goes : (r : Result (Unit {0}) ℕ) → is_err r ≡ true → IfErr r (λ count. Tells a → (b.port (Out q)).bytes ≡ (a.port (Out q)).bytes ++ take count (byte ∷ []))
+      → MatchResult r (λ _. Calm a b) (λ _. FaultAt (Out q) true a b) → Goes lines a before b (kept.Byte line byte)
+  kept_goes (Ok x) bad front cause = absurd (cc)
+  kept_goes (Err count) bad front cause = goes_written lines q a b before (kept.Byte line byte) shown loud only was_open is_open
+      (λ told. record { more = take count (byte ∷ []); is = front told }) (subst (λ p. FaultAt (Out p) true a b) q_is cause) (loud_written before loud) refl
+
+-- A line of the log goes out.
+module _ (lines : ℕ) (a b : Outside) (before : Kept) (text : List ℕ) (loud : is_silent before ≡ false) (only : OnlyAt (same (Out out_port.Log)) a b)
+    (was_open : IsOpen a (Out out_port.Log)) (is_open : IsOpen b (Out out_port.Log)) where
+  pub line_goes : (Tells a → (b.port (Out out_port.Log)).bytes ≡ (a.port (Out out_port.Log)).bytes ++ text) → Calm a b → Goes lines a before b before
+  line_goes whole calm = goes_written lines out_port.Log a b before before refl loud only was_open is_open (λ told. record { more = text; is = whole told })
+      (calm_cause before a b loud calm) (loud_written before loud) (loud_written before loud)
+
+  pub rest_goes : (count : ℕ) (rest : Kept) → failed_port rest ≡ Some out_port.Log → is_counted rest ≡ false
+      → (Tells a → (b.port (Out out_port.Log)).bytes ≡ (a.port (Out out_port.Log)).bytes ++ take count text) → FaultAt (Out out_port.Log) true a b → Goes lines a before b rest
+  rest_goes count rest failed plain front fault = goes_written lines out_port.Log a b before rest refl loud only was_open is_open
+      (λ told. record { more = take count text; is = front told })
+      (subst (λ o. MatchOption o (Calm a b) (λ p. FaultAt (Out p) true a b)) (sym failed) fault) (loud_written before loud) plain
