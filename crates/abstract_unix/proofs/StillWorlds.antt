@@ -11,6 +11,7 @@ use Rattle.u_area.specs.declared.area.UArea.{UArea}
 use Rattle.v6_base.specs.declared.errno.Errno.{Errno}
 use Rattle.fs_nodes.specs.Disks.{Disks}
 use Rattle.fs_nodes.specs.Keys.{counts}
+use Rattle.fs_nodes.proofs.KeyLaws.{counts_set}
 use Rattle.mount_tab.specs.Mounted.{MountTable}
 use Rattle.sys_files.proofs.NodeCounts.{put_back_counts, finding_counts}
 use Rattle.sys_procs.specs.declared.program.Program.{Program}
@@ -50,6 +51,11 @@ use Rattle.abstract_unix.proofs.ProcessRows.{IsGrave, Plain, gives, refuses, wai
 told_same : (p q : Process) → q.u.files ≡ p.u.files → q.u.dir ≡ p.u.dir → q.is_zombie ≡ p.is_zombie
     → told_by (Some q) ≡ told_by (Some p)
 told_same p q files dir dead = λ i. cond (dead i) None (Some (record { files = files i; dir = dir i }))
+
+-- a read of a file leaves how many nodes each disk has
+moved_count : {Memory : Type 0} (v : World) (ino : ℕ) (m : Moving Memory)
+    → counts (exec.with_moved v ino m).inodes.store ≡ counts v.inodes.store
+moved_count v ino m = counts_set v.inodes.store ino m.room m.node
 
 module _ (base : World) (s : ℕ) where
   -- A world in which all that the counts see is as in another one, and the process of a slot lives.
@@ -284,7 +290,7 @@ module _ (base : World) (s : ℕ) where
       let m = exec.data_read v s program in
       let read : World = exec.with_moved v program.ino m in
       let q : Process = exec.begins u (process_of read s) (node_at v program.ino) program m.memory.data in
-      let still : IsBut read = but_inodes v read refl refl k in
+      let still : IsBut read = but_inodes v read refl (moved_count v program.ino m) k in
       let own : told_by (Some q) ≡ get_or (told_in base.processes) s None =
       begun_told u (process_of read s) (node_at v program.ino) program m.memory.data
       ∙ ap (λ b. cond b None (Some (record { files = u.files; dir = u.dir }))) still.lives ∙ sym its in
@@ -299,7 +305,8 @@ module _ (base : World) (s : ℕ) where
       }
 
   but_read : (b : Bool) (v : World) (program : Program) → IsBut v → IsBut (exec.reads_text b v s program)
-  but_read true v program k = but_inodes v (exec.with_text_read v s program) refl refl k
+  but_read true v program k =
+      but_inodes v (exec.with_text_read v s program) refl (moved_count v program.ino (exec.text_read v program)) k
   but_read false v program k = k
 
   abbrev goes_on : Program → UArea → World → Bool → Comes
@@ -430,7 +437,7 @@ module _ (base : World) (s : ℕ) where
       check_count {A = Unit {0}} n out (permission node (user_of q) Execute) allowed left (λ a.
       check_count {A = Unit {0}} n out (must EACCES (file_type node.mode == 0)) named left (λ b.
       check_count {A = List (List ℕ)} n out (arguments (image_of now.texts q) list) read left (λ args.
-      header_count n (exec.with_moved now ino head) ino args head k)))
+      header_count n (exec.with_moved now ino head) ino args head (moved_count now ino head ∙ k))))
 
   tests_count : (mounts : MountTable) (v : World) (name list : ℕ) → counts (exec.tests mounts v s name list).world.inodes.store ≡ counts v.inodes.store
   tests_count mounts v name list =

@@ -24,6 +24,7 @@ use Rattle.u_area.specs.declared.layout.TheConstants.{NOTHING_PENDING, DISK_WAIT
 use Rattle.u_area.specs.declared.area.UArea.{UArea}
 use Rattle.u_area.specs.Pending.{is_on_files, IsFileCall}
 use Rattle.open_files.specs.Files.{file_at, times, shared}
+use Rattle.fs_nodes.proofs.CountLaws.{keys_counted}
 use Rattle.sys_files.specs.Handed.{Handed}
 use Rattle.sys_files.specs.Did.{Did}
 use Rattle.sys_files.specs.Core.{core_file, is_written}
@@ -234,7 +235,7 @@ module _ (s : ℕ) where
         fifteen = λ i x e. fifteen_set ts s None r.tidy.fifteen (λ t same. absurd (cc same)) i x
             (ap (λ l. get_or l i None) (sym g.told) ∙ e);
         waits = world_goes_on u w r.tidy.waits (end_waited (world_of u) s free status);
-        count = subst (λ n. n ≤ 65535) (sym g.count) r.tidy.count;
+        count = subst (λ n. n ≤ 65535) (sym (keys_counted w.inodes.store u.store g.count)) r.tidy.count;
         eight = r.tidy.eight;
         pipes = r.tidy.pipes;
       }

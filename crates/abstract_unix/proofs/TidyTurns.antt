@@ -2,6 +2,7 @@
 use Rattle.std.proofs.Common.{◌≡◌, ◌∙◌, ◌<◌, ◌≤◌, ℕ, false, cond, List, length, get_or, set, Option, Some, None, unwrap_or, refl, sym, ap, subst, arith}
 use Rattle.std.proofs.lemmas.List.{length-set, map-set, get_or-set_same}
 use Rattle.open_files.specs.Files.{file_at, times, entry_of}
+use Rattle.fs_nodes.proofs.CountLaws.{keys_counted}
 use Rattle.sys_files.specs.Handed.{Handed}
 use Rattle.sys_files.specs.Sound.{numbers_of}
 use Rattle.sys_files.proofs.Counting.{IsCounted, counted_same}
@@ -70,7 +71,7 @@ module _ (s : ℕ) where
       fifty = k.fifty;
       fifteen = λ i t e. r.tidy.fifteen i t (ap (λ ts. get_or ts i None) (sym k.told) ∙ e);
       waits = world_goes_on u w r.tidy.waits waited;
-      count = subst (λ n. n ≤ 65535) (sym k.count) r.tidy.count;
+      count = subst (λ n. n ≤ 65535) (sym (keys_counted w.inodes.store u.store k.count)) r.tidy.count;
       eight = r.tidy.eight;
       pipes = r.tidy.pipes;
     };

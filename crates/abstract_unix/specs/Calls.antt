@@ -187,8 +187,7 @@ file_row file.Sync h slot a now = sync_all h now
 file_row file.Dup h slot a now = dup_file h
 file_row file.Pipe h slot a now = pipe_new h now
 
--- what a call on processes does, by its row, over the mount table, what it is handed, the slot and its
--- arguments
+-- what a call on processes does, by its row, over the mount table, what it is handed, the slot and its arguments
 abbrev pub process_row : ProcessCall → MountTable → World → ℕ → List ℕ → Comes
 process_row process.Wait mounts w slot a = wait_child w slot
 process_row process.Exec mounts w slot a = exec_file mounts w slot (slice_index a 0) (slice_index a 1)

@@ -1,7 +1,6 @@
 -- A new inode: its key is one that no node had, and of the disk that was asked for.
-use Rattle.std.proofs.Common.{◌≡◌, ◌≢◌, ◌+◌, ◌-◌, ◌<◌, ◌≤◌, ◌&&◌, ℕ, zero, suc, Bool, true, false, cond, nat_le, nat_lt, Option, Some, None, IsSome, is_some, is_none, unwrap_or, refl, sym, ap, ◌∙◌, subst, arith}
-use Rattle.std.proofs.lemmas.Bool.{and_right, leb-true}
-use Rattle.std.proofs.lemmas.Bool.Decides.{nat_tests}
+use Rattle.std.proofs.Common.{◌≡◌, ◌≢◌, ◌+◌, ◌-◌, ◌<◌, ◌≤◌, ◌&&◌, ℕ, zero, suc, Bool, true, false, cond, nat_le, nat_lt, Option, Some, None, IsSome, is_some, is_none, unwrap_or, slice_index, refl, sym, ap, ◌∙◌, subst, arith}
+use Rattle.std.proofs.lemmas.Bool.{and_right, leb-true, le-leb, lt-leb, le-ltb}
 use Rattle.fs_codec.specs.Store.{Node, Store}
 use Rattle.fs_codec.specs.Store as codec
 use Rattle.fs_laws.specs.Numbers.{is_free_number}
@@ -10,7 +9,6 @@ use Rattle.fs_nodes.specs.Numbers.{MakesNode}
 use Rattle.fs_nodes.specs.Keys.{Stores, key_count, key_on, store_on, node_numbered, references_on}
 use Rattle.fs_nodes.proofs.KeyLemmas.{node_root, node_second}
 use Rattle.fs_nodes.proofs.NumbersMake.{draw_free}
-use Rattle.std.specs.Prelude.{slice_index}
 
 -- A number that is free is one of its disk, and no node has it.
 record IsFreeHere (s : Store) (ino : ℕ) : Type 0 where
@@ -36,8 +34,8 @@ pub record IsNewKey (s : Stores) (dev key : ℕ) : Type 0 where
 new_on_root : (s : Stores) (ino : ℕ) → IsFreeHere s.root ino → IsNewKey s 0 ino
 new_on_root s ino free =
     let high = free.high in
-    let not_above : nat_lt s.root.count ino ≡ false = grind (arith, nat_tests) in
-    let below : nat_le ino s.root.count ≡ true = grind (arith, nat_tests) in
+    let not_above : nat_lt s.root.count ino ≡ false = le-ltb s.root.count ino high in
+    let below : nat_le ino s.root.count ≡ true = le-leb ino s.root.count high in
     record {
       none = node_root s ino (and_right (is_some s.second) (nat_lt s.root.count ino) not_above) ∙ free.none;
       low = free.low;
@@ -49,7 +47,7 @@ new_on_second : (s : Stores) (x : Store) (ino : ℕ) → s.second ≡ Some x →
 new_on_second s x ino is free =
     let low = free.low in
     let high = free.high in
-    let above : nat_le (s.root.count + ino) s.root.count ≡ false = grind (arith, nat_tests) in
+    let above : nat_le (s.root.count + ino) s.root.count ≡ false = lt-leb (s.root.count + ino) s.root.count (omega (arith, low)) in
     let number : s.root.count + ino - s.root.count ≡ ino = omega arith in
     let all : key_count s ≡ s.root.count + x.count = ap (λ (o : Option Store). key_count (record { root = s.root; second = o })) is in
     record {

@@ -22,7 +22,7 @@ module _ (root y x : Store) (key other : ℕ) (apart : other ≢ key) where
   in_second is rest true e =
       let first = above root.count key is in
       let second = above root.count other e in
-      rest (other - root.count) (λ same. apart (omega (arith, first, second, same)))
+      rest (other - root.count) (λ same. let e : other - root.count ≡ key - root.count = same in apart (omega (arith, first, second, e)))
   in_second is rest false e = refl
 
   in_root : Rest false → (b : Bool)

@@ -519,7 +519,8 @@ impl Nodes {
     ///
     /// # Errors
     ///
-    /// `ENOSPC`: no inode is free there. `ENFILE`: one is, but a hundred inodes are referred to. Its number stays out of the list.
+    /// `ENOSPC`: no inode is free there. `ENFILE`: one is, but a hundred inodes are referred to. Its number stays out of the
+    /// list.
     pub fn new_node(
         &mut self,
         dev: u8,

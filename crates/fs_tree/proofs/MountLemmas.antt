@@ -1,6 +1,6 @@
 -- Who crosses comes to a node.
 use Rattle.std.proofs.Common.{◌≡◌, ◌≢◌, ◌+◌, ◌-◌, ◌≤◌, ◌==◌, ℕ, nat_le, Bool, true, false, cond, Option, Some, None, IsSome, refl, sym, ap, ◌∙◌, subst, arith}
-use Rattle.std.proofs.lemmas.Bool.Decides.{nat_tests}
+use Rattle.std.proofs.lemmas.Bool.{le-leb}
 use Rattle.fs_codec.specs.Store.{Store}
 use Rattle.fs_nodes.specs.Disks.{Disks}
 use Rattle.fs_nodes.specs.Keys.{Stores, counts, second_count, key_count, node_numbered}
@@ -63,5 +63,5 @@ disk_there mounts store key are within other = by store.second refl where
   by None is =
       let none : second_count store.second ≡ 0 = ap second_count is in
       let first = are.first in
-      let low : nat_le key mounts.first ≡ true = grind (arith, nat_tests) in
+      let low : nat_le key mounts.first ≡ true = le-leb key mounts.first (omega (arith, within, none, first)) in
       absurd (other (ap (λ t. (cond {A = ℕ × ℕ} t (0, key) (1, key - mounts.first)).0) low))

@@ -15,6 +15,7 @@ answer_to None = Ok tt
 answer_to (Some e) = Err e
 
 -- What a call answers and leaves that writes bytes of a directory.
-pub record WritesEntry (old : Stores) (dir : ℕ) (m : Moving (Unit {0})) (new : Stores) (answer : Result (Unit {0}) Errno) : Type 0 where
+pub record WritesEntry (old : Stores) (dir : ℕ) (m : Moving (Unit {0})) (new : Stores)
+    (answer : Result (Unit {0}) Errno) : Type 0 where
   pub store : new ≡ with_node old dir m.node m.room
   pub told : answer ≡ answer_to m.error

@@ -84,4 +84,5 @@ removing n (Ok entry) = referring_both n entry
 removing n (Err e) = refused n e
 
 abbrev pub remove_in : Inodes → MountTable → List Bool → User → ℕ → List ℕ → Finding (ℕ × ℕ × ℕ)
-remove_in n mounts marks user dir bytes = removing n (then_do (way n.store mounts user dir bytes) (to_remove n.store mounts marks))
+remove_in n mounts marks user dir bytes =
+    removing n (then_do (way n.store mounts user dir bytes) (to_remove n.store mounts marks))

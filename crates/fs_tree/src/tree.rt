@@ -70,6 +70,13 @@ fn take_both(nodes: &mut Nodes, entry: (u16, u32, u16)) -> Result<(u16, u32, u16
     Ok(entry)
 }
 
+/// A number as a word, where it is one.
+fn word(n: u32) -> u16
+    ensures { n ≤ 65535 → result ≡ n }
+{
+    if n <= 65535 { n as u16 } else { 65535 }
+}
+
 impl Tree {
     /// The tree of names of the file system of one disk, of which no text is shared yet. Its inodes' numbers are words.
     pub fn new(nodes: Nodes) -> Tree
@@ -79,11 +86,12 @@ impl Tree {
             → result.mounts ≡ record { first = nodes.store.root.count; second = 0; covered = None } }
     {
         let count = nodes.root_count();
-        let first = if count <= 65535 { count as u16 } else { 65535 };
+        let first = word(count);
+        let mounts = Mounts::new(first, 0);
         Tree {
             nodes,
             marks: Marks::new(),
-            mounts: Mounts::new(first, 0),
+            mounts,
         }
     }
 
@@ -135,7 +143,8 @@ impl Tree {
         requires few { (i : ℕ) → slice_index self.old.nodes.references i ≤ 65530 }
         requires mounts { AreMounts self.old.mounts self.old.nodes.store }
         ensures answer { result ≡ (find_in (inodes_of self.old.nodes) self.old.mounts who dir name.entry).answer }
-        ensures inodes { inodes_of self.new.nodes ≡ (find_in (inodes_of self.old.nodes) self.old.mounts who dir name.entry).inodes }
+        ensures inodes { inodes_of self.new.nodes
+            ≡ (find_in (inodes_of self.old.nodes) self.old.mounts who dir name.entry).inodes }
         ensures marks { self.new.marks ≡ self.old.marks }
         ensures mounts { self.new.mounts ≡ self.old.mounts }
         ensures blocks { self.new.nodes.blocks ≡ self.old.nodes.blocks }
@@ -165,8 +174,10 @@ impl Tree {
         requires referenced { 0 < slice_index self.old.nodes.references dir }
         requires few { (i : ℕ) → slice_index self.old.nodes.references i ≤ 65530 }
         requires mounts { AreMounts self.old.mounts self.old.nodes.store }
-        ensures answer { result ≡ (make_in (inodes_of self.old.nodes) self.old.mounts self.old.marks who dir name.entry).answer }
-        ensures inodes { inodes_of self.new.nodes ≡ (make_in (inodes_of self.old.nodes) self.old.mounts self.old.marks who dir name.entry).inodes }
+        ensures answer { result
+            ≡ (make_in (inodes_of self.old.nodes) self.old.mounts self.old.marks who dir name.entry).answer }
+        ensures inodes { inodes_of self.new.nodes
+            ≡ (make_in (inodes_of self.old.nodes) self.old.mounts self.old.marks who dir name.entry).inodes }
         ensures marks { self.new.marks ≡ self.old.marks }
         ensures mounts { self.new.mounts ≡ self.old.mounts }
         ensures blocks { self.new.nodes.blocks ≡ self.old.nodes.blocks }
@@ -196,8 +207,10 @@ impl Tree {
         requires referenced { 0 < slice_index self.old.nodes.references dir }
         requires few { (i : ℕ) → slice_index self.old.nodes.references i ≤ 65530 }
         requires mounts { AreMounts self.old.mounts self.old.nodes.store }
-        ensures answer { result ≡ (remove_in (inodes_of self.old.nodes) self.old.mounts self.old.marks who dir name.entry).answer }
-        ensures inodes { inodes_of self.new.nodes ≡ (remove_in (inodes_of self.old.nodes) self.old.mounts self.old.marks who dir name.entry).inodes }
+        ensures answer { result
+            ≡ (remove_in (inodes_of self.old.nodes) self.old.mounts self.old.marks who dir name.entry).answer }
+        ensures inodes { inodes_of self.new.nodes
+            ≡ (remove_in (inodes_of self.old.nodes) self.old.mounts self.old.marks who dir name.entry).inodes }
         ensures marks { self.new.marks ≡ self.old.marks }
         ensures mounts { self.new.mounts ≡ self.old.mounts }
         ensures rest { SameRest self.old.nodes self.new.nodes }
