@@ -108,7 +108,7 @@ def differences(row, image, came):
         found.append(("last line of the log", b"end" if row.ends() else b"none", came["log"][-20:]))
     found += left_differences(row.disk, "final", image, row.leaves_disk(), came)
     if row.second:
-        return found + left_differences(row.second, "final2", came["images"][1], row.leaves_disk(), came)
+        return [*found, *left_differences(row.second, "final2", came["images"][1], row.leaves_disk(), came)]
     return found + [("final2", b"", came["final2"])] * bool(came["final2"])
 
 

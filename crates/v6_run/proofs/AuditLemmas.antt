@@ -28,7 +28,8 @@ use Rattle.v6_run.specs.Headline.{IsKnownAnd, log_completion, log_line, is_named
 use Rattle.v6_run.specs.Opened.{command_ports, AreGood, ports_passed}
 use Rattle.v6_run.specs.Causes.{IsCaused}
 use Rattle.v6_run.specs.Answers.{Answers}
-use Rattle.v6_run.proofs.CauseLemmas.{by_test, only_within, left_false, or_false, not_input}
+use Rattle.v6_run.proofs.LinePorts.{or_false}
+use Rattle.v6_run.proofs.CauseLemmas.{by_test, only_within, left_false, not_input}
 use Rattle.v6_run.proofs.OutputLemmas.{fault_any}
 use Rattle.v6_run.proofs.AnswerLemmas.{not_so, unwritten}
 use Rattle.v6_run.proofs.FaultLemmas.{fault_ends, close_ends, long_ends}

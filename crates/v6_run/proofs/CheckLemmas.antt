@@ -15,7 +15,8 @@ use Rattle.v6_run.specs.Words.{Check}
 use Rattle.v6_run.specs.Report.{ok_line, store_line}
 use Rattle.v6_run.specs.Headline.{Known, IsKnownAnd, ends_with, fault_completion, image_completion, image_line, IsComplete}
 use Rattle.v6_run.specs.Answers.{Answers}
-use Rattle.v6_run.proofs.CauseLemmas.{only_within, left_false, or_false, not_input}
+use Rattle.v6_run.proofs.LinePorts.{or_false}
+use Rattle.v6_run.proofs.CauseLemmas.{only_within, left_false, not_input}
 use Rattle.v6_run.proofs.AnswerLemmas.{not_so, complete_unwritten, no_output}
 
 module _ (name : List ℕ) (old new : Outside) (only : OnlyAt (same (In in_port.Image)) old new) where

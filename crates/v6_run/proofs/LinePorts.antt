@@ -1,5 +1,5 @@
 -- The ports of terminal lines, and those of a run.
-use Rattle.std.proofs.Common.{◌≡◌, ◌≢◌, ◌<◌, ◌≤◌, ◌+◌, ◌-◌, ℕ, zero, suc, Bool, true, false, ◌||◌, ◌&&◌, List, [], ◌∷◌, ◌++◌, map, refl, sym, ◌∙◌, ap, eqb-true, arith, lit<, lit≤}
+use Rattle.std.proofs.Common.{◌≡◌, ◌≢◌, ◌<◌, ◌≤◌, ◌+◌, ◌-◌, ℕ, zero, suc, Bool, true, false, ◌||◌, ◌&&◌, Option, Some, None, is_some, List, [], ◌∷◌, ◌++◌, map, refl, sym, ◌∙◌, ap, eqb-true, arith, lit<, lit≤}
 use Rattle.std.specs.Prelude.{◌==◌, nat_le, nat_lt}
 use Rattle.std.specs.List.{range_with_len}
 use Rattle.std.proofs.lemmas.Bool.{ne_eqb, eqb-false, lt-ltb, ltb-true, le-leb, leb-true, leb-false}
@@ -9,10 +9,12 @@ use Rattle.v6_port.specs.Outside.{Port, In, Out, port_number, same, IsThere}
 use Rattle.v6_port.proofs.CauseLemmas.{not_line}
 use Rattle.v6_run.specs.declared.words.Lines as count
 use Rattle.v6_run.specs.declared.words.Lines.TheVariants.{One, Eight}
-use Rattle.v6_run.specs.Words.{DiskFiles, ToDisk, lines_value}
-use Rattle.v6_run.specs.Opened.{NamedPort, output, line_port, line_output, line_outputs, output_ports, has_port, AreApart}
+use Rattle.v6_run.specs.declared.words.Machine as made
+use Rattle.v6_run.specs.declared.words.Machine.TheVariants as machine
+use Rattle.v6_run.specs.Words.{SecondFiles, DiskFiles, ToDisk, lines_value, machine_lines, machine_second}
+use Rattle.v6_run.specs.Opened.{NamedPort, output, line_port, line_output, line_outputs, second_outputs, output_ports, has_port, AreApart}
 use Rattle.v6_run.specs.Opening.{AreThere}
-use Rattle.v6_run.specs.Outputs.{is_line, is_terminal, is_shown, is_disk_output}
+use Rattle.v6_run.specs.Outputs.{is_line, is_terminal, is_shown, is_other, is_left, is_disk_output}
 
 -- two lines have two ports
 pub lines_apart : (a b : ℕ) → a ≢ b → same (Out (line_port a)) (Out (line_port b)) ≡ false
@@ -79,11 +81,15 @@ pub is_high : (a l m : ℕ) → (nat_le a l && nat_lt l m) ≡ true → l < m
 is_high a l m is = ltb-true l m (both_told (nat_le a l) (nat_lt l m) is)
 
 -- The ports that a run opens.
+pub or_false : (b : Bool) → (b || false) ≡ b
+or_false true = refl
+or_false false = refl
+
 or_assoc : (a b c : Bool) → ((a || b) || c) ≡ (a || (b || c))
 or_assoc true b c = refl
 or_assoc false b c = refl
 
-has_append : (xs ys : List NamedPort) (q : Port) → has_port (xs ++ ys) q ≡ (has_port xs q || has_port ys q)
+pub has_append : (xs ys : List NamedPort) (q : Port) → has_port (xs ++ ys) q ≡ (has_port xs q || has_port ys q)
 has_append [] ys q = refl
 has_append (x ∷ xs) ys q = ap (λ b. same x.port q || b) (has_append xs ys q) ∙ sym (or_assoc (same x.port q) (has_port xs q) (has_port ys q))
 
@@ -130,27 +136,32 @@ last_line lines l = both_ways (nat_le 1 l && nat_lt l (1 + (lines - 1))) (nat_le
     (λ is. let low = is_low 1 l (1 + (lines - 1)) is in let high = is_high 1 l (1 + (lines - 1)) is in within 1 l lines low (omega (arith, low, high)))
     (λ is. let low = is_low 1 l lines is in let high = is_high 1 l lines is in within 1 l (1 + (lines - 1)) low (omega (arith, low, high)))
 
-pub in_order : (a b c : Bool) → (a || (b || (c || false))) ≡ ((a || b) || c)
-in_order true b c = refl
-in_order false true c = refl
-in_order false false true = refl
-in_order false false false = refl
+-- that of the second disk's file is behind them, where there is one
+second_has : (second : Option SecondFiles) (q : Port) → has_port (second_outputs second) q ≡ is_other (is_some second) q
+second_has None q = refl
+second_has (Some second) q = or_false (same (Out out_port.Second) q)
 
 module _ (files : DiskFiles) where
   abbrev behind : List NamedPort
-  behind = output out_port.Log files.log ∷ output out_port.Final files.final_disk ∷ []
+  behind = output out_port.Log files.log ∷ output out_port.Final files.final_disk ∷ second_outputs files.second
 
   abbrev ports : List NamedPort
   ports = output_ports (ToDisk files)
 
-  plain : (q : Port) → port_number q < 9 → is_terminal files.lines q ≡ same (Out out_port.Term) q → has_port ports q ≡ is_disk_output files.lines q
+  abbrev left : Port → Bool
+  left q = is_left (is_some files.second) q
+
+  behind_has : (q : Port) → has_port behind q ≡ (same (Out out_port.Log) q || left q)
+  behind_has q = ap (λ b. same (Out out_port.Log) q || (same (Out out_port.Final) q || b)) (second_has files.second q)
+
+  plain : (q : Port) → port_number q < 9 → is_terminal files.lines q ≡ same (Out out_port.Term) q → has_port ports q ≡ is_disk_output files q
   plain q low terminal =
       ap (λ b. same (Out out_port.Term) q || b)
-      (has_append (line_outputs files.lines files.term) behind q ∙ ap (λ b. b || has_port behind q) (others_have files.term 1 (files.lines - 1) q low))
-      ∙ in_order (same (Out out_port.Term) q) (same (Out out_port.Log) q) (same (Out out_port.Final) q)
-      ∙ ap (λ b. (b || same (Out out_port.Log) q) || same (Out out_port.Final) q) (sym terminal)
+      (has_append (line_outputs files.lines files.term) behind q ∙ ap (λ b. b || has_port behind q) (others_have files.term 1 (files.lines - 1) q low) ∙ behind_has q)
+      ∙ sym (or_assoc (same (Out out_port.Term) q) (same (Out out_port.Log) q) (left q))
+      ∙ ap (λ b. (b || same (Out out_port.Log) q) || left q) (sym terminal)
 
-  pub disk_ports : (q : Port) → has_port ports q ≡ is_disk_output files.lines q
+  pub disk_ports : (q : Port) → has_port ports q ≡ is_disk_output files q
   disk_ports (In in_port.Image) = plain (In in_port.Image) (lit< tt) refl
   disk_ports (In in_port.Script) = plain (In in_port.Script) (lit< tt) refl
   disk_ports (In in_port.Log) = plain (In in_port.Log) (lit< tt) refl
@@ -164,23 +175,22 @@ module _ (files : DiskFiles) where
       ap (λ b. b || has_port (line_outputs files.lines files.term ++ behind) (Out (out_port.Line l))) (not_line 4 l (lit< tt))
       ∙ has_append (line_outputs files.lines files.term) behind (Out (out_port.Line l))
       ∙ ap (λ b. b || has_port behind (Out (out_port.Line l))) (lines_have files.term 1 (files.lines - 1) l ∙ last_line files.lines l)
-      ∙ in_order (is_line files.lines l) (same (Out out_port.Log) (Out (out_port.Line l))) (same (Out out_port.Final) (Out (out_port.Line l)))
-
--- Final is one of them
-pub final_named : (lines : ℕ) → is_disk_output lines (Out out_port.Final) ≡ true
-final_named lines = refl
+      ∙ ap (λ b. is_line files.lines l || b) (behind_has (Out (out_port.Line l)))
+      ∙ sym (or_assoc (is_line files.lines l) (same (Out out_port.Log) (Out (out_port.Line l))) (left (Out (out_port.Line l))))
 
 -- Each is there, and none is there twice.
-pub ports_apart : (lines : count.Lines) (term log final_disk : List ℕ)
-    → AreApart (output_ports (ToDisk (record { lines = lines_value lines; term = term; log = log; final_disk = final_disk })))
-ports_apart One term log final_disk = (refl, (refl, (refl, tt)))
-ports_apart Eight term log final_disk = (refl, (refl, (refl, (refl, (refl, (refl, (refl, (refl, (refl, (refl, tt))))))))))
+pub ports_apart : (machine : made.Machine) (term log final_disk : List ℕ)
+    → AreApart (output_ports (ToDisk (record { lines = machine_lines machine; term = term; log = log; final_disk = final_disk; second = machine_second machine })))
+ports_apart (machine.Lines One) term log final_disk = (refl, (refl, (refl, tt)))
+ports_apart (machine.Lines Eight) term log final_disk = (refl, (refl, (refl, (refl, (refl, (refl, (refl, (refl, (refl, (refl, tt))))))))))
+ports_apart (machine.Disks second) term log final_disk = (refl, (refl, (refl, (refl, tt))))
 
-pub ports_there : (lines : count.Lines) (term log final_disk : List ℕ)
-    → AreThere (output_ports (ToDisk (record { lines = lines_value lines; term = term; log = log; final_disk = final_disk })))
-ports_there One term log final_disk = (tt, (tt, (tt, tt)))
-ports_there Eight term log final_disk =
+pub ports_there : (machine : made.Machine) (term log final_disk : List ℕ)
+    → AreThere (output_ports (ToDisk (record { lines = machine_lines machine; term = term; log = log; final_disk = final_disk; second = machine_second machine })))
+ports_there (machine.Lines One) term log final_disk = (tt, (tt, (tt, tt)))
+ports_there (machine.Lines Eight) term log final_disk =
     (tt, ((lit≤ tt, lit≤ tt), ((lit≤ tt, lit≤ tt), ((lit≤ tt, lit≤ tt), ((lit≤ tt, lit≤ tt), ((lit≤ tt, lit≤ tt), ((lit≤ tt, lit≤ tt), ((lit≤ tt, lit≤ tt), (tt, (tt, tt))))))))))
+ports_there (machine.Disks second) term log final_disk = (tt, (tt, (tt, (tt, tt))))
 
 pub some_lines : (lines : count.Lines) → 0 < lines_value lines
 some_lines One = lit< tt

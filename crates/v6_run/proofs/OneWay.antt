@@ -14,7 +14,7 @@ use Rattle.log_text.specs.Held.{HoldsChannel, HoldsPlace, IsHeld}
 use Rattle.log_text.proofs.EntryLemmas.{one_line_each}
 use Rattle.log_audit.specs.Judge.{IsLine}
 use Rattle.v6_run.specs.declared.status.Status.{Status}
-use Rattle.v6_run.specs.declared.status.Status.TheVariants.{Done, Usage, ReadFault, WriteFault, CoreSize, ScriptFault, ImageFault, Panic, NoMemory, Unlawful, BadLog, LogTooLong}
+use Rattle.v6_run.specs.declared.status.Status.TheVariants.{Done, Usage, ReadFault, WriteFault, CoreSize, ScriptFault, ImageFault, SecondFault, Panic, NoMemory, Unlawful, BadLog, LogTooLong}
 use Rattle.v6_run.specs.Logs.{lines_of, AreLawful, FitBefore, IsUnfitAt, IsMissingAt, IsBadAt, AuditEnds, AuditsEndInOneWay}
 
 -- a number in its range is one that its field can hold
@@ -239,6 +239,7 @@ done_way bytes (WriteFault p) h k = absurd k
 done_way bytes CoreSize h k = absurd k
 done_way bytes (ScriptFault f) h k = absurd k
 done_way bytes (ImageFault f) h k = absurd k
+done_way bytes (SecondFault f) h k = absurd k
 done_way bytes (Panic p) h k = absurd k
 done_way bytes NoMemory h k = absurd k
 done_way bytes (Unlawful m) h k = absurd (lawful_line (lines_of bytes) m h.1 k.1)
@@ -253,6 +254,7 @@ unlawful_way bytes n (WriteFault p) h k = absurd k
 unlawful_way bytes n CoreSize h k = absurd k
 unlawful_way bytes n (ScriptFault f) h k = absurd k
 unlawful_way bytes n (ImageFault f) h k = absurd k
+unlawful_way bytes n (SecondFault f) h k = absurd k
 unlawful_way bytes n (Panic p) h k = absurd k
 unlawful_way bytes n NoMemory h k = absurd k
 unlawful_way bytes n (Unlawful m) h k = ap Unlawful (one_line (lines_of bytes) n m h.1 k.1)
@@ -267,6 +269,7 @@ bad_way bytes n (WriteFault p) h k = absurd k
 bad_way bytes n CoreSize h k = absurd k
 bad_way bytes n (ScriptFault f) h k = absurd k
 bad_way bytes n (ImageFault f) h k = absurd k
+bad_way bytes n (SecondFault f) h k = absurd k
 bad_way bytes n (Panic p) h k = absurd k
 bad_way bytes n NoMemory h k = absurd k
 bad_way bytes n (Unlawful m) h k = absurd (bad_line (lines_of bytes) m n k.1 h.1)
@@ -281,6 +284,7 @@ long_way bytes (WriteFault p) h k = absurd k
 long_way bytes CoreSize h k = absurd k
 long_way bytes (ScriptFault f) h k = absurd k
 long_way bytes (ImageFault f) h k = absurd k
+long_way bytes (SecondFault f) h k = absurd k
 long_way bytes (Panic p) h k = absurd k
 long_way bytes NoMemory h k = absurd k
 long_way bytes (Unlawful m) h k = absurd (k.0 h)
@@ -295,6 +299,7 @@ audits_end_in_one_way bytes (WriteFault p) t h k = absurd h
 audits_end_in_one_way bytes CoreSize t h k = absurd h
 audits_end_in_one_way bytes (ScriptFault f) t h k = absurd h
 audits_end_in_one_way bytes (ImageFault f) t h k = absurd h
+audits_end_in_one_way bytes (SecondFault f) t h k = absurd h
 audits_end_in_one_way bytes (Panic p) t h k = absurd h
 audits_end_in_one_way bytes NoMemory t h k = absurd h
 audits_end_in_one_way bytes (Unlawful m) t h k = unlawful_way bytes m t h k

@@ -1,5 +1,5 @@
 -- What `run` answers, exit by exit.
-use Rattle.std.proofs.Common.{◌≡◌, ◌≢◌, ℕ, true, false, ◌&&◌, Option, Some, None, List, ◌∷◌, take, refl, sym, Ok, Err, IsOk, ◌∙◌, ap, subst, is_some, if◌then◌else◌, ◌||◌, lit<}
+use Rattle.std.proofs.Common.{◌≡◌, ◌≢◌, ℕ, Bool, true, false, ◌&&◌, Option, Some, None, IsSomeAnd, List, [], ◌∷◌, take, refl, sym, Ok, Err, IsOk, ◌∙◌, ap, subst, is_some, if◌then◌else◌, ◌||◌, lit<}
 use Rattle.std.specs.Option.{option_map}
 use Rattle.v6_port.specs.declared.host.InPort.TheVariants as in_port
 use Rattle.v6_port.specs.declared.host.OutPort.{OutPort}
@@ -8,13 +8,18 @@ use Rattle.v6_port.specs.Outside.{In, Out, same, is_report, PortState, Environme
 use Rattle.v6_port.specs.Calls.{is_given}
 use Rattle.v6_port.specs.Causes.{Calm}
 use Rattle.fs_codec.specs.Disk.{disk_of}
-use Rattle.fs_codec.specs.Faults.{image_fault}
+use Rattle.fs_codec.specs.Faults.{image_fault, fault_within}
+use Rattle.fs_codec.specs.declared.layout.TheConstants.{DISK_BLOCKS}
 use Rattle.fs_codec.specs.declared.fault.ImageFault as codec
 use Rattle.abstract_unix.specs.Unix.{System}
-use Rattle.abstract_unix.specs.Runs.{Course, system_of, started, boots, course}
+use Rattle.fs_nodes.specs.Keys.{key_count}
+use Rattle.abstract_unix.specs.Runs.{Course, stores_of, system_of, is_second_bad, started, boots, course}
+use Rattle.unix_core.specs.declared.boot.SecondFault.{SecondFault}
+use Rattle.unix_core.specs.Boots.{fault_or_count, second_fault_of}
 use Rattle.v6_run.specs.declared.image.TheConstants.{IMAGE_LIMIT}
 use Rattle.v6_run.specs.declared.run.TheConstants.{SCRIPT_LIMIT}
 use Rattle.v6_run.specs.declared.status.Status.{Status}
+use Rattle.v6_run.specs.declared.status.Status.TheVariants as status
 use Rattle.v6_run.specs.declared.status.Status.TheVariants.{ReadFault, WriteFault, ScriptFault, NoMemory}
 use Rattle.abstract_unix.specs.declared.ends.Ends.{Ends}
 use Rattle.abstract_unix.specs.declared.ends.Ends.TheVariants as ends
@@ -22,75 +27,190 @@ use Rattle.abstract_unix.specs.declared.ends.Ends.TheVariants.{AtEnd}
 use Rattle.v6_run.specs.declared.files.ReadError.{ReadError}
 use Rattle.v6_run.specs.declared.files.ReadError.TheVariants as reading
 use Rattle.v6_run.specs.declared.image.ImageError.{ImageError}
+use Rattle.v6_run.specs.declared.image.SecondError.{SecondError}
+use Rattle.v6_run.specs.declared.image.SecondError.TheVariants as second_error
 use Rattle.v6_run.specs.declared.run.RunError.{RunError}
 use Rattle.v6_run.specs.declared.run.RunError.TheVariants as run_error
-use Rattle.v6_run.specs.Words.{Outputs, RunWords, line_count, Run}
+use Rattle.v6_run.specs.Words.{Outputs, RunWords, line_count, second_image, Run}
 use Rattle.script_text.specs.declared.script.Event as asked
 use Rattle.script_text.specs.declared.script.ScriptFault as text
 use Rattle.script_text.specs.declared.script.ScriptFault.TheVariants as fault
 use Rattle.script_text.specs.Script.{script_of, Refuses}
 use Rattle.v6_run.specs.Events.{events_of}
 use Rattle.v6_run.specs.Status.{is_decided, has_written}
-use Rattle.v6_run.specs.Errors.{read_status, image_status, script_status, run_status}
+use Rattle.v6_run.specs.Errors.{read_status, image_status, second_status, script_status, run_status}
 use Rattle.v6_run.specs.Fronts.{HoldsSome, HoldsFrontOfSome}
-use Rattle.v6_run.specs.Opened.{NamedPort, input, output_ports, ports_before, command_ports, knows_port, TellsInputs, IsGoodAt, AreGood, ports_passed}
+use Rattle.v6_run.specs.Opened.{NamedPort, input, second_inputs, output_ports, has_port, ports_before, command_ports, knows_port, TellsInputs, IsGoodAt, AreGood, ports_passed}
 use Rattle.v6_run.specs.Outputs.{is_output, run_writes, EndsRun, StopsRun, StopsBy}
 use Rattle.v6_run.specs.Causes.{IsCaused}
-use Rattle.v6_run.specs.Steps.{StopsReading, StopsImage}
-use Rattle.v6_run.specs.Headline.{Known, IsKnownAnd, ends_with, course_completion, lines_completion, bytes_completion, script_completion, fault_completion, image_completion, command_completion, IsComplete, IsPartial, status_at, is_named, may_end, is_known}
-use Rattle.v6_run.specs.Answers.{Answers, HasFiles}
-use Rattle.v6_run.proofs.OpenedLemmas.{good_first, given_and}
+use Rattle.v6_run.specs.Steps.{StopsReading, StopsImage, StopsSecond}
+use Rattle.v6_run.specs.Headline.{MaybeCompletion, Known, IsKnownAnd, ends_with, course_completion, lines_completion, bytes_completion, script_completion, fault_completion, image_completion, second_fault_completion, given_second, second_completion, command_completion, IsComplete, IsPartial, status_at, is_named, may_end, is_known}
+use Rattle.v6_run.specs.Answers.{Answers, HasSecond, HasFiles}
+use Rattle.v6_run.proofs.OpenedLemmas.{good_first, good_both, good_through, given_and}
 use Rattle.v6_port.proofs.CauseLemmas.{still_tells, only_then, calm_then, fault_then}
-use Rattle.v6_run.proofs.CauseLemmas.{fault_known, only_within, not_input, names_image, names_script, names_outputs, named_outputs, known_outputs, named_report}
+use Rattle.v6_run.proofs.CauseLemmas.{fault_known, only_within, not_input, second_unread, names_image, names_second, names_script, names_outputs, named_outputs, known_outputs, named_script, known_script, before_script, named_second, known_second, before_second, named_report}
 use Rattle.v6_run.proofs.AnswerLemmas.{not_so, unwritten, complete_unwritten, image_stops}
+
+-- what comes after the first image
+abbrev after_image : RunWords → Environment → List ℕ → MaybeCompletion
+after_image words fixed image = second_completion (second_image words.outputs) fixed image (script_completion words (fixed.given words.script) image)
 
 -- the image could not be read, or has a fault
 pub image_refused : (words : RunWords) (error : ImageError) (old new : Outside) → OnlyAt (same (In in_port.Image)) old new → StopsImage words.image error old new
     → Answers (Run words) (image_status error) old new
 image_refused words error old new only =
-    image_stops (Run words) words.image (script_completion words (old.fixed.given words.script)) old new (names_image words) refl refl refl refl refl refl only error
+    image_stops (Run words) words.image (after_image words old.fixed) old new (names_image words) refl refl refl refl refl refl only error
 
--- both are read from ports that are no outputs
-both_read : (old middle new : Outside) → OnlyAt (same (In in_port.Image)) old middle → OnlyAt (same (In in_port.Script)) middle new → (p : OutPort) → new.port (Out p) ≡ old.port (Out p)
-both_read old middle new first second p = second.others (Out p) (not_input 1 p (lit< tt)) ∙ first.others (Out p) (not_input 0 p (lit< tt))
+-- What the files that were read come to: the first image, the second one, and the script.
+image_done : (given : Option (List ℕ)) (image : List ℕ) (rest : List ℕ → MaybeCompletion) → option_map (take IMAGE_LIMIT) given ≡ Some image → image_fault image ≡ None
+    → image_completion given rest ≡ rest image
+image_done None image rest is good = cc
+image_done (Some bytes) image rest is good =
+    let read : take IMAGE_LIMIT bytes ≡ image = cc in
+    ap (λ l. fault_completion (image_fault l) (rest l)) read ∙ ap (λ f. fault_completion f (rest image)) good
 
-only_read : (words : RunWords) (old middle new : Outside) → OnlyAt (same (In in_port.Image)) old middle → OnlyAt (same (In in_port.Script)) middle new → OnlyAt (is_named (Run words)) old new
-only_read words old middle new first second = only_then _ _ _ _ (only_within _ _ _ _ (names_image words) first) (only_within _ _ _ _ (names_script words) second)
+given_done : (image : List ℕ) (given : Option (List ℕ)) (bytes : List ℕ) (rest : Option (List ℕ) → MaybeCompletion) → option_map (take IMAGE_LIMIT) given ≡ Some bytes
+    → second_fault_of image bytes ≡ None → given_second image given rest ≡ rest (Some bytes)
+given_done image None bytes rest is good = cc
+given_done image (Some b) bytes rest is good =
+    let read : take IMAGE_LIMIT b ≡ bytes = cc in
+    ap (λ l. second_fault_completion (second_fault_of image l) (rest (Some l))) read ∙ ap (λ f. second_fault_completion f (rest (Some bytes))) good
 
--- the script could not be read, after an image without a fault
+second_done : (image : List ℕ) (name second : Option (List ℕ)) (o : Outside) (rest : Option (List ℕ) → MaybeCompletion) → HasSecond image name second o → Tells o
+    → second_completion name o.fixed image rest ≡ rest second
+second_done image None second o rest has told = ap rest (sym has)
+second_done image (Some name) None o rest has told = absurd has
+second_done image (Some name) (Some bytes) o rest has told = given_done image (o.fixed.given name) bytes rest (has.1 told) has.0
+
+script_done : (words : RunWords) (given : Option (List ℕ)) (image : List ℕ) (second : Option (List ℕ)) (bytes : List ℕ) → option_map (take SCRIPT_LIMIT) given ≡ Some bytes
+    → script_completion words given image second ≡ Known (bytes_completion words image second bytes)
+script_done words None image second bytes is = cc
+script_done words (Some b) image second bytes is =
+    let read : take SCRIPT_LIMIT b ≡ bytes = cc in ap (λ l. Known (bytes_completion words image second l)) read
+
+-- a second image without a fault has none of its own
+no_second_fault : (image bytes : List ℕ) → second_fault_of image bytes ≡ None → fault_within DISK_BLOCKS bytes ≡ None
+no_second_fault image bytes = by (fault_within DISK_BLOCKS bytes)
+  where
+    by : (f : Option codec.ImageFault) → fault_or_count f (key_count (stores_of image (Some bytes))) ≡ None → f ≡ None
+    by None none = refl
+    by (Some fault) none = absurd (cc none)
+
+second_good : (image : List ℕ) (name second : Option (List ℕ)) (o : Outside) → HasSecond image name second o → Tells o → AreGood o.fixed (second_inputs name)
+second_good image None second o has told = tt
+second_good image (Some name) None o has told = absurd has
+second_good image (Some name) (Some bytes) o has told =
+    (given_and IMAGE_LIMIT _ bytes (λ l. fault_within DISK_BLOCKS l ≡ None) (has.1 told) (no_second_fault image bytes has.0), tt)
+
+second_before : (image : List ℕ) (name second : Option (List ℕ)) (old middle : Outside) → middle.fixed ≡ old.fixed → (Tells old → Tells middle)
+    → HasSecond image name second middle → HasSecond image name second old
+second_before image None second old middle fixed tells has = has
+second_before image (Some name) None old middle fixed tells has = has
+second_before image (Some name) (Some bytes) old middle fixed tells has =
+    (has.0, λ told. ap (λ (f : Environment). option_map (take IMAGE_LIMIT) (f.given name)) (sym fixed) ∙ has.1 (tells told))
+
+-- what is wrong with a second image
+second_faulty : (image : List ℕ) (given : Option (List ℕ)) (rest : Option (List ℕ) → MaybeCompletion) (fault : SecondFault)
+    → IsSomeAnd given (λ bytes. second_fault_of image (take IMAGE_LIMIT bytes) ≡ Some fault) → given_second image given rest ≡ Known (ends_with (status.SecondFault fault))
+second_faulty image None rest fault is = absurd is
+second_faulty image (Some bytes) rest fault is = ap (λ f. second_fault_completion f (rest (Some (take IMAGE_LIMIT bytes)))) is
+
+-- An image without a fault has been read, and then the second one, where the words name one.
 module _ (words : RunWords) (image : List ℕ) (old middle new : Outside) (first : OnlyAt (same (In in_port.Image)) old middle) (calm : Calm old middle)
     (good : image_fault image ≡ None) (image_is : Tells old → option_map (take IMAGE_LIMIT) (old.fixed.given words.image) ≡ Some image)
-    (second : OnlyAt (same (In in_port.Script)) middle new) where
-  pub script_unread : (error : ReadError) → StopsReading (In in_port.Script) (is_given (middle.fixed.given words.script)) error middle new
-      → Answers (Run words) (read_status in_port.Script error) old new
-  script_unread reading.Fault stops =
-      let given : is_given (old.fixed.given words.script) ≡ is_given (middle.fixed.given words.script) = ap (λ (f : Environment). is_given (f.given words.script)) (sym first.fixed) in
-      unwritten (Run words) (ReadFault in_port.Script) old new (only_read words old middle new first second) refl refl (both_read old middle new first second)
-      (λ told. (given_and IMAGE_LIMIT _ image (λ l. image_fault l ≡ None) (image_is told) good, tt)) (λ decided. not_so _ decided)
-      (fault_known (In in_port.Script) _ _ old new given (fault_then _ _ old middle new first.fixed calm stops))
-  script_unread reading.NoMemory stops =
-      unwritten (Run words) NoMemory old new (only_read words old middle new first second) refl refl (both_read old middle new first second)
-      (λ told. tt) (λ decided. not_so _ decided) (calm_then _ _ _ calm stops)
+    (second : OnlyAt (has_port (second_inputs (second_image words.outputs))) middle new) where
+  image_good : Tells old → IsGoodAt old.fixed words.image (In in_port.Image)
+  image_good told = given_and IMAGE_LIMIT _ image (λ l. image_fault l ≡ None) (image_is told) good
 
-  pub files_read : (bytes : List ℕ) → Calm middle new → (Tells middle → option_map (take SCRIPT_LIMIT) (middle.fixed.given words.script) ≡ Some bytes) → HasFiles words image bytes old new
-  files_read bytes calm_too script_is = record {
-    only = only_read words old middle new first second;
-    none = both_read old middle new first second;
-    calm = calm_then _ _ _ calm calm_too;
-    good = good;
-    image_is = image_is;
-    script_is = λ told. ap (λ (f : Environment). option_map (take SCRIPT_LIMIT) (f.given words.script)) (sym first.fixed) ∙ script_is (still_tells _ _ _ first told);
-  }
+  only_both : OnlyAt (is_named (Run words)) old new
+  only_both = only_then _ _ _ _ (only_within _ _ _ _ (names_image words) first) (only_within _ _ _ _ (names_second words) second)
 
-completion_is : (words : RunWords) (image_given script_given : Option (List ℕ)) (image bytes : List ℕ) → option_map (take IMAGE_LIMIT) image_given ≡ Some image → image_fault image ≡ None
-    → option_map (take SCRIPT_LIMIT) script_given ≡ Some bytes → image_completion image_given (script_completion words script_given) ≡ Known (bytes_completion words image bytes)
-completion_is words None script_given image bytes image_is good script_is = cc
-completion_is words (Some i) None image bytes image_is good script_is = cc
-completion_is words (Some i) (Some s) image bytes image_is good script_is =
-    let same_image : take IMAGE_LIMIT i ≡ image = cc in
-    let same_script : take SCRIPT_LIMIT s ≡ bytes = cc in
-    ap (λ l. fault_completion (image_fault l) (Known (bytes_completion words l (take SCRIPT_LIMIT s)))) same_image
-    ∙ ap (λ f. fault_completion f (Known (bytes_completion words image (take SCRIPT_LIMIT s)))) good ∙ ap (λ l. Known (bytes_completion words image l)) same_script
+  none_written : (p : OutPort) → new.port (Out p) ≡ old.port (Out p)
+  none_written p = second_unread (second_image words.outputs) middle new second p ∙ first.others (Out p) (not_input 0 p (lit< tt))
+
+  -- the second one could not be read, or something is wrong with it
+  module _ (name : List ℕ) (is : second_image words.outputs ≡ Some name) where
+    order : Tells old → AreGood old.fixed (ports_before (command_ports (Run words)) (In in_port.Second))
+    order told = subst (AreGood old.fixed) (sym (before_second words name is)) (image_good told, tt)
+
+    faulty_is : (fault : SecondFault) → IsSomeAnd (old.fixed.given name) (λ bytes. second_fault_of image (take IMAGE_LIMIT bytes) ≡ Some fault) → Tells old
+        → command_completion (Run words) old.fixed ≡ Known (ends_with (status.SecondFault fault))
+    faulty_is fault faulty told =
+        image_done (old.fixed.given words.image) image (after_image words old.fixed) (image_is told) good
+        ∙ ap (λ o. second_completion o old.fixed image (script_completion words (old.fixed.given words.script) image)) is
+        ∙ second_faulty image (old.fixed.given name) _ fault faulty
+
+    stops_at : (error : SecondError) → StopsSecond image name error middle new → Answers (Run words) (second_status error) old new
+    stops_at (second_error.Unread reading.Fault) stops =
+        let known : is_known (Some (Run words)) old.fixed (In in_port.Second) ≡ is_given (middle.fixed.given name) =
+        known_second words name is old.fixed ∙ ap (λ (f : Environment). is_given (f.given name)) (sym first.fixed) in
+        unwritten (Run words) (ReadFault in_port.Second) old new only_both (named_second words name is) refl none_written order (λ decided. not_so _ decided)
+        (fault_known (In in_port.Second) _ _ old new known (fault_then (In in_port.Second) _ old middle new first.fixed calm stops))
+    stops_at (second_error.Unread reading.NoMemory) stops =
+        unwritten (Run words) NoMemory old new only_both refl refl none_written (λ told. tt) (λ decided. not_so _ decided) (calm_then _ _ _ calm stops)
+    stops_at (second_error.Faulty fault) stops =
+        let faulty : Tells old → IsSomeAnd (old.fixed.given name) (λ bytes. second_fault_of image (take IMAGE_LIMIT bytes) ≡ Some fault) =
+        λ told. subst (λ (f : Environment). IsSomeAnd (f.given name) (λ bytes. second_fault_of image (take IMAGE_LIMIT bytes) ≡ Some fault)) first.fixed
+        (stops.1 (still_tells _ _ _ first told)) in
+        unwritten (Run words) (status.SecondFault fault) old new only_both (named_second words name is) refl none_written order
+        (λ _ told. subst (λ m. IsKnownAnd m (IsComplete (status.SecondFault fault) old new)) (sym (faulty_is fault (faulty (told refl)) (told refl)))
+        (complete_unwritten (status.SecondFault fault) old new none_written))
+        (calm_then _ _ _ calm stops.0)
+
+  pub second_refused : (error : SecondError) → IsSomeAnd (second_image words.outputs) (λ name. StopsSecond image name error middle new)
+      → Answers (Run words) (second_status error) old new
+  second_refused error stops = by (second_image words.outputs) refl stops
+    where
+      by : (o : Option (List ℕ)) → second_image words.outputs ≡ o → IsSomeAnd o (λ name. StopsSecond image name error middle new)
+          → Answers (Run words) (second_status error) old new
+      by None is stops = absurd stops
+      by (Some name) is stops = stops_at name is error stops
+
+  -- then the script
+  module _ (bytes_second : Option (List ℕ)) (has : HasSecond image (second_image words.outputs) bytes_second middle) (calm_second : Calm middle new)
+      (last : Outside) (third : OnlyAt (same (In in_port.Script)) new last) where
+    fixed_so : new.fixed ≡ old.fixed
+    fixed_so = second.fixed ∙ first.fixed
+
+    tells_so : Tells old → Tells new
+    tells_so told = still_tells _ _ _ second (still_tells _ _ _ first told)
+
+    has_old : HasSecond image (second_image words.outputs) bytes_second old
+    has_old = second_before image (second_image words.outputs) bytes_second old middle first.fixed (still_tells _ _ _ first) has
+
+    only_all : OnlyAt (is_named (Run words)) old last
+    only_all = only_then _ _ _ _ only_both (only_within _ _ _ _ (names_script words) third)
+
+    none_last : (p : OutPort) → last.port (Out p) ≡ old.port (Out p)
+    none_last p = third.others (Out p) (not_input 1 p (lit< tt)) ∙ none_written p
+
+    both_calm : Calm old new
+    both_calm = calm_then _ _ _ calm calm_second
+
+    -- it could not be read
+    pub script_unread : (error : ReadError) → StopsReading (In in_port.Script) (is_given (new.fixed.given words.script)) error new last
+        → Answers (Run words) (read_status in_port.Script error) old last
+    script_unread reading.Fault stops =
+        let known : is_known (Some (Run words)) old.fixed (In in_port.Script) ≡ is_given (new.fixed.given words.script) =
+        known_script words old.fixed ∙ ap (λ (f : Environment). is_given (f.given words.script)) (sym fixed_so) in
+        unwritten (Run words) (ReadFault in_port.Script) old last only_all (named_script words) refl none_last
+        (λ told. subst (AreGood old.fixed) (sym (before_script words)) (image_good told, second_good image (second_image words.outputs) bytes_second old has_old told))
+        (λ decided. not_so _ decided)
+        (fault_known (In in_port.Script) _ _ old last known (fault_then (In in_port.Script) _ old new last fixed_so both_calm stops))
+    script_unread reading.NoMemory stops =
+        unwritten (Run words) NoMemory old last only_all refl refl none_last (λ told. tt) (λ decided. not_so _ decided) (calm_then _ _ _ both_calm stops)
+
+    pub files_read : (bytes : List ℕ) → Calm new last → (Tells new → option_map (take SCRIPT_LIMIT) (new.fixed.given words.script) ≡ Some bytes)
+        → HasFiles words image bytes_second bytes old last
+    files_read bytes calm_last script_is = record {
+      only = only_all;
+      none = none_last;
+      calm = calm_then _ _ _ both_calm calm_last;
+      good = good;
+      second = has_old;
+      image_is = image_is;
+      script_is = λ told. ap (λ (f : Environment). option_map (take SCRIPT_LIMIT) (f.given words.script)) (sym fixed_so) ∙ script_is (tells_so told);
+    }
 
 has_begun : (ended : Ends) → has_written (status_at ended) ≡ true
 has_begun AtEnd = refl
@@ -104,15 +224,30 @@ not_report outputs p named is =
     let report : p ≡ out_port.Report = cc in
     not_so _ (sym (named_report outputs p named) ∙ ap (λ q. is_report (Out q)) report)
 
-module _ (words : RunWords) (image bytes : List ℕ) (old middle : Outside) (files : HasFiles words image bytes old middle) where
-  run_is : Tells old → command_completion (Run words) old.fixed ≡ Known (bytes_completion words image bytes)
-  run_is told = completion_is words _ _ image bytes (files.image_is told) files.good (files.script_is told)
+module _ (words : RunWords) (image : List ℕ) (second : Option (List ℕ)) (bytes : List ℕ) (old middle : Outside) (files : HasFiles words image second bytes old middle) where
+  run_is : Tells old → command_completion (Run words) old.fixed ≡ Known (bytes_completion words image second bytes)
+  run_is told =
+      image_done (old.fixed.given words.image) image (after_image words old.fixed) (files.image_is told) files.good
+      ∙ second_done image (second_image words.outputs) second old (script_completion words (old.fixed.given words.script) image) files.second told
+      ∙ script_done words (old.fixed.given words.script) image second bytes (files.script_is told)
 
-  image_good : Tells old → IsGoodAt old.fixed words.image (In in_port.Image)
-  image_good told = given_and IMAGE_LIMIT _ image (λ l. image_fault l ≡ None) (files.image_is told) files.good
+  images_good : Tells old → AreGood old.fixed (input in_port.Image words.image ∷ second_inputs (second_image words.outputs))
+  images_good told =
+      (given_and IMAGE_LIMIT _ image (λ l. image_fault l ≡ None) (files.image_is told) files.good,
+      second_good image (second_image words.outputs) second old files.second told)
+
+  before_good : Tells old → AreGood old.fixed (ports_before (command_ports (Run words)) (In in_port.Script))
+  before_good told = subst (AreGood old.fixed) (sym (before_script words)) (images_good told)
+
+  -- the texts that the run may write
+  abbrev writes : Course → OutPort → List ℕ → Type 0
+  writes = run_writes words.outputs (disk_of image) (option_map disk_of second)
+
+  abbrev lines : ℕ
+  lines = line_count words.outputs
 
   -- what ends a command before its run is this completion, and shows nothing
-  early_complete : (s : Status) → bytes_completion words image bytes ≡ ends_with s → Tells old
+  early_complete : (s : Status) → bytes_completion words image second bytes ≡ ends_with s → Tells old
       → IsKnownAnd (command_completion (Run words) old.fixed) (IsComplete s old middle)
   early_complete s is told = subst (λ m. IsKnownAnd m (IsComplete s old middle)) (sym (run_is told ∙ ap Known is)) (complete_unwritten s old middle files.none)
 
@@ -122,8 +257,8 @@ module _ (words : RunWords) (image bytes : List ℕ) (old middle : Outside) (fil
   before_run s may before order complete cause = unwritten (Run words) s old middle files.only may before files.none order complete cause
 
   faulty : (fault : text.ScriptFault) → may_end (Run words) (ScriptFault fault) ≡ true → script_of bytes ≡ Err fault → Answers (Run words) (ScriptFault fault) old middle
-  faulty fault may is = before_run (ScriptFault fault) may refl (λ told. (image_good told, tt))
-      (λ _ told. early_complete (ScriptFault fault) (ap (λ s. lines_completion words.core (line_count words.outputs) (run_writes words.outputs (disk_of image)) image s) is) (told refl)) files.calm
+  faulty fault may is = before_run (ScriptFault fault) may refl before_good
+      (λ _ told. early_complete (ScriptFault fault) (ap (λ s. lines_completion words.core lines writes image second s) is) (told refl)) files.calm
 
   pub script_refused : (fault : text.ScriptFault) → Refuses bytes fault → Answers (Run words) (script_status fault) old middle
   script_refused fault.TooLong refused = faulty fault.TooLong refl refused
@@ -132,17 +267,18 @@ module _ (words : RunWords) (image bytes : List ℕ) (old middle : Outside) (fil
   script_refused fault.NoMemory refused = before_run NoMemory refl refl (λ told. tt) (λ decided. not_so _ decided) files.calm
 
   module _ (events : List asked.Event) (script_is : script_of bytes ≡ Ok events) where
-    -- the system that was booted is that of the image
-    is_of : (o : Option codec.ImageFault) (system : System)
-        → (if is_some o then None else Some (system_of image words.core (line_count words.outputs))) ≡ Some system → system_of image words.core (line_count words.outputs) ≡ system
-    is_of None system is = cc is
-    is_of (Some fault) system is = absurd (cc is)
+    -- the system that was booted is that of the images
+    is_of : (bad : Bool) (system : System) → (if bad then None else Some (system_of image second words.core lines)) ≡ Some system
+        → system_of image second words.core lines ≡ system
+    is_of true system is = absurd (cc is)
+    is_of false system is = cc is
 
-    boots_as : (system : System) → boots image words.core (line_count words.outputs) ≡ Some system
-        → bytes_completion words image bytes ≡ course_completion (run_writes words.outputs (disk_of image)) (course (started system) (events_of events))
+    boots_as : (system : System) → boots image second words.core lines ≡ Some system
+        → bytes_completion words image second bytes ≡ course_completion writes (course (started system) (events_of events))
     boots_as system is =
-        ap (λ s. lines_completion words.core (line_count words.outputs) (run_writes words.outputs (disk_of image)) image s) script_is
-        ∙ ap (λ m. course_completion (run_writes words.outputs (disk_of image)) (course (started m) (events_of events))) (is_of (image_fault image) system is)
+        ap (λ s. lines_completion words.core lines writes image second s) script_is
+        ∙ ap (λ m. course_completion writes (course (started m) (events_of events)))
+        (is_of (is_some (image_fault image) || is_second_bad image second) system is)
 
     pub boot_refused : Answers (Run words) NoMemory old middle
     boot_refused = before_run NoMemory refl refl (λ told. tt) (λ decided. not_so _ decided) files.calm
@@ -155,28 +291,31 @@ module _ (words : RunWords) (image bytes : List ℕ) (old middle : Outside) (fil
     with_inputs outputs good told = subst (λ f. AreGood f outputs) files.only.fixed (good (still_tells _ _ _ files.only told))
 
     -- the run, with its files
-    module _ (system : System) (boots_is : boots image words.core (line_count words.outputs) ≡ Some system) (new : Outside) (only : OnlyAt (is_output words.outputs) middle new) where
+    module _ (system : System) (boots_is : boots image second words.core lines ≡ Some system) (new : Outside) (only : OnlyAt (is_output words.outputs) middle new) where
       abbrev run : Course
       run = course (started system) (events_of events)
 
-      run_completion : Tells old → command_completion (Run words) old.fixed ≡ Known (course_completion (run_writes words.outputs (disk_of image)) run)
+      run_completion : Tells old → command_completion (Run words) old.fixed ≡ Known (course_completion writes run)
       run_completion told = run_is told ∙ ap Known (boots_as system boots_is)
 
       only_run : OnlyAt (is_named (Run words)) old new
       only_run = only_then _ _ _ _ files.only (only_within _ _ _ _ (names_outputs words) only)
 
-      run_complete : (ended : Ends) → EndsRun words.outputs (run_writes words.outputs (disk_of image) run) run ended middle new → Tells old
+      run_complete : (ended : Ends) → EndsRun words.outputs (writes run) run ended middle new → Tells old
           → IsKnownAnd (command_completion (Run words) old.fixed) (IsComplete (status_at ended) old new)
       run_complete ended all told = subst (λ m. IsKnownAnd m (IsComplete (status_at ended) old new)) (sym (run_completion told)) (record {
         answered = ap status_at all.ended;
-        written = λ _ p _. subst (λ (state : PortState). HoldsSome (run_writes words.outputs (disk_of image) run p) state.bytes (new.port (Out p)).bytes) (files.none p)
+        written = λ _ p _. subst (λ (state : PortState). HoldsSome (writes run p) state.bytes (new.port (Out p)).bytes) (files.none p)
             (all.written (still_tells _ _ _ files.only told) p);
       })
 
-      all_good : (ended : Ends) → EndsRun words.outputs (run_writes words.outputs (disk_of image) run) run ended middle new → Tells old → AreGood old.fixed (command_ports (Run words))
-      all_good ended all told = (image_good told, (script_good told, with_inputs (output_ports words.outputs) all.order told))
+      all_good : (ended : Ends) → EndsRun words.outputs (writes run) run ended middle new → Tells old → AreGood old.fixed (command_ports (Run words))
+      all_good ended all told =
+          let images = images_good told in
+          (images.0, good_both old.fixed (second_inputs (second_image words.outputs)) _ images.1
+          (script_good told, with_inputs (output_ports words.outputs) all.order told))
 
-      pub run_ended : (ended : Ends) → EndsRun words.outputs (run_writes words.outputs (disk_of image) run) run ended middle new → Answers (Run words) (status_at ended) old new
+      pub run_ended : (ended : Ends) → EndsRun words.outputs (writes run) run ended middle new → Answers (Run words) (status_at ended) old new
       run_ended AtEnd ended = record {
         only = only_run;
         ends = refl;
@@ -202,12 +341,12 @@ module _ (words : RunWords) (image bytes : List ℕ) (old middle : Outside) (fil
         cause = calm_then _ _ _ files.calm ended.calm;
       }
 
-      module _ (port : OutPort) (stops : StopsRun words.outputs (run_writes words.outputs (disk_of image) run) port middle new) where
+      module _ (port : OutPort) (stops : StopsRun words.outputs (writes run) port middle new) where
         run_partial : Tells old → IsKnownAnd (command_completion (Run words) old.fixed) (IsPartial port old new)
         run_partial told = subst (λ m. IsKnownAnd m (IsPartial port old new)) (sym (run_completion told)) (record {
           begun = (status_at run.ending, refl, has_begun run.ending);
           told = λ is. not_so _ (sym (named_report words.outputs port stops.named) ∙ is);
-          written = λ _ p _. subst (λ (state : PortState). HoldsFrontOfSome (run_writes words.outputs (disk_of image) run p) state.bytes (new.port (Out p)).bytes) (files.none p)
+          written = λ _ p _. subst (λ (state : PortState). HoldsFrontOfSome (writes run p) state.bytes (new.port (Out p)).bytes) (files.none p)
               (stops.written (still_tells _ _ _ files.only told) p);
         })
 
@@ -224,21 +363,25 @@ module _ (words : RunWords) (image bytes : List ℕ) (old middle : Outside) (fil
               unreported = not_report words.outputs port stops.named;
               complete = λ decided. not_so _ decided;
               partial = λ p is told. let same_port : port ≡ p = cc in subst (λ q. IsKnownAnd (command_completion (Run words) old.fixed) (IsPartial q old new)) same_port (run_partial (told refl));
-              order = λ told. good_first old.fixed (input in_port.Image words.image) (input in_port.Script words.script ∷ output_ports words.outputs) (Out port) (image_good told)
-                  (good_first old.fixed (input in_port.Script words.script) (output_ports words.outputs) (Out port) (script_good told)
+              order = λ told. good_through old.fixed (input in_port.Image words.image ∷ second_inputs (second_image words.outputs)) (input in_port.Script words.script ∷ output_ports words.outputs)
+                  (Out port) (images_good told) (good_first old.fixed (input in_port.Script words.script) (output_ports words.outputs) (Out port) (script_good told)
                   (with_inputs (ports_before (output_ports words.outputs) (Out port)) stops.order told));
-              opened = λ told p grew. (image_good told, (script_good told, with_inputs (output_ports words.outputs) (λ so. stops.opened so p (grown p grew)) told));
+              opened = λ told p grew.
+                  let images = images_good told in
+                  (images.0, good_both old.fixed (second_inputs (second_image words.outputs)) _ images.1
+                  (script_good told, with_inputs (output_ports words.outputs) (λ so. stops.opened so p (grown p grew)) told));
               none = λ before. not_so _ (sym before);
               closed = λ is. absurd (cc);
               cause = fault_known (Out port) _ _ old new known (fault_then _ _ old middle new files.only.fixed files.calm stops.fault);
             }
 
       -- it stops for want of memory, or at one of its files
-      pub run_stopped_by : (error : RunError) → StopsBy words.outputs (run_writes words.outputs (disk_of image) run) error middle new
+      pub run_stopped_by : (error : RunError) → StopsBy words.outputs (writes run) error middle new
           → Answers (Run words) (run_status error) old new
       run_stopped_by (run_error.Write port) stops = run_stopped port stops
       run_stopped_by run_error.NoMemory stops = subst (λ o. Answers (Run words) NoMemory old o) (sym stops) boot_refused
       run_stopped_by (run_error.Image e) stops = absurd stops
+      run_stopped_by (run_error.Second e) stops = absurd stops
       run_stopped_by (run_error.Script e) stops = absurd stops
       run_stopped_by (run_error.Refused e) stops = absurd stops
       run_stopped_by (run_error.Panic kind) stops = absurd stops

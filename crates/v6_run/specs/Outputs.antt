@@ -35,9 +35,13 @@ is_terminal lines _ = false
 abbrev pub is_shown : ℕ → Port → Bool
 is_shown lines q = is_terminal lines q || same (Out out_port.Log) q
 
--- what is left of the disk goes to one of these, or of both disks, where there are two
+-- what is left of a second disk goes to this port, where there are two disks
+abbrev pub is_other : Bool → Port → Bool
+is_other two q = two && same (Out out_port.Second) q
+
+-- and what is left of the disks to these
 abbrev pub is_left : Bool → Port → Bool
-is_left two q = same (Out out_port.Final) q || (two && same (Out out_port.Second) q)
+is_left two q = same (Out out_port.Final) q || is_other two q
 
 abbrev pub is_disk_output : DiskFiles → Port → Bool
 is_disk_output files q = is_shown files.lines q || is_left (is_some files.second) q

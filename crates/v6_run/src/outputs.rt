@@ -1,5 +1,5 @@
 //! The files that `run`, `run8` and `run2` write.
-ghost use Rattle.std.specs.Prelude.{◌≡◌, ◌⊎◌, ℕ, List, [], ◌∷◌, map, true, false, is_some, ◌++◌, IsSome, OnOk, IfOk, MatchResult, string_bytes};
+ghost use Rattle.std.specs.Prelude.{◌≡◌, ◌⊎◌, ℕ, List, [], ◌∷◌, map, true, false, is_some, ◌++◌, IsSome, OnOk, IfOk, IfErr, MatchResult, string_bytes};
 ghost use Rattle.v6_port.specs.declared.host.OutPort.{OutPort};
 ghost use Rattle.v6_port.specs.declared.host.OutPort.TheVariants as out_port;
 ghost use Rattle.v6_port.specs.Outside.{Out, IsOpen, OnlyAt, Tells, same};
@@ -15,7 +15,7 @@ ghost use Rattle.v6_run.specs.Words.{ToDisk, disk_files_value};
 ghost use Rattle.v6_run.specs.Ports.{final_of, second_of};
 ghost use Rattle.v6_run.specs.Fronts.{HoldsFront};
 ghost use Rattle.v6_run.specs.Final.{disk_text, second_text};
-ghost use Rattle.v6_run.specs.Outputs.{is_left};
+ghost use Rattle.v6_run.specs.Outputs.{is_other, is_left};
 ghost use Rattle.v6_run.specs.Opened.{output, line_name, line_outputs, second_outputs, output_ports, has_port, AreApart};
 ghost use Rattle.v6_run.specs.Opening.{output_value, AreThere, Opens, Leaves, Shuts};
 
@@ -203,6 +203,31 @@ fn write_second<H: Host>(kernel: &Kernel, host: &mut H) -> Result<(), Failed>
     Ok(())
 }
 
+/// Writes the second disk, where there is one, or says that it could not be written.
+fn leave_second<H: Host>(kernel: &Kernel, two: bool, host: &mut H) -> Result<(), OutPort>
+    requires finished { kernel.now.phase ≡ Finished }
+    requires second { is_some kernel.now.system.unix.store.second ≡ two }
+    requires stored { is_some kernel.now.stored.second ≡ two }
+    requires is_open { two ≡ true → IsOpen (H.outside host.old) (Out out_port.Second) }
+    ensures only { OnlyAt (is_other two) (H.outside host.old) (H.outside host.new) }
+    ensures is_open { two ≡ true → IsOpen (H.outside host.new) (Out out_port.Second) }
+    ensures whole { OnOk result (Tells (H.outside host.old) → (second_of (H.outside host.new)).bytes
+        ≡ (second_of (H.outside host.old)).bytes ++ second_text kernel.now.stored.second) }
+    ensures front { Tells (H.outside host.old) → HoldsFront (second_of (H.outside host.old)).bytes
+        (second_text kernel.now.stored.second) (second_of (H.outside host.new)).bytes }
+    ensures cause { MatchResult result (λ _. Calm (H.outside host.old) (H.outside host.new))
+        (λ port. FaultAt (Out port) true (H.outside host.old) (H.outside host.new)) }
+    ensures named { IfErr result (λ port. is_other two (Out port) ≡ true) }
+{
+    if !two {
+        return Ok(());
+    }
+    match write_second(kernel, host) {
+        Ok(()) => Ok(()),
+        Err(_) => Err(OutPort::Second),
+    }
+}
+
 /// Finishes the run, and writes the disk that it leaves, and then the second one, where there are two; or says which could not
 /// be written.
 pub(crate) fn leave_disks<H: Host>(
@@ -223,16 +248,10 @@ pub(crate) fn leave_disks<H: Host>(
         × Leaves two (disk_text kernel.new.stored.root ++ swap) (second_text kernel.new.stored.second) result
         (H.outside host.old) (H.outside host.new) }
 {
-    if leave_disk(kernel, host).is_err() {
-        return Err(OutPort::Final);
+    match leave_disk(kernel, host) {
+        Ok(()) => leave_second(kernel, two, host),
+        Err(_) => Err(OutPort::Final),
     }
-    if !two {
-        return Ok(());
-    }
-    if write_second(kernel, host).is_err() {
-        return Err(OutPort::Second);
-    }
-    Ok(())
 }
 
 /// Finishes them, in the order in which they were opened.
