@@ -11,7 +11,7 @@ use Rattle.v6_run.specs.declared.words.Lines as count
 use Rattle.v6_run.specs.declared.words.Lines.TheVariants.{One, Eight}
 use Rattle.v6_run.specs.Words.{DiskFiles, ToDisk, lines_value}
 use Rattle.v6_run.specs.Opened.{NamedPort, output, line_port, line_output, line_outputs, output_ports, has_port, AreApart}
-use Rattle.v6_run.specs.Opening.{AreThere}
+use Rattle.v6_run.specs.Opening.{IsWritten, AreThere}
 use Rattle.v6_run.specs.Outputs.{is_line, is_terminal, is_shown, is_disk_output}
 
 -- two lines have two ports
@@ -176,12 +176,6 @@ pub ports_apart : (lines : count.Lines) (term log final_disk : List ℕ)
 ports_apart One term log final_disk = (refl, (refl, (refl, tt)))
 ports_apart Eight term log final_disk = (refl, (refl, (refl, (refl, (refl, (refl, (refl, (refl, (refl, (refl, tt))))))))))
 
-pub ports_there : (lines : count.Lines) (term log final_disk : List ℕ)
-    → AreThere (output_ports (ToDisk (record { lines = lines_value lines; term = term; log = log; final_disk = final_disk })))
-ports_there One term log final_disk = (tt, (tt, (tt, tt)))
-ports_there Eight term log final_disk =
-    (tt, ((lit≤ tt, lit≤ tt), ((lit≤ tt, lit≤ tt), ((lit≤ tt, lit≤ tt), ((lit≤ tt, lit≤ tt), ((lit≤ tt, lit≤ tt), ((lit≤ tt, lit≤ tt), ((lit≤ tt, lit≤ tt), (tt, (tt, tt))))))))))
-
 pub some_lines : (lines : count.Lines) → 0 < lines_value lines
 some_lines One = lit< tt
 some_lines Eight = lit< tt
@@ -189,3 +183,18 @@ some_lines Eight = lit< tt
 pub few_lines : (lines : count.Lines) → lines_value lines ≤ 8
 few_lines One = lit≤ tt
 few_lines Eight = lit≤ tt
+
+line_written : (l : ℕ) → 1 ≤ l → l ≤ 7 → IsWritten (Out (out_port.Line l))
+line_written l low high = ((low, high), not_line 7 l (lit< tt))
+
+lines_there : (term : List ℕ) (a n : ℕ) (others : List NamedPort) → 1 ≤ a → a + n ≤ 8 → AreThere others → AreThere (line_list term a n ++ others)
+lines_there term a zero others low high there = there
+lines_there term a (suc n) others low high there =
+    (line_written a low (omega (arith, high)), lines_there term (a + 1) n others (omega arith) (omega (arith, high)) there)
+
+pub ports_there : (lines : count.Lines) (term log final_disk : List ℕ)
+    → AreThere (output_ports (ToDisk (record { lines = lines_value lines; term = term; log = log; final_disk = final_disk })))
+ports_there lines term log final_disk =
+    let few = few_lines lines in
+    let others : List NamedPort = output out_port.Log log ∷ output out_port.Final final_disk ∷ [] in
+    ((tt, refl), lines_there term 1 (lines_value lines - 1) others (lit≤ tt) (omega (arith, few)) ((tt, refl), ((tt, refl), tt)))
