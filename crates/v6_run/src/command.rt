@@ -112,16 +112,16 @@ fn answer<H: Host>(
 ///   left.
 /// - `run8 IMAGE CORE SCRIPT TERM LOG FINAL` does the same with eight terminal lines. Line 0 is the console, whose bytes go to
 ///   TERM; those of line 1 go to TERM.1, and so on to TERM.7.
-/// - `memory IMAGE CORE SCRIPT FINAL` does the same as `run`, and writes to FINAL alone: the bytes of core and then those of the
-///   swap area.
+/// - `memory IMAGE CORE SCRIPT FINAL` does the same as `run`, and writes to FINAL alone: the bytes of core and then those of
+///   the swap area.
 /// - `check IMAGE` tells how many nodes and free blocks the disk IMAGE has, or the first of its faults.
 /// - `make N FINAL` writes the disk image of the number N to FINAL.
 /// - `demo N` takes this disk, with 100 clicks of core, through a script that shows the most of the kernel, and tells what that
 ///   came to. It reads and writes no file.
 /// - `audit LOG` tells whether the lines of LOG are a lawful log, or the first line that is at fault. It goes by the lines alone.
 ///
-/// Any other words are [`Status::Usage`]. `run`, `run8`, `memory` and `make` report nothing where they were done; any other status
-/// is reported in one line.
+/// Any other words are [`Status::Usage`]. `run`, `run8`, `memory` and `make` report nothing where they were done; any other
+/// status is reported in one line.
 pub fn v6<H: Host>(alloc: Global, words: &Vec<String>, host: &mut H) -> Status
     requires { IsIdle (H.outside host.old) }
 

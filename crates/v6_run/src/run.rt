@@ -145,7 +145,8 @@ fn play<H: Host>(
     requires can { CanTake kernel.old.system events.now }
     ensures phase { IfOk result (λ ends. kernel.new.phase ≡ phase_after ends) }
     ensures only { OnlyAt (is_shown (lines_value lines)) (H.outside host.old) (H.outside host.new) }
-    ensures is_open { (p : OutPort) → ((H.outside host.new).port (Out p)).is_open ≡ ((H.outside host.old).port (Out p)).is_open }
+    ensures is_open { (p : OutPort)
+        → ((H.outside host.new).port (Out p)).is_open ≡ ((H.outside host.old).port (Out p)).is_open }
     ensures ending { IfOk result (λ ends. ends ≡ (course (started kernel.old.system) (events_of events.now)).ending) }
     ensures shown { OnOk result (Tells (H.outside host.old)
         → HasShown (lines_value lines) (shown_by (course (started kernel.old.system) (events_of events.now)))
@@ -167,8 +168,8 @@ fn play<H: Host>(
     }
 }
 
-/// Runs the kernel with the files of `run` or `run8` opened, and tells how the run ends: the disk that it leaves is written, and
-/// then the files are finished.
+/// Runs the kernel with the files of `run` or `run8` opened, and tells how the run ends: the disk that it leaves is written,
+/// and then the files are finished.
 fn run_opened<H: Host>(
     kernel: &mut Kernel,
     events: &[Event],
