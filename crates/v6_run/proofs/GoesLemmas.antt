@@ -1,6 +1,8 @@
 -- What stays while a byte, or a line of the log, goes out.
-use Rattle.std.proofs.Common.{◌≡◌, ◌<◌, ℕ, Bool, true, false, Some, None, IfSome, MatchOption, Result, Ok, Err, is_err, OnOk, IfErr, MatchResult, take, refl, sym, ◌∙◌, ap, subst, length, nat_le, cond, List, [], ◌∷◌, ◌++◌}
+use Rattle.std.proofs.Common.{◌≡◌, ◌<◌, ℕ, Bool, true, false, Some, None, IfSome, MatchOption, Result, Ok, Err, is_err, OnOk, OnErr, MatchResult, take, refl, sym, ◌∙◌, ap, subst, length, nat_le, cond, List, [], ◌∷◌, ◌++◌}
 use Rattle.std.specs.Prelude.{◌==◌}
+use Rattle.std.proofs.lemmas.List.{append-nil}
+use Rattle.v6_port.specs.declared.host.Failed.{Failed}
 use Rattle.v6_port.specs.declared.host.OutPort.{OutPort}
 use Rattle.v6_port.specs.declared.host.OutPort.TheVariants as out_port
 use Rattle.v6_port.specs.Outside.{Port, Out, same, PortState, Outside, Tells, IsOpen, OnlyAt}
@@ -69,11 +71,6 @@ goes_silently lines o line byte k silent = by (line == 0)
     by true = goes_counting lines o byte k silent
     by false = Goes-same lines o k
 
--- the ports of the lines stay open
-pub lines_open : (lines : ℕ) (a b : Outside) (before after : Kept) → Goes lines a before b after → ((l : ℕ) → l < lines → IsOpen a (Out (line_port l)))
-    → (l : ℕ) → l < lines → IsOpen b (Out (line_port l))
-lines_open lines a b before after goes were l below = (goes.grows (line_port l)).is_open ∙ were l below
-
 -- what isn't silent hasn't failed
 unfailed : (k : Kept) → is_silent k ≡ false → failed_port k ≡ None
 unfailed kept.Nothing loud = refl
@@ -97,17 +94,17 @@ module _ (lines : ℕ) (a b : Outside) (before : Kept) (line byte : ℕ) (loud :
   shown : is_shown lines (Out q) ≡ true
   shown = ap (λ p. is_shown lines (Out p)) q_is ∙ line_named
 
-  pub byte_goes : (r : Result (Unit {0}) ℕ) → is_err r ≡ false → OnOk r (Tells a → (b.port (Out q)).bytes ≡ (a.port (Out q)).bytes ++ byte ∷ [])
+  pub byte_goes : (r : Result (Unit {0}) Failed) → is_err r ≡ false → OnOk r (Tells a → (b.port (Out q)).bytes ≡ (a.port (Out q)).bytes ++ byte ∷ [])
       → MatchResult r (λ _. Calm a b) (λ _. FaultAt (Out q) true a b) → Goes lines a before b before
   byte_goes (Ok x) good whole cause = goes_written lines q a b before before shown loud only was_open is_open (λ told. record { more = byte ∷ []; is = whole told })
       (calm_cause before a b loud cause) (none_named lines before loud) (loud_written before loud) (loud_written before loud)
-  byte_goes (Err count) good whole cause = absurd (cc)
+  byte_goes (Err e) good whole cause = absurd (cc)
 
-  pub kept_goes : (r : Result (Unit {0}) ℕ) → is_err r ≡ true → IfErr r (λ count. Tells a → (b.port (Out q)).bytes ≡ (a.port (Out q)).bytes ++ take count (byte ∷ []))
+  pub kept_goes : (r : Result (Unit {0}) Failed) → is_err r ≡ true → OnErr r ((b.port (Out q)).bytes ≡ (a.port (Out q)).bytes)
       → MatchResult r (λ _. Calm a b) (λ _. FaultAt (Out q) true a b) → Goes lines a before b (kept.Byte line byte)
-  kept_goes (Ok x) bad front cause = absurd (cc)
-  kept_goes (Err count) bad front cause = goes_written lines q a b before (kept.Byte line byte) shown loud only was_open is_open
-      (λ told. record { more = take count (byte ∷ []); is = front told }) (subst (λ p. FaultAt (Out p) true a b) q_is cause) line_named (loud_written before loud) refl
+  kept_goes (Ok x) bad stays cause = absurd (cc)
+  kept_goes (Err e) bad stays cause = goes_written lines q a b before (kept.Byte line byte) shown loud only was_open is_open
+      (λ told. record { more = []; is = stays ∙ sym (append-nil (a.port (Out q)).bytes) }) (subst (λ p. FaultAt (Out p) true a b) q_is cause) line_named (loud_written before loud) refl
 
 -- A line of the log goes out.
 module _ (lines : ℕ) (a b : Outside) (before : Kept) (text : List ℕ) (loud : is_silent before ≡ false) (only : OnlyAt (same (Out out_port.Log)) a b)

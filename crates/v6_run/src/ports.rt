@@ -6,7 +6,7 @@ ghost use Rattle.v6_port.specs.declared.host.OutPort.TheVariants.{Log};
 ghost use Rattle.v6_run.specs.Opened.{line_port};
 ghost use Rattle.v6_run.specs.Ports.{is_silent, failed_port, counted, screened, HasCounted};
 
-use crate::files::write_text;
+use crate::files::{write_byte, write_text};
 use arrayvec::ArrayVec;
 use log_text::{Line, put_line};
 use v6_base::{Entry, LINES, Trace};
@@ -220,7 +220,7 @@ impl<'a, H: Host> Ports<'a, H> {
         ensures same_reference { self.new.host.ghost_name ≡ self.old.host.ghost_name }
         ensures lines { self.new.lines ≡ self.old.lines }
     {
-        if write_text(self.host, line_port(line), &[byte]).is_err() {
+        if write_byte(self.host, line_port(line), byte).is_err() {
             keep_byte(&mut self.kept, line, byte);
         }
     }
