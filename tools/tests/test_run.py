@@ -35,7 +35,7 @@ class Run(Case):
         self.assertEqual((read(image), os.path.exists(one)), (before, False))
 
     def test_eight_lines(self):
-        """What a program writes on line 1, which shows capitals as the console does, goes to the file beside that of the console."""
+        """What a program writes on line 1 goes to the file beside that of the console. It shows capitals, as that does."""
         program, image, script = self.path("init"), self.image(), os.path.join(HI, "script")
         source = self.put("init.s", b"\tsys\tmknod; tty; 20666; 1\n\tsys\topen; tty; 2\n\tsys\twrite; one; 4\n1:\tbr\t1b\n"
                                     b"tty:\t</dev/tty1\\0>\none:\t<one\\n>\n")
