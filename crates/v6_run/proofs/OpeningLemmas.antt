@@ -1,7 +1,8 @@
 -- The opening and the finishing of a run's files, one after another.
-use Rattle.std.proofs.Common.{◌≡◌, ◌≢◌, ◌+◌, ◌-◌, ◌<◌, ◌≤◌, ℕ, zero, suc, Bool, true, false, ◌||◌, if◌then◌else◌, Result, Ok, Err, is_err, List, [], ◌∷◌, ◌++◌, append_assoc, length, get_or, take, drop, take_all, length-take, length-drop, map, string_bytes, refl, sym, ◌∙◌, ap, subst, arith}
+use Rattle.std.proofs.Common.{◌≡◌, ◌≢◌, ◌+◌, ◌-◌, ◌<◌, ◌≤◌, ℕ, suc, Bool, true, false, ◌||◌, if◌then◌else◌, Result, Ok, Err, is_err, List, [], ◌∷◌, ◌++◌, append_assoc, length, get_or, take, drop, take_all, length-take, length-drop, map, string_bytes, refl, sym, ◌∙◌, ap, subst, arith}
 use Rattle.std.specs.List.{range_with_len}
 use Rattle.std.proofs.lemmas.Bool.{eq-eqb}
+use Rattle.std.proofs.lemmas.List.FromFn.{map-range_with_len_more}
 use Rattle.v6_port.specs.declared.host.Failed.{Failed}
 use Rattle.v6_port.specs.declared.host.OutPort.{OutPort}
 use Rattle.v6_port.specs.declared.host.OutPort.TheVariants as out_port
@@ -346,30 +347,13 @@ module _ (lines : ℕ) where
       (only_within _ _ _ _ (λ q other. right_false (is_shown lines q) (same (Out out_port.Final) q) other) writes)
 
 -- One line more.
-range_more : (a n : ℕ) → range_with_len a (n + 1) ≡ range_with_len a n ++ (a + n) ∷ []
-range_more a zero = let same : a ≡ a + zero = omega arith in ap (λ k. k ∷ []) same
-range_more a (suc n) =
-    let one : suc n + 1 ≡ suc (n + 1) = omega arith in
-    let next : a + 1 + n ≡ a + suc n = omega arith in
-    ap (range_with_len a) one ∙ ap (λ l. a ∷ l) (range_more (a + 1) n ∙ ap (λ k. range_with_len (a + 1) n ++ k ∷ []) next)
-
-map_append : {X Y : Type 0} (f : X → Y) (xs ys : List X) → map f (xs ++ ys) ≡ map f xs ++ map f ys
-map_append f [] ys = refl
-map_append f (x ∷ xs) ys = ap (λ l. f x ∷ l) (map_append f xs ys)
-
-pub one_output : {X : Type 0} (f : X → NamedPort) (xs : List X) (x : X) → map f (xs ++ x ∷ []) ≡ map f xs ++ f x ∷ []
-one_output f xs x = map_append f xs (x ∷ [])
-
-pub one_line : (term : List ℕ) (n : ℕ) → map (line_output term) (range_with_len 1 (n + 1)) ≡ map (line_output term) (range_with_len 1 n) ++ line_output term (1 + n) ∷ []
-one_line term n = ap (map (line_output term)) (range_more 1 n) ∙ map_append (line_output term) (range_with_len 1 n) ((1 + n) ∷ [])
-
 pub line_added : (term : List ℕ) (first now new : List NamedPort) (line : ℕ) → 1 ≤ line → now ≡ first ++ map (line_output term) (range_with_len 1 (line - 1)) → new ≡ now ++ line_output term line ∷ []
     → new ≡ first ++ map (line_output term) (range_with_len 1 (line + 1 - 1))
 line_added term first now new line some was more =
-    let next : line + 1 - 1 ≡ (line - 1) + 1 = omega (arith, some) in
     let here : 1 + (line - 1) ≡ line = omega (arith, some) in
+    let next : (line - 1) + 1 ≡ line + 1 - 1 = omega (arith, some) in
     more ∙ ap (λ l. l ++ line_output term line ∷ []) was ∙ append_assoc first (map (line_output term) (range_with_len 1 (line - 1))) (line_output term line ∷ [])
-    ∙ ap (λ l. first ++ l) (ap (λ k. map (line_output term) (range_with_len 1 (line - 1)) ++ line_output term k ∷ []) (sym here) ∙ sym (one_line term (line - 1)) ∙ ap (λ n. map (line_output term) (range_with_len 1 n)) (sym next))
+    ∙ ap (λ l. first ++ l) (sym (map-range_with_len_more (line_output term) 1 (line - 1) line here) ∙ ap (λ n. map (line_output term) (range_with_len 1 n)) next)
 
 -- the files one behind the other
 pub in_a_row : (term log final_disk : NamedPort) (lines a b c d : List NamedPort) → a ≡ [] ++ term ∷ [] → b ≡ a ++ lines → c ≡ b ++ log ∷ [] → d ≡ c ++ final_disk ∷ []
