@@ -85,7 +85,8 @@ short_words verb word =
     if is_word verb (codes "audit") then Some (Audit word)
     else check_words (is_word verb (codes "check")) word)
 
--- run IMAGE CORE SCRIPT TERM LOG FINAL, run8 IMAGE CORE SCRIPT TERM LOG FINAL, memory IMAGE CORE SCRIPT FINAL, check IMAGE, make N FINAL, demo N, audit LOG
+-- run IMAGE CORE SCRIPT TERM LOG FINAL, run8 IMAGE CORE SCRIPT TERM LOG FINAL, memory IMAGE CORE SCRIPT FINAL, check IMAGE,
+-- make N FINAL, demo N, audit LOG
 abbrev pub command_of : List (List ℕ) → Option Command
 command_of (verb ∷ image ∷ core ∷ script ∷ term ∷ log ∷ final ∷ []) =
     disk_words (line_words verb) (number_of core) image script term log final
