@@ -5,16 +5,16 @@
     bench/spoiled_logs.py quick COMMAND COUNT [FIRST]
     bench/spoiled_logs.py write COMMAND COUNT [FIRST] FOLDER
 
-COMMAND is a built v6. It runs COUNT random programs of bench/processes.py, by turns those of the words `small execs`,
-`full`, `small`, `signals` and `pipes`, and programs of bench/random_lines.py over the lines of a terminal, mostly under
-`run8`; seeds from FIRST on (0 where it isn't given). Each log must be lawful. Then it is spoiled in six ways, always the
-same for a seed: a line is left out, comes twice or changes places with the next; a number is one more or less; a slot is
-another; a word is another line's. Three judges name the first line that is at fault: `COMMAND audit`, the auditor of the
-reference, and the definition in crates/pick_rules/specs as it stands, which bench/definition.py evaluates. It can't come
-before the line that was spoiled. `quick` leaves the definition out, which takes most of the time. A spoiled log may be
-lawful still, as where a `wake` comes twice. Of a log of more than 1,500 lines these count alone. `write` also leaves each
-spoiled log in a folder as N.log, and in `verdicts` a line for each: N, the way, the spoiled line, and the first line at
-fault or `lawful`.
+COMMAND is a built v6. It runs COUNT random programs of bench/processes.py, by turns those of the words `small execs`, `full`,
+`small`, `signals` and `pipes`, and programs of bench/random_lines.py over the lines of a terminal, mostly under `run8`; seeds
+from FIRST on (0 where it isn't given). Each log must be lawful. Then it is spoiled in seven ways, always the same for a seed:
+a line is left out, comes twice or changes places with the next; a number is one more or less; a slot is another; a word is
+another line's; a choice is made from slot 0 on. Three judges name the first line that is at fault: `COMMAND audit`, the
+auditor of the reference, and the definition in crates/pick_rules/specs as it stands, which bench/definition.py evaluates. It
+can't come before the line that was spoiled. `quick` leaves the definition out, which takes most of the time. A spoiled log may
+be lawful still, as where a `wake` comes twice. Of a log of more than 1,500 lines these count alone. `write` also leaves each
+spoiled log in a folder as N.log, and in `verdicts` a line for each: N, the way, the spoiled line, and the first line at fault
+or `lawful`.
 
 The reference is the Python module `abstract_unix`; the environment variable ABSTRACT_UNIX names the folder in which it is.
 """
@@ -125,7 +125,30 @@ def other_word(rng, lines):
     return at, lines[:at] + [changed(lines[at], place, word)] + lines[at + 1 :]
 
 
-WAYS = (left_out, twice, swapped, other_number, other_slot, other_word)
+def choices_from_slot_0(lines):
+    """The choices that would be others, were they made from slot 0 on and not from the slot behind the last one: line and slot."""
+    from abstract_unix import audit, logtext
+    auditor = audit.Auditor()
+    for at, line in enumerate(lines):
+        entry = logtext.parse(line.encode())
+        if entry[0] == "go":
+            table = auditor.t
+            last, table.last = table.last, len(table.rows) - 1
+            slot, table.last = table.chosen(), last
+            if slot != entry[1]:
+                yield at, slot
+        auditor.take(entry)
+
+
+def from_slot_0(rng, lines):
+    found = list(choices_from_slot_0(lines))
+    if not found:
+        return None
+    at, slot = rng.choice(found)
+    return at, lines[:at] + [f"go {slot}"] + lines[at + 1 :]
+
+
+WAYS = (left_out, twice, swapped, other_number, other_slot, other_word, from_slot_0)
 
 
 ANSWER = re.compile(r"lawful: (\d+) lines\n|log: line (\d+) is (?:not lawful|no log line)\n")
@@ -185,7 +208,10 @@ def log_of(command, seed):
 def spoiled(seed, lines, judges, boards):
     """Each way in which a log is spoiled, the spoiled line, the log, and what each judge says."""
     for way in WAYS:
-        at, other = way(random.Random(f"spoiled {way.__name__} {seed}"), lines)
+        found = way(random.Random(f"spoiled {way.__name__} {seed}"), lines)
+        if found is None:
+            continue
+        at, other = found
         by_reference, built = judges.reference(other), judges.built(other)
         named = judges.defined(other, boards, at) if judges.definition else by_reference[1]
         yield way.__name__, at + 1, other, named, by_reference, built

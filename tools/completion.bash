@@ -25,7 +25,7 @@ _v6() {
         case $word in -*) words='--disk --help --log --marks --moments --output --replay --script --symbols --term --title --v6 --version -o' ;; esac ;;
     v6-as | as.py) case $word in -*) words='--disassemble --help --version -g -l -n -o -s' ;; esac ;;
     v6-cc | cc.py) case $word in -*) words='--compiler --gcc --help --version -D -I -S -g -n -o -s' ;; esac ;;
-    v6-run | run.py) case $word in -*) words='--core --disk --help --log --replay --term --v6 --version' ;; esac ;;
+    v6-run | run.py) case $word in -*) words='--core --disk --eight --help --log --replay --term --v6 --version' ;; esac ;;
     v6-trace | trace.py) case $word in -*) words='--from --help --process --replay --to --v6 --version' ;; esac ;;
     v6-try | try.py) case $word in -*) words='--back --binary --core --disk --file --final --folder --help --slots --v6 --version --with -t' ;; esac ;;
     row.py)

@@ -18,6 +18,8 @@ from scriptfile import ScriptError, add_replay, check_head, head_of, with_line
 from silent import why_silent
 
 OUTPUTS = ("term", "log", "disk")
+LINES = tuple(f"term.{line}" for line in range(1, 8))  # what `v6 run8` writes beside the console's file
+SHOWN = ("term", *LINES)
 
 
 def options_of(words):
@@ -26,6 +28,8 @@ def options_of(words):
     parser.add_argument("script", help="the script: docs/manual/scripts.md")
     parser.add_argument("--term", metavar="FILE", default="-",
                         help="where what the terminal shows goes (the standard output)")
+    parser.add_argument("--eight", action="store_true",
+                        help="with eight terminal lines, of which seven are shown in FILE.1 to FILE.7 beside the FILE of --term")
     parser.add_argument("--log", metavar="FILE", help="where the log goes")
     parser.add_argument("--disk", metavar="FILE", help="where the disk goes that the run leaves; it may be the image")
     parser.add_argument("--core", type=int, help=f"the size of core, in clicks ({CORE}, or that of a script of the console)")
@@ -33,17 +37,28 @@ def options_of(words):
     parser.add_argument("--v6", metavar="COMMAND", default=V6, help="the program (bin/v6)")
     add_version(parser)
     options = parser.parse_args(words)
-    named = {name: getattr(options, name) for name in ("image", "script", *OUTPUTS)}
+    if options.eight and options.term in STREAMS:
+        parser.error("--eight needs the FILE of --term, beside which the other lines have theirs")
+    named = {"image": options.image, "script": options.script, **outputs_of(options)}
     for (one, first), (other, second) in itertools.combinations(named.items(), 2):
         if (same_file(first, second) or first in STREAMS and second in STREAMS) and {one, other} != {"image", "disk"}:
             parser.error(f"{one} and {other} are the same file")
     return options
 
 
+def outputs_of(options):
+    """The files that are asked for, by what they get: those of the lines have the name of the console's, with the number of the
+    line behind it."""
+    outputs = {name: getattr(options, name) for name in OUTPUTS if getattr(options, name)}
+    if options.eight:
+        outputs.update({line: options.term + line.removeprefix("term") for line in LINES})
+    return outputs
+
+
 def run(options):
     """The status of the program. What it writes goes to files of its own first. The disk takes its place where the run is
     done; what was shown and logged up to there is kept in any case, but not of a run that never began."""
-    outputs = {name: getattr(options, name) for name in OUTPUTS if getattr(options, name)}
+    outputs = outputs_of(options)
     core = options.core
     if core is None:
         head = head_of(options.script)
@@ -54,9 +69,9 @@ def run(options):
         if name not in STREAMS:
             place_of(name)
     with tempfile.TemporaryDirectory() as folder:
-        made = {name: os.path.join(folder, name) for name in OUTPUTS}
-        words = ["run", options.image, str(core), options.script, *made.values()]
-        status, said = call(options.v6, *words)
+        made = {name: os.path.join(folder, name) for name in (*OUTPUTS, *LINES)}
+        words = [options.image, str(core), options.script, *(made[name] for name in OUTPUTS)]
+        status, said = call(options.v6, "run8" if options.eight else "run", *words)
         for name, target in outputs.items():
             if os.path.exists(made[name]) and (name != "disk" or not status):
                 put_out(target, read_bytes(made[name]))
@@ -64,7 +79,7 @@ def run(options):
             script = read_bytes(options.script) if os.path.isfile(options.script) else b""
             said = named(with_line(said, script), {"image": options.image, "script": options.script}, core)
             print(f"run.py: {said}", file=sys.stderr)
-        elif os.path.isfile(options.image) and not os.path.getsize(made["term"]):
+        elif os.path.isfile(options.image) and not any(os.path.getsize(made[name]) for name in outputs if name in SHOWN):
             why = why_silent(read_bytes(options.image), read_bytes(made["log"]))
             if why:
                 print(f"run.py: {why}", file=sys.stderr)

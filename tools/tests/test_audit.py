@@ -14,15 +14,21 @@ BEGINS = b"boot 1200 0\nsleep 0 -100 runout\ngo 1\n"  # slot 1 can run, so that 
 ENDED = b"boot 64 0\nsleep 0 -100 runout\ngo 1\nexit 1 swap 4000\nidle\nend"
 # of each number of a line: a value in its range, the least and the most
 NUMBERS = {"S": (1, 0, 49), "K": (3, 0, 39), "C": (1, 0, 65535), "N": (37, 0, 65535), "B": (4000, 4000, 4871), "I": (9, 1, 65535),
-           "P": (40, -128, 127), "X": (2, 1, 19), "TIME": (7, 0, 4294967295)}
+           "P": (40, -128, 127), "X": (2, 1, 19), "L": (3, 1, 7), "TIME": (7, 0, 4294967295)}
 LINES = """boot {C} {TIME}
 go {S}
 trap {S}
 sleep {S} {P} tout
 sleep {S} {P} wait.{S}
 sleep {S} {P} read.{I}
+sleep {S} {P} disk.{S}
+sleep {S} {P} keys.{L}
+sleep {S} {P} show.{L}
 wake wait.{S}
 wake write.{I}
+wake disk.{S}
+wake keys.{L}
+wake show.{L}
 signal {S} {X}
 nice {S} {P}
 time {TIME}
@@ -90,13 +96,14 @@ class Audit(Case):
                     self.assertFalse(self.is_line(spelt(form, at, text).encode()), (form, at, text))
 
     def test_words(self):
-        for line in (b"idle", b"tick u", b"tick k", b"tick i", b"wake keys", b"wake tout", b"wake runin", b"panic swap",
-                     b"panic zombie", b"panic text", b"end"):
+        for line in (b"idle", b"tick u", b"tick k", b"tick i", b"wake keys", b"wake show", b"wake tout", b"wake runin",
+                     b"panic swap", b"panic zombie", b"panic text", b"end"):
             self.assertTrue(self.is_line(line), line)
             for spoiled in (line + b"\r", line + b" ", b" " + line, line + b"\t", line.upper(), line + b"\0", line[:-1], line + b"x",
                             line.replace(b" ", b"  ") if b" " in line else line + line, line.replace(b"i", b"\xed", 1) + b"\x80"):
                 self.assertFalse(self.is_line(spoiled), spoiled)
-        for line in (b"", b"\0", b"\t", b"\r", b"\xff", b"walk 1", b"wake wait", b"wake wait.", b"tick x", b"panic core", b"go", b"end 1"):
+        for line in (b"", b"\0", b"\t", b"\r", b"\xff", b"walk 1", b"wake wait", b"wake wait.", b"wake disk",
+                     b"wake keys.", b"tick x", b"panic core", b"go", b"end 1"):
             self.assertFalse(self.is_line(line), line)
 
     def test_how_long_a_line_may_be(self):
@@ -151,6 +158,36 @@ class Audit(Case):
             data = BEGINS + b"".join(line + b"\n" for line in lines)
             self.assertGreater(len(data), 2 * 4096)
             self.assertEqual(self.told(data + b"idle\n"), (UNLAWFUL, f"log: line {4 + len(lines)} is not lawful\n"))
+
+    def test_a_file_that_grows(self):
+        """A line that is missing when the end is read is missing, whatever comes behind it then: the answer is that of a log
+        which the file held meanwhile."""
+        name = self.put("log", BEGINS)
+        lines, grown = [b"wake keys\n"] * 300 + [b"exit 1 swap 4000\n", b"idle\n", b"end\n"], 0
+        with open(name, "ab", buffering=0) as file:
+
+            def grow():
+                nonlocal grown
+                for line in lines:
+                    file.write(line)
+                    grown += 1
+                    time.sleep(0.001)
+
+            grower = threading.Thread(target=grow)
+            grower.start()
+            while grower.is_alive():
+                least = grown
+                status, said = self.audited(name)
+                if status == LAWFUL:
+                    self.assertEqual(said, f"lawful: {3 + len(lines)} lines\n")
+                else:
+                    self.assertEqual(status, UNLAWFUL)
+                    line = int(said.split()[2])
+                    self.assertEqual(said, f"log: line {line} is not lawful\n")
+                    self.assertLessEqual(4 + least, line)
+                    self.assertLessEqual(line, 5 + grown)
+            grower.join()
+        self.assertEqual(self.audited(name), (LAWFUL, f"lawful: {3 + len(lines)} lines\n"))
 
     def test_files_that_are_none(self):
         self.assertEqual(self.audited(self.folder), (READ_FAULT, "read fault: log\n"))

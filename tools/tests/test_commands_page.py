@@ -13,7 +13,7 @@ NEVER = ("write fault: report", "read fault: second", "write fault: second")
 
 def reported():
     """The texts of the reports in the source, with a mark for each number."""
-    text = read(SOURCE).decode()
+    text = re.sub(r"\\\n *", "", read(SOURCE).decode())  # a text may go on in the next line of the source
     constants = dict(re.findall(r'const (\w+): &str =\s*"([^"]*)";', text))
     found = [constants.get(name, name.strip('"')) for name in re.findall(r'\bplain\(("[^"]*"|[A-Z]+)\)', text)]
     for call in re.findall(r"numbered\(((?:[^()]|\([^()]*\))*)\)", text):

@@ -9,7 +9,7 @@ import tempfile
 import unittest
 import unittest.mock
 
-from common import TOP, Case, read, tool
+from common import TOP, Case, read, tool, v6
 
 install = tool("install")
 ENVIRONMENT = {**{key: value for key, value in os.environ.items() if key != "V6"},
@@ -258,6 +258,11 @@ class Completion(Case):
             self.assertEqual(commands, re.findall(r"^    (\w+)", self.call(tool(name).main, "--help")[1], re.M))
             self.assertEqual(set(self.completed(f"{name}.py x -", 2)), set().union(*(self.options(name, one) for one in commands)))
         self.assertEqual(self.completed(f"{TOP}/tools/row.py swapping/a_pass"), ["swapping/a_pass_of_64_moves"])
+
+    @unittest.skipUnless(shutil.which("bash"), "bash isn't there")
+    def test_completion_knows_all_commands(self):
+        """Those of the usage line, in its order."""
+        self.assertEqual(self.completed("v6 ''", 1), re.findall(r"(?:v6|,) (\w+)", v6()[1]))
 
     @unittest.skipUnless(shutil.which("bash"), "bash isn't there")
     def test_completion(self):

@@ -34,6 +34,34 @@ class Run(Case):
             self.assertEqual((status, out, error.splitlines()[-1]), (2, "", f"run.py: error: {said} are the same file"))
         self.assertEqual((read(image), os.path.exists(one)), (before, False))
 
+    def test_eight_lines(self):
+        """What a program writes on line 1 goes to the file beside that of the console. It shows capitals, as that does."""
+        program, image, script = self.path("init"), self.image(), os.path.join(HI, "script")
+        source = self.put("init.s", b"\tsys\tmknod; tty; 20666; 1\n\tsys\topen; tty; 2\n\tsys\twrite; one; 4\n1:\tbr\t1b\n"
+                                    b"tty:\t</dev/tty1\\0>\none:\t<one\\n>\n")
+        self.assertEqual(self.call(as_main, "-o", program, source), (0, "", ""))
+        self.assertEqual(self.call(tool("disk").main, "--v6", V6, "put", image, program, "/etc/init"), (0, "", ""))
+        term = self.path("term")
+        self.assertEqual(self.run_it(image, script, "--eight", "--term", term), (0, "", ""))
+        shown = [read(term), *(read(f"{term}.{line}") for line in range(1, 8))]
+        self.assertEqual(shown, [b"", b"ONE\r\n", *6 * [b""]])
+
+    def test_a_name_of_one_of_eight_lines(self):
+        """No other file may have one of the names beside that of the console, which has to be one."""
+        image, script = self.image(), os.path.join(HI, "script")
+        before, term = read(image), self.path("term")
+        link = self.path("link")
+        os.symlink("term.7", link)
+        for words, said in ((("--term", term, "--log", f"{term}.1"), "log and term.1 are the same file"),
+                            (("--term", term, "--disk", link), "disk and term.7 are the same file"),
+                            ((), "--eight needs the FILE of --term, beside which the other lines have theirs")):
+            status, out, error = self.run_it(image, script, "--eight", *words)
+            self.assertEqual((status, out, error.splitlines()[-1]), (2, "", f"run.py: error: {said}"))
+        copy = self.put("image.7", before)
+        status, out, error = self.run_it(copy, script, "--eight", "--term", image)
+        self.assertEqual((status, out, error.splitlines()[-1]), (2, "", "run.py: error: image and term.7 are the same file"))
+        self.assertEqual((read(image), read(copy), os.path.exists(term)), (before, before, False))
+
     def test_a_run_that_is_not_done(self):
         """The image keeps its bytes though it is the disk of the run too; what was shown until then is kept."""
         program, image = self.path("init"), self.image()

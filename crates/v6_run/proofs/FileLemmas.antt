@@ -1,5 +1,5 @@
 -- Writing a text piece by piece.
-use Rattle.std.proofs.Common.{◌≡◌, ◌≤◌, ◌+◌, ◌-◌, ℕ, List, ◌++◌, sym, ◌∙◌, ap, subst, take, drop, length, append_assoc, Result, Ok, Err, arith}
+use Rattle.std.proofs.Common.{◌≡◌, ◌≤◌, ◌+◌, ◌-◌, ℕ, List, [], ◌∷◌, ◌++◌, sym, ◌∙◌, ap, subst, take, drop, length, append_assoc, Result, Ok, Err, arith}
 use Rattle.std.proofs.lemmas.List.{take_all, length-drop, take-append-drop}
 use Rattle.std.proofs.Math.Seq.{take-add}
 use Rattle.v6_port.specs.declared.host.OutPort.{OutPort}
@@ -23,6 +23,15 @@ good_write p old new piece (Ok m) n writes is told =
     let same_count : m ≡ n = cc in
     subst (λ k. (new.port (Out p)).bytes ≡ (old.port (Out p)).bytes ++ take k piece) same_count (writes.outcome.3 told)
 good_write p old new piece (Err f) n writes is told = cc
+
+-- a byte that is written is written whole
+pub byte_written : (p : OutPort) (old new : Outside) (byte : ℕ) (r : Result ℕ Failed) (n : ℕ) → Writes p old (byte ∷ []) r new → r ≡ Ok n → Tells old
+    → (new.port (Out p)).bytes ≡ (old.port (Out p)).bytes ++ byte ∷ []
+byte_written p old new byte (Ok m) n writes is told =
+    let one : m ≡ 1 = omega (arith, writes.outcome.0, writes.outcome.1) in
+    let taken : (new.port (Out p)).bytes ≡ (old.port (Out p)).bytes ++ take m (byte ∷ []) = writes.outcome.3 told in
+    taken ∙ ap (λ k. (old.port (Out p)).bytes ++ take k (byte ∷ [])) one
+byte_written p old new byte (Err f) n writes is told = cc
 
 pub rest_is : (text : List ℕ) (at : ℕ) → take (length text - at) (drop at text) ≡ drop at text
 rest_is text at = take_all (length text - at) (drop at text) (omega (arith, length-drop at text))

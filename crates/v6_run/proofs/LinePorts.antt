@@ -9,11 +9,11 @@ use Rattle.v6_port.specs.Outside.{Port, In, Out, port_number, same, IsThere}
 use Rattle.v6_port.proofs.CauseLemmas.{not_line}
 use Rattle.v6_run.specs.declared.words.Lines as count
 use Rattle.v6_run.specs.declared.words.Lines.TheVariants.{One, Eight}
-use Rattle.v6_run.specs.declared.words.Machine as made
-use Rattle.v6_run.specs.declared.words.Machine.TheVariants as machine
+use Rattle.v6_run.specs.declared.words.Machine as of_run
+use Rattle.v6_run.specs.declared.words.Machine.TheVariants as made
 use Rattle.v6_run.specs.Words.{SecondFiles, DiskFiles, ToDisk, lines_value, machine_lines, machine_second}
 use Rattle.v6_run.specs.Opened.{NamedPort, output, line_port, line_output, line_outputs, second_outputs, output_ports, has_port, AreApart}
-use Rattle.v6_run.specs.Opening.{AreThere}
+use Rattle.v6_run.specs.Opening.{IsWritten, AreThere}
 use Rattle.v6_run.specs.Outputs.{is_line, is_terminal, is_shown, is_other, is_left, is_disk_output}
 
 -- two lines have two ports
@@ -179,18 +179,11 @@ module _ (files : DiskFiles) where
       ∙ sym (or_assoc (is_line files.lines l) (same (Out out_port.Log) (Out (out_port.Line l))) (left (Out (out_port.Line l))))
 
 -- Each is there, and none is there twice.
-pub ports_apart : (machine : made.Machine) (term log final_disk : List ℕ)
+pub ports_apart : (machine : of_run.Machine) (term log final_disk : List ℕ)
     → AreApart (output_ports (ToDisk (record { lines = machine_lines machine; term = term; log = log; final_disk = final_disk; second = machine_second machine })))
-ports_apart (machine.Lines One) term log final_disk = (refl, (refl, (refl, tt)))
-ports_apart (machine.Lines Eight) term log final_disk = (refl, (refl, (refl, (refl, (refl, (refl, (refl, (refl, (refl, (refl, tt))))))))))
-ports_apart (machine.Disks second) term log final_disk = (refl, (refl, (refl, (refl, tt))))
-
-pub ports_there : (machine : made.Machine) (term log final_disk : List ℕ)
-    → AreThere (output_ports (ToDisk (record { lines = machine_lines machine; term = term; log = log; final_disk = final_disk; second = machine_second machine })))
-ports_there (machine.Lines One) term log final_disk = (tt, (tt, (tt, tt)))
-ports_there (machine.Lines Eight) term log final_disk =
-    (tt, ((lit≤ tt, lit≤ tt), ((lit≤ tt, lit≤ tt), ((lit≤ tt, lit≤ tt), ((lit≤ tt, lit≤ tt), ((lit≤ tt, lit≤ tt), ((lit≤ tt, lit≤ tt), ((lit≤ tt, lit≤ tt), (tt, (tt, tt))))))))))
-ports_there (machine.Disks second) term log final_disk = (tt, (tt, (tt, (tt, tt))))
+ports_apart (made.Lines One) term log final_disk = (refl, (refl, (refl, tt)))
+ports_apart (made.Lines Eight) term log final_disk = (refl, (refl, (refl, (refl, (refl, (refl, (refl, (refl, (refl, (refl, tt))))))))))
+ports_apart (made.Disks second) term log final_disk = (refl, (refl, (refl, (refl, tt))))
 
 pub some_lines : (lines : count.Lines) → 0 < lines_value lines
 some_lines One = lit< tt
@@ -199,3 +192,30 @@ some_lines Eight = lit< tt
 pub few_lines : (lines : count.Lines) → lines_value lines ≤ 8
 few_lines One = lit≤ tt
 few_lines Eight = lit≤ tt
+
+line_written : (l : ℕ) → 1 ≤ l → l ≤ 7 → IsWritten (Out (out_port.Line l))
+line_written l low high = ((low, high), not_line 7 l (lit< tt))
+
+lines_there : (term : List ℕ) (a n : ℕ) (others : List NamedPort) → 1 ≤ a → a + n ≤ 8 → AreThere others → AreThere (line_list term a n ++ others)
+lines_there term a zero others low high there = there
+lines_there term a (suc n) others low high there =
+    (line_written a low (omega (arith, high)), lines_there term (a + 1) n others (omega arith) (omega (arith, high)) there)
+
+second_there : (second : Option SecondFiles) → AreThere (second_outputs second)
+second_there None = tt
+second_there (Some second) = ((tt, refl), tt)
+
+few_on : (machine : of_run.Machine) → machine_lines machine ≤ 8
+few_on (made.Lines lines) = few_lines lines
+few_on (made.Disks second) = lit≤ tt
+
+pub some_on : (machine : of_run.Machine) → 0 < machine_lines machine
+some_on (made.Lines lines) = some_lines lines
+some_on (made.Disks second) = lit< tt
+
+pub ports_there : (machine : of_run.Machine) (term log final_disk : List ℕ)
+    → AreThere (output_ports (ToDisk (record { lines = machine_lines machine; term = term; log = log; final_disk = final_disk; second = machine_second machine })))
+ports_there machine term log final_disk =
+    let few = few_on machine in
+    let others : List NamedPort = output out_port.Log log ∷ output out_port.Final final_disk ∷ second_outputs (machine_second machine) in
+    ((tt, refl), lines_there term 1 (machine_lines machine - 1) others (lit≤ tt) (omega (arith, few)) ((tt, refl), ((tt, refl), second_there (machine_second machine))))

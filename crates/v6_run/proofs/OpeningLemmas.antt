@@ -1,19 +1,21 @@
 -- The opening and the finishing of a run's files, one after another.
-use Rattle.std.proofs.Common.{◌≡◌, ◌≢◌, ◌+◌, ◌-◌, ◌<◌, ◌≤◌, ℕ, zero, suc, Bool, true, false, ◌||◌, if◌then◌else◌, Result, Ok, Err, is_err, List, [], ◌∷◌, ◌++◌, append_assoc, map, refl, sym, ◌∙◌, ap, subst, arith}
+use Rattle.std.proofs.Common.{◌≡◌, ◌≢◌, ◌+◌, ◌-◌, ◌<◌, ◌≤◌, ℕ, suc, Bool, true, false, ◌||◌, if◌then◌else◌, Result, Ok, Err, is_err, List, [], ◌∷◌, ◌++◌, append_assoc, length, get_or, take, drop, take_all, length-take, length-drop, map, string_bytes, refl, sym, ◌∙◌, ap, subst, arith}
 use Rattle.std.specs.List.{range_with_len}
 use Rattle.std.proofs.lemmas.Bool.{eq-eqb}
+use Rattle.std.proofs.lemmas.List.FromFn.{map-range_with_len_more}
 use Rattle.v6_port.specs.declared.host.Failed.{Failed}
 use Rattle.v6_port.specs.declared.host.OutPort.{OutPort}
 use Rattle.v6_port.specs.declared.host.OutPort.TheVariants as out_port
-use Rattle.v6_port.specs.Outside.{Port, Out, port_number, same, PortState, Environment, Outside, Tells, IsOpen, OnlyAt}
+use Rattle.v6_port.specs.Outside.{Port, Out, port_number, same, is_report, IsThere, PortState, Environment, Outside, Tells, IsOpen, OnlyAt}
 use Rattle.v6_port.specs.Calls.{is_expected, OpensWrite, Finishes}
 use Rattle.v6_port.specs.Causes.{SameCounts, Calm, FaultAt}
 use Rattle.v6_port.proofs.CauseLemmas.{same_is, still_tells, only_then, calm_still, calm_then, fault_then}
 use Rattle.fs_codec.specs.Disk.{Disk}
 use Rattle.abstract_unix.specs.Runs.{Course}
 use Rattle.v6_run.specs.Words.{DiskFiles, ToDisk}
-use Rattle.v6_run.specs.Opened.{NamedPort, output, line_port, output_ports, has_port, ports_before, knows_port, AreGood, line_output}
-use Rattle.v6_run.specs.Opening.{Opens, Shuts}
+use Rattle.v6_run.specs.declared.outputs.Output.{Output}
+use Rattle.v6_run.specs.Opened.{NamedPort, output, line_port, output_ports, has_port, AreApart, ports_before, knows_port, AreGood, line_output}
+use Rattle.v6_run.specs.Opening.{output_value, AreThere, Opens, Shuts}
 use Rattle.v6_run.specs.Outputs.{is_shown, is_disk_output, disk_writes, StopsRun}
 use Rattle.v6_run.proofs.CauseLemmas.{by_test, only_within, left_false, right_false, fault_known}
 use Rattle.v6_run.proofs.OutputLemmas.{nothing_of}
@@ -202,6 +204,81 @@ shuts_none o = record {
   named = tt;
 }
 
+-- The files that a program holds, the first before the others.
+pub no_outputs : (held : List Output) → length held < 1 → map output_value held ≡ []
+no_outputs [] none = refl
+no_outputs (x ∷ others) none = absurd (omega arith)
+
+pub none_opened : (held : List Output) (o : Outside) → length held < 1 → Opens (map output_value held) (Ok tt) o o
+none_opened held o none = subst (λ l. Opens l (Ok tt) o o) (sym (no_outputs held none)) (opens_none o)
+
+pub none_shut : (held : List Output) (o : Outside) → length held < 1 → Shuts (map output_value held) (Ok tt) o o
+none_shut held o none = subst (λ l. Shuts l (Ok tt) o o) (sym (no_outputs held none)) (shuts_none o)
+
+pub fewer_left : (held : List Output) → 1 ≤ length held → length (take (length held - 1) (drop 1 held)) < length held
+fewer_left held some = omega (arith, length-take (length held - 1) (drop 1 held), length-drop 1 held)
+
+first_of : (held : List Output) (first d : Output) → 1 ≤ length held → first ≡ get_or held 0 d
+    → map output_value held ≡ output_value first ∷ map output_value (take (length held - 1) (drop 1 held))
+first_of [] first d some is = absurd (omega arith)
+first_of (x ∷ others) first d some is =
+    let all_left : take (suc (length others) - 1) others ≡ others = take_all _ others (omega arith) in
+    rw (is, all_left)
+
+module _ (held : List Output) (first d : Output) (some : 1 ≤ length held) (first_is : first ≡ get_or held 0 d) where
+  abbrev ports_left : List NamedPort
+  ports_left = map output_value (take (length held - 1) (drop 1 held))
+
+  abbrev first_name : List ℕ
+  first_name = string_bytes first.name
+
+  split : map output_value held ≡ output first.port first_name ∷ ports_left
+  split = first_of held first d some first_is
+
+  pub left_apart : AreApart (map output_value held) → AreApart ports_left
+  left_apart apart = (subst AreApart split apart).1
+
+  first_apart : AreApart (map output_value held) → has_port ports_left (Out first.port) ≡ false
+  first_apart apart = (subst AreApart split apart).0
+
+  pub left_there : AreThere (map output_value held) → AreThere ports_left
+  left_there there = (subst AreThere split there).1
+
+  pub first_there : AreThere (map output_value held) → IsThere first.port
+  first_there there = (subst AreThere split there).0.0
+
+  pub not_report : AreThere (map output_value held) → first.port ≢ out_port.Report
+  not_report there is =
+      let other : is_report (Out first.port) ≡ false = (subst AreThere split there).0.1 in
+      let never : true ≡ false = ap (λ p. is_report (Out p)) (sym is) ∙ other in cc
+
+  -- whether each is open
+  module _ (state : Bool) (a : Outside) (are : (q : OutPort) → has_port (map output_value held) (Out q) ≡ true → (a.port (Out q)).is_open ≡ state) where
+    pub first_at : (a.port (Out first.port)).is_open ≡ state
+    first_at = are first.port (ap (λ l. has_port l (Out first.port)) split ∙ first_named first.port first_name ports_left)
+
+    pub left_at : (b : Outside) → AreApart (map output_value held) → OnlyAt (same (Out first.port)) a b → (q : OutPort) → has_port ports_left (Out q) ≡ true
+        → (b.port (Out q)).is_open ≡ state
+    left_at b apart only = still_at first.port first_name ports_left (first_apart apart) state a b only (λ q named. are q (ap (λ l. has_port l (Out q)) split ∙ named))
+
+  pub first_unopened : (a b : Outside) (name : List ℕ) (r : Result (Unit {0}) Failed) → name ≡ first_name → is_err r ≡ true → OpensWrite first.port name a r b
+      → Opens (map output_value held) (Err first.port) a b
+  first_unopened a b name r named bad opens = subst (λ l. Opens l (Err first.port) a b) (sym split)
+      (open_fault first.port first_name ports_left a b r bad (subst (λ n. OpensWrite first.port n a r b) named opens))
+
+  pub left_opened : (a b c : Outside) (name : List ℕ) (r : Result (Unit {0}) Failed) (s : Result (Unit {0}) OutPort) → name ≡ first_name → AreApart (map output_value held)
+      → is_err r ≡ false → OpensWrite first.port name a r b → Opens ports_left s b c → Opens (map output_value held) s a c
+  left_opened a b c name r s named apart good opens left = subst (λ l. Opens l s a c) (sym split)
+      (open_then first.port first_name ports_left a b c r s (first_apart apart) good (subst (λ n. OpensWrite first.port n a r b) named opens) left)
+
+  pub first_unshut : (a b : Outside) (r : Result (Unit {0}) Failed) → is_err r ≡ true → Finishes first.port a r b → Shuts (map output_value held) (Err first.port) a b
+  first_unshut a b r bad shuts = subst (λ l. Shuts l (Err first.port) a b) (sym split) (finish_fault first.port first_name ports_left a b r bad shuts)
+
+  pub left_shut : (a b c : Outside) (r : Result (Unit {0}) Failed) (s : Result (Unit {0}) OutPort) → AreApart (map output_value held) → is_err r ≡ false
+      → Finishes first.port a r b → Shuts ports_left s b c → Shuts (map output_value held) s a c
+  left_shut a b c r s apart good shuts left = subst (λ l. Shuts l s a c) (sym split)
+      (finish_then first.port first_name ports_left a b c r s (first_apart apart) good shuts left)
+
 -- The files of a run.
 module _ (files : DiskFiles) (ports : List NamedPort) (ports_are : ports ≡ output_ports (ToDisk files)) where
   named_as : (q : Port) → has_port ports q ≡ is_disk_output files.lines q
@@ -270,30 +347,13 @@ module _ (lines : ℕ) where
       (only_within _ _ _ _ (λ q other. right_false (is_shown lines q) (same (Out out_port.Final) q) other) writes)
 
 -- One line more.
-range_more : (a n : ℕ) → range_with_len a (n + 1) ≡ range_with_len a n ++ (a + n) ∷ []
-range_more a zero = let same : a ≡ a + zero = omega arith in ap (λ k. k ∷ []) same
-range_more a (suc n) =
-    let one : suc n + 1 ≡ suc (n + 1) = omega arith in
-    let next : a + 1 + n ≡ a + suc n = omega arith in
-    ap (range_with_len a) one ∙ ap (λ l. a ∷ l) (range_more (a + 1) n ∙ ap (λ k. range_with_len (a + 1) n ++ k ∷ []) next)
-
-map_append : {X Y : Type 0} (f : X → Y) (xs ys : List X) → map f (xs ++ ys) ≡ map f xs ++ map f ys
-map_append f [] ys = refl
-map_append f (x ∷ xs) ys = ap (λ l. f x ∷ l) (map_append f xs ys)
-
-pub one_output : {X : Type 0} (f : X → NamedPort) (xs : List X) (x : X) → map f (xs ++ x ∷ []) ≡ map f xs ++ f x ∷ []
-one_output f xs x = map_append f xs (x ∷ [])
-
-pub one_line : (term : List ℕ) (n : ℕ) → map (line_output term) (range_with_len 1 (n + 1)) ≡ map (line_output term) (range_with_len 1 n) ++ line_output term (1 + n) ∷ []
-one_line term n = ap (map (line_output term)) (range_more 1 n) ∙ map_append (line_output term) (range_with_len 1 n) ((1 + n) ∷ [])
-
 pub line_added : (term : List ℕ) (first now new : List NamedPort) (line : ℕ) → 1 ≤ line → now ≡ first ++ map (line_output term) (range_with_len 1 (line - 1)) → new ≡ now ++ line_output term line ∷ []
     → new ≡ first ++ map (line_output term) (range_with_len 1 (line + 1 - 1))
 line_added term first now new line some was more =
-    let next : line + 1 - 1 ≡ (line - 1) + 1 = omega (arith, some) in
     let here : 1 + (line - 1) ≡ line = omega (arith, some) in
+    let next : (line - 1) + 1 ≡ line + 1 - 1 = omega (arith, some) in
     more ∙ ap (λ l. l ++ line_output term line ∷ []) was ∙ append_assoc first (map (line_output term) (range_with_len 1 (line - 1))) (line_output term line ∷ [])
-    ∙ ap (λ l. first ++ l) (ap (λ k. map (line_output term) (range_with_len 1 (line - 1)) ++ line_output term k ∷ []) (sym here) ∙ sym (one_line term (line - 1)) ∙ ap (λ n. map (line_output term) (range_with_len 1 n)) (sym next))
+    ∙ ap (λ l. first ++ l) (sym (map-range_with_len_more (line_output term) 1 (line - 1) line here) ∙ ap (λ n. map (line_output term) (range_with_len 1 n)) next)
 
 -- the files one behind the other
 pub in_a_row : (term log final_disk : NamedPort) (lines a b c d : List NamedPort) → a ≡ [] ++ term ∷ [] → b ≡ a ++ lines → c ≡ b ++ log ∷ [] → d ≡ c ++ final_disk ∷ []

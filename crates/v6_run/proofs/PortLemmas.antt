@@ -1,5 +1,5 @@
 -- One byte, or one line of the log, more in the trace over a host.
-use Rattle.std.proofs.Common.{◌≡◌, ◌≢◌, ◌<◌, ◌≤◌, ℕ, Bool, true, false, ◌&&◌, is_some, List, [], ◌∷◌, ◌++◌, length, nat_le, refl, sym, ◌∙◌, ap, subst, append_assoc, take, drop, Result, Ok, Err, is_err, OnOk, IfErr, eqb, eqb-true, cond, arith}
+use Rattle.std.proofs.Common.{◌≡◌, ◌≢◌, ◌<◌, ◌≤◌, ℕ, Bool, true, false, ◌&&◌, is_some, List, [], ◌∷◌, ◌++◌, length, nat_le, refl, sym, ◌∙◌, ap, subst, append_assoc, take, drop, Result, Ok, Err, is_err, OnOk, OnErr, eqb, eqb-true, cond, arith}
 use Rattle.std.specs.Prelude.{nat_lt}
 use Rattle.std.proofs.lemmas.Bool.{ne_eqb, eq-eqb, eqb-false, ltb-true}
 use Rattle.std.proofs.lemmas.List.{append-nil, take-append-drop}
@@ -8,6 +8,7 @@ use Rattle.v6_base.specs.LogLine.{entry_line}
 use Rattle.v6_base.specs.Trace as trace
 use Rattle.v6_base.specs.Trace.{Item, HoldsMore, Took, Appends, line_bytes, text_of}
 use Rattle.v6_base.proofs.Took.{took_refused, took_whole}
+use Rattle.v6_port.specs.declared.host.Failed.{Failed}
 use Rattle.v6_port.specs.declared.host.OutPort.{OutPort}
 use Rattle.v6_port.specs.declared.host.OutPort.TheVariants as out_port
 use Rattle.v6_port.specs.Outside.{Out, same, PortState, Environment, Outside, Tells, OnlyAt}
@@ -327,13 +328,11 @@ module _ (lines : ℕ) (old new : Outside) (before : Kept) (line byte : ℕ) (lo
     written_appended = appends_by lines old new before before (trace.Byte line byte) loud (loud_written before loud)
         (holds_byte lines old new before before line byte (wanted before loud) (wanted before loud) goes only_line (no_text before goes) (λ l _. no_byte before goes l) written)
 
-  module _ (count : ℕ) (short : count < 1) (front : Tells old → (new.port (Out q)).bytes ≡ (old.port (Out q)).bytes ++ take count (byte ∷ [])) where
+  module _ (same_bytes : (new.port (Out q)).bytes ≡ (old.port (Out q)).bytes) where
     byte_kept : Tells old → (line_state new line).bytes ++ kept_byte (kept.Byte line byte) line ≡ (line_state old line).bytes ++ byte ∷ []
     byte_kept told =
-        let none : count ≡ 0 = omega (arith, short) in
-        let same_bytes : (line_state new line).bytes ≡ (line_state old line).bytes =
-        subst (λ p. (new.port (Out p)).bytes ≡ (old.port (Out p)).bytes ++ take 0 (byte ∷ [])) q_is (front told ∙ ap (λ n. (old.port (Out q)).bytes ++ take n (byte ∷ [])) none) ∙ append-nil (line_state old line).bytes in
-        ap (λ l. l ++ kept_byte (kept.Byte line byte) line) same_bytes ∙ ap (λ b. (line_state old line).bytes ++ cond b (byte ∷ []) []) (eq-eqb line line refl)
+        let same_line : (line_state new line).bytes ≡ (line_state old line).bytes = subst (λ p. (new.port (Out p)).bytes ≡ (old.port (Out p)).bytes) q_is same_bytes in
+        ap (λ l. l ++ kept_byte (kept.Byte line byte) line) same_line ∙ ap (λ b. (line_state old line).bytes ++ cond b (byte ∷ []) []) (eq-eqb line line refl)
 
     none_elsewhere : (l : ℕ) → line ≢ l → kept_byte (kept.Byte line byte) l ≡ []
     none_elsewhere l other = ap (λ b. cond b (byte ∷ []) []) (ne_eqb line l other)
@@ -347,27 +346,25 @@ module _ (lines : ℕ) (old new : Outside) (before : Kept) (line byte : ℕ) (lo
         (holds_byte lines old new before (kept.Byte line byte) line byte (wanted before loud) refl goes only_line refl none_elsewhere byte_kept)
 
   -- by how the write has ended
-  pub byte_took : (r : Result (Unit {0}) ℕ) → is_err r ≡ false → OnOk r (Tells old → (new.port (Out q)).bytes ≡ (old.port (Out q)).bytes ++ byte ∷ [])
+  pub byte_took : (r : Result (Unit {0}) Failed) → is_err r ≡ false → OnOk r (Tells old → (new.port (Out q)).bytes ≡ (old.port (Out q)).bytes ++ byte ∷ [])
       → Took (taken_by lines old before) (trace.Byte line byte ∷ []) (taken_by lines new before)
   byte_took (Ok x) good whole = took_written whole
-  byte_took (Err count) good whole = absurd (cc)
+  byte_took (Err e) good whole = absurd (cc)
 
-  pub byte_all : (r : Result (Unit {0}) ℕ) → is_err r ≡ false → OnOk r (Tells old → (new.port (Out q)).bytes ≡ (old.port (Out q)).bytes ++ byte ∷ [])
+  pub byte_all : (r : Result (Unit {0}) Failed) → is_err r ≡ false → OnOk r (Tells old → (new.port (Out q)).bytes ≡ (old.port (Out q)).bytes ++ byte ∷ [])
       → Appends (taken_by lines old before) (trace.Byte line byte) (taken_by lines new before)
   byte_all (Ok x) good whole = written_appended whole
-  byte_all (Err count) good whole = absurd (cc)
+  byte_all (Err e) good whole = absurd (cc)
 
-  pub kept_took : (r : Result (Unit {0}) ℕ) → is_err r ≡ true → IfErr r (λ count. count < 1)
-      → IfErr r (λ count. Tells old → (new.port (Out q)).bytes ≡ (old.port (Out q)).bytes ++ take count (byte ∷ []))
+  pub kept_took : (r : Result (Unit {0}) Failed) → is_err r ≡ true → OnErr r ((new.port (Out q)).bytes ≡ (old.port (Out q)).bytes)
       → Took (taken_by lines old before) (trace.Byte line byte ∷ []) (taken_by lines new (kept.Byte line byte))
-  kept_took (Ok x) bad short front = absurd (cc)
-  kept_took (Err count) bad short front = took_kept count short front
+  kept_took (Ok x) bad stays = absurd (cc)
+  kept_took (Err e) bad stays = took_kept stays
 
-  pub kept_all : (r : Result (Unit {0}) ℕ) → is_err r ≡ true → IfErr r (λ count. count < 1)
-      → IfErr r (λ count. Tells old → (new.port (Out q)).bytes ≡ (old.port (Out q)).bytes ++ take count (byte ∷ []))
+  pub kept_all : (r : Result (Unit {0}) Failed) → is_err r ≡ true → OnErr r ((new.port (Out q)).bytes ≡ (old.port (Out q)).bytes)
       → Appends (taken_by lines old before) (trace.Byte line byte) (taken_by lines new (kept.Byte line byte))
-  kept_all (Ok x) bad short front = absurd (cc)
-  kept_all (Err count) bad short front = kept_appended count short front
+  kept_all (Ok x) bad stays = absurd (cc)
+  kept_all (Err e) bad stays = kept_appended stays
 
 -- A line goes out, which is the bytes of `line`, in as many writes as it takes.
 module _ (lines : ℕ) (old new : Outside) (before : Kept) (entry : Entry) (line : List ℕ) (loud : is_silent before ≡ false) (only : OnlyAt (same (Out out_port.Log)) old new)

@@ -1,5 +1,5 @@
 -- What a host's terminal lines and log have got of what a run shows.
-use Rattle.std.proofs.Common.{◌≡◌, ◌<◌, ℕ, Bool, true, false, ◌&&◌, ◌||◌, cond, is_some, List, [], ◌++◌, refl, sym, ◌∙◌, ap, subst, append_assoc, arith, lit<}
+use Rattle.std.proofs.Common.{◌≡◌, ◌<◌, ℕ, Bool, true, false, ◌&&◌, ◌||◌, cond, is_some, Some, None, IfSome, MatchOption, List, [], ◌++◌, refl, sym, ◌∙◌, ap, subst, append_assoc, arith, lit<}
 use Rattle.std.specs.Prelude.{nat_lt}
 use Rattle.std.proofs.lemmas.Bool.{lt-ltb}
 use Rattle.std.proofs.lemmas.List.{append-nil, append_cancel_left}
@@ -8,6 +8,7 @@ use Rattle.v6_base.proofs.Took.{line_bytes-append, text_of-append}
 use Rattle.v6_port.specs.declared.host.OutPort.{OutPort}
 use Rattle.v6_port.specs.declared.host.OutPort.TheVariants as out_port
 use Rattle.v6_port.specs.Outside.{Out, same, PortState, Outside, Tells}
+use Rattle.v6_port.specs.Causes.{Calm, FaultAt}
 use Rattle.v6_port.proofs.CauseLemmas.{not_line}
 use Rattle.v6_run.specs.Fronts.{HoldsFront}
 use Rattle.v6_run.specs.Opened.{line_port}
@@ -100,11 +101,27 @@ module _ (lines : ℕ) (some : 0 < lines) (old new : Outside) (kept : Kept) (ite
         by true is = subst (λ q. (new.port (Out q)).bytes ≡ (old.port (Out q)).bytes ++ line_bytes l items) (is_port l is) (all_at l (is_high 1 l lines is))
         by false is = nothing_at (out_port.Line l) (no_line l is)
 
--- the same, where the trace began as one over the host at hand
+-- What stays, where the trace began as one over the host at hand.
+module _ (lines start_lines : ℕ) (old start new : Outside) (start_kept kept : Kept) (lines_are : start_lines ≡ lines) (same_start : start ≡ old) (fresh : start_kept ≡ Nothing)
+    (goes : Goes start_lines start start_kept new kept) where
+  pub goes_from : Goes lines old Nothing new kept
+  goes_from = subst (λ n. Goes n old Nothing new kept) lines_are (subst (λ s. Goes start_lines s Nothing new kept) same_start (subst (λ k. Goes start_lines start k new kept) fresh goes))
+
+  -- no write has failed, or one to a port of what is shown
+  pub calm_from : failed_port kept ≡ None → Calm old new
+  calm_from is = subst (λ o. MatchOption o (Calm old new) (λ p. FaultAt (Out p) true old new)) is (goes_from.cause refl)
+
+  pub fault_from : (port : OutPort) → failed_port kept ≡ Some port → FaultAt (Out port) true old new
+  fault_from port is = subst (λ o. MatchOption o (Calm old new) (λ p. FaultAt (Out p) true old new)) is (goes_from.cause refl)
+
+  pub named_from : (port : OutPort) → failed_port kept ≡ Some port → is_shown lines (Out port) ≡ true
+  named_from port is = subst (λ o. IfSome o (λ p. is_shown lines (Out p) ≡ true)) is (goes_from.named refl)
+
+-- The same of what the host has got.
 module _ (lines : ℕ) (some : 0 < lines) (start_lines end_lines : ℕ) (lines_are : start_lines ≡ lines) (lines_stay : end_lines ≡ start_lines) (old start new : Outside) (start_kept kept : Kept) (items : List Item)
     (same_start : start ≡ old) (fresh : start_kept ≡ Nothing) (took : Took (taken_by start_lines start start_kept) items (taken_by end_lines new kept)) (goes : Goes start_lines start start_kept new kept) where
   goes_all : Goes lines old Nothing new kept
-  goes_all = subst (λ n. Goes n old Nothing new kept) lines_are (subst (λ s. Goes start_lines s Nothing new kept) same_start (subst (λ k. Goes start_lines start k new kept) fresh goes))
+  goes_all = goes_from lines start_lines old start new start_kept kept lines_are same_start fresh goes
 
   taken_now : taken_by end_lines new kept ≡ taken_of lines new kept
   taken_now = ap (λ n. taken_by n new kept) (lines_stay ∙ lines_are) ∙ uncounted lines new kept (goes.counted ∙ ap is_counted fresh)

@@ -78,7 +78,7 @@ abbrev pub has_port : List NamedPort → Port → Bool
 has_port [] q = false
 has_port (p ∷ ports) q = same p.port q || has_port ports q
 
--- no port is among them twice, and each can be opened
+-- no port is among them twice
 abbrev pub AreApart : List NamedPort → Type 0
 AreApart [] = ⊤
 AreApart (p ∷ ports) = (has_port ports p.port ≡ false) × AreApart ports

@@ -1,7 +1,7 @@
 -- The opening and the finishing of a run's files, one after another, by docs/manual/commands.md.
 use Rattle.std.specs.Prelude.{◌≡◌, ⊤, ℕ, Bool, true, false, Result, IfErr, OnOk, MatchResult, List, [], ◌∷◌, ◌++◌, string_bytes}
 use Rattle.v6_port.specs.declared.host.OutPort.{OutPort}
-use Rattle.v6_port.specs.Outside.{Port, In, Out, IsThere, Outside, Tells, OnlyAt}
+use Rattle.v6_port.specs.Outside.{Port, In, Out, IsThere, is_report, Outside, Tells, OnlyAt}
 use Rattle.v6_port.specs.Causes.{Calm, FaultAt}
 use Rattle.v6_run.specs.declared.outputs.Output.{Output}
 use Rattle.v6_run.specs.Ports.{final_of, second_of}
@@ -13,10 +13,10 @@ use Rattle.v6_run.specs.Opened.{NamedPort, output, has_port, ports_before, knows
 abbrev pub output_value : Output → NamedPort
 output_value o = output o.port (string_bytes o.name)
 
--- each of these is a port for writing that there is
+-- each of these is a port for writing that there is, and is opened and closed
 abbrev pub IsWritten : Port → Type 0
 IsWritten (In p) = ⊥
-IsWritten (Out p) = IsThere p
+IsWritten (Out p) = IsThere p × (is_report (Out p) ≡ false)
 
 abbrev pub AreThere : List NamedPort → Type 0
 AreThere [] = ⊤

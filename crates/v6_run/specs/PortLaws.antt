@@ -1,5 +1,5 @@
 -- What goes out on two ports, one thing after another: the laws of the trace over a host.
-use Rattle.std.proofs.Common.{◌≡◌, ℕ, true, Option, Some, None, MatchOption, [], ◌++◌, refl, sym, ◌∙◌, ap, subst, append_assoc}
+use Rattle.std.proofs.Common.{◌≡◌, ℕ, true, Option, Some, None, IfSome, MatchOption, [], ◌++◌, refl, sym, ◌∙◌, ap, subst, append_assoc}
 use Rattle.std.proofs.lemmas.List.{append-nil}
 use Rattle.v6_port.specs.declared.host.OutPort.{OutPort}
 use Rattle.v6_port.specs.Outside.{Out, PortState, Outside, Tells}
@@ -27,11 +27,16 @@ calm_at : (o : Outside) (failed : Option OutPort) → failed ≡ None → MatchO
 calm_at o None is = calm_still o
 calm_at o (Some port) is = absurd (cc)
 
+named_at : (lines : ℕ) (failed : Option OutPort) → failed ≡ None → IfSome failed (λ p. is_shown lines (Out p) ≡ true)
+named_at lines None is = tt
+named_at lines (Some port) is = absurd (cc)
+
 pub Goes-same : (lines : ℕ) (o : Outside) (kept : Kept) → Goes lines o kept o kept
 Goes-same lines o kept = record {
   only = record { fixed = refl; others = λ q other. refl };
   grows = λ p. grows_not (Tells o) (o.port (Out p));
   cause = calm_at o (failed_port kept);
+  named = named_at lines (failed_port kept);
   stopped = λ is_cut. (refl, is_cut, refl);
   counted = refl;
 }
@@ -59,6 +64,13 @@ module _ (lines : ℕ) (a b c : Outside) (b_kept c_kept : Kept) (second : Goes l
       subst (λ o. MatchOption o (Calm a c) (λ p. FaultAt (Out p) true a c)) (sym (still.2 ∙ is))
       (subst (λ o. FaultAt (Out port) true a o) (sym still.0) fault)
 
+  named_on : (failed : Option OutPort) → failed_port b_kept ≡ failed → IfSome failed (λ p. is_shown lines (Out p) ≡ true)
+      → IfSome (failed_port c_kept) (λ p. is_shown lines (Out p) ≡ true)
+  named_on None is named = second.named is
+  named_on (Some port) is named =
+      let still = second.stopped (silent_failed b_kept port is) in
+      subst (λ o. IfSome o (λ p. is_shown lines (Out p) ≡ true)) (sym (still.2 ∙ is)) named
+
 pub Goes-on : (lines : ℕ) (a : Outside) (a_kept : Kept) (b : Outside) (b_kept : Kept) (c : Outside) (c_kept : Kept)
     → Goes lines a a_kept b b_kept → Goes lines b b_kept c c_kept → Goes lines a a_kept c c_kept
 Goes-on lines a a_kept b b_kept c c_kept first second = record {
@@ -66,6 +78,7 @@ Goes-on lines a a_kept b b_kept c c_kept first second = record {
   grows = λ p. grows_on (Tells a) (Tells b) (a.port (Out p)) (b.port (Out p)) (c.port (Out p)) (still_tells (is_shown lines) a b first.only)
       (first.grows p) (second.grows p);
   cause = λ goes. cause_on lines a b c b_kept c_kept second first.only.fixed (failed_port b_kept) refl (first.cause goes);
+  named = λ goes. named_on lines a b c b_kept c_kept second first.only.fixed (failed_port b_kept) refl (first.named goes);
   stopped = λ is_cut.
       let one = first.stopped is_cut in
       let two = second.stopped one.1 in

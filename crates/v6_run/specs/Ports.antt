@@ -1,5 +1,5 @@
 -- The ports of a host as a trace of what a run shows: the bytes of each terminal line go to its port, and the lines of the log to Log.
-use Rattle.std.specs.Prelude.{◌≡◌, ℕ, Bool, true, false, ◌&&◌, Option, Some, None, is_some, MatchOption, List, [], ◌∷◌, ◌++◌, length, ◌==◌, nat_le, nat_lt, if◌then◌else◌}
+use Rattle.std.specs.Prelude.{◌≡◌, ℕ, Bool, true, false, ◌&&◌, Option, Some, None, is_some, IfSome, MatchOption, List, [], ◌∷◌, ◌++◌, length, ◌==◌, nat_le, nat_lt, if◌then◌else◌}
 use Rattle.v6_base.specs.Trace.{Taken, Item}
 use Rattle.v6_port.specs.declared.host.OutPort.{OutPort}
 use Rattle.v6_port.specs.declared.host.OutPort.TheVariants as out_port
@@ -130,13 +130,14 @@ pub record Grows (told : Type 0) (old new : PortState) : Type 0 where
   pub bytes : told → Extends old.bytes new.bytes
 
 -- What stays while bytes and lines go out: only the ports of the lines and Log change, and more is written to them. No count changes
--- until a write has failed: then the faults of its port have risen, and from then on nothing changes; nor does it where nothing is to
--- be written.
+-- until a write to one of them has failed: then the faults of its port have risen, and from then on nothing changes; nor does it where
+-- nothing is to be written.
 pub record Goes (lines : ℕ) (a : Outside) (a_kept : Kept) (b : Outside) (b_kept : Kept) : Type 0 where
   pub only : OnlyAt (is_shown lines) a b
   pub grows : (p : OutPort) → Grows (Tells a) (a.port (Out p)) (b.port (Out p))
   pub cause : failed_port a_kept ≡ None
       → MatchOption (failed_port b_kept) (Calm a b) (λ p. FaultAt (Out p) true a b)
+  pub named : failed_port a_kept ≡ None → IfSome (failed_port b_kept) (λ p. is_shown lines (Out p) ≡ true)
   pub stopped : is_silent a_kept ≡ true → (b ≡ a) × (is_silent b_kept ≡ true) × (failed_port b_kept ≡ failed_port a_kept)
   pub counted : is_counted b_kept ≡ is_counted a_kept
 

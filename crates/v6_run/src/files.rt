@@ -1,5 +1,5 @@
 //! Whole files of a host.
-ghost use Rattle.std.specs.Prelude.{◌≡◌, ◌≢◌, ◌<◌, ◌≤◌, ◌^◌, ◌++◌, length, take, true, false, Some, IfOk, IfErr, OnOk, MatchResult};
+ghost use Rattle.std.specs.Prelude.{◌≡◌, ◌≢◌, ◌<◌, ◌≤◌, ◌^◌, ◌++◌, length, take, true, false, Some, IfOk, IfErr, OnOk, OnErr, MatchResult, [], ◌∷◌};
 ghost use Rattle.std.specs.Option.{option_map};
 ghost use Rattle.v6_port.specs.Outside.{In, Out, IsOpen, IsThere, OnlyAt, Tells, same};
 ghost use Rattle.v6_port.specs.Causes.{Calm, FaultAt};
@@ -73,6 +73,23 @@ pub(crate) fn read_file<H: Host>(
         return Err(ReadError::Fault);
     }
     read_left(alloc, host, port, limit)
+}
+
+/// Writes a byte. It is what `write_text` is for a text of one byte, without its loop.
+#[inline(always)]
+pub(crate) fn write_byte<H: Host>(host: &mut H, port: OutPort, byte: u8) -> Result<(), Failed>
+    requires is_open { IsOpen (H.outside host.old) (Out port) }
+    requires there { IsThere port }
+    ensures only { OnlyAt (same (Out port)) (H.outside host.old) (H.outside host.new) }
+    ensures is_open { IsOpen (H.outside host.new) (Out port) }
+    ensures whole { OnOk result (Tells (H.outside host.old)
+        → ((H.outside host.new).port (Out port)).bytes ≡ ((H.outside host.old).port (Out port)).bytes ++ byte ∷ []) }
+    ensures stays { OnErr result (((H.outside host.new).port (Out port)).bytes ≡ ((H.outside host.old).port (Out port)).bytes) }
+    ensures cause { MatchResult result (λ _. Calm (H.outside host.old) (H.outside host.new))
+        (λ _. FaultAt (Out port) true (H.outside host.old) (H.outside host.new)) }
+{
+    host.write(port, &[byte])?;
+    Ok(())
 }
 
 /// Writes all of a text, or says how many of its bytes were written before a write failed.

@@ -120,8 +120,8 @@ fn finish_final<H: Host>(host: &mut H) -> Result<(), Failed>
     host.finish(OutPort::Final)
 }
 
-/// Runs the kernel with the one file of `memory` opened, and tells how the run ends. Where it comes to its end, its core and its
-/// swap area are written; the file is finished then, and after a panic too.
+/// Runs the kernel with the one file of `memory` opened, and tells how the run ends. Where it comes to its end, its core and
+/// its swap area are written; the file is finished then, and after a panic too.
 pub(crate) fn run_to_memory<H: Host>(
     kernel: &mut Kernel,
     events: &[Event],

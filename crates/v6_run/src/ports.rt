@@ -6,7 +6,7 @@ ghost use Rattle.v6_port.specs.declared.host.OutPort.TheVariants.{Log};
 ghost use Rattle.v6_run.specs.Opened.{line_port};
 ghost use Rattle.v6_run.specs.Ports.{is_silent, failed_port, counted, screened, HasCounted};
 
-use crate::files::write_text;
+use crate::files::{write_byte, write_text};
 use arrayvec::ArrayVec;
 use log_text::{Line, put_line};
 use v6_base::{Entry, LINES, Trace};
@@ -41,10 +41,10 @@ enum Kept {
     Screen(ArrayVec<u8, SCREEN_ROOM>),
 }
 
-/// A trace over the ports of so many terminal lines and of the log. A byte on another line is dropped. A line of the log goes out
-/// as one piece. The trace is cut where a write fails, and keeps what was not written of that byte or line. A trace of which
-/// nothing is wanted writes nothing, and is never cut; one that counts writes nothing, and is cut where the bytes of the console
-/// have no more room. A run with each of them is the same code, so that the loop over slots stands once.
+/// A trace over the ports of so many terminal lines and of the log. A byte on another line is dropped. A line of the log goes
+/// out as one piece. The trace is cut where a write fails, and keeps what was not written of that byte or line. A trace of
+/// which nothing is wanted writes nothing, and is never cut; one that counts writes nothing, and is cut where the bytes of
+/// the console have no more room. A run with each of them is the same code, so that the loop over slots stands once.
 #[derive(Drop)]
 pub(crate) struct Ports<'a, H: Host> {
     host: &'a mut H,
@@ -194,7 +194,8 @@ impl<'a, H: Host> Ports<'a, H> {
             (taken_by self.new.lines (H.outside self.new.host.now) self.new.kept) }
         ensures whole { Appends (taken_by self.old.lines (H.outside self.old.host.now) self.old.kept) (trace.Log e.now)
             (taken_by self.new.lines (H.outside self.new.host.now) self.new.kept) }
-        ensures goes { Goes self.old.lines (H.outside self.old.host.now) self.old.kept (H.outside self.new.host.now) self.new.kept }
+        ensures goes { Goes self.old.lines (H.outside self.old.host.now) self.old.kept
+            (H.outside self.new.host.now) self.new.kept }
         ensures same_reference { self.new.host.ghost_name ≡ self.old.host.ghost_name }
         ensures lines { self.new.lines ≡ self.old.lines }
     {
@@ -214,11 +215,12 @@ impl<'a, H: Host> Ports<'a, H> {
             (taken_by self.new.lines (H.outside self.new.host.now) self.new.kept) }
         ensures whole { Appends (taken_by self.old.lines (H.outside self.old.host.now) self.old.kept) (Byte line byte)
             (taken_by self.new.lines (H.outside self.new.host.now) self.new.kept) }
-        ensures goes { Goes self.old.lines (H.outside self.old.host.now) self.old.kept (H.outside self.new.host.now) self.new.kept }
+        ensures goes { Goes self.old.lines (H.outside self.old.host.now) self.old.kept
+            (H.outside self.new.host.now) self.new.kept }
         ensures same_reference { self.new.host.ghost_name ≡ self.old.host.ghost_name }
         ensures lines { self.new.lines ≡ self.old.lines }
     {
-        if write_text(self.host, line_port(line), &[byte]).is_err() {
+        if write_byte(self.host, line_port(line), byte).is_err() {
             keep_byte(&mut self.kept, line, byte);
         }
     }
@@ -236,7 +238,8 @@ impl<'a, H: Host> Trace for Ports<'a, H> {
 
     ghost stays = { λ t. (Goes-same t.lines (H.outside t.host.now) t.kept, refl, refl) };
 
-    ghost goes_on = { λ a b c first second. (goes_then _ _ _ _ _ _ _ _ first.2 first.0 second.0, second.1 ∙ first.1, second.2 ∙ first.2) };
+    ghost goes_on = { λ a b c first second.
+        (goes_then _ _ _ _ _ _ _ _ first.2 first.0 second.0, second.1 ∙ first.1, second.2 ∙ first.2) };
 
     fn entry(&mut self, e: Entry) {
         if self.is_silent() {

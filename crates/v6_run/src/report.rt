@@ -30,7 +30,9 @@ pub(crate) enum Found {
 }
 
 const USAGE: &str =
-    "usage: v6 run IMAGE CORE SCRIPT TERM LOG FINAL, run8 IMAGE CORE SCRIPT TERM LOG FINAL, run2 IMAGE CORE SCRIPT TERM LOG FINAL IMAGE2 FINAL2, memory IMAGE CORE SCRIPT FINAL, check IMAGE, make N FINAL, demo N, audit LOG";
+    "usage: v6 run IMAGE CORE SCRIPT TERM LOG FINAL, run8 IMAGE CORE SCRIPT TERM LOG FINAL, \
+    run2 IMAGE CORE SCRIPT TERM LOG FINAL IMAGE2 FINAL2, memory IMAGE CORE SCRIPT FINAL, \
+    check IMAGE, make N FINAL, demo N, audit LOG";
 
 fn script_line(fault: ScriptFault) -> Line
     ensures { result.bytes ≡ script_line fault }

@@ -201,7 +201,8 @@ fn play<H: Host>(
     requires can { CanTake kernel.old.system events.now }
     ensures phase { IfOk result (λ ends. kernel.new.phase ≡ phase_after ends) }
     ensures only { OnlyAt (is_shown (lines_value lines)) (H.outside host.old) (H.outside host.new) }
-    ensures is_open { (p : OutPort) → ((H.outside host.new).port (Out p)).is_open ≡ ((H.outside host.old).port (Out p)).is_open }
+    ensures is_open { (p : OutPort)
+        → ((H.outside host.new).port (Out p)).is_open ≡ ((H.outside host.old).port (Out p)).is_open }
     ensures ending { IfOk result (λ ends. ends ≡ (course (started kernel.old.system) (events_of events.now)).ending) }
     ensures shown { OnOk result (Tells (H.outside host.old)
         → HasShown (lines_value lines) (shown_by (course (started kernel.old.system) (events_of events.now)))

@@ -1,0 +1,36 @@
+use Rattle.std.proofs.Common.{false, sym, ◌∙◌, arith}
+use Rattle.v6_run.proofs.OpeningLemmas.{none_opened, fewer_left, left_apart, left_there, first_there, first_at, left_at, first_unopened, left_opened}
+use Rattle.v6_run.proofs.outputs.+open_outputs.Goals as goal
+
+pub returns-in-empty : goal.returns-in-empty
+returns-in-empty g t c = none_opened c.args.outputs.now _ c.in-empty.len_below
+
+pub open_write-requires : goal.open_write-requires
+open_write-requires g t c =
+    let held = c.args.outputs.now in
+    let some = c.in-len1-up.len_at_least in
+    let first = c.first-item.is in
+    record { closed = first_at held _ _ some first false _ c.requires.closed; there = first_there held _ _ some first c.requires.there }
+
+pub returns-then-is_err : goal.returns-then-is_err
+returns-then-is_err g t c =
+    first_unopened c.args.outputs.now _ _ c.in-len1-up.len_at_least c.first-item.is _ _ _ c.open_write.result c.as_str.ensures.value
+    (sym c.is_err.ensures.value ∙ c.if-is_err.true) c.open_write.ensures
+
+pub open_outputs-requires : goal.open_outputs-requires
+open_outputs-requires g t c =
+    let held = c.args.outputs.now in
+    let some = c.in-len1-up.len_at_least in
+    let first = c.first-item.is in (
+      omega (arith, fewer_left held some, c.decreases),
+      record {
+        apart = left_apart held _ _ some first c.requires.apart;
+        there = left_there held _ _ some first c.requires.there;
+        closed = left_at held _ _ some first false _ c.requires.closed _ c.requires.apart c.open_write.ensures.only;
+      },
+    )
+
+pub returns-in-len1-up : goal.returns-in-len1-up
+returns-in-len1-up g t c =
+    left_opened c.args.outputs.now _ _ c.in-len1-up.len_at_least c.first-item.is _ _ _ _ c.open_write.result _ c.as_str.ensures.value c.requires.apart
+    (sym c.is_err.ensures.value ∙ c.if-is_err.false) c.open_write.ensures c.open_outputs.ensures

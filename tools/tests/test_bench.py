@@ -1,0 +1,170 @@
+"""What the benches make and judge of a terminal of eight lines, without the reference: that one is put in its place."""
+import random
+import re
+import sys
+import types
+import unittest
+import unittest.mock
+
+from common import TOP, Case
+
+import scriptfile
+
+LINES = [f"term.{line}" for line in range(1, 8)]
+MANY = 300  # seeds of a test
+
+
+def bench(*names):
+    """Modules of bench/, in which some have the names of tools."""
+    with unittest.mock.patch.dict(sys.modules), unittest.mock.patch.object(sys, "path", [f"{TOP}/bench", *sys.path]):
+        sys.modules.pop("console", None)
+        return [__import__(name) for name in names]
+
+
+fuzz_cases, fuzz_hosts, fuzz_judge, fuzz_row, random_lines, random_script, spoil, spoiled_logs = bench(
+    "fuzz_cases", "fuzz_hosts", "fuzz_judge", "fuzz_row", "random_lines", "random_script", "spoil", "spoiled_logs")
+RUN, RUN8 = fuzz_cases.RUN, fuzz_cases.RUN8
+
+
+def is_good(line):
+    """Whether the tools read a line of a script."""
+    try:
+        list(scriptfile.ticks_of(line + b"\n"))
+        return True
+    except scriptfile.ScriptError:
+        return False
+
+
+class Scripts(unittest.TestCase):
+    def test_words_of_lines(self):
+        """Of those that are none the tools take what is too long, and what ends with a carriage return, which is dropped."""
+        for line in (b"pace 0", b"pace 999999999", b"disk 000000001", b"line 0", b"line 7", b"hangup 0", b"hangup 7"):
+            self.assertTrue(is_good(line), line)
+        good = {line for line in random_script.NO_LINES if is_good(line) and len(line) <= 300}
+        self.assertEqual(good, {b"run 5\r", b"type a\r", b"\r"})
+
+    def test_random_scripts(self):
+        """All that is made at random is a line of a script, or one that was put there to be none."""
+        words = set()
+        for seed in range(MANY):
+            for lines in (random_script.random_script(random.Random(seed)).lines, spoil.random_events(random.Random(seed))):
+                bad = {line for line in lines if not is_good(line)}
+                self.assertLessEqual(bad, set(random_script.NO_LINES))
+                words |= {line.partition(b" ")[0] for line in lines if line not in bad}
+        self.assertLessEqual({b"disk", b"pace", b"line", b"hangup"}, words)
+
+
+class Cases(unittest.TestCase):
+    def test_the_kind_lines(self):
+        """Most are under `run8`; a seed gives the same again; the disk has the devices of the lines, under their names."""
+        commands = []
+        for seed in range(MANY // 5):
+            case, again = (fuzz_cases.case_of(seed, "lines") for _ in range(2))
+            self.assertEqual(vars(case), vars(again))
+            self.assertTrue(all(map(is_good, case.lines)), seed)
+            commands.append(case.command)
+            for line in range(1, 8):
+                inode, name = case.image[1248 + 32 * (line - 1) :][:10], case.image[32832 + 16 * (line - 1) :][:16]
+                self.assertEqual(inode, b"\xb6\xa1\1\0\0\0\0\0" + bytes([line, 0]))
+                self.assertEqual(name, bytes([7 + line, 0]) + b"tty%d".ljust(15, b"\0") % line)
+        self.assertEqual(set(commands), {RUN, RUN8})
+        self.assertGreater(commands.count(RUN8), len(commands) / 2)
+
+    def test_other_cases_over_lines(self):
+        """A program finds other lines under the console's name, and no line that the disk hasn't."""
+        image = b"/dev/tty8\0" * 20 + b"tty3\0" + b"tty5\0"
+        made = fuzz_cases.on_lines(random.Random(1), fuzz_cases.Case(0, "disk", image))
+        self.assertEqual(made.command, RUN8)
+        self.assertEqual(len(made.image), len(image))
+        self.assertEqual(set(re.findall(rb"/dev/tty(.)\0", made.image)), {b"3", b"5", b"8"})
+        alone = fuzz_cases.on_lines(random.Random(1), fuzz_cases.Case(0, "disk", b"/dev/tty8\0"))
+        self.assertEqual(alone.image, b"/dev/tty8\0")
+
+    def test_hosts(self):
+        """Each file of a line may fail under `run8`, and none under `run`."""
+        def failing(command):
+            hosts = [fuzz_hosts.random_host(random.Random(seed), command) for seed in range(MANY)]
+            return {name for host in hosts for name in (*host.kinds, *host.same)}
+
+        self.assertLessEqual(set(LINES), failing(RUN8))
+        self.assertFalse(set(LINES) & failing(RUN))
+
+
+class Judge(unittest.TestCase):
+    def test_files(self):
+        """They are opened in the order of the manual, and a report calls the port of a line otherwise than its file."""
+        self.assertEqual(fuzz_judge.written(RUN), ["term", "log", "final"])
+        self.assertEqual(fuzz_judge.written(RUN8), ["term", *LINES, "log", "final"])
+        self.assertEqual(fuzz_judge.written(fuzz_cases.MEMORY), ["final"])
+        for name, port in (("term", "term"), ("term.1", "line1"), ("term.7", "line7"), ("log", "log")):
+            self.assertEqual(fuzz_judge.port_of(name), port)
+
+    def outcome(self, shown):
+        """What a reference comes to whose lines have shown this."""
+        lines = [types.SimpleNamespace(shown=bytearray(data)) for data in shown]
+        unix = types.SimpleNamespace(lines=lines, stores=[None])
+        run = types.SimpleNamespace(log=["end"], u=unix, memory=lambda: (b"", b"", b"", b""))
+        return fuzz_judge.Outcome(0, b"", run)
+
+    def differ(self, shown, **files):
+        """How it differs from files in which nothing is shown but what is said here."""
+        names = {"term": b"", "log": b"end\n", "final": b"", **dict.fromkeys(LINES, b"" if len(shown) > 1 else None), **files}
+        with unittest.mock.patch.object(fuzz_judge, "store_differences", lambda *_: []):
+            found = fuzz_judge.run_differences(fuzz_cases.Case(0, "lines"), fuzz_judge.Ran(0, b"", names), self.outcome(shown))
+            return [line.partition(":")[0] for line in found]
+
+    def test_terminals(self):
+        """Each line's bytes count, and a run of one line makes no file of another."""
+        self.assertEqual(self.differ([b""] * 8), [])
+        self.assertEqual(self.differ([b"a"], term=b"a"), [])
+        for line in range(1, 8):
+            shown = [b"" if other != line else b"hi" for other in range(8)]
+            self.assertEqual(self.differ(shown, **{f"term.{line}": b"hi"}), [])
+            self.assertEqual(self.differ(shown), [f"terminal {line}"])
+            self.assertEqual(self.differ(shown, term=b"hi"), ["terminal 0", f"terminal {line}"])
+            self.assertEqual(self.differ([b""], **{f"term.{line}": b""}), [f"terminal {line}"])
+
+    def test_names_that_are_too_long(self):
+        """A name of 254 letters can be opened, and with two more none can: that is the fault of line 1."""
+        said = []
+
+        def answered(_, status, report):
+            said.append((status, report))
+            return []
+
+        with unittest.mock.patch.multiple(fuzz_judge, refused=lambda *_: (None, []), answered=answered,
+                                          reference_run=lambda *_: fuzz_judge.Outcome(0, b"", None)):
+            for letters, lines, wanted in ((253, 8, (0, b"")), (254, 8, (3, b"write fault: line1\n")), (254, 1, (0, b"")),
+                                           (256, 8, (3, b"write fault: term\n"))):
+                list(fuzz_judge.named_case(fuzz_cases.Case(0, "command"), None, ("image", "1200", "script"),
+                                           ["x" * letters, "log", "final2"], lines))
+                self.assertEqual(said.pop(), wanted)
+
+
+class Kept(Case):
+    def test_a_row_of_lines(self):
+        """A case that fails is kept with what each terminal must show."""
+        store = types.SimpleNamespace(nodes={}, room=3)
+        lines = [types.SimpleNamespace(shown=b"hi\n" if line in (0, 3) else b"") for line in range(8)]
+        run = types.SimpleNamespace(log=["end"], u=types.SimpleNamespace(lines=lines, stores=[store]))
+        case = next(case for seed in range(MANY) if (case := fuzz_cases.case_of(seed, "lines")).command == RUN8)
+        with unittest.mock.patch.object(fuzz_row, "reference_run", lambda *_: fuzz_judge.Outcome(0, b"", run)):
+            text = fuzz_row.row_of(case, [], fuzz_cases.read(fuzz_cases.HI))
+        row = fuzz_row.Read(text)
+        self.assertEqual(row.command(), " ".join(case.words()))
+        self.assertEqual(row.terms, [b"hi\n", b"", b"", b"hi\n", b"", b"", b"", b""])
+        self.assertEqual(row.image(fuzz_cases.read(fuzz_cases.HI)).ljust(len(case.image), b"\0"), case.image)
+        self.assertEqual(row.script, case.script())
+
+
+class Logs(unittest.TestCase):
+    def test_other_words(self):
+        """Channels of lines become others, with their number."""
+        self.assertEqual(spoiled_logs.others("keys.3"), ("show.3", "wait.3"))
+        self.assertEqual(spoiled_logs.others("show.7"), ("keys.7", "read.7"))
+        self.assertIn("show", spoiled_logs.others("keys"))
+        self.assertEqual(spoiled_logs.others("end.1"), ())
+
+
+if __name__ == "__main__":
+    unittest.main()
