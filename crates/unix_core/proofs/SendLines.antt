@@ -177,4 +177,5 @@ module _ (w : World) (good : IsGood w) (timed : IsTimed w.slots (unix_of w)) (n 
 
   pub pace_timed : slots.left ≡ w.slots.left → slots.due ≡ w.slots.due → slots.wake ≡ w.slots.wake → slots.set_at ≡ passed_in w.slots
       → IsTimed slots (unix_of turned)
-  pace_timed left due wake set = timed_paced w.slots slots n (unix_of w) (unix_of turned) few refl refl left due wake set timing timed
+  pace_timed left due wake set =
+      timed_paced w.slots slots n (unix_of w) (unix_of turned) few refl (ap (λ (x : Timing). x.passed) timing) left due wake set timing timed

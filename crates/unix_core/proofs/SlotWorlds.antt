@@ -1,5 +1,6 @@
 -- A world whose slots are counted otherwise: what is so of it still is.
 use Rattle.std.proofs.Common.{◌≡◌, ◌≢◌, ◌∙◌, ◌<◌, ◌≤◌, ◌+◌, ◌-◌, ◌==◌, ◌&&◌, ◌||◌, ◌++◌, not, cond, nat_lt, ℕ, suc, Bool, true, false, List, [], ◌∷◌, length, drop, map, refl, sym, ap, subst, inl, inr, arith}
+use Rattle.std.proofs.lemmas.Bool.{le-leb}
 use Rattle.v6_base.specs.Trace.{Took, Taken}
 use Rattle.v6_base.proofs.Took.{took_more}
 use Rattle.tty_line.specs.Terminal.{Terminal}
@@ -77,14 +78,14 @@ empty_sends t none = by t.output none
   where
     by : (output : List ℕ) → nat_lt 0 (length output) ≡ false → record t { output = drop 1 output } ≡ record t { output = output }
     by [] e = refl
-    by (x ∷ xs) e = absurd (cc e)
+    by (x ∷ xs) e = absurd (let some : nat_lt 0 (suc (length xs)) ≡ true = le-leb 1 (suc (length xs)) (omega arith) in cc (some, e))
 
 empty_told : (l : ℕ) (t : Terminal) → holds t ≡ false → told l (sends t) ≡ []
 empty_told l t none = by t.output none
   where
     by : (output : List ℕ) → nat_lt 0 (length output) ≡ false → told l (sends (record t { output = output })) ≡ []
     by [] e = refl
-    by (x ∷ xs) e = absurd (cc e)
+    by (x ∷ xs) e = absurd (let some : nat_lt 0 (suc (length xs)) ≡ true = le-leb 1 (suc (length xs)) (omega arith) in cc (some, e))
 
 empty_wakes : (t : Terminal) → holds t ≡ false → (sends t).show ≡ false
 empty_wakes t none = ap (λ b. b && is_low (drop 1 t.output)) none

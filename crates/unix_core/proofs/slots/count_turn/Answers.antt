@@ -23,7 +23,7 @@ pub count-requires-clause-fresh : goal.count-requires-clause-fresh
 count-requires-clause-fresh g c = subst (λ (u : Unix). u.timing.passed ≤ 3000000000) (sym c.renew.ensures.unix) c.requires.fresh
 
 pub returns-clause-unix : goal.returns-clause-unix
-returns-clause-unix g c = c.count.ensures.unix ∙ ap (λ u. with_sent (with_slot u)) c.renew.ensures.unix
+returns-clause-unix g c = c.count.ensures.unix ∙ ap (λ (u : Unix). with_sent (with_slot u)) c.renew.ensures.unix
 
 pub returns-clause-board : goal.returns-clause-board
 returns-clause-board g c =

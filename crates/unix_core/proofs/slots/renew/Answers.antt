@@ -1,6 +1,6 @@
 use Rattle.std.proofs.Common.{◌≡◌, ◌∙◌, sym, ap, subst}
 use Rattle.unix_core.specs.declared.world.World.{World}
-use Rattle.unix_core.specs.Slots.{IsCounted}
+use Rattle.unix_core.specs.Slots.{passed_in, IsCounted}
 use Rattle.unix_core.specs.Parts.{unix_of, IsGood}
 use Rattle.unix_core.proofs.SendLines.{unpaced_none}
 use Rattle.unix_core.proofs.SlotWorlds.{good_slots}
@@ -29,5 +29,5 @@ returns-then-world-ne0-clause-counted c =
 pub returns-else-world-ne0-clause-counted : goal.returns-else-world-ne0-clause-counted
 returns-else-world-ne0-clause-counted c = record {
   timed = c.requires.timed;
-  sends = λ some. unpaced_none c.args.world.now.slots _ c.if-world-ne0.false;
+  sends = λ some. unpaced_none c.args.world.now.slots (passed_in c.args.world.now.slots) c.if-world-ne0.false;
 }
