@@ -44,6 +44,17 @@ mounts_stay mounts old new same are = record {
   covered = λ is. there_is new.root new.second (counts old) same (is_there old.root old.second (are.covered is));
 }
 
+-- The table of one disk fits it.
+pub new_mounts : (mounts : MountTable) (store : Stores)
+    → mounts ≡ record { first = store.root.count; second = 0; covered = None } → store.second ≡ None → AreMounts mounts store
+new_mounts mounts store is none = record {
+  first = ap (λ (m : MountTable). m.first) is;
+  second = ap (λ (m : MountTable). m.second) is ∙ sym (ap second_count none);
+  covered = λ some.
+      let P : MountTable → Type 0 = λ m. IsSome m.covered in
+      let covered : false ≡ true = subst P is some in absurd (cc);
+}
+
 -- the disk of a key, as the table tells it
 first_part : (t : Bool) (key d : ℕ) → (cond {A = ℕ × ℕ} t (0, key) (1, d)).0 ≡ cond {A = ℕ} t 0 1
 first_part true key d = refl
