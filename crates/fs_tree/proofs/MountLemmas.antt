@@ -55,6 +55,27 @@ new_mounts mounts store is none = record {
       let covered : false ≡ true = subst P is some in absurd (cc);
 }
 
+-- One with the numbers of two disks fits them.
+pub two_mounts : (mounts : MountTable) (store : Stores) (a b : Store) (n k : ℕ)
+    → mounts ≡ record { first = n; second = k; covered = None } → store ≡ record { root = a; second = Some b }
+    → n ≡ a.count → k ≡ b.count → AreMounts mounts store
+two_mounts mounts store a b n k is stores first second = record {
+  first = ap (λ (m : MountTable). m.first) is ∙ first ∙ sym (ap (λ (s : Stores). s.root.count) stores);
+  second = ap (λ (m : MountTable). m.second) is ∙ second ∙ sym (ap (λ (s : Stores). second_count s.second) stores);
+  covered = λ some.
+      let P : MountTable → Type 0 = λ m. IsSome m.covered in
+      let covered : false ≡ true = subst P is some in absurd (cc);
+}
+
+-- A table fits where a directory has been covered, and there is a second disk.
+pub covered_mounts : (mounts new : MountTable) (store : Stores) (key : ℕ) → new ≡ record mounts { covered = Some key }
+    → IsSome store.second → AreMounts mounts store → AreMounts new store
+covered_mounts mounts new store key is there are = record {
+  first = ap (λ (m : MountTable). m.first) is ∙ are.first;
+  second = ap (λ (m : MountTable). m.second) is ∙ are.second;
+  covered = λ some. there;
+}
+
 -- the disk of a key, as the table tells it
 first_part : (t : Bool) (key d : ℕ) → (cond {A = ℕ × ℕ} t (0, key) (1, d)).0 ≡ cond {A = ℕ} t 0 1
 first_part true key d = refl
