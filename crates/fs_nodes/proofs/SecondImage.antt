@@ -12,7 +12,8 @@ use Rattle.fs_laws.proofs.WholeLemmas.{two, within_whole}
 use Rattle.fs_laws.proofs.ImageLemmas.{block_of_image}
 use Rattle.fs_laws.proofs.AgreeLemmas.{SameFiles, files_whole}
 
-not_longer : (bytes : List ℕ) (t : Bool) → nat_lt DISK_BYTES (length bytes) ≡ t → when t TooLong ≡ None → length bytes ≤ DISK_BYTES
+not_longer : (bytes : List ℕ) (t : Bool) → nat_lt DISK_BYTES (length bytes) ≡ t → when t TooLong ≡ None
+    → length bytes ≤ DISK_BYTES
 not_longer bytes true e h = absurd (cc)
 not_longer bytes false e h = ltb-false DISK_BYTES (length bytes) e
 
@@ -31,7 +32,8 @@ second_within bytes h =
     within_whole DISK_BLOCKS (disk_of bytes) (omega arith) (two (disk_fault DISK_BLOCKS (disk_of bytes)) [] rest).0
 
 -- the blocks that a disk keeps are the image's
-pub second_files : (bytes : List ℕ) → fault_within DISK_BLOCKS bytes ≡ None → SameFiles (disk_of bytes) (block_at (blocks_of bytes))
+pub second_files : (bytes : List ℕ) → fault_within DISK_BLOCKS bytes ≡ None
+    → SameFiles (disk_of bytes) (block_at (blocks_of bytes))
 second_files bytes h = record {
   blocks = λ k low. block_of_image bytes k (let end = (second_within bytes h).1 in omega (arith, low, end));
 }
