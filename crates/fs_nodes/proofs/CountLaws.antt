@@ -9,7 +9,8 @@ use Rattle.fs_nodes.specs.Numbers.{with_draw}
 use Rattle.fs_nodes.proofs.KeyLaws.{stands}
 use Rattle.fs_nodes.proofs.SideLemmas.{cut_count}
 
-pub counts_at : (s : Stores) (key : ℕ) (x : Store) → x.count ≡ (store_at s key).count → counts (with_store_at s key x) ≡ counts s
+pub counts_at : (s : Stores) (key : ℕ) (x : Store) → x.count ≡ (store_at s key).count
+    → counts (with_store_at s key x) ≡ counts s
 counts_at s key x same = (stands s.root s.second key x same).counts
 
 -- a file gives its blocks back
@@ -53,7 +54,8 @@ written_count s time = by s.mark where
 
 pub counts_synced : (s : Stores) (time : ℕ) → counts (synced s time) ≡ counts s
 counts_synced s time = by s.root s.second where
-  by : (root : Store) (o : Option Store) → counts (synced (record { root = root; second = o }) time) ≡ counts (record { root = root; second = o })
+  by : (root : Store) (o : Option Store)
+      → counts (synced (record { root = root; second = o }) time) ≡ counts (record { root = root; second = o })
   by root None = ap (λ (n : ℕ). record { root = n; second = None }) (written_count root time)
   by root (Some x) =
       ap (λ (n : ℕ). record { root = n; second = Some (numbers.synced x time).count }) (written_count root time)

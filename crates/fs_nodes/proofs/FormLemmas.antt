@@ -29,14 +29,17 @@ one_form root form =
       second_blocks = tt;
     }
 
-two_form : (root second : disk.FileSystem) → disk.IsFileSystem root → disk.IsFileSystem second → referenced root.references + referenced second.references ≤ 100
-    → root.store.count + second.store.count ≤ 65535 → 1 ≤ root.store.count → IsFileSystem (together (record { root = root; second = Some second }))
+two_form : (root second : disk.FileSystem) → disk.IsFileSystem root → disk.IsFileSystem second
+    → referenced root.references + referenced second.references ≤ 100
+    → root.store.count + second.store.count ≤ 65535 → 1 ≤ root.store.count
+    → IsFileSystem (together (record { root = root; second = Some second }))
 two_form root second form form' few keys some_root =
     let P : Option Node → Type 0 = IsSome in
     let low = λ (key : ℕ) (le : key ≤ root.store.count). root_side root (Some second) key form.references (not_above root.store.count key le) in
     let high = λ (key : ℕ) (lt : root.store.count < key). second_side root second key form.references lt in
     record {
-      references = joined_long root.references second.references root.store.count second.store.count form.references form'.references;
+      references =
+          joined_long root.references second.references root.store.count second.store.count form.references form'.references;
       few = (let t = total_is root (Some second) form' in omega (arith, t, few));
       count = λ key. elim (cases_lt root.store.count key) [
         | inl lt ↦ (let s = (high key lt).refs in let c = form'.count (key - root.store.count) in omega (arith, s, c))
@@ -74,7 +77,8 @@ root_there f form = elim (cases_lt 0 f.store.count) [
   | inr le ↦ absurd (no_node (codec.node_numbered f.store 1) (get_or_past f.store.nodes 1 None (let n = form.nodes in omega (arith, n, le))) form.root)
 ]
 
-pub form_is : (root : disk.FileSystem) (o : Option disk.FileSystem) (first : ℕ) → AreDisks root o first → disk.IsFileSystem root → OfSecond disk.IsFileSystem o
+pub form_is : (root : disk.FileSystem) (o : Option disk.FileSystem) (first : ℕ) → AreDisks root o first
+    → disk.IsFileSystem root → OfSecond disk.IsFileSystem o
     → IsFileSystem (together (record { root = root; second = o }))
 form_is root None first are form form' = one_form root form
 form_is root (Some second) first are form form' = two_form root second form form' are.few are.keys.1 (root_there root form)

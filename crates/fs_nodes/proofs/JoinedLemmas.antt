@@ -45,7 +45,8 @@ joined_long r s n m long long' =
 count_append : (p : ℕ → Bool) (r s : List ℕ) → count_by p (r ++ s) ≡ count_by p r + count_by p s
 count_append p r s = sum_by-append (λ x. cond (p x) 1 0) r s
 
-pub counted : (r s : List ℕ) → slice_index s 0 ≡ 0 → count_by (nat_lt 0) (joined r (Some s)) ≡ count_by (nat_lt 0) r + count_by (nat_lt 0) s
+pub counted : (r s : List ℕ) → slice_index s 0 ≡ 0
+    → count_by (nat_lt 0) (joined r (Some s)) ≡ count_by (nat_lt 0) r + count_by (nat_lt 0) s
 counted r [] none = count_append (nat_lt 0) r []
 counted r (x ∷ s) none =
     let first : cond {A = ℕ} (nat_lt 0 x) 1 0 ≡ 0 = ap (λ (y : ℕ). cond {A = ℕ} (nat_lt 0 y) 1 0) none in

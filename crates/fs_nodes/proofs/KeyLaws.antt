@@ -19,7 +19,8 @@ pub record Stands (s : Stores) (key : ℕ) (x : Store) : Type 0 where
 abbrev put : Store → Store → Store → Bool → Stores
 put root s x t = cond {A = Stores} t (record { root = root; second = Some x }) (record { root = x; second = Some s })
 
-pub stands : (root : Store) (o : Option Store) (key : ℕ) (x : Store) → x.count ≡ (store_at (record { root = root; second = o }) key).count
+pub stands : (root : Store) (o : Option Store) (key : ℕ) (x : Store)
+    → x.count ≡ (store_at (record { root = root; second = o }) key).count
     → Stands (record { root = root; second = o }) key x
 stands root None key x same = record { store = refl; number = refl; counts = ap (λ (n : ℕ). record { root = n; second = None }) same }
 stands root (Some s) key x same = by (nat_lt root.count key) refl where
@@ -34,7 +35,9 @@ stands root (Some s) key x same = by (nat_lt root.count key) refl where
   by false is =
       let count : x.count ≡ root.count = same ∙ ap (λ t. (cond {A = Store} t s root).count) is in
       record {
-        store = ap (λ t. store_at (put root s x t) key) is ∙ ap (λ n. cond {A = Store} (nat_lt n key) s x) count ∙ ap (λ t. cond {A = Store} t s x) is;
+        store =
+            ap (λ t. store_at (put root s x t) key) is ∙ ap (λ n. cond {A = Store} (nat_lt n key) s x) count
+            ∙ ap (λ t. cond {A = Store} t s x) is;
         number = ap (λ t. number_of (put root s x t) key) is ∙ ap (λ n. cond {A = ℕ} (nat_lt n key) (key - n) key) count;
         counts = ap (λ t. counts (put root s x t)) is ∙ ap (λ (n : ℕ). record { root = n; second = Some s.count }) count;
       }
@@ -57,7 +60,8 @@ put_twice root (Some s) key x y same = by (nat_lt root.count key) refl where
       ∙ sym (ap (λ t. put root s y t) is)
 
 -- a node that was set
-pub node_set : (s : Stores) (key room : ℕ) (node new : Node) → node_numbered s key ≡ Some node → node_numbered (with_node s key new room) key ≡ Some new
+pub node_set : (s : Stores) (key room : ℕ) (node new : Node) → node_numbered s key ≡ Some node
+    → node_numbered (with_node s key new room) key ≡ Some new
 unfolding node_numbered with_node
 node_set s key room node new there =
     let x : Store = numbers.with_node (store_at s key) (number_of s key) new room in
@@ -85,11 +89,14 @@ node_put s key room new =
 
 pub counts_set : (s : Stores) (key room : ℕ) (new : Node) → counts (with_node s key new room) ≡ counts s
 unfolding with_node
-counts_set s key room new = (stands s.root s.second key (numbers.with_node (store_at s key) (number_of s key) new room) refl).counts
+counts_set s key room new =
+    (stands s.root s.second key (numbers.with_node (store_at s key) (number_of s key) new room) refl).counts
 
 pub room_set : (s : Stores) (key room : ℕ) (new : Node) → room_at (with_node s key new room) key ≡ room
 unfolding with_node room_at
-room_set s key room new = ap (λ (x : Store). x.room) (stands s.root s.second key (numbers.with_node (store_at s key) (number_of s key) new room) refl).store
+room_set s key room new =
+    ap (λ (x : Store). x.room)
+    (stands s.root s.second key (numbers.with_node (store_at s key) (number_of s key) new room) refl).store
 
 -- Any other node stays.
 set_apart : (x : Store) (i j room : ℕ) (new : Node) → j ≢ i

@@ -7,7 +7,8 @@ use Rattle.fs_nodes.specs.Keys.{Stores, is_second, node_numbered}
 
 pub node_root : (s : Stores) (key : ℕ) → is_second s key ≡ false → node_numbered s key ≡ codec.node_numbered s.root key
 unfolding node_numbered
-node_root s key low = ap (λ t. codec.node_numbered (cond t (unwrap_or s.second s.root) s.root) (cond t (key - s.root.count) key)) low
+node_root s key low =
+    ap (λ t. codec.node_numbered (cond t (unwrap_or s.second s.root) s.root) (cond t (key - s.root.count) key)) low
 
 pub node_second : (s : Stores) (second : Store) (key : ℕ) → s.second ≡ Some second → s.root.count < key
     → node_numbered s key ≡ codec.node_numbered second (key - s.root.count)

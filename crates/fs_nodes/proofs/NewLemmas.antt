@@ -20,7 +20,8 @@ use Rattle.fs_nodes.proofs.SideLemmas.{with_root, with_second, root_side, second
 
 taken_back : (r : List ℕ) (o : Option (List ℕ)) (n : ℕ) → length r ≡ n + 1 → take (n + 1) (joined r o) ≡ r
 taken_back r None n long = take_all (n + 1) r (omega (arith, long))
-taken_back r (Some s) n long = take-append-le (n + 1) r (drop 1 s) (omega (arith, long)) ∙ take_all (n + 1) r (omega (arith, long))
+taken_back r (Some s) n long =
+    take-append-le (n + 1) r (drop 1 s) (omega (arith, long)) ∙ take_all (n + 1) r (omega (arith, long))
 
 -- the draw of the root's disk
 pub root_draw : (root : disk.FileSystem) (o : Option disk.FileSystem) → length root.references ≡ root.store.count + 1
@@ -50,7 +51,8 @@ root_node s o i node room low =
     ap (λ t. cond {A = Stores} t (record { root = s; second = Some (numbers.with_node (cond t (unwrap_or o s) s) (cond t (i - s.count) i) node room) })
     (record { root = numbers.with_node (cond t (unwrap_or o s) s) (cond t (i - s.count) i) node room; second = o })) low
 
-root_room : (s : Store) (o : Option Store) (i : ℕ) → (is_some o && nat_lt s.count i) ≡ false → room_at (record { root = s; second = o }) i ≡ s.room
+root_room : (s : Store) (o : Option Store) (i : ℕ) → (is_some o && nat_lt s.count i) ≡ false
+    → room_at (record { root = s; second = o }) i ≡ s.room
 unfolding room_at
 root_room s o i low = ap (λ t. (cond {A = Store} t (unwrap_or o s) s).room) low
 
@@ -85,7 +87,8 @@ module _ (root new : disk.FileSystem) (o : Option disk.FileSystem) (mode uid gid
         references = (root_side root o i form.references (low_of o root.store.count i le)).set new 1 n.references;
       }
 
-  root_err : (e : Errno) → MakesNoneOn root has_room e new → MakesNone (together (record { root = root; second = o })) 0 e (with_root o new)
+  root_err : (e : Errno) → MakesNoneOn root has_room e new
+      → MakesNone (together (record { root = root; second = o })) 0 e (with_root o new)
   root_err e m =
       let so : Option Store = (together (record { root = root; second = o })).store.second in
       let d : next_draw (together (record { root = root; second = o })) 0 ≡ disk_numbers.next_draw root = root_draw root o form.references in
@@ -96,7 +99,9 @@ module _ (root new : disk.FileSystem) (o : Option disk.FileSystem) (mode uid gid
           | inl none ↦ inl (ap (λ (x : Draw). x.number) d ∙ none.0, none.1)
           | inr full ↦ inr (subst P (sym (ap (λ (x : Draw). x.number) d)) full.0, (let t = total_is root o form' in let f = room.none full.1 in omega (arith, t, f)), full.2)
         ];
-        store = ap (λ (x : Store). record { root = x; second = so }) m.store ∙ (λ j. record { root = numbers.with_draw root.store (sym d j); second = so });
+        store =
+            ap (λ (x : Store). record { root = x; second = so }) m.store
+            ∙ (λ j. record { root = numbers.with_draw root.store (sym d j); second = so });
         references = side.same new m.references;
         blocks = side.blocks new m.blocks;
       }
@@ -119,7 +124,8 @@ drop_all zero (x ∷ l) le = absurd (omega (arith, le))
 drop_all (suc n) [] le = refl
 drop_all (suc n) (x ∷ l) le = drop_all n l (omega (arith, le))
 
-dropped_back : (r s : List ℕ) (n m : ℕ) → length r ≡ n + 1 → length s ≡ m + 1 → slice_index s 0 ≡ 0 → 0 ∷ drop (n + 1) (joined r (Some s)) ≡ s
+dropped_back : (r s : List ℕ) (n m : ℕ) → length r ≡ n + 1 → length s ≡ m + 1 → slice_index s 0 ≡ 0
+    → 0 ∷ drop (n + 1) (joined r (Some s)) ≡ s
 dropped_back r s n m long long' none =
     ap (λ (l : List ℕ). 0 ∷ l) (drop-append-le (n + 1) r (drop 1 s) (omega (arith, long)) ∙ ap (λ (l : List ℕ). l ++ drop 1 s) (drop_all (n + 1) r (omega (arith, long))))
     ∙ front_zero s m long' none
@@ -148,7 +154,8 @@ second_node root s key i node room high place =
     (record { root = numbers.with_node (cond t s root) (cond t (key - root.count) key) node room; second = Some s })) high
     ∙ ap (λ n. record { root = root; second = Some (numbers.with_node s n node room) }) place
 
-second_room : (root s : Store) (key : ℕ) → nat_lt root.count key ≡ true → room_at (record { root = root; second = Some s }) key ≡ s.room
+second_room : (root s : Store) (key : ℕ) → nat_lt root.count key ≡ true
+    → room_at (record { root = root; second = Some s }) key ≡ s.room
 unfolding room_at
 second_room root s key high = ap (λ t. (cond {A = Store} t s root).room) high
 
@@ -172,10 +179,13 @@ module _ (root second new : disk.FileSystem) (mode uid gid time : ℕ) (has_room
         store = ap (λ (x : Store). record { root = root.store; second = Some x }) n.store
             ∙ sym (second_node root.store (numbers.with_draw second.store (disk_numbers.next_draw second)) (root.store.count + i) i made second.store.room high place)
             ∙ (λ j. with_node (record { root = root.store; second = Some (numbers.with_draw second.store (sym d j)) }) (root.store.count + i) made (sym (second_room root.store second.store (root.store.count + i) high) j));
-        references = (second_side root second (root.store.count + i) form.references lt).set new 1 (n.references ∙ ap (λ k. slice_set second.references k 1) (sym place));
+        references =
+            (second_side root second (root.store.count + i) form.references lt).set new 1
+            (n.references ∙ ap (λ k. slice_set second.references k 1) (sym place));
       }
 
-  pub second_err : (e : Errno) → MakesNoneOn second has_room e new → MakesNone (together (record { root = root; second = Some second })) 1 e (with_second root new)
+  pub second_err : (e : Errno) → MakesNoneOn second has_room e new
+      → MakesNone (together (record { root = root; second = Some second })) 1 e (with_second root new)
   second_err e m =
       let d : next_draw (together (record { root = root; second = Some second })) 1 ≡ disk_numbers.next_draw second = second_draw root second form form' in
       let side = second_side root second (root.store.count + 1) form.references (omega arith) in
@@ -185,14 +195,17 @@ module _ (root second new : disk.FileSystem) (mode uid gid time : ℕ) (has_room
           | inl none ↦ inl (ap (λ (x : Draw). x.number) d ∙ none.0, none.1)
           | inr full ↦ inr (subst P (sym (ap (λ (x : Draw). x.number) d)) full.0, (let t = total_is root (Some second) form' in let f = room.none full.1 in omega (arith, t, f)), full.2)
         ];
-        store = ap (λ (x : Store). record { root = root.store; second = Some x }) m.store ∙ (λ j. record { root = root.store; second = Some (numbers.with_draw second.store (sym d j)) });
+        store =
+            ap (λ (x : Store). record { root = root.store; second = Some x }) m.store
+            ∙ (λ j. record { root = root.store; second = Some (numbers.with_draw second.store (sym d j)) });
         references = side.same new m.references;
         blocks = side.blocks new m.blocks;
       }
 
 -- the invariant, after one more or none
 pub made_kept : (own new : disk.FileSystem) (mode uid gid time : ℕ) (has_room : Bool) (others : ℕ) (r : Result ℕ Errno)
-    → disk.IsFileSystem own → (has_room ≡ true → referenced own.references + others < 100) → referenced own.references + others ≤ 100
+    → disk.IsFileSystem own → (has_room ≡ true → referenced own.references + others < 100)
+    → referenced own.references + others ≤ 100
     → MatchResult r (λ i. (has_room ≡ true) × disk_numbers.MakesNode own mode uid gid time i new) (λ e. MakesNoneOn own has_room e new)
     → (new.store.count ≡ own.store.count) × (referenced new.references + others ≤ 100)
 made_kept own new mode uid gid time has_room others (Ok i) form room most m =
@@ -211,7 +224,8 @@ room_is a b x y p q most = record {
 }
 
 -- With no second disk the device is the root's.
-pub dev_zero : (dev : ℕ) (root : disk.FileSystem) (o : Option disk.FileSystem) (fs : FileSystem) → o ≡ None → together (record { root = root; second = o }) ≡ fs
+pub dev_zero : (dev : ℕ) (root : disk.FileSystem) (o : Option disk.FileSystem) (fs : FileSystem) → o ≡ None
+    → together (record { root = root; second = o }) ≡ fs
     → (dev ≢ 0 → IsSome fs.store.second) → dev ≡ 0
 dev_zero dev root (Some s) fs none view there = absurd (cc)
 dev_zero dev root None fs none view there = elim (cases_eq dev 0) [
@@ -236,7 +250,8 @@ pub record SeenSecond (root second : disk.FileSystem) (o : Option disk.FileSyste
   pub one : dev ≡ 1
   pub view : together (record { root = root; second = Some second }) ≡ fs
 
-pub seen_second : (root second : disk.FileSystem) (o : Option disk.FileSystem) (first dev : ℕ) (fs : FileSystem) → AreDisks root o first → o ≡ Some second
+pub seen_second : (root second : disk.FileSystem) (o : Option disk.FileSystem) (first dev : ℕ) (fs : FileSystem)
+    → AreDisks root o first → o ≡ Some second
     → dev < 2 → dev ≢ 0 → together (record { root = root; second = o }) ≡ fs → SeenSecond root second o first dev fs
 seen_second root second o first dev fs are is low other view = record {
   is = is;
@@ -246,8 +261,10 @@ seen_second root second o first dev fs are is low other view = record {
 }
 
 pub second_ok_outcome : (root second new : disk.FileSystem) (o : Option disk.FileSystem) (first dev : ℕ) (fs : FileSystem) (mode uid gid time : ℕ) (has_room : Bool) (i : ℕ)
-    → SeenSecond root second o first dev fs → disk.IsFileSystem root → disk.IsFileSystem second → HasRoom has_room (referenced root.references + referenced second.references)
-    → (has_room ≡ true) × disk_numbers.MakesNode second mode uid gid time i new → MakesNode fs dev mode uid gid time (first + i) (with_second root new)
+    → SeenSecond root second o first dev fs → disk.IsFileSystem root → disk.IsFileSystem second
+    → HasRoom has_room (referenced root.references + referenced second.references)
+    → (has_room ≡ true) × disk_numbers.MakesNode second mode uid gid time i new
+    → MakesNode fs dev mode uid gid time (first + i) (with_second root new)
 second_ok_outcome root second new o first dev fs mode uid gid time has_room i seen form form' room m =
     subst (λ (f : FileSystem). MakesNode f dev mode uid gid time (first + i) (with_second root new)) seen.view
     ((λ (n k : ℕ) (n_is : 1 ≡ n) (k_is : root.store.count ≡ k).
@@ -256,7 +273,8 @@ second_ok_outcome root second new o first dev fs mode uid gid time has_room i se
     (second_ok root second new mode uid gid time has_room form form' room i m))) dev first (sym seen.one) (sym seen.first_is))
 
 pub second_err_outcome : (root second new : disk.FileSystem) (o : Option disk.FileSystem) (first dev : ℕ) (fs : FileSystem) (has_room : Bool) (e : Errno)
-    → SeenSecond root second o first dev fs → disk.IsFileSystem root → disk.IsFileSystem second → HasRoom has_room (referenced root.references + referenced second.references)
+    → SeenSecond root second o first dev fs → disk.IsFileSystem root → disk.IsFileSystem second
+    → HasRoom has_room (referenced root.references + referenced second.references)
     → MakesNoneOn second has_room e new → MakesNone fs dev e (with_second root new)
 second_err_outcome root second new o first dev fs has_room e seen form form' room m =
     subst (λ (f : FileSystem). MakesNone f dev e (with_second root new)) seen.view
@@ -264,7 +282,8 @@ second_err_outcome root second new o first dev fs has_room e seen form form' roo
     (second_err root second new 0 0 0 0 has_room form form' room e m))
 
 pub second_outcome : (root second new : disk.FileSystem) (o : Option disk.FileSystem) (first dev : ℕ) (fs : FileSystem) (mode uid gid time : ℕ) (has_room : Bool) (r : Result ℕ Errno)
-    → SeenSecond root second o first dev fs → disk.IsFileSystem root → disk.IsFileSystem second → HasRoom has_room (referenced root.references + referenced second.references)
+    → SeenSecond root second o first dev fs → disk.IsFileSystem root → disk.IsFileSystem second
+    → HasRoom has_room (referenced root.references + referenced second.references)
     → MatchResult r (λ i. (has_room ≡ true) × disk_numbers.MakesNode second mode uid gid time i new) (λ e. MakesNoneOn second has_room e new)
     → MatchResult (known_after first r) (λ i. MakesNode fs dev mode uid gid time i (with_second root new)) (λ e. MakesNone fs dev e (with_second root new))
 second_outcome root second new o first dev fs mode uid gid time has_room (Ok i) seen form form' room m =
@@ -272,8 +291,10 @@ second_outcome root second new o first dev fs mode uid gid time has_room (Ok i) 
 second_outcome root second new o first dev fs mode uid gid time has_room (Err e) seen form form' room m =
     second_err_outcome root second new o first dev fs has_room e seen form form' room m
 
-pub key_fits : (second new : disk.FileSystem) (first count mode uid gid time : ℕ) (has_room : Bool) (r : Result ℕ Errno) → first ≡ count → count + second.store.count ≤ 65535
+pub key_fits : (second new : disk.FileSystem) (first count mode uid gid time : ℕ) (has_room : Bool) (r : Result ℕ Errno)
+    → first ≡ count → count + second.store.count ≤ 65535
     → MatchResult r (λ i. (has_room ≡ true) × disk_numbers.MakesNode second mode uid gid time i new) (λ e. MakesNoneOn second has_room e new)
     → IfOk r (λ i. first + i ≤ 65535)
-key_fits second new first count mode uid gid time has_room (Ok i) is most m = let le = drawn_low second i m.1.number in omega (arith, le, is, most)
+key_fits second new first count mode uid gid time has_room (Ok i) is most m =
+    let le = drawn_low second i m.1.number in omega (arith, le, is, most)
 key_fits second new first count mode uid gid time has_room (Err e) is most m = tt

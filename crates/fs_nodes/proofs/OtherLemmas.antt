@@ -14,7 +14,9 @@ placed root y x t = cond {A = Stores} t (record { root = root; second = Some x }
 module _ (root y x : Store) (key other : ℕ) (apart : other ≢ key) where
   -- the nodes of one disk are the same but for that of the key
   abbrev Rest : Bool → Type 0
-  Rest t = (j : ℕ) → j ≢ cond {A = ℕ} t (key - root.count) key → codec.node_numbered x j ≡ codec.node_numbered (cond {A = Store} t y root) j
+  Rest t =
+      (j : ℕ) → j ≢ cond {A = ℕ} t (key - root.count) key → codec.node_numbered x j ≡ codec.node_numbered
+      (cond {A = Store} t y root) j
 
   in_second : nat_lt root.count key ≡ true → Rest true → (b : Bool) → nat_lt root.count other ≡ b
       → codec.node_numbered (cond {A = Store} b x root) (cond {A = ℕ} b (other - root.count) other)
@@ -39,7 +41,8 @@ module _ (root y x : Store) (key other : ℕ) (apart : other ≢ key) where
       ap (λ n. codec.node_numbered (cond {A = Store} (nat_lt n other) y x) (cond {A = ℕ} (nat_lt n other) (other - n) other)) same
       ∙ in_root rest (nat_lt root.count other)
 
-one_disk : (root x : Store) (key other : ℕ) → other ≢ key → ((j : ℕ) → j ≢ key → codec.node_numbered x j ≡ codec.node_numbered root j)
+one_disk : (root x : Store) (key other : ℕ) → other ≢ key
+    → ((j : ℕ) → j ≢ key → codec.node_numbered x j ≡ codec.node_numbered root j)
     → node_numbered (with_store_at (record { root = root; second = None }) key x) other ≡ node_numbered (record { root = root; second = None }) other
 unfolding node_numbered
 one_disk root x key other apart rest = rest other apart

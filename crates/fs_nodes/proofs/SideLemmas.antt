@@ -42,7 +42,8 @@ pub record Side (whole : FileSystem) (key : ℕ) (own : disk.FileSystem) (number
   pub stores : (new : disk.FileSystem) → (with_own new).store ≡ with_store_at whole.store key new.store
   pub blocks : (new : disk.FileSystem) → new.blocks ≡ own.blocks → (with_own new).blocks ≡ whole.blocks
   pub rest : (new : disk.FileSystem) → SameAround own.blocks new.blocks → SameAroundEach whole.blocks (with_own new).blocks
-  pub late : (new : disk.FileSystem) → WritesLate own.stored own.blocks new.stored → WritesLateEach whole.stored whole.blocks (with_own new).stored
+  pub late : (new : disk.FileSystem) → WritesLate own.stored own.blocks new.stored
+      → WritesLateEach whole.stored whole.blocks (with_own new).stored
 
 rest_refl : (blocks : List (List ℕ)) → SameAround blocks blocks
 rest_refl blocks = record { boot = refl; i_size = refl; f_size = refl; behind = λ n low. refl }
@@ -52,15 +53,18 @@ between_refl None = tt
 between_refl (Some x) = rest_refl x
 
 -- Nothing is written.
-pub nothing_late : (root : disk.FileSystem) (o : Option disk.FileSystem) (fs : FileSystem) → together (record { root = root; second = o }) ≡ fs
+pub nothing_late : (root : disk.FileSystem) (o : Option disk.FileSystem) (fs : FileSystem)
+    → together (record { root = root; second = o }) ≡ fs
     → WritesLateEach fs.stored fs.blocks fs.stored
 nothing_late root o fs view = subst (λ (f : FileSystem). WritesLateEach f.stored f.blocks f.stored) view (by o) where
-  by : (x : Option disk.FileSystem) → WritesLateEach (together (record { root = root; second = x })).stored (together (record { root = root; second = x })).blocks (together (record { root = root; second = x })).stored
+  by : (x : Option disk.FileSystem)
+      → WritesLateEach (together (record { root = root; second = x })).stored (together (record { root = root; second = x })).blocks (together (record { root = root; second = x })).stored
   by None = record { root = late_stays root.stored root.blocks; second = refl }
   by (Some s) = record { root = late_stays root.stored root.blocks; second = late_stays s.stored s.blocks }
 
 -- the root's disk
-pub root_side : (root : disk.FileSystem) (second : Option disk.FileSystem) (key : ℕ) → length root.references ≡ root.store.count + 1
+pub root_side : (root : disk.FileSystem) (second : Option disk.FileSystem) (key : ℕ)
+    → length root.references ≡ root.store.count + 1
     → (is_some second && nat_lt root.store.count key) ≡ false
     → Side (together (record { root = root; second = second })) key root key (with_root second)
 root_side root None key long low = record {
@@ -78,7 +82,9 @@ root_side root (Some second) key long low = record {
   refs = at_root root.references (Some second.references) root.store.count key long low;
   store = ap (λ t. cond t second.store root.store) low;
   place = ap (λ t. cond t (key - root.store.count) key) low;
-  set = λ new x is. ap (λ (l : List ℕ). joined l (Some second.references)) is ∙ sym (set_root root.references (Some second.references) root.store.count key x long low);
+  set =
+      λ new x is. ap (λ (l : List ℕ). joined l (Some second.references)) is
+      ∙ sym (set_root root.references (Some second.references) root.store.count key x long low);
   same = λ new is. ap (λ (l : List ℕ). joined l (Some second.references)) is;
   stores = λ new. sym (ap (λ t. cond t (record { root = root.store; second = Some new.store }) (record { root = new.store; second = Some second.store })) low);
   blocks = λ new is. ap (λ (b : List (List ℕ)). record { root = b; second = Some second.blocks }) is;
@@ -87,7 +93,8 @@ root_side root (Some second) key long low = record {
 }
 
 -- the second one
-pub second_side : (root second : disk.FileSystem) (key : ℕ) → length root.references ≡ root.store.count + 1 → root.store.count < key
+pub second_side : (root second : disk.FileSystem) (key : ℕ) → length root.references ≡ root.store.count + 1
+    → root.store.count < key
     → Side (together (record { root = root; second = Some second })) key second (key - root.store.count)
     (with_second root)
 second_side root second key long high =
@@ -96,7 +103,9 @@ second_side root second key long high =
       refs = at_second root.references second.references root.store.count key long high;
       store = ap (λ t. cond t second.store root.store) there;
       place = ap (λ t. cond t (key - root.store.count) key) there;
-      set = λ new x is. ap (λ (l : List ℕ). joined root.references (Some l)) is ∙ sym (set_second root.references second.references root.store.count key x long high);
+      set =
+          λ new x is. ap (λ (l : List ℕ). joined root.references (Some l)) is
+          ∙ sym (set_second root.references second.references root.store.count key x long high);
       same = λ new is. ap (λ (l : List ℕ). joined root.references (Some l)) is;
       stores = λ new. sym (ap (λ t. cond t (record { root = root.store; second = Some new.store }) (record { root = new.store; second = Some second.store })) there);
       blocks = λ new is. ap (λ (b : List (List ℕ)). record { root = root.blocks; second = Some b }) is;
@@ -104,7 +113,8 @@ second_side root second key long high =
       late = λ new l. record { root = late_stays root.stored root.blocks; second = l };
     }
 
-low_is : (root : disk.FileSystem) (o : Option disk.FileSystem) (first key : ℕ) → AreDisks root o first → (o ≡ None) ⊎ (key ≤ first)
+low_is : (root : disk.FileSystem) (o : Option disk.FileSystem) (first key : ℕ) → AreDisks root o first
+    → (o ≡ None) ⊎ (key ≤ first)
     → (is_some o && nat_lt root.store.count key) ≡ false
 low_is root None first key are low = refl
 low_is root (Some s) first key are (inl none) = absurd (cc)
@@ -118,7 +128,8 @@ root_here root o first key fs are form low view =
     let P : FileSystem → Type 0 = λ f. Side f key root key (with_root o) in
     subst P view (root_side root o key form.references (low_is root o first key are low))
 
-pub second_here : (root second : disk.FileSystem) (o : Option disk.FileSystem) (first key : ℕ) (fs : FileSystem) → AreDisks root o first
+pub second_here : (root second : disk.FileSystem) (o : Option disk.FileSystem) (first key : ℕ) (fs : FileSystem)
+    → AreDisks root o first
     → disk.IsFileSystem root → o ≡ Some second → first < key → together (record { root = root; second = o }) ≡ fs
     → Side fs key second (key - first) (with_second root)
 second_here root second o first key fs are form is high view =
@@ -138,8 +149,10 @@ root_kept root new (Some s) first are count few = record {
   keys = ((let k = are.keys.0 in omega (arith, k, count)), (let k = are.keys.1 in omega (arith, k, count)));
 }
 
-pub second_kept : (root second new : disk.FileSystem) (o : Option disk.FileSystem) (first : ℕ) → AreDisks root o first → o ≡ Some second
-    → new.store.count ≡ second.store.count → referenced new.references ≤ referenced second.references → AreDisks root (Some new) first
+pub second_kept : (root second new : disk.FileSystem) (o : Option disk.FileSystem) (first : ℕ) → AreDisks root o first
+    → o ≡ Some second
+    → new.store.count ≡ second.store.count → referenced new.references ≤ referenced second.references
+    → AreDisks root (Some new) first
 second_kept root second new o first are is count few =
     let Are : Option disk.FileSystem → Type 0 = λ x. AreDisks root x first in
     let are' = subst Are is are in
@@ -149,7 +162,8 @@ second_kept root second new o first are is count few =
     }
 
 -- a store put where it stands changes nothing
-stays : (root : Store) (o : Option Store) (t : Bool) → cond {A = Stores} (is_some o && t) (record { root = root; second = Some (unwrap_or o root) }) (record { root = root; second = o })
+stays : (root : Store) (o : Option Store) (t : Bool)
+    → cond {A = Stores} (is_some o && t) (record { root = root; second = Some (unwrap_or o root) }) (record { root = root; second = o })
     ≡ record { root = root; second = o }
 stays root None t = refl
 stays root (Some x) true = refl
@@ -185,13 +199,15 @@ module _ {whole : FileSystem} {key : ℕ} {own : disk.FileSystem} {number : ℕ}
       changes new (λ store i. cond (slice_index own.references number == 1) (numbers.without_reference store i node) store) (does node (sym node_is ∙ found))
       ∙ by (slice_index own.references number == 1)
       ∙ ap (λ n. cond (n == 1) (with_store_at whole.store key (numbers.without_reference (store_at whole.store key) (number_of whole.store key) node)) whole.store) (sym side.refs) where
-        by : (t : Bool) → with_store_at whole.store key (cond t (numbers.without_reference (store_at whole.store key) (number_of whole.store key) node) (store_at whole.store key))
+        by : (t : Bool)
+            → with_store_at whole.store key (cond t (numbers.without_reference (store_at whole.store key) (number_of whole.store key) node) (store_at whole.store key))
             ≡ cond t (with_store_at whole.store key (numbers.without_reference (store_at whole.store key) (number_of whole.store key) node)) whole.store
         by true = refl
         by false = nothing_changes
 
   -- a reference comes
-  pub more : (new : disk.FileSystem) (x : ℕ) → disk.SameFiles (record own { references = slice_set own.references number x }) new
+  pub more : (new : disk.FileSystem) (x : ℕ)
+      → disk.SameFiles (record own { references = slice_set own.references number x }) new
       → SameFiles (record whole { references = slice_set whole.references key x }) (with_own new)
   more new x same = record {
     store = changes new (λ store i. store) same.store ∙ nothing_changes;
@@ -210,13 +226,16 @@ module _ {whole : FileSystem} {key : ℕ} {own : disk.FileSystem} {number : ℕ}
   -- a file moves
   pub moved : {Memory : Type 0} (new : disk.FileSystem) (run : Node → ℕ → Moving Memory) (bytes : Memory) (done : ℕ) (error : Option Errno)
       → ((node : Node) → codec.node_numbered own.store number ≡ Some node → one_moves.Moves own.store number new.store (run node own.store.room) bytes done error)
-      → (node : Node) → node_numbered whole.store key ≡ Some node → Moves whole.store key (with_own new).store (run node (room_at whole.store key)) bytes done error
+      → (node : Node) → node_numbered whole.store key ≡ Some node
+      → Moves whole.store key (with_own new).store (run node (room_at whole.store key)) bytes done error
   unfolding with_node room_at
   moved new run bytes done error does node found =
       let m = does node (sym node_is ∙ found) in
       let room : own.store.room ≡ (store_at whole.store key).room = ap (λ (s : Store). s.room) (sym side.store) in
       record {
-        store = changes new (λ store i. numbers.with_node store i (run node own.store.room).node (run node own.store.room).room) m.store
+        store =
+            changes new (λ store i. numbers.with_node store i (run node own.store.room).node (run node own.store.room).room)
+            m.store
             ∙ (λ j. with_store_at whole.store key (numbers.with_node (store_at whole.store key) (number_of whole.store key) (run node (room j)).node (run node (room j)).room));
         memory = m.memory ∙ (λ j. (run node (room j)).memory);
         done = m.done ∙ (λ j. (run node (room j)).done);
@@ -247,11 +266,13 @@ one_most x = by (nat_lt 0 x) where
   by true = omega arith
   by false = omega arith
 
-set_counts : (l : List ℕ) (i x : ℕ) → i < length l → count_by (nat_lt 0) (slice_set l i x) + one_of (slice_index l i) ≡ count_by (nat_lt 0) l + one_of x
+set_counts : (l : List ℕ) (i x : ℕ) → i < length l
+    → count_by (nat_lt 0) (slice_set l i x) + one_of (slice_index l i) ≡ count_by (nat_lt 0) l + one_of x
 set_counts l i x low = sum_by-set (λ y. cond (nat_lt 0 y) 1 0) l i x 0 low
 
 -- no more inodes are referred to where one is less often
-pub fewer : (own new : disk.FileSystem) (number x : ℕ) → 0 < slice_index own.references number → x ≤ slice_index own.references number
+pub fewer : (own new : disk.FileSystem) (number x : ℕ) → 0 < slice_index own.references number
+    → x ≤ slice_index own.references number
     → new.references ≡ slice_set own.references number x → referenced new.references ≤ referenced own.references
 fewer own new number x some le is =
     let s = set_counts own.references number x (low_place own.references number some) in
@@ -269,7 +290,8 @@ one_more own new number x low is =
     omega (arith, s, o, e)
 
 pub as_many : (own new : disk.FileSystem) (number : ℕ) → 0 < slice_index own.references number
-    → new.references ≡ slice_set own.references number (slice_index own.references number + 1) → referenced new.references ≤ referenced own.references
+    → new.references ≡ slice_set own.references number (slice_index own.references number + 1)
+    → referenced new.references ≤ referenced own.references
 as_many own new number some is =
     let s = set_counts own.references number (slice_index own.references number + 1) (low_place own.references number some) in
     let a = one_less 1 (slice_index own.references number) (omega (arith, some)) in
@@ -290,7 +312,9 @@ put_count own new number there does = by (codec.node_numbered own.store number) 
 
   by : (o : Option Node) → codec.node_numbered own.store number ≡ o → IsSome o → new.store.count ≡ own.store.count
   by None e some = absurd (cc)
-  by (Some node) e some = ap (λ (x : Store). x.count) (does node e) ∙ same own.store node (slice_index own.references number == 1) ((node.nlink == 0) && not (number == 1))
+  by (Some node) e some =
+      ap (λ (x : Store). x.count) (does node e)
+      ∙ same own.store node (slice_index own.references number == 1) ((node.nlink == 0) && not (number == 1))
 
 -- What a put leaves of a disk: no other count, and no more inodes that are referred to.
 pub record Lessens (own new : disk.FileSystem) : Type 0 where
@@ -322,8 +346,10 @@ pub total_is : (root : disk.FileSystem) (o : Option disk.FileSystem) → OfSecon
 total_is root None form = omega arith
 total_is root (Some s) form = counted root.references s.references (none_to_0 s form)
 
-pub total_second : (root second : disk.FileSystem) (o : Option disk.FileSystem) (fs : FileSystem) → OfSecond disk.IsFileSystem o → o ≡ Some second
-    → together (record { root = root; second = o }) ≡ fs → referenced fs.references ≡ referenced root.references + referenced second.references
+pub total_second : (root second : disk.FileSystem) (o : Option disk.FileSystem) (fs : FileSystem)
+    → OfSecond disk.IsFileSystem o → o ≡ Some second
+    → together (record { root = root; second = o }) ≡ fs
+    → referenced fs.references ≡ referenced root.references + referenced second.references
 total_second root second o fs form is view =
     ap (λ (f : FileSystem). referenced f.references) (sym view) ∙ total_is root o form ∙ ap (λ (x : Option disk.FileSystem). referenced root.references + held_on_second x) is
 
@@ -336,8 +362,10 @@ root_changed root new (Some s) first are count few = record {
   keys = ((let k = are.keys.0 in omega (arith, k, count)), (let k = are.keys.1 in omega (arith, k, count)));
 }
 
-pub second_changed : (root second new : disk.FileSystem) (o : Option disk.FileSystem) (first : ℕ) → AreDisks root o first → o ≡ Some second
-    → new.store.count ≡ second.store.count → referenced root.references + referenced new.references ≤ 100 → AreDisks root (Some new) first
+pub second_changed : (root second new : disk.FileSystem) (o : Option disk.FileSystem) (first : ℕ) → AreDisks root o first
+    → o ≡ Some second
+    → new.store.count ≡ second.store.count → referenced root.references + referenced new.references ≤ 100
+    → AreDisks root (Some new) first
 second_changed root second new o first are is count few =
     let Are : Option disk.FileSystem → Type 0 = λ x. AreDisks root x first in
     let are' = subst Are is are in
@@ -347,7 +375,8 @@ no_node : (o : Option Node) → o ≡ None → IsSome o → ⊥
 no_node None is some = cc
 no_node (Some x) is some = cc
 
-pub low_used : (f : disk.FileSystem) (number : ℕ) → disk.IsFileSystem f → IsSome (codec.node_numbered f.store number) → number < length f.references
+pub low_used : (f : disk.FileSystem) (number : ℕ) → disk.IsFileSystem f → IsSome (codec.node_numbered f.store number)
+    → number < length f.references
 low_used f number form there = elim (cases_lt number (length f.references)) [
   | inl low ↦ low
   | inr past ↦
@@ -356,17 +385,22 @@ low_used f number form there = elim (cases_lt number (length f.references)) [
 ]
 
 -- one more is referred to, where there is room or it is referred to already
-pub taken : (own new : disk.FileSystem) (number others : ℕ) → disk.IsFileSystem own → IsSome (codec.node_numbered own.store number)
-    → (0 < slice_index own.references number) ⊎ (referenced own.references + others < 100) → referenced own.references + others ≤ 100
-    → new.references ≡ slice_set own.references number (slice_index own.references number + 1) → referenced new.references + others ≤ 100
+pub taken : (own new : disk.FileSystem) (number others : ℕ) → disk.IsFileSystem own
+    → IsSome (codec.node_numbered own.store number)
+    → (0 < slice_index own.references number) ⊎ (referenced own.references + others < 100)
+    → referenced own.references + others ≤ 100
+    → new.references ≡ slice_set own.references number (slice_index own.references number + 1)
+    → referenced new.references + others ≤ 100
 taken own new number others form there (inl some) most is = let m = as_many own new number some is in omega (arith, m, most)
 taken own new number others form there (inr room) most is =
     let low : number < length own.references = low_used own number form there in
     let m = one_more own new number (slice_index own.references number + 1) low is in omega (arith, m, room)
 
 -- what a refusal leaves too
-pub taken_or_not : (own new : disk.FileSystem) (number others : ℕ) (r : Result (Unit {0}) Errno) → disk.IsFileSystem own → IsSome (codec.node_numbered own.store number)
-    → (0 < slice_index own.references number) ⊎ (referenced own.references + others < 100) → referenced own.references + others ≤ 100
+pub taken_or_not : (own new : disk.FileSystem) (number others : ℕ) (r : Result (Unit {0}) Errno) → disk.IsFileSystem own
+    → IsSome (codec.node_numbered own.store number)
+    → (0 < slice_index own.references number) ⊎ (referenced own.references + others < 100)
+    → referenced own.references + others ≤ 100
     → MatchResult r (λ u. ((0 < slice_index own.references number) ⊎ (referenced own.references < 100)) × disk.SameFiles (record own { references = slice_set own.references number (slice_index own.references number + 1) }) new)
     (λ e. (e ≡ ENFILE) × (slice_index own.references number ≡ 0) × (referenced own.references ≡ 100) × (new ≡ own))
     → (new.store.count ≡ own.store.count) × (referenced new.references + others ≤ 100)
@@ -383,7 +417,8 @@ module _ {whole : FileSystem} {key : ℕ} {own : disk.FileSystem} {number : ℕ}
   room_of others total (inl some) = inl (let r = side.refs in omega (arith, r, some))
   room_of others total (inr few) = inr (omega (arith, total, few))
 
-  pub takes : (new : disk.FileSystem) (r : Result (Unit {0}) Errno) → (0 < slice_index whole.references key) ⊎ (referenced whole.references < 100)
+  pub takes : (new : disk.FileSystem) (r : Result (Unit {0}) Errno)
+      → (0 < slice_index whole.references key) ⊎ (referenced whole.references < 100)
       → referenced own.references ≤ referenced whole.references
       → MatchResult r (λ u. ((0 < slice_index own.references number) ⊎ (referenced own.references < 100)) × disk.SameFiles (record own { references = slice_set own.references number (slice_index own.references number + 1) }) new)
       (λ e. (e ≡ ENFILE) × (slice_index own.references number ≡ 0) × (referenced own.references ≡ 100) × (new ≡ own))
@@ -417,13 +452,15 @@ module _ {whole : FileSystem} {key : ℕ} {own : disk.FileSystem} {number : ℕ}
 
 pub cut_count : (s : Store) (number : ℕ) (node : Node) (time : ℕ) → (numbers.with_truncated s number node time).count ≡ s.count
 cut_count s number node time = by (is_device node.mode) where
-  by : (t : Bool) → (cond t s (numbers.with_node s number (record (truncated node) { modtime = time }) (s.room + names_held node))).count ≡ s.count
+  by : (t : Bool)
+      → (cond t s (numbers.with_node s number (record (truncated node) { modtime = time }) (s.room + names_held node))).count ≡ s.count
   by true = refl
   by false = refl
 
 -- A disk keeps its count and what is referred to where a node of it changes.
 pub node_lessens : (own new : disk.FileSystem) (number : ℕ) → disk.IsFileSystem own → 0 < slice_index own.references number
-    → new.references ≡ own.references → ((node : Node) → codec.node_numbered own.store number ≡ Some node → new.store.count ≡ own.store.count) → Lessens own new
+    → new.references ≡ own.references
+    → ((node : Node) → codec.node_numbered own.store number ≡ Some node → new.store.count ≡ own.store.count) → Lessens own new
 node_lessens own new number form some refs does = record {
   count = by (codec.node_numbered own.store number) refl (form.used number some);
   few = (let e : referenced new.references ≡ referenced own.references = ap referenced refs in omega (arith, e));

@@ -1,6 +1,6 @@
 -- Inodes of two disks by one number each, their keys. Keys of the root's inodes are their numbers; the second disk's come after
 -- all of those. With one disk, each of these words is the one of that name for a store.
-use Rattle.std.specs.Prelude.{ℕ, Bool, ◌+◌, ◌-◌, ◌==◌, ◌&&◌, nat_lt, if◌then◌else◌, List, ◌∷◌, ◌++◌, drop, take, Option, Some, None, is_some, unwrap_or}
+use Rattle.std.specs.Prelude.{◌≡◌, ℕ, Bool, ◌+◌, ◌-◌, ◌==◌, ◌&&◌, nat_lt, if◌then◌else◌, List, ◌∷◌, ◌++◌, drop, take, Option, Some, None, is_some, unwrap_or}
 use Rattle.fs_codec.specs.Store.{Node, Store}
 use Rattle.fs_codec.specs.Store as codec
 use Rattle.fs_laws.specs.Numbers as numbers
@@ -85,6 +85,11 @@ without_reference s key node = with_store_at s key (numbers.without_reference (s
 -- Each super-block is written with a time, where it has changed.
 abbrev pub synced : Stores → ℕ → Stores
 synced s time = each (λ store. numbers.synced store time) s
+
+-- A change at a key leaves the other disk's store alone.
+pub record OnItsDisk (old new : Stores) (key : ℕ) : Type 0 where
+  pub second : device_of old key ≡ 0 → new.second ≡ old.second
+  pub root : device_of old key ≡ 1 → new.root ≡ old.root
 
 -- how often the inodes of a disk are referred to, by their numbers
 abbrev pub references_on : Stores → List ℕ → ℕ → List ℕ

@@ -235,9 +235,7 @@ impl Nodes {
         ensures stored { result.stored ≡ record { root = v.stored; second = None } }
     {
         let root = DiskNodes::new(v);
-        let nodes = root.held();
-        see(&root, &None);
-        let _ = nodes;
+        root.see();
         Nodes {
             root,
             second: None,

@@ -15,7 +15,8 @@ crosses_of store mounts are root key some = by mounts.covered are.covered where
   at true there = let P : ℕ → Type 0 = λ n. IsSome (node_numbered store (n + 1)) in subst P (sym are.first) (root (there refl))
   at false there = some
 
-  by : (o : Option ℕ) → (IsSome o → IsSome store.second) → IsSome (node_numbered store (cond (is_the o key) (mounts.first + 1) key))
+  by : (o : Option ℕ) → (IsSome o → IsSome store.second)
+      → IsSome (node_numbered store (cond (is_the o key) (mounts.first + 1) key))
   by None there = some
   by (Some covered) there = at (covered == key) (λ is. there refl)
 
@@ -28,7 +29,8 @@ count_is : (root : Store) (o : Option Store) → second_count o ≡ or_none (cou
 count_is root None = refl
 count_is root (Some s) = refl
 
-there_is : (root : Store) (o : Option Store) (c : Disks ℕ) → counts (record { root = root; second = o }) ≡ c → IsSome c.second → IsSome o
+there_is : (root : Store) (o : Option Store) (c : Disks ℕ) → counts (record { root = root; second = o }) ≡ c → IsSome c.second
+    → IsSome o
 there_is root None c same some =
     let P : Disks ℕ → Type 0 = λ d. IsSome d.second in let none : false ≡ true = subst P (sym same) some in absurd (cc)
 there_is root (Some s) c same some = refl
@@ -37,11 +39,46 @@ is_there : (root : Store) (o : Option Store) → IsSome o → IsSome (counts (re
 is_there root None some = some
 is_there root (Some s) some = refl
 
-pub mounts_stay : (mounts : MountTable) (old new : Stores) → counts new ≡ counts old → AreMounts mounts old → AreMounts mounts new
+pub mounts_stay : (mounts : MountTable) (old new : Stores) → counts new ≡ counts old → AreMounts mounts old
+    → AreMounts mounts new
 mounts_stay mounts old new same are = record {
   first = are.first ∙ ap (λ (c : Disks ℕ). c.root) (sym same);
-  second = are.second ∙ count_is old.root old.second ∙ ap (λ (c : Disks ℕ). or_none c.second) (sym same) ∙ sym (count_is new.root new.second);
+  second =
+      are.second ∙ count_is old.root old.second ∙ ap (λ (c : Disks ℕ). or_none c.second) (sym same)
+      ∙ sym (count_is new.root new.second);
   covered = λ is. there_is new.root new.second (counts old) same (is_there old.root old.second (are.covered is));
+}
+
+-- The table of one disk fits it.
+pub new_mounts : (mounts : MountTable) (store : Stores)
+    → mounts ≡ record { first = store.root.count; second = 0; covered = None } → store.second ≡ None → AreMounts mounts store
+new_mounts mounts store is none = record {
+  first = ap (λ (m : MountTable). m.first) is;
+  second = ap (λ (m : MountTable). m.second) is ∙ sym (ap second_count none);
+  covered = λ some.
+      let P : MountTable → Type 0 = λ m. IsSome m.covered in
+      let covered : false ≡ true = subst P is some in absurd (cc);
+}
+
+-- One with the numbers of two disks fits them.
+pub two_mounts : (mounts : MountTable) (store : Stores) (a b : Store) (n k : ℕ)
+    → mounts ≡ record { first = n; second = k; covered = None } → store ≡ record { root = a; second = Some b }
+    → n ≡ a.count → k ≡ b.count → AreMounts mounts store
+two_mounts mounts store a b n k is stores first second = record {
+  first = ap (λ (m : MountTable). m.first) is ∙ first ∙ sym (ap (λ (s : Stores). s.root.count) stores);
+  second = ap (λ (m : MountTable). m.second) is ∙ second ∙ sym (ap (λ (s : Stores). second_count s.second) stores);
+  covered = λ some.
+      let P : MountTable → Type 0 = λ m. IsSome m.covered in
+      let covered : false ≡ true = subst P is some in absurd (cc);
+}
+
+-- A table fits where a directory has been covered, and there is a second disk.
+pub covered_mounts : (mounts new : MountTable) (store : Stores) (key : ℕ) → new ≡ record mounts { covered = Some key }
+    → IsSome store.second → AreMounts mounts store → AreMounts new store
+covered_mounts mounts new store key is there are = record {
+  first = ap (λ (m : MountTable). m.first) is ∙ are.first;
+  second = ap (λ (m : MountTable). m.second) is ∙ are.second;
+  covered = λ some. there;
 }
 
 -- the disk of a key, as the table tells it

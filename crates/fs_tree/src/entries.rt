@@ -4,7 +4,7 @@ ghost use Rattle.fs_codec.specs.Bytes.{entry_bytes};
 ghost use Rattle.fs_codec.specs.Modes.{is_directory};
 ghost use Rattle.mount_tab.specs.Mounted.{split_of};
 ghost use Rattle.fs_codec.specs.Store.{Node};
-ghost use Rattle.fs_nodes.specs.Keys.{node_numbered};
+ghost use Rattle.fs_nodes.specs.Keys.{OnItsDisk, node_numbered};
 ghost use Rattle.fs_nodes.specs.FileSystem.{SameRest};
 ghost use Rattle.fs_tree.specs.Entries.{written, answer_to, WritesEntry};
 
@@ -41,7 +41,7 @@ fn answer(moved: Moved) -> Result<(), Errno>
 }
 
 /// Both calls are for a directory that is referred to, and for a byte of it where an entry begins. They write as `write_kernel`
-/// of `Nodes` does, which sets both times.
+/// of `Nodes` does, which sets both times, and on the directory's disk alone.
 impl Tree {
     /// Enters an inode of a directory's own disk under a name, from byte `offset` of the directory on. The entry has its
     /// number there.
@@ -68,11 +68,13 @@ impl Tree {
             (written self.old.nodes.store dir node offset
             (entry_bytes (record { ino = (split_of self.old.mounts ino).1; name = name })) time)
             self.new.nodes.store result }
+        ensures other { OnItsDisk self.old.nodes.store self.new.nodes.store dir }
         ensures references { self.new.nodes.references ≡ self.old.nodes.references }
         ensures marks { self.new.marks ≡ self.old.marks }
         ensures mounts { self.new.mounts ≡ self.old.mounts }
         ensures rest { SameRest self.old.nodes self.new.nodes }
     {
+        self.nodes.see();
         let bytes = spelled(self.mounts.split(ino).1, name);
         answer(self.nodes.write_kernel(dir, offset, &bytes, time))
     }
@@ -93,11 +95,13 @@ impl Tree {
             → WritesEntry self.old.nodes.store dir
             (written self.old.nodes.store dir node offset (0 ∷ 0 ∷ []) time)
             self.new.nodes.store result }
+        ensures other { OnItsDisk self.old.nodes.store self.new.nodes.store dir }
         ensures references { self.new.nodes.references ≡ self.old.nodes.references }
         ensures marks { self.new.marks ≡ self.old.marks }
         ensures mounts { self.new.mounts ≡ self.old.mounts }
         ensures rest { SameRest self.old.nodes self.new.nodes }
     {
+        self.nodes.see();
         let bytes = [0; 2];
         answer(self.nodes.write_kernel(dir, offset, &bytes, time))
     }

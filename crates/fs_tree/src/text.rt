@@ -15,6 +15,7 @@ impl Tree {
         requires few { (i : ℕ) → slice_index self.old.nodes.references i ≤ 65530 }
         requires unmarked { is_marked self.old.marks ino ≡ false }
         ensures marks { self.new.marks ≡ with_mark self.old.marks ino }
+        ensures mounts { self.new.mounts ≡ self.old.mounts }
         ensures inodes { inodes_of self.new.nodes ≡ with_reference (inodes_of self.old.nodes) ino }
         ensures blocks { self.new.nodes.blocks ≡ self.old.nodes.blocks }
     {
@@ -28,6 +29,7 @@ impl Tree {
         requires marked { is_marked self.old.marks ino ≡ true }
         requires referenced { 0 < slice_index self.old.nodes.references ino }
         ensures marks { self.new.marks ≡ without_mark self.old.marks ino }
+        ensures mounts { self.new.mounts ≡ self.old.mounts }
         ensures inodes { inodes_of self.new.nodes ≡ put_back (inodes_of self.old.nodes) ino }
         ensures rest { SameRest self.old.nodes self.new.nodes }
     {

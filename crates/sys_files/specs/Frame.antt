@@ -1,7 +1,7 @@
 -- A call leaves the store of a disk alone, where all that it has to do with is on the other one.
 use Rattle.std.specs.Prelude.{◌≡◌, ◌<◌, ℕ, List, Some}
 use Rattle.std.specs.List.{All}
-use Rattle.fs_nodes.specs.Keys.{Stores, device_of}
+use Rattle.fs_nodes.specs.Keys.{device_of}
 use Rattle.open_files.specs.declared.file.OpenFile.{OpenFile}
 use Rattle.open_files.specs.Files.{file_at, times}
 use Rattle.sys_files.specs.Handed.{Handed}
@@ -18,8 +18,3 @@ pub record KeepsTo (h : Handed) (dev : ℕ) (keys : List ℕ) : Type 0 where
 pub record LeavesOther (h : Handed) (did : Did) : Type 0 where
   pub second : KeepsTo h 0 did.named → did.state.inodes.store.second ≡ h.inodes.store.second
   pub root : KeepsTo h 1 did.named → did.state.inodes.store.root ≡ h.inodes.store.root
-
--- A change at a key leaves the other disk's store alone.
-pub record OnItsDisk (old new : Stores) (key : ℕ) : Type 0 where
-  pub second : device_of old key ≡ 0 → new.second ≡ old.second
-  pub root : device_of old key ≡ 1 → new.root ≡ old.root

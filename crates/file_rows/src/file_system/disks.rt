@@ -1,6 +1,6 @@
 //! Faults and counts of small disks: docs/manual/disk-image.md, which is file system(V), and the order of its faults.
 use crate::file_system::fixtures::{Word, put_words};
-use fs_check::{ImageFault, accept, tally};
+use fs_check::{ImageFault, accept, accept_second, tally};
 
 /// Eight blocks: inode 1 is a directory that holds block 6, and blocks 4 and 5 are free. `isize` is at 512, `fsize` at
 /// 514, `nfree` at 516 and its numbers from 518 on, `ninode` at 718. Inode 1 is at 1024 and inode 2 at 1056, with the
@@ -160,10 +160,32 @@ static DISKS: [(&[Word], Result<(u16, u16), ImageFault>); 63] = [
     ),
 ];
 
-fn gives(words: &[Word], found: Result<(u16, u16), ImageFault>) -> bool {
+/// The same of a second disk, which has no swap area: what comes of the words, or nothing.
+static SECOND_DISKS: [(&[Word], Option<ImageFault>); 8] = [
+    (&[], None),
+    (&[(514, 4000)], None),
+    (&[(514, 4001)], None),
+    (&[(514, 4872)], None),
+    (&[(514, 4873)], Some(ImageFault::NoSwap(4873))),
+    (&[(514, 4873), (516, 101)], Some(ImageFault::BadSuper)),
+    // A free block, and one of a file, where the root's disk has its swap area.
+    (&[(514, 4872), (522, 4871), (1032, 4000)], None),
+    (
+        &[(514, 4872), (522, 4872)],
+        Some(ImageFault::FreeOutside(4872)),
+    ),
+];
+
+/// The small disk with these words.
+fn small_disk(words: &[Word]) -> [u8; 4096] {
     let mut disk = [0; 4096];
     put_words(&mut disk, &SMALL_DISK);
     put_words(&mut disk, words);
+    disk
+}
+
+fn gives(words: &[Word], found: Result<(u16, u16), ImageFault>) -> bool {
+    let disk = small_disk(words);
     if let Err(fault) = accept(&disk) {
         return found == Err(fault);
     }
@@ -175,5 +197,19 @@ fn gives(words: &[Word], found: Result<(u16, u16), ImageFault>) -> bool {
 fn small_disks_have_their_first_fault_or_their_counts(rt: HostRuntime) {
     for (k, (words, found)) in DISKS.iter().enumerate() {
         assert!(rt; gives(words, *found), "row {k}");
+    }
+}
+
+fn second_gives(words: &[Word], found: Option<ImageFault>) -> bool {
+    match accept_second(&small_disk(words)) {
+        Ok(()) => found.is_none(),
+        Err(fault) => found == Some(fault),
+    }
+}
+
+#[test]
+fn second_disks_may_be_full_to_their_end(rt: HostRuntime) {
+    for (k, (words, found)) in SECOND_DISKS.iter().enumerate() {
+        assert!(rt; second_gives(words, *found), "row {k}");
     }
 }

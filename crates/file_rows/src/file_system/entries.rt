@@ -297,6 +297,9 @@ pub fn enter(tree: &mut Tree, dir: u16, offset: u32, ino: u16) -> Result<(), Err
     if offset % 16 != 0 || offset > 65_520 {
         return Err(Errno::EINVAL);
     }
+    if tree.mounts.split(ino).0 != tree.mounts.split(dir).0 {
+        return Err(Errno::EINVAL);
+    }
     tree.enter(dir, offset, *b"new\0\0\0\0\0\0\0\0\0\0\0", ino, TIME)
 }
 

@@ -1,6 +1,7 @@
 //! Path names by hand from docs/manual/names.md, which is namei and access of Lions' Commentary: what a name leads to
 //! for a user, in the order of the tests, and what is referred to then.
 ghost use Rattle.std.specs.Prelude.{◌≤◌, ℕ, slice_index};
+ghost use Rattle.fs_tree.specs.Mounting.{AreMounts};
 
 use crate::file_system::fixtures::put;
 use crate::file_system::names_disk::{GROUP, OTHER, OWNER, SUPER, names_disk, open_tree};
@@ -206,7 +207,8 @@ pub fn answers<S: Space>(
     name: NameBytes<'_, S>,
     ask: Ask,
 ) -> bool
-    requires { (i : ℕ) → slice_index tree.old.nodes.references i ≤ 65530 }
+    requires few { (i : ℕ) → slice_index tree.old.nodes.references i ≤ 65530 }
+    requires mounts { AreMounts tree.old.mounts tree.old.nodes.store }
 {
     if tree.nodes.refs(dir) == 0 {
         return false;

@@ -1,5 +1,6 @@
 //! The disk on which names are looked for: twenty blocks, of which 18 and 19 are free, with 128 inodes.
-ghost use Rattle.std.specs.Prelude.{◌≡◌, ◌≤◌, ℕ, IfOk, IfSome, slice_index};
+ghost use Rattle.std.specs.Prelude.{◌≡◌, ◌≤◌, ℕ, None, IfOk, IfSome, slice_index};
+ghost use Rattle.fs_tree.specs.Mounting.{AreMounts};
 
 use crate::file_system::fixtures::{TWENTY_BLOCKS, Word, put, put_words};
 use crate::file_system::opened::{open, takes};
@@ -155,7 +156,8 @@ pub fn names_disk(changed: &[Word]) -> [u8; TWENTY_BLOCKS] {
 fn takes_others(nodes: &mut Nodes, others: u16) -> bool
     requires few { (i : ℕ) → slice_index nodes.old.references i ≤ 1 }
     requires some { others ≤ 100 }
-    ensures { (i : ℕ) → slice_index nodes.new.references i ≤ 65530 }
+    ensures few { (i : ℕ) → slice_index nodes.new.references i ≤ 65530 }
+    ensures store { nodes.new.store ≡ nodes.old.store }
 {
     for k in 0..others {
         if !takes(nodes, 29 + k) {
@@ -168,7 +170,8 @@ fn takes_others(nodes: &mut Nodes, others: u16) -> bool
 /// Refers to the directory where a name starts, and to so many others.
 fn starts(nodes: &mut Nodes, dir: u16, others: u16) -> bool
     requires quiet { (i : ℕ) → slice_index nodes.old.references i ≡ 0 }
-    ensures { (i : ℕ) → slice_index nodes.new.references i ≤ 65530 }
+    ensures few { (i : ℕ) → slice_index nodes.new.references i ≤ 65530 }
+    ensures store { nodes.new.store ≡ nodes.old.store }
 {
     if others > 100 {
         return false;
@@ -179,6 +182,16 @@ fn starts(nodes: &mut Nodes, dir: u16, others: u16) -> bool
     takes_others(nodes, others)
 }
 
+/// The tree on one disk, whose inodes' numbers are words.
+fn tree_on(nodes: Nodes) -> Tree
+    requires one { nodes.store.second ≡ None }
+    requires few { nodes.store.root.count ≤ 65535 }
+    ensures nodes { result.nodes ≡ nodes }
+    ensures mounts { AreMounts result.mounts result.nodes.store }
+{
+    Tree::new(nodes)
+}
+
 /// The tree on an image, where its directory and so many others are referred to.
 pub fn open_tree(
     alloc: Global,
@@ -187,6 +200,7 @@ pub fn open_tree(
     others: u16,
 ) -> Result<Option<Tree>, AllocError>
     ensures few { IfOk result (λ opened. IfSome opened (λ tree. (i : ℕ) → slice_index tree.nodes.references i ≤ 65530)) }
+    ensures mounts { IfOk result (λ opened. IfSome opened (λ tree. AreMounts tree.mounts tree.nodes.store)) }
 {
     let Some(mut nodes) = open(alloc, image)? else {
         return Ok(None);
@@ -194,5 +208,9 @@ pub fn open_tree(
     if !starts(&mut nodes, dir, others) {
         return Ok(None);
     }
-    Ok(Some(Tree::new(nodes)))
+    let count = nodes.root_count();
+    if count > 65535 {
+        return Ok(None);
+    }
+    Ok(Some(tree_on(nodes)))
 }

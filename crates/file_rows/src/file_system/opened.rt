@@ -1,7 +1,7 @@
 //! Disks that are opened on an image, and what they hold then.
-ghost use Rattle.std.specs.Prelude.{◌≡◌, ◌<◌, ◌≤◌, ◌+◌, ℕ, [], true, false, None, IfOk, IfSome, slice_index};
+ghost use Rattle.std.specs.Prelude.{◌≡◌, ◌<◌, ◌≤◌, ◌+◌, ℕ, [], true, false, None, IsSome, IfOk, IfSome, slice_index};
 ghost use Rattle.fs_codec.specs.Disk.{disk_of, inode};
-ghost use Rattle.fs_codec.specs.Faults.{disk_fault, image_fault};
+ghost use Rattle.fs_codec.specs.Faults.{disk_fault, image_fault, fault_within};
 ghost use Rattle.fs_codec.specs.Fields.{Inode, fields_of};
 ghost use Rattle.fs_codec.specs.Held.{addresses};
 ghost use Rattle.fs_codec.specs.Modes.{holds_blocks, is_device};
@@ -9,13 +9,17 @@ ghost use Rattle.fs_codec.specs.declared.layout.TheConstants.{DISK_BLOCKS};
 ghost use Rattle.fs_laws.specs.Chain.{free};
 ghost use Rattle.fs_laws.specs.Whole.{IsApart};
 ghost use Rattle.fs_blocks.specs.State.{disk};
+ghost use Rattle.fs_blocks.specs.Store.{store_now};
+ghost use Rattle.fs_tree.specs.Mounting.{AreMounts};
 
 use crate::file_system::fixtures::{TWENTY_BLOCKS, Word};
 use buf_cache::{Cache, Disk};
 use fs_blocks::Volume;
-use fs_check::accept;
+use fs_check::{accept, accept_second};
 use fs_codec::{DiskNode, inode_in};
 use fs_nodes::Nodes;
+use fs_tree::Tree;
+use mount_tab::Mounts;
 use std::alloc::{AllocError, Global};
 use v6_base::Errno;
 
@@ -67,19 +71,75 @@ pub fn open_file(alloc: Global, image: &[u8]) -> Result<Option<OpenFile>, AllocE
 /// A file system to which nobody refers.
 fn fresh(volume: Volume) -> Nodes
     requires sound { disk_fault DISK_BLOCKS (disk volume.state) ≡ None }
-    ensures { (i : ℕ) → slice_index result.references i ≡ 0 }
+    ensures quiet { (i : ℕ) → slice_index result.references i ≡ 0 }
+    ensures one { result.store.second ≡ None }
 {
     Nodes::new(volume)
 }
 
 /// The file system on an image, where that has no fault. Nobody refers to its inodes.
 pub fn open(alloc: Global, image: &[u8]) -> Result<Option<Nodes>, AllocError>
-    ensures { IfOk result (λ opened. IfSome opened (λ nodes. (i : ℕ) → slice_index nodes.references i ≡ 0)) }
+    ensures quiet { IfOk result (λ opened. IfSome opened (λ nodes. (i : ℕ) → slice_index nodes.references i ≡ 0)) }
+    ensures one { IfOk result (λ opened. IfSome opened (λ nodes. nodes.store.second ≡ None)) }
 {
     match open_volume(alloc, image)? {
         Some(volume) => Ok(Some(fresh(volume))),
         None => Ok(None),
     }
+}
+
+/// The volume on the image of a second disk without a fault.
+fn second_on(alloc: Global, image: &[u8]) -> Result<Volume, AllocError>
+    requires { fault_within DISK_BLOCKS image.now ≡ None }
+    ensures { IfOk result (λ volume. disk_fault DISK_BLOCKS (disk volume.state) ≡ None) }
+{
+    let cache = Cache::new(alloc, Disk::from_bytes(alloc, image)?)?;
+    let volume = Volume::open_on(cache);
+    Ok(volume)
+}
+
+/// How many inodes the disk of a volume has.
+fn inode_count(volume: &Volume) -> u32
+    ensures count { result ≡ (store_now volume.now.state).count }
+    ensures few { result ≤ 77920 }
+{
+    16 * u32::from(volume.head().i_size)
+}
+
+/// The tree on two volumes, where their inodes' keys are words. Nobody refers to an inode, and nothing is covered.
+fn tree_on_both(v: Volume, w: Volume) -> Option<Tree>
+    requires root { disk_fault DISK_BLOCKS (disk v.state) ≡ None }
+    requires second { disk_fault DISK_BLOCKS (disk w.state) ≡ None }
+    ensures quiet { IfSome result (λ tree. (i : ℕ) → slice_index tree.nodes.references i ≡ 0) }
+    ensures mounts { IfSome result (λ tree. AreMounts tree.mounts tree.nodes.store) }
+    ensures there { IfSome result (λ tree. IsSome tree.nodes.store.second) }
+{
+    let first = inode_count(&v);
+    let second = inode_count(&w);
+    if first + second > 65_535 {
+        return None;
+    }
+    let mounts = Mounts::new(first as u16, second as u16);
+    let nodes = Nodes::new2(v, w);
+    let tree = Tree::new2(nodes, mounts);
+    Some(tree)
+}
+
+/// The tree on the images of two disks, where they have no fault.
+pub fn open_both(alloc: Global, image: &[u8], second: &[u8]) -> Result<Option<Tree>, AllocError>
+    ensures quiet { IfOk result (λ opened. IfSome opened (λ tree. (i : ℕ) → slice_index tree.nodes.references i ≡ 0)) }
+    ensures mounts { IfOk result (λ opened. IfSome opened (λ tree. AreMounts tree.mounts tree.nodes.store)) }
+    ensures there { IfOk result (λ opened. IfSome opened (λ tree. IsSome tree.nodes.store.second)) }
+{
+    if accept(image).is_err() {
+        return Ok(None);
+    }
+    if accept_second(second).is_err() {
+        return Ok(None);
+    }
+    let v = volume_on(alloc, image)?;
+    let w = second_on(alloc, second)?;
+    Ok(tree_on_both(v, w))
 }
 
 /// Refers to an inode, where it is used. No inode is then referred to more than once more.
@@ -89,6 +149,7 @@ pub fn takes(nodes: &mut Nodes, ino: u16) -> bool
     ensures low { ((i : ℕ) → slice_index nodes.old.references i ≤ 65530)
         → (i : ℕ) → slice_index nodes.new.references i ≤ 65530 }
     ensures referenced { result ≡ true → 0 < slice_index nodes.new.references ino }
+    ensures store { nodes.new.store ≡ nodes.old.store }
 {
     if nodes.peek(ino).is_none() || nodes.refs(ino) > 9 {
         return false;

@@ -1,6 +1,9 @@
 //! Files whose text is shared, by hand from docs/manual/names.md, which is access of Lions' Commentary, `fio.c`, and xalloc and
 //! xfree of `text.c`.
-ghost use Rattle.std.specs.Prelude.{◌≤◌, ℕ, slice_index};
+ghost use Rattle.std.specs.Prelude.{◌≡◌, ◌<◌, ◌≤◌, ℕ, false, slice_index};
+ghost use Rattle.fs_tree.specs.Finding.{inodes_of, with_reference};
+ghost use Rattle.fs_tree.specs.Marks.{is_marked, with_mark};
+ghost use Rattle.fs_tree.specs.Mounting.{AreMounts};
 
 use crate::file_system::names::{Ask, Row as Search, answers as is_answered, memory_with, refers};
 use crate::file_system::names_disk::{GROUP, OTHER, OWNER, SUPER, inode_at, names_disk, open_tree};
@@ -39,16 +42,29 @@ static ROWS: [Row; 14] = [
     (0o767, GROUP, Execute, NOT_ALLOWED, NOT_ALLOWED),
 ];
 
+/// Marks an inode, and leaves the mounts.
+fn put_mark(tree: &mut Tree, ino: u16)
+    requires referenced { 0 < slice_index tree.old.nodes.references ino }
+    requires few { (i : ℕ) → slice_index tree.old.nodes.references i ≤ 65530 }
+    requires unmarked { is_marked tree.old.marks ino ≡ false }
+    ensures marks { tree.new.marks ≡ with_mark tree.old.marks ino }
+    ensures inodes { inodes_of tree.new.nodes ≡ with_reference (inodes_of tree.old.nodes) ino }
+    ensures mounts { AreMounts tree.old.mounts tree.old.nodes.store → AreMounts tree.new.mounts tree.new.nodes.store }
+{
+    tree.mark_text(ino);
+}
+
 /// Marks an inode to which one refers, and says whether there is a reference more then.
 fn mark(tree: &mut Tree, ino: u16) -> bool
     requires few { (i : ℕ) → slice_index tree.old.nodes.references i ≤ 65530 }
     ensures few { (i : ℕ) → slice_index tree.new.nodes.references i ≤ 65530 }
+    ensures mounts { AreMounts tree.old.mounts tree.old.nodes.store → AreMounts tree.new.mounts tree.new.nodes.store }
 {
     let count = tree.nodes.refs(ino);
     if count == 0 || count > 9 || tree.marks.has(ino) {
         return false;
     }
-    tree.mark_text(ino);
+    put_mark(tree, ino);
     tree.marks.has(ino) && tree.nodes.refs(ino) == count + 1
 }
 
