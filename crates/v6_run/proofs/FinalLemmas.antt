@@ -26,12 +26,12 @@ use Rattle.unix_core.specs.Memory.{kept_in}
 use Rattle.v6_run.specs.Fronts.{HoldsFront}
 use Rattle.v6_run.specs.Final.{IsFinal, disk_text}
 
-flat_long : (f : ℕ → List ℕ) (a n : ℕ) → ((j : ℕ) → j < a + n → length (f j) ≡ 512) → length (flat_map f (range_with_len a n)) ≡ 512 * n
+pub flat_long : (f : ℕ → List ℕ) (a n : ℕ) → ((j : ℕ) → j < a + n → length (f j) ≡ 512) → length (flat_map f (range_with_len a n)) ≡ 512 * n
 flat_long f a zero each = refl
 flat_long f a (suc n) each =
     length-append (f a) (flat_map f (range_with_len (a + 1) n)) ∙ (let h = each a (omega arith) in let r = flat_long f (a + 1) n (λ j low. each j (omega (arith, low))) in omega (arith, h, r))
 
-flat_byte : (f : ℕ → List ℕ) (a n i k : ℕ) → ((j : ℕ) → j < a + n → length (f j) ≡ 512) → i < n → k < 512 → slice_index (flat_map f (range_with_len a n)) (512 * i + k) ≡ slice_index (f (a + i)) k
+pub flat_byte : (f : ℕ → List ℕ) (a n i k : ℕ) → ((j : ℕ) → j < a + n → length (f j) ≡ 512) → i < n → k < 512 → slice_index (flat_map f (range_with_len a n)) (512 * i + k) ≡ slice_index (f (a + i)) k
 flat_byte f a zero i k each h small = absurd (omega (arith, h))
 flat_byte f a (suc n) zero k each h small =
     let here : 512 * zero + k ≡ k = omega arith in

@@ -6,6 +6,8 @@ pub mod SlotLemmas
 pub mod FileLemmas
 pub mod FrontLemmas
 pub mod FinalLemmas
+pub mod SecondLemmas
+pub mod LeaveLemmas
 pub mod ClockLemmas
 pub mod ScriptLemmas
 pub mod OutputLemmas

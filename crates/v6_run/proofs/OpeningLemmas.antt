@@ -1,5 +1,5 @@
 -- The opening and the finishing of a run's files, one after another.
-use Rattle.std.proofs.Common.{◌≡◌, ◌≢◌, ◌+◌, ◌-◌, ◌<◌, ◌≤◌, ℕ, suc, Bool, true, false, ◌||◌, if◌then◌else◌, Result, Ok, Err, is_err, List, [], ◌∷◌, ◌++◌, append_assoc, length, get_or, take, drop, take_all, length-take, length-drop, map, string_bytes, refl, sym, ◌∙◌, ap, subst, arith}
+use Rattle.std.proofs.Common.{◌≡◌, ◌≢◌, ◌+◌, ◌-◌, ◌<◌, ◌≤◌, ℕ, suc, Bool, true, false, ◌||◌, if◌then◌else◌, Option, is_some, Result, Ok, Err, is_err, List, [], ◌∷◌, ◌++◌, append_assoc, length, get_or, take, drop, take_all, length-take, length-drop, map, string_bytes, refl, sym, ◌∙◌, ap, subst, arith}
 use Rattle.std.specs.List.{range_with_len}
 use Rattle.std.proofs.lemmas.Bool.{eq-eqb}
 use Rattle.std.proofs.lemmas.List.FromFn.{map-range_with_len_more}
@@ -16,10 +16,10 @@ use Rattle.v6_run.specs.Words.{DiskFiles, ToDisk}
 use Rattle.v6_run.specs.declared.outputs.Output.{Output}
 use Rattle.v6_run.specs.Opened.{NamedPort, output, line_port, output_ports, has_port, AreApart, ports_before, knows_port, AreGood, line_output}
 use Rattle.v6_run.specs.Opening.{output_value, AreThere, Opens, Shuts}
-use Rattle.v6_run.specs.Outputs.{is_shown, is_disk_output, disk_writes, StopsRun}
+use Rattle.v6_run.specs.Outputs.{is_shown, is_left, is_disk_output, disk_writes, StopsRun}
 use Rattle.v6_run.proofs.CauseLemmas.{by_test, only_within, left_false, right_false, fault_known}
 use Rattle.v6_run.proofs.OutputLemmas.{nothing_of}
-use Rattle.v6_run.proofs.LinePorts.{disk_ports, either_told, line_shown, final_named}
+use Rattle.v6_run.proofs.LinePorts.{right_true, disk_ports, either_told, line_shown}
 
 same_self : (q : Port) → same q q ≡ true
 same_self q = eq-eqb (port_number q) (port_number q) refl
@@ -281,38 +281,38 @@ module _ (held : List Output) (first d : Output) (some : 1 ≤ length held) (fir
 
 -- The files of a run.
 module _ (files : DiskFiles) (ports : List NamedPort) (ports_are : ports ≡ output_ports (ToDisk files)) where
-  named_as : (q : Port) → has_port ports q ≡ is_disk_output files.lines q
+  named_as : (q : Port) → has_port ports q ≡ is_disk_output files q
   named_as q = ap (λ l. has_port l q) ports_are ∙ disk_ports files q
 
-  only_files : (a b : Outside) → OnlyAt (has_port ports) a b → OnlyAt (is_disk_output files.lines) a b
+  only_files : (a b : Outside) → OnlyAt (has_port ports) a b → OnlyAt (is_disk_output files) a b
   only_files a b only = only_within _ _ _ _ (λ q other. named_as q ∙ other) only
 
-  pub only_opened : (a b : Outside) (r : Result (Unit {0}) OutPort) → Opens ports r a b → OnlyAt (is_disk_output files.lines) a b
+  pub only_opened : (a b : Outside) (r : Result (Unit {0}) OutPort) → Opens ports r a b → OnlyAt (is_disk_output files) a b
   only_opened a b r opens = only_files a b opens.only
 
-  pub only_shut : (a b : Outside) (r : Result (Unit {0}) OutPort) → Shuts ports r a b → OnlyAt (is_disk_output files.lines) a b
+  pub only_shut : (a b : Outside) (r : Result (Unit {0}) OutPort) → Shuts ports r a b → OnlyAt (is_disk_output files) a b
   only_shut a b r shuts = only_files a b shuts.only
 
   pub good_opened : (a b : Outside) → Opens ports (Ok tt) a b → Tells a → AreGood a.fixed (output_ports (ToDisk files))
   good_opened a b opens told = subst (AreGood a.fixed) ports_are (opens.order told)
 
-  pub all_opened : (a b : Outside) → Opens ports (Ok tt) a b → (p : OutPort) → is_disk_output files.lines (Out p) ≡ true → (b.port (Out p)).is_open ≡ true
+  pub all_opened : (a b : Outside) → Opens ports (Ok tt) a b → (p : OutPort) → is_disk_output files (Out p) ≡ true → (b.port (Out p)).is_open ≡ true
   all_opened a b opens p named = opens.is_open p (named_as (Out p) ∙ named)
 
-  pub all_shut : (a b : Outside) → Shuts ports (Ok tt) a b → (p : OutPort) → is_disk_output files.lines (Out p) ≡ true → (b.port (Out p)).is_open ≡ false
+  pub all_shut : (a b : Outside) → Shuts ports (Ok tt) a b → (p : OutPort) → is_disk_output files (Out p) ≡ true → (b.port (Out p)).is_open ≡ false
   all_shut a b shuts p named = shuts.is_open p (named_as (Out p) ∙ named)
 
-  pub files_at : (state : Bool) (a : Outside) → ((p : OutPort) → is_disk_output files.lines (Out p) ≡ true → (a.port (Out p)).is_open ≡ state)
+  pub files_at : (state : Bool) (a : Outside) → ((p : OutPort) → is_disk_output files (Out p) ≡ true → (a.port (Out p)).is_open ≡ state)
       → (p : OutPort) → has_port ports (Out p) ≡ true → (a.port (Out p)).is_open ≡ state
   files_at state a are p named = are p (sym (named_as (Out p)) ∙ named)
 
-  pub unshut_named : (a b : Outside) (p : OutPort) → Shuts ports (Err p) a b → is_disk_output files.lines (Out p) ≡ true
+  pub unshut_named : (a b : Outside) (p : OutPort) → Shuts ports (Err p) a b → is_disk_output files (Out p) ≡ true
   unshut_named a b p shuts = sym (named_as (Out p)) ∙ shuts.named
 
   -- one of them could not be opened
-  pub stopped_opening : (first : Disk) (run : Course) (a b : Outside) (port : OutPort) → Opens ports (Err port) a b
-      → StopsRun (ToDisk files) (disk_writes files.lines first run) port a b
-  stopped_opening first run a b port opens = record {
+  pub stopped_opening : (first : Disk) (second : Option Disk) (run : Course) (a b : Outside) (port : OutPort) → Opens ports (Err port) a b
+      → StopsRun (ToDisk files) (disk_writes files.lines first second run) port a b
+  stopped_opening first second run a b port opens = record {
     named = sym (named_as (Out port)) ∙ opens.named;
     written = λ told p. nothing_of _ _ _ (opens.bytes p);
     order = λ told. subst (λ l. AreGood a.fixed (ports_before l (Out port))) ports_are (opens.order told);
@@ -320,31 +320,32 @@ module _ (files : DiskFiles) (ports : List NamedPort) (ports_are : ports ≡ out
     fault = subst (λ l. FaultAt (Out port) (knows_port l a.fixed (Out port)) a b) ports_are opens.cause;
   }
 
--- The files stay open while the run is taken and its disk is written.
-module _ (lines : ℕ) (b c d : Outside) (opened : (p : OutPort) → is_disk_output lines (Out p) ≡ true → (b.port (Out p)).is_open ≡ true)
+-- The files stay open while the run is taken and its disks are written.
+module _ (files : DiskFiles) (b c d : Outside) (opened : (p : OutPort) → is_disk_output files (Out p) ≡ true → (b.port (Out p)).is_open ≡ true)
     (played : (p : OutPort) → (c.port (Out p)).is_open ≡ (b.port (Out p)).is_open) where
-  pub lines_opened : (l : ℕ) → l < lines → IsOpen b (Out (line_port l))
-  lines_opened l below = opened (line_port l) (ap (λ s. s || same (Out out_port.Final) (Out (line_port l))) (line_shown lines l below))
+  pub lines_opened : (l : ℕ) → l < files.lines → IsOpen b (Out (line_port l))
+  lines_opened l below = opened (line_port l) (ap (λ s. s || is_left (is_some files.second) (Out (line_port l))) (line_shown files.lines l below))
 
   pub log_opened : IsOpen b (Out out_port.Log)
   log_opened = opened out_port.Log refl
 
-  pub final_open : IsOpen c (Out out_port.Final)
-  final_open = played out_port.Final ∙ opened out_port.Final (final_named lines)
+  pub left_open : (p : OutPort) → is_left (is_some files.second) (Out p) ≡ true → IsOpen c (Out p)
+  left_open p left = played p ∙ opened p (right_true (is_shown files.lines (Out p)) (is_left (is_some files.second) (Out p)) left)
 
-  pub all_open : OnlyAt (same (Out out_port.Final)) c d → IsOpen d (Out out_port.Final) → (p : OutPort) → is_disk_output lines (Out p) ≡ true → (d.port (Out p)).is_open ≡ true
-  all_open only here p named = by_test (same (Out out_port.Final) (Out p)) _
-      (λ is. subst (λ (r : Port). (d.port r).is_open ≡ true) (same_is (Out out_port.Final) (Out p) is) here)
-      (λ other. ap (λ (port : PortState). port.is_open) (only.others (Out p) other) ∙ played p ∙ opened p named)
+  pub all_open : ((p : OutPort) → (d.port (Out p)).is_open ≡ (c.port (Out p)).is_open) → (p : OutPort) → is_disk_output files (Out p) ≡ true → (d.port (Out p)).is_open ≡ true
+  all_open written p named = written p ∙ played p ∙ opened p named
 
-module _ (lines : ℕ) where
-  pub only_played : (a b c : Outside) → OnlyAt (is_disk_output lines) a b → OnlyAt (is_shown lines) b c → OnlyAt (is_disk_output lines) a c
+module _ (files : DiskFiles) where
+  abbrev left : Port → Bool
+  left = is_left (is_some files.second)
+
+  pub only_played : (a b c : Outside) → OnlyAt (is_disk_output files) a b → OnlyAt (is_shown files.lines) b c → OnlyAt (is_disk_output files) a c
   only_played a b c opens plays = only_then _ a b c opens
-      (only_within _ _ _ _ (λ q other. left_false (is_shown lines q) (same (Out out_port.Final) q) other) plays)
+      (only_within _ _ _ _ (λ q other. left_false (is_shown files.lines q) (left q) other) plays)
 
-  pub only_written : (a c d : Outside) → OnlyAt (is_disk_output lines) a c → OnlyAt (same (Out out_port.Final)) c d → OnlyAt (is_disk_output lines) a d
+  pub only_written : (a c d : Outside) → OnlyAt (is_disk_output files) a c → OnlyAt (is_left (is_some files.second)) c d → OnlyAt (is_disk_output files) a d
   only_written a c d plays writes = only_then _ a c d plays
-      (only_within _ _ _ _ (λ q other. right_false (is_shown lines q) (same (Out out_port.Final) q) other) writes)
+      (only_within _ _ _ _ (λ q other. right_false (is_shown files.lines q) (left q) other) writes)
 
 -- One line more.
 pub line_added : (term : List ℕ) (first now new : List NamedPort) (line : ℕ) → 1 ≤ line → now ≡ first ++ map (line_output term) (range_with_len 1 (line - 1)) → new ≡ now ++ line_output term line ∷ []
@@ -356,8 +357,9 @@ line_added term first now new line some was more =
     ∙ ap (λ l. first ++ l) (sym (map-range_with_len_more (line_output term) 1 (line - 1) line here) ∙ ap (λ n. map (line_output term) (range_with_len 1 n)) next)
 
 -- the files one behind the other
-pub in_a_row : (term log final_disk : NamedPort) (lines a b c d : List NamedPort) → a ≡ [] ++ term ∷ [] → b ≡ a ++ lines → c ≡ b ++ log ∷ [] → d ≡ c ++ final_disk ∷ []
-    → d ≡ term ∷ (lines ++ (log ∷ final_disk ∷ []))
-in_a_row term log final_disk lines a b c d one two three four =
-    four ∙ ap (λ l. l ++ final_disk ∷ []) (three ∙ ap (λ l. l ++ log ∷ []) (two ∙ ap (λ l. l ++ lines) one))
-    ∙ ap (λ l. term ∷ l) (append_assoc lines (log ∷ []) (final_disk ∷ []))
+pub in_a_row : (term log final_disk : NamedPort) (lines second a b c d e : List NamedPort) → a ≡ [] ++ term ∷ [] → b ≡ a ++ lines → c ≡ b ++ log ∷ [] → d ≡ c ++ final_disk ∷ []
+    → e ≡ d ++ second → e ≡ term ∷ (lines ++ (log ∷ final_disk ∷ second))
+in_a_row term log final_disk lines second a b c d e one two three four five =
+    five ∙ ap (λ l. l ++ second) (four ∙ ap (λ l. l ++ final_disk ∷ []) (three ∙ ap (λ l. l ++ log ∷ []) (two ∙ ap (λ l. l ++ lines) one))
+    ∙ ap (λ l. term ∷ l) (append_assoc lines (log ∷ []) (final_disk ∷ [])))
+    ∙ ap (λ l. term ∷ l) (append_assoc lines (log ∷ final_disk ∷ []) second)

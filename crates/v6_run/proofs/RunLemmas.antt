@@ -1,5 +1,5 @@
 -- What `run` answers, exit by exit.
-use Rattle.std.proofs.Common.{◌≡◌, ◌≢◌, ℕ, Bool, true, false, ◌&&◌, Option, Some, None, IsSomeAnd, List, [], ◌∷◌, take, refl, sym, Ok, Err, IsOk, ◌∙◌, ap, subst, is_some, if◌then◌else◌, ◌||◌, lit<}
+use Rattle.std.proofs.Common.{◌≡◌, ◌≢◌, ℕ, Bool, true, false, ◌&&◌, Option, Some, None, IsSome, IfSome, IsSomeAnd, List, [], ◌∷◌, take, refl, sym, Ok, Err, IsOk, ◌∙◌, ap, subst, is_some, if◌then◌else◌, ◌||◌, lit<}
 use Rattle.std.specs.Option.{option_map}
 use Rattle.v6_port.specs.declared.host.InPort.TheVariants as in_port
 use Rattle.v6_port.specs.declared.host.OutPort.{OutPort}
@@ -31,7 +31,13 @@ use Rattle.v6_run.specs.declared.image.SecondError.{SecondError}
 use Rattle.v6_run.specs.declared.image.SecondError.TheVariants as second_error
 use Rattle.v6_run.specs.declared.run.RunError.{RunError}
 use Rattle.v6_run.specs.declared.run.RunError.TheVariants as run_error
-use Rattle.v6_run.specs.Words.{Outputs, RunWords, line_count, second_image, Run}
+use Rattle.std.specs.declared.alloc.Global.{Global}
+use Rattle.std.specs.Prelude.{Vec}
+use Rattle.v6_run.specs.declared.words.Outputs as written
+use Rattle.v6_run.specs.declared.words.Outputs.TheVariants as made
+use Rattle.v6_run.specs.declared.words.Machine as of_run
+use Rattle.v6_run.specs.declared.words.Machine.TheVariants as disks
+use Rattle.v6_run.specs.Words.{Outputs, RunWords, line_count, second_files, second_image, machine_lines, machine_second, outputs_value, bytes_value, Run}
 use Rattle.script_text.specs.declared.script.Event as asked
 use Rattle.script_text.specs.declared.script.ScriptFault as text
 use Rattle.script_text.specs.declared.script.ScriptFault.TheVariants as fault
@@ -211,6 +217,36 @@ module _ (words : RunWords) (image : List ℕ) (old middle new : Outside) (first
       image_is = image_is;
       script_is = λ told. ap (λ (f : Environment). option_map (take SCRIPT_LIMIT) (f.given words.script)) (sym fixed_so) ∙ script_is (tells_so told);
     }
+
+-- what is there of a second image where the words name one
+pub second_sound : (image : List ℕ) (name : Option (List ℕ)) (second : Option (Vec ℕ Global)) (o : Outside) → HasSecond image name (bytes_value second) o
+    → IfSome second (λ bytes. second_fault_of image bytes.items ≡ None)
+second_sound image None None o has = tt
+second_sound image None (Some bytes) o has = absurd (cc has)
+second_sound image (Some name) None o has = tt
+second_sound image (Some name) (Some bytes) o has = has.0
+
+pub second_read : (image : List ℕ) (name second : Option (List ℕ)) (o : Outside) → HasSecond image name second o → is_some second ≡ is_some name
+second_read image None second o has = ap is_some has
+second_read image (Some name) None o has = absurd has
+second_read image (Some name) (Some bytes) o has = refl
+
+pub value_there : (second : Option (Vec ℕ Global)) → IsSome second → is_some (bytes_value second) ≡ true
+value_there None some = some
+value_there (Some bytes) some = refl
+
+pub some_mapped : {X Y : Type 0} (f : X → Y) (o : Option X) → is_some (option_map f o) ≡ is_some o
+some_mapped f None = refl
+some_mapped f (Some x) = refl
+
+-- With a second disk there is one line.
+pub one_line : (outputs : written.Outputs) → is_some (second_files (outputs_value outputs)) ≡ true → line_count (outputs_value outputs) ≡ 1
+one_line (made.Disk files) some = by files.machine some
+  where
+    by : (machine : of_run.Machine) → is_some (machine_second machine) ≡ true → machine_lines machine ≡ 1
+    by (disks.Lines lines) some = absurd (cc some)
+    by (disks.Disks second) some = refl
+one_line (made.Memory final) some = absurd (cc some)
 
 has_begun : (ended : Ends) → has_written (status_at ended) ≡ true
 has_begun AtEnd = refl

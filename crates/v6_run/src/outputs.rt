@@ -64,7 +64,7 @@ fn add_lines(
     ensures { OnOk result (map output_value outputs.new.items
         ≡ map output_value outputs.old.items ++ line_outputs (disk_files_value files.now).lines files.now.term.now) }
 {
-    'lines: for line in 1..files.lines().count() {
+    'numbers: for line in 1..files.lines().count() {
         let name = line_name(alloc, files.term, line)?;
         add_output(alloc, outputs, OutPort::Line(line), name.as_str())?;
     }
@@ -236,7 +236,7 @@ pub(crate) fn leave_disks<H: Host>(
     host: &mut H,
 ) -> Result<(), OutPort>
     requires ended { kernel.old.phase ≡ Started ⊎ kernel.old.phase ≡ Stopped }
-    requires second { is_some kernel.old.system.unix.store.second ≡ two }
+    requires second { is_some kernel.old.blocks.second ≡ two }
     requires is_open { (p : OutPort) → is_left two (Out p) ≡ true → IsOpen (H.outside host.old) (Out p) }
     ensures system { kernel.new.system ≡ finished kernel.old.system }
     ensures stands { AllStand kernel.new.stored kernel.new.system.unix.store }

@@ -1,8 +1,7 @@
 //! The commands `run`, `run8`, `run2` and `memory`: a run, and what it leaves.
 ghost use Rattle.std.specs.Prelude.{◌≡◌, ℕ, ◌<◌, ◌≤◌, ◌^◌, length, map, true, false, is_some, None, Some, IsSome, IsSomeAnd, IfSome, IfOk, OnOk, IfErr, MatchResult, ◌++◌};
 ghost use Rattle.std.specs.Option.{option_map};
-ghost use Rattle.v6_port.specs.Outside.{In, Out, IsOpen, OnlyAt, Tells, same};
-ghost use Rattle.v6_port.specs.declared.host.InPort.TheVariants.{Second};
+ghost use Rattle.v6_port.specs.Outside.{Out, IsOpen, OnlyAt, Tells, same};
 ghost use Rattle.v6_port.specs.declared.host.OutPort.{OutPort};
 ghost use Rattle.v6_port.specs.declared.host.OutPort.TheVariants.{Log};
 ghost use Rattle.v6_port.specs.Causes.{Calm, FaultAt};
@@ -17,7 +16,7 @@ ghost use Rattle.unix_core.specs.Boots.{RefusesBoot, blocks_on, second_fault_of}
 ghost use Rattle.unix_core.specs.State.{KeepsRest};
 ghost use Rattle.v6_run.specs.Courses.{CanTake};
 ghost use Rattle.v6_run.specs.Words.{Run, ToDisk, lines_value, disk_files_value, run_words_value, second_files, second_image, bytes_value};
-ghost use Rattle.v6_run.specs.Opened.{line_port, output_ports};
+ghost use Rattle.v6_run.specs.Opened.{line_port, second_inputs, output_ports, has_port};
 ghost use Rattle.v6_run.specs.Opening.{output_value};
 ghost use Rattle.v6_run.specs.Events.{events_of};
 ghost use Rattle.v6_run.specs.Ports.{HasShown, HasShownFronts};
@@ -237,7 +236,7 @@ fn run_opened<H: Host>(
     requires closed { (p : OutPort) → is_disk_output (disk_files_value files.now) (Out p) ≡ true
         → ((H.outside host.old).port (Out p)).is_open ≡ false }
     requires root { (head (block_at kernel.old.blocks.root)).f_size ≤ SWAP_START }
-    requires second { is_some kernel.old.system.unix.store.second ≡ is_some (disk_files_value files.now).second }
+    requires second { is_some kernel.old.blocks.second ≡ is_some (disk_files_value files.now).second }
     requires new { kernel.old.phase ≡ New }
     requires lawful { HasLawfulLogs kernel.old.system }
     requires can { CanTake kernel.old.system events.now }
@@ -256,7 +255,7 @@ fn run_opened<H: Host>(
 {
     open_outputs(outputs, host)?;
     let ends = play(kernel, events, files.lines(), host)?;
-    leave_disks(kernel, files.second().is_some(), host)?;
+    leave_disks(kernel, files.has_second(), host)?;
     finish_outputs(outputs, host)?;
     Ok(ends)
 }
@@ -272,7 +271,7 @@ fn run_to_disk<H: Host>(
     requires closed { (p : OutPort) → is_disk_output (disk_files_value files.now) (Out p) ≡ true
         → ((H.outside host.old).port (Out p)).is_open ≡ false }
     requires root { (head (block_at kernel.old.blocks.root)).f_size ≤ SWAP_START }
-    requires second { is_some kernel.old.system.unix.store.second ≡ is_some (disk_files_value files.now).second }
+    requires second { is_some kernel.old.blocks.second ≡ is_some (disk_files_value files.now).second }
     requires new { kernel.old.phase ≡ New }
     requires lawful { HasLawfulLogs kernel.old.system }
     requires can { CanTake kernel.old.system events.now }
@@ -309,7 +308,7 @@ fn run_with_outputs<H: Host>(
     requires closed { (p : OutPort) → is_output (run_words_value words.now).outputs (Out p) ≡ true
         → ((H.outside host.old).port (Out p)).is_open ≡ false }
     requires root { (head (block_at kernel.old.blocks.root)).f_size ≤ SWAP_START }
-    requires second { is_some kernel.old.system.unix.store.second ≡ is_some (second_files (run_words_value words.now).outputs) }
+    requires second { is_some kernel.old.blocks.second ≡ is_some (second_files (run_words_value words.now).outputs) }
     requires new { kernel.old.phase ≡ New }
     requires lawful { HasLawfulLogs kernel.old.system }
     requires can { CanTake kernel.old.system events.now }
@@ -348,7 +347,8 @@ fn read_other<H: Host>(
     host: &mut H,
 ) -> Result<Option<Vec<u8>>, SecondError>
     requires { image_fault image.now ≡ None }
-    ensures only { OnlyAt (same (In Second)) (H.outside host.old) (H.outside host.new) }
+    ensures only { OnlyAt (has_port (second_inputs (second_image (run_words_value words.now).outputs)))
+        (H.outside host.old) (H.outside host.new) }
     ensures second { IfOk result (λ second.
         HasSecond image.now (second_image (run_words_value words.now).outputs) (bytes_value second) (H.outside host.old)) }
     ensures cause { MatchResult result (λ _. Calm (H.outside host.old) (H.outside host.new))

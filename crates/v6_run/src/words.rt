@@ -1,5 +1,5 @@
 //! The words of a command.
-ghost use Rattle.std.specs.Prelude.{◌≡◌, option_map, string_bytes, codes};
+ghost use Rattle.std.specs.Prelude.{◌≡◌, is_some, option_map, string_bytes, codes};
 ghost use Rattle.script_text.specs.Number.{number_of};
 ghost use Rattle.v6_run.specs.Words.{command_in, line_words, disk_words, run_words, check_words, make_words, demo_words, short_words, is_word, line_count, second_files, lines_value, second_files_value, disk_files_value, outputs_value, command_value};
 
@@ -67,6 +67,16 @@ impl<'a> DiskFiles<'a> {
         match &self.machine {
             Machine::Lines(_) => None,
             Machine::Disks(second) => Some(*second),
+        }
+    }
+
+    /// Whether there is a second disk.
+    pub(crate) fn has_second(&self) -> bool
+        ensures { result ≡ is_some (disk_files_value self.now).second }
+    {
+        match &self.machine {
+            Machine::Lines(_) => false,
+            Machine::Disks(_) => true,
         }
     }
 }

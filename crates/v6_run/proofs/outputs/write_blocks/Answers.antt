@@ -10,7 +10,7 @@ numbers-init g c = record {
   only = search rules;
   calm = search rules;
   is_open = c.requires.is_open;
-  bytes = λ told. no_blocks c.args.kernel.now.stored _;
+  bytes = λ told. no_blocks c.args.kernel.now.stored.root _;
 }
 
 pub returns-in_err-write_all-clause-front : goal.returns-in_err-write_all-clause-front
@@ -31,7 +31,7 @@ numbers-preserved g c = record {
 
 pub returns-clause-whole : goal.returns-clause-whole
 returns-clause-whole g c told =
-    c.numbers.invariant.bytes told ∙ ap (λ l. (final_of (g.H.Host.outside c.args.host.now)).bytes ++ l) (so_far_all c.args.kernel.now.stored c.numbers.n c.numbers-test.false c.numbers.auto.n-end)
+    c.numbers.invariant.bytes told ∙ ap (λ l. (final_of (g.H.Host.outside c.args.host.now)).bytes ++ l) (so_far_all c.args.kernel.now.stored.root c.numbers.n c.numbers-test.false c.numbers.auto.n-end)
 
 pub returns-clause-front : goal.returns-clause-front
 returns-clause-front g c told = front_of_all _ _ _ (returns-clause-whole g c told)

@@ -13,5 +13,5 @@ invariant-numbers g l =
       only : OnlyAt (same (Out Final)) old now;
       calm : Calm old now;
       is_open : IsOpen now (Out Final);
-      bytes : Tells old → (final_of now).bytes ≡ (final_of old).bytes ++ so_far l.kernel.stored l.n;
+      bytes : Tells old → (final_of now).bytes ≡ (final_of old).bytes ++ so_far l.kernel.stored.root l.n;
     }
