@@ -3,7 +3,6 @@ use Rattle.std.proofs.Common.{◌≡◌, ℕ, Bool, true, false, ◌+◌, ◌<�
 use Rattle.std.proofs.lemmas.Bool.{ne_eqb, eq-eqb, eqb-true, false≢true}
 use Rattle.std.proofs.lemmas.List.Quantifiers.{position-Some}
 use Rattle.v6_base.specs.declared.errno.Errno.TheVariants.{EBADF, EMFILE}
-use Rattle.fs_nodes.specs.Keys.{node_numbered}
 use Rattle.open_files.specs.declared.file.OpenFile.{OpenFile}
 use Rattle.open_files.specs.declared.file.Closed.{Closed}
 use Rattle.open_files.specs.declared.file.Closed.TheVariants.{Still, Last}
@@ -22,7 +21,7 @@ use Rattle.sys_files.proofs.ReleasedLemmas.{roused, gone, released_still, releas
 use Rattle.sys_files.proofs.NumberLemmas.{number_low, given_times, taken_times, numbers_change, open_given, open_taken}
 use Rattle.sys_files.proofs.CheckLemmas.{check_quiet, check_err}
 use Rattle.sys_files.proofs.OwedLemmas.{count_changed, counted, used_low, file_referred}
-use Rattle.sys_files.proofs.OwingLemmas.{IsKeptBut, kept_begins, kept_ends, kept_check, once_less, gone}
+use Rattle.sys_files.proofs.OwingLemmas.{IsKeptBut, kept_begins, kept_ends, kept_check, once_less, let_go_counts}
 use Rattle.sys_files.proofs.DescriptorLemmas.{entry_is, entry_err, need_is, same_file}
 
 -- A number is given to a file that is open.
@@ -147,8 +146,8 @@ kept_last h fd entry file pipes lines sound named is last are =
           ap (λ o. cond {A = ℕ} (is_of i o) 1 0) is in
           let less = once_less h.inodes.references file.ino i (file_referred h entry file sound is) in
           omega (arith, change, was, less);
-      counts = gone h file.ino;
-      mounts = mounts_stay h.mounts h.inodes.store (let_go h file.ino).inodes.store (gone h file.ino) sound.mounts;
+      counts = let_go_counts h file.ino;
+      mounts = mounts_stay h.mounts h.inodes.store (let_go h file.ino).inodes.store (let_go_counts h file.ino) sound.mounts;
       pipes = are;
       others = stays_freed h.files h.u.files entry file is (omega (arith, last, least));
     }

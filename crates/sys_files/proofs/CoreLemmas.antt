@@ -24,7 +24,7 @@ use Rattle.sys_files.specs.Entering.{did_of}
 use Rattle.sys_files.specs.Core.{core_name, is_plain, writes_parts, writes_over, writes_new, writes_named, core_file, is_written}
 use Rattle.sys_files.specs.Sound.{IsSound, IsKept}
 use Rattle.sys_files.proofs.KeptLemmas.{kept_references}
-use Rattle.sys_files.proofs.PartLemmas.{until}
+use Rattle.sys_files.proofs.PartLemmas.{unnamed_told, until}
 use Rattle.sys_files.proofs.NodeCounts.{put_back_counts, making_counts, new_counts, entry_counts, links_counts, truncated_counts}
 use Rattle.sys_files.proofs.Steady.{Steady, steady_same}
 
@@ -129,6 +129,19 @@ module _ (h after : Handed) (now : ℕ) (name : List ℕ) (same : name ≡ core_
         ap (λ b. then_named h (make_in h.inodes h.mounts h.marks (user_of h.u) h.u.dir b) (by_made (writes_over now) (writes_new now)))
         (sym same)
         ∙ sym (λ i. check (parts i) (answer i) (by_made (writes_over now) (writes_new now) (parts i)))
+
+    -- It is there.
+    pub named_over : (m : Made) (ino : ℕ) (end : Handed) (r : Result (Unit {0}) Errno) (last : Inodes)
+        → Ok m ≡ (make_in h.inodes h.mounts h.marks (user_of h.u) h.u.dir name).answer → m ≡ made.Found ino
+        → writes_over now after ino ≡ did_of end r → last ≡ put_back end.inodes ino
+        → unnamed (writes_named now h) ≡ did_of (with_inodes end last) r
+    named_over m ino end r last answer is did back =
+        ap unnamed (named_is (Ok m) answer ∙ ap (by_made (writes_over now) (writes_new now) after) is)
+        ∙ until end ino (writes_over now after ino) r last (unnamed_told end (writes_over now after ino) r did) back
+
+    pub not_named : (e : Errno) → Err e ≡ (make_in h.inodes h.mounts h.marks (user_of h.u) h.u.dir name).answer
+        → unnamed (writes_named now h) ≡ fails after e
+    not_named e answer = ap unnamed (named_is (Err e) answer)
 
     -- It isn't there.
     pub named_new : (m : Made) (dir offset : ℕ) (entry : List ℕ) (end : Handed) (r : Result (Unit {0}) Errno) (last : Inodes)

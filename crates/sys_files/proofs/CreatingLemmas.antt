@@ -1,11 +1,9 @@
 -- What creat keeps, part by part, and what it comes to.
-use Rattle.std.proofs.Common.{◌≡◌, ◌<◌, ◌≤◌, ℕ, Bool, true, false, cond, List, [], slice_index, Result, Ok, Err, refl, sym, ap, ◌∙◌, subst, arith}
+use Rattle.std.proofs.Common.{◌≡◌, ◌<◌, ◌≤◌, ℕ, false, List, [], slice_index, Result, Ok, Err, refl, sym, ap, ◌∙◌, subst, arith}
 use Rattle.v6_base.specs.declared.answer.Answer.{Answer}
 use Rattle.v6_base.specs.declared.answer.Answer.TheVariants.{Fail}
 use Rattle.v6_base.specs.declared.errno.Errno.{Errno}
 use Rattle.v6_base.specs.declared.errno.Errno.TheVariants.{EMFILE, ENFILE, ENXIO}
-use Rattle.fs_codec.specs.Modes.{is_device}
-use Rattle.fs_codec.specs.Store.{Node}
 use Rattle.fs_nodes.proofs.RestLemmas.{rest_then}
 use Rattle.fs_nodes.specs.Keys.{counts}
 use Rattle.fs_tree.specs.Mounting.{AreMounts}
@@ -18,7 +16,7 @@ use Rattle.fs_tree.specs.declared.made.Made.TheVariants as made
 use Rattle.fs_tree.specs.Name.{name_at}
 use Rattle.fs_tree.specs.Finding.{Inodes, inodes_of, make_in, put_back}
 use Rattle.sys_files.specs.Handed.{Handed, node_at, user_of, with_inodes}
-use Rattle.sys_files.specs.Did.{Did, unnamed, check, must, need, until_end, by_made}
+use Rattle.sys_files.specs.Did.{Did, unnamed, check, must, need, by_made}
 use Rattle.sys_files.specs.Pipes.{ArePipes}
 use Rattle.sys_files.specs.Sound.{owed, IsKept}
 use Rattle.sys_files.specs.Opening.{can_open, opens}
@@ -29,6 +27,7 @@ use Rattle.sys_files.proofs.StayingLemmas.{stays_there}
 use Rattle.sys_files.proofs.EnteringLemmas.{taken}
 use Rattle.sys_files.proofs.GivingLemmas.{OneReferenceLess, gives}
 use Rattle.sys_files.proofs.OpeningLemmas.{opens_kept}
+use Rattle.sys_files.proofs.PartLemmas.{until_answered}
 
 -- The opening itself keeps what a call keeps.
 pub opened_kept : (h new : Handed) (ino : ℕ) (kind : FileKind) → kind.pipe ≡ false → AreOpen h.files h.u.files
@@ -117,10 +116,6 @@ module _ (old mid last : Handed) (a b c d : FileSystem) (ino : ℕ) (takes : One
   pub between_blocks : SameRest b c → SameRest a d
   between_blocks same =
       rest_then a.blocks b.blocks d.blocks takes.blocks (rest_then b.blocks c.blocks d.blocks same rest)
-
-until_answered : (after : Handed) (ino : ℕ) (d : Did) (a : Answer) (last : Inodes) → unnamed d ≡ did_with after a
-    → last ≡ put_back after.inodes ino → unnamed (until_end ino d) ≡ did_with (with_inodes after last) a
-until_answered after ino d a last did is = ap (λ (x : Did). unnamed (until_end ino x)) did ∙ sym (ap (λ m. did_with (with_inodes after m) a) is)
 
 -- what creat comes to, by the parts after the search for the name
 module _ (h after : Handed) (name mode now : ℕ)

@@ -15,7 +15,7 @@ use Rattle.fs_nodes.specs.Numbers.{MakesNode, MakesNone, next_draw, with_draw}
 use Rattle.fs_nodes.proofs.CountLaws.{counts_drawn}
 use Rattle.fs_nodes.proofs.KeyLaws.{counts_set, node_other, node_drawn}
 use Rattle.fs_nodes.proofs.MadeLemmas.{IsNewKey, made_key}
-use Rattle.fs_nodes.proofs.RestLemmas.{rest_stays}
+use Rattle.fs_nodes.proofs.RestLemmas.{rest_stays, rest_then}
 use Rattle.mount_tab.specs.Mounted.{MountTable, split_of}
 use Rattle.fs_tree.specs.Mounting.{AreMounts}
 use Rattle.fs_tree.proofs.MountLemmas.{crosses_of, disk_is, disk_there}
@@ -59,6 +59,14 @@ started store false dir root some = some
 
 pub rest_same : (old new : Disks (List (List ℕ))) → new ≡ old → SameAroundEach old new
 rest_same old new is = subst (λ (l : Disks (List (List ℕ))). SameAroundEach old l) (sym is) (rest_stays old)
+
+-- what is left of the disks by a search and a part of a call, and by a reference that goes after it
+pub rest_from : (a b c : FileSystem) → b.blocks ≡ a.blocks → SameRest b c → SameRest a c
+rest_from a b c found part = subst (λ (l : Disks (List (List ℕ))). SameAroundEach l c.blocks) found part
+
+pub rest_after : (a b c d : FileSystem) → b.blocks ≡ a.blocks → SameRest b c → SameRest c d → SameRest a d
+rest_after a b c d found part back =
+    rest_then a.blocks c.blocks d.blocks (rest_from a b c found part) back
 
 module _ (fs : FileSystem) (form : IsFileSystem fs) where
   pub used_low : (ino : ℕ) → IsSome (node_numbered fs.store ino) → ino < length fs.references

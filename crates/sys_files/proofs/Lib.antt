@@ -49,3 +49,4 @@ pub mod PartedWrites
 pub mod LoadedLemmas
 pub mod WritingLemmas
 pub mod FrameLemmas
+pub mod MountingLemmas

@@ -1,13 +1,19 @@
 -- The tests of link, one after another.
-use Rattle.std.proofs.Common.{◌≡◌, ◌<◌, ◌+◌, ◌-◌, ◌==◌, ℕ, true, false, not, List, [], ◌∷◌, Ok, Err, sym, ap, ◌∙◌}
-use Rattle.std.proofs.lemmas.Bool.{lt-ltb}
+use Rattle.std.proofs.Common.{◌≡◌, ◌<◌, ◌≤◌, ◌+◌, ◌-◌, ◌==◌, ℕ, true, false, not, List, [], ◌∷◌, Ok, Err, sym, ap, ◌∙◌}
+use Rattle.std.proofs.lemmas.Bool.{lt-ltb, le-ltb}
 use Rattle.v6_base.specs.declared.errno.Errno.{Errno}
 use Rattle.v6_base.specs.declared.errno.Errno.TheVariants.{EPERM, EBUSY, EXDEV, EMLINK}
+use Rattle.fs_codec.specs.Bytes.{entry_bytes}
 use Rattle.fs_tree.specs.Finding.{Inodes}
-use Rattle.sys_files.specs.Handed.{Handed, node_in, node_at, disk_of, with_inodes}
+use Rattle.sys_files.specs.Handed.{Handed, node_in, node_at, disk_of, number_of, with_inodes}
 use Rattle.sys_files.specs.Did.{Did, fails, is_done, check, must}
 use Rattle.sys_files.specs.Making.{entry_written, writes_entry, enters, links_in, with_links, may_link, is_covered, makes_new, enters_again, links_to, empties}
 use Rattle.sys_files.proofs.PartLemmas.{passes, stops, named, not_named}
+
+pub link_full : (h : Handed) (new now ino : ℕ) → 127 ≤ (node_at h ino).nlink → links_to new now h ino ≡ fails h EMLINK
+link_full h new now ino many = ap (λ t. check h (must EMLINK t)
+    (λ few. check h (must EPERM (may_link h ino)) (λ may. makes_new h new (enters_again ino now))))
+    (le-ltb (node_at h ino).nlink 127 many)
 
 module _ (h : Handed) (new now ino : ℕ) (few : (node_at h ino).nlink < 127) where
   few_links : links_to new now h ino
@@ -24,7 +30,7 @@ module _ (h : Handed) (new now ino : ℕ) (few : (node_at h ino).nlink < 127) wh
 
 -- An inode has another name on its own disk.
 module _ (h : Handed) (ino now dir offset : ℕ) (name : List ℕ) where
-  writes_again : Did
+  abbrev writes_again : Did
   writes_again = enters h dir offset name ino now (λ h. is_done (with_links h ino ((node_at h ino).nlink + 1) now))
 
   pub again_refused : (disk_of h ino == disk_of h dir) ≡ false → enters_again ino now h dir offset name ≡ fails h EXDEV
@@ -33,9 +39,30 @@ module _ (h : Handed) (ino now dir offset : ℕ) (name : List ℕ) where
   pub again_goes : (disk_of h ino == disk_of h dir) ≡ true → enters_again ino now h dir offset name ≡ writes_again
   again_goes is = passes h EXDEV (disk_of h ino == disk_of h dir) (λ same. writes_again) is
 
+  abbrev entry : List ℕ
+  entry = entry_bytes (record { ino = number_of h ino; name = name })
+
+  pub again_unwritten : (e : Errno) (n : Inodes) → (disk_of h ino == disk_of h dir) ≡ true
+      → Err e ≡ (entry_written h.inodes dir offset entry now).answer
+      → n ≡ (entry_written h.inodes dir offset entry now).inodes
+      → enters_again ino now h dir offset name ≡ fails (with_inodes h n) e
+  again_unwritten e n one answer inodes =
+      again_goes one ∙ not_named h (entry_written h.inodes dir offset entry now) e n
+      (λ h done. is_done (with_links h ino ((node_at h ino).nlink + 1) now)) answer inodes
+
+  pub again_written : (u : Unit {0}) (n last : Inodes) (links more : ℕ) → (disk_of h ino == disk_of h dir) ≡ true
+      → Ok u ≡ (entry_written h.inodes dir offset entry now).answer
+      → n ≡ (entry_written h.inodes dir offset entry now).inodes → links ≡ (node_in n.store ino).nlink
+      → more ≡ links + 1 → last ≡ links_in n ino more now
+      → enters_again ino now h dir offset name ≡ is_done (with_inodes h last)
+  again_written u n last links more one answer inodes are one_more is =
+      again_goes one ∙ named h (entry_written h.inodes dir offset entry now) u n
+      (λ h done. is_done (with_links h ino ((node_at h ino).nlink + 1) now)) answer inodes
+      ∙ sym (ap (λ m. is_done (with_inodes h m)) (is ∙ ap (λ k. links_in n ino k now) (one_more ∙ ap (λ k. k + 1) are)))
+
 -- The tests of unlink, and what it does after them.
 module _ (h : Handed) (dir offset ino now : ℕ) where
-  writes_none : Did
+  abbrev writes_none : Did
   writes_none = writes_entry h dir offset (0 ∷ 0 ∷ []) now
       (λ h. is_done (with_links h ino ((node_at h ino).nlink - 1) now))
 

@@ -162,8 +162,8 @@ put_counts store ino n None = refl
 put_counts store ino n (Some node) = put_if (n == 1) store ino node
 
 -- as many where a reference of the parts goes
-pub gone : (now : Handed) (ino : ℕ) → counts (let_go now ino).inodes.store ≡ counts now.inodes.store
-gone now ino = put_counts now.inodes.store ino (slice_index now.inodes.references ino) (node_numbered now.inodes.store ino)
+pub let_go_counts : (now : Handed) (ino : ℕ) → counts (let_go now ino).inodes.store ≡ counts now.inodes.store
+let_go_counts now ino = put_counts now.inodes.store ino (slice_index now.inodes.references ino) (node_numbered now.inodes.store ino)
 
 -- A reference that was taken goes.
 pub kept_lets_go : (old now : Handed) (ino : ℕ) (taken : List ℕ) → IsSound old → IsKeptBut old now (ino ∷ taken)
@@ -176,8 +176,8 @@ kept_lets_go old now ino taken sound k = record {
       (eqb ino i) 1 0 ≡ slice_index now.inodes.references i =
       once_less now.inodes.references ino i (is_referred old now ino taken sound k) in
       let more = taken_more ino taken i in omega (arith, r, at, more);
-  counts = gone now ino ∙ k.counts;
-  mounts = mounts_stay now.mounts now.inodes.store (let_go now ino).inodes.store (gone now ino) k.mounts;
+  counts = let_go_counts now ino ∙ k.counts;
+  mounts = mounts_stay now.mounts now.inodes.store (let_go now ino).inodes.store (let_go_counts now ino) k.mounts;
   pipes = k.pipes;
   others = k.others;
 }
@@ -194,9 +194,9 @@ abbrev pub CanFind : Handed → ℕ → Type 0
 CanFind h name = (ino : ℕ) → (find_in h.inodes h.mounts (user_of h.u) h.u.dir (name_at h.image name)).answer ≡ Ok ino
     → 0 < slice_index (find_in h.inodes h.mounts (user_of h.u) h.u.dir (name_at h.image name)).inodes.references ino
 
-pub can_find : (fs : FileSystem) (h : Handed) (name : ℕ) → h.inodes ≡ inodes_of fs → IsFileSystem fs → IsSound h
-    → CanFind h name
-can_find fs h name same is sound ino ok =
+pub can_find_at : (fs : FileSystem) (h : Handed) (name : ℕ) → h.inodes ≡ inodes_of fs → IsFileSystem fs
+    → AreMounts h.mounts h.inodes.store → 0 < slice_index h.inodes.references h.u.dir → CanFind h name
+can_find_at fs h name same is are referred ino ok =
     let P : Inodes → Type 0 = λ n. 0 < slice_index n.references h.u.dir in
     let Q : Inodes → Type 0 =
     λ n. 0 < slice_index (find_in n h.mounts (user_of h.u) h.u.dir (name_at h.image name)).inodes.references ino in
@@ -204,7 +204,11 @@ can_find fs h name same is sound ino ok =
     let found : (find_in (inodes_of fs) h.mounts (user_of h.u) h.u.dir (name_at h.image name)).answer ≡ Ok ino =
     ap (λ (n : Inodes). (find_in n h.mounts (user_of h.u) h.u.dir (name_at h.image name)).answer) (sym same) ∙ ok in
     subst Q (sym same) (found_referred fs h.mounts (user_of h.u) h.u.dir (name_at h.image name) ino is
-    (subst R same sound.mounts) (subst P same (directory_referred h sound)) found)
+    (subst R same are) (subst P same referred) found)
+
+pub can_find : (fs : FileSystem) (h : Handed) (name : ℕ) → h.inodes ≡ inodes_of fs → IsFileSystem fs → IsSound h
+    → CanFind h name
+can_find fs h name same is sound = can_find_at fs h name same is sound.mounts (directory_referred h sound)
 
 pub kept_named : {A : Type 0} (old h : Handed) (taken : List ℕ) (found : Finding A) (next : Handed → A → Did)
     → ((e : Errno) → found.answer ≡ Err e → IsKeptBut old (with_inodes h found.inodes) taken)
@@ -216,19 +220,31 @@ kept_named {A = A} old h taken found next refused on = by found.answer refl wher
   by (Ok a) is = on a is
   by (Err e) is = refused e is
 
+-- a search that is refused, and one that finds
+pub found_not : (old h : Handed) (name : ℕ) (taken : List ℕ) (e : Errno) → IsKeptBut old h taken
+    → (find_in h.inodes h.mounts (user_of h.u) h.u.dir (name_at h.image name)).answer ≡ Err e
+    → IsKeptBut old (with_inodes h (find_in h.inodes h.mounts (user_of h.u) h.u.dir (name_at h.image name)).inodes) taken
+found_not old h name taken e k err =
+    let P : Inodes → Type 0 = λ n. IsKeptBut old (with_inodes h n) taken in
+    subst P (sym (found_none h.inodes h.mounts (user_of h.u) h.u.dir (name_at h.image name) e err)) k
+
+pub found_kept : (old h : Handed) (name : ℕ) (taken : List ℕ) (ino : ℕ) → IsKeptBut old h taken → CanFind h name
+    → (find_in h.inodes h.mounts (user_of h.u) h.u.dir (name_at h.image name)).answer ≡ Ok ino
+    → IsKeptBut old (with_inodes h (find_in h.inodes h.mounts (user_of h.u) h.u.dir (name_at h.image name)).inodes) (ino ∷ taken)
+found_kept old h name taken ino k can ok =
+    let more = found_more h.inodes h.mounts (user_of h.u) h.u.dir (name_at h.image name) ino ok in
+    let Q : Inodes → Type 0 = λ n. 0 < slice_index n.references ino in
+    let R : Inodes → Type 0 = λ n. IsKeptBut old (with_inodes h n) (ino ∷ taken) in
+    let low = taken_low h.inodes.references ino (subst Q more (can ino ok)) in
+    subst R (sym more) (kept_takes old h ino taken low k)
+
 pub kept_finds : (old h : Handed) (name : ℕ) (taken : List ℕ) (next : Handed → ℕ → Did) → IsSound old
     → IsKeptBut old h taken → CanFind h name
     → ((now : Handed) (ino : ℕ) → IsKeptBut old now (ino ∷ taken) → IsKeptBut old (next now ino).state
     (ino ∷ taken)) → IsKeptBut old (finds h name next).state taken
 kept_finds old h name taken next sound k can on =
     let found = find_in h.inodes h.mounts (user_of h.u) h.u.dir (name_at h.image name) in
-    let P : Inodes → Type 0 = λ n. IsKeptBut old (with_inodes h n) taken in
     kept_named old h taken found (λ now ino. until_end ino (next now ino))
-    (λ e err. subst P (sym (found_none h.inodes h.mounts (user_of h.u) h.u.dir (name_at h.image name) e err)) k)
-    (λ ino ok.
-    let more = found_more h.inodes h.mounts (user_of h.u) h.u.dir (name_at h.image name) ino ok in
-    let Q : Inodes → Type 0 = λ n. 0 < slice_index n.references ino in
-    let R : Inodes → Type 0 = λ n. IsKeptBut old (with_inodes h n) (ino ∷ taken) in
-    let low = taken_low h.inodes.references ino (subst Q more (can ino ok)) in
-    kept_lets_go old _ ino taken sound (on (with_inodes h found.inodes) ino (subst R (sym more)
-    (kept_takes old h ino taken low k))))
+    (λ e err. found_not old h name taken e k err)
+    (λ ino ok. kept_lets_go old _ ino taken sound
+    (on (with_inodes h found.inodes) ino (found_kept old h name taken ino k can ok)))

@@ -678,8 +678,8 @@ module _ {P : Handed → Type 0} {Q : Did → Type 0} {Few Known Line : ℕ → 
         walk_named h (find_in h.inodes h.mounts (user_of h.u) h.u.dir (name_at h.image special)) unmounts_named
         (finding_counts h.inodes _) p (λ l node q.
         let rest : Handed = let_go l node in
-        k.named (unmounts_named l node).named (check rest (disk_named rest node) (unmounts rest))
-        (checks rest (disk_named rest node) (unmounts rest)
+        k.named (unmounts_named l node).named (check rest (disk_named l node) (unmounts rest))
+        (checks rest (disk_named l node) (unmounts rest)
         (k.inodes l rest.inodes (put_back_counts l.inodes node) q) (λ device.
         unmounted rest device (k.inodes l rest.inodes (put_back_counts l.inodes node) q))))
 

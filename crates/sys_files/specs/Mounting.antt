@@ -1,6 +1,6 @@
 -- The second disk is mounted on a directory, and unmounted: mount(II), umount(II); Lions' Commentary, `smount`, `sumount` and
 -- `getmdev` in `sys3.c`.
-use Rattle.std.specs.Prelude.{ℕ, Bool, not, ◌==◌, ◌&&◌, ◌||◌, nat_lt, if◌then◌else◌, [], ◌∷◌, Option, Some, None, is_none, Result, Ok, slice_index}
+use Rattle.std.specs.Prelude.{ℕ, Bool, not, ◌==◌, ◌&&◌, ◌||◌, nat_lt, if◌then◌else◌, Option, Some, None, is_none, Result, Ok, slice_index}
 use Rattle.v6_base.specs.Access.{then_do}
 use Rattle.v6_base.specs.declared.errno.Errno.{Errno}
 use Rattle.v6_base.specs.declared.errno.Errno.TheVariants.{ENXIO, ENOTBLK, EBUSY, EINVAL}
@@ -48,10 +48,14 @@ abbrev pub mounts_disk : ℕ → Handed → ℕ → Did
 mounts_disk name h device =
     then_named h (find_in h.inodes h.mounts (user_of h.u) h.u.dir (name_at h.image name)) (covers device)
 
+-- The disk of a special file that was found is mounted on the directory of a name.
+abbrev pub mounts_found : ℕ → Handed → ℕ → Did
+mounts_found name h special = check h (disk_named h special) (mounts_disk name h)
+
 -- 21, mount: the names of a special file and of a directory. A third word says whether the disk may be written: it isn't looked
 -- at.
 abbrev pub mount_on : Handed → ℕ → ℕ → Did
-mount_on h special name = finds h special (λ h node. check h (disk_named h node) (mounts_disk name h))
+mount_on h special name = finds h special (mounts_found name)
 
 -- whether an inode of the second disk is referred to
 abbrev pub is_held : Handed → Bool

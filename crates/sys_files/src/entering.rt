@@ -9,7 +9,7 @@ ghost use Rattle.fs_tree.specs.Name.{name_at};
 ghost use Rattle.mount_tab.specs.Mounted.{split_of};
 ghost use Rattle.fs_tree.specs.Finding.{inodes_of, make_in, remove_in, named_by_made};
 ghost use Rattle.sys_files.specs.Handed.{Handed, handed, user_of, node_in};
-ghost use Rattle.sys_files.specs.Did.{Did, check, until_end};
+ghost use Rattle.sys_files.specs.Did.{Did, unnamed, check, until_end};
 ghost use Rattle.sys_files.specs.Making.{entry_written, new_in, makes_new, enters_new, links_in};
 ghost use Rattle.sys_files.specs.Entering.{HasEntry, HasMade, IsOnDisk, SameReferences, OneReferenceMore, TwoReferencesMore};
 
@@ -72,10 +72,10 @@ pub(crate) fn find_room<S: Space>(
     requires few { (i : ℕ) → slice_index f.old.tree.nodes.references i ≤ 65530 }
     requires mounts { AreMounts f.old.tree.mounts f.old.tree.nodes.store }
     ensures did { (row : Row) (next : Handed → ℕ → ℕ → List ℕ → Did)
-        → makes_new (handed f.old u.now row (S.image space.now)) name next
-        ≡ check (handed f.new u.now row (S.image space.now)) result
+        → unnamed (makes_new (handed f.old u.now row (S.image space.now)) name next)
+        ≡ unnamed (check (handed f.new u.now row (S.image space.now)) result
         (λ room. until_end room.dir
-        (next (handed f.new u.now row (S.image space.now)) room.dir room.offset room.name)) }
+        (next (handed f.new u.now row (S.image space.now)) room.dir room.offset room.name))) }
     ensures room { IfOk result (λ room. HasEntry f.new.tree.nodes room.dir room.offset) }
     ensures found { IfOk result (λ room. OneReferenceMore f.old.tree.nodes room.dir f.new.tree.nodes) }
     ensures same { IfOk result (λ room. f.new.tree.nodes.store ≡ f.old.tree.nodes.store) }

@@ -30,7 +30,7 @@ use v6_base::{Answer, Errno, Slot, Space, Trace};
 const MOST_LINKS: u8 = 127;
 
 /// Whether an inode is a directory.
-fn is_directory_at(nodes: &Nodes, ino: u16) -> bool
+pub(crate) fn is_directory_at(nodes: &Nodes, ino: u16) -> bool
     requires referenced { 0 < slice_index nodes.now.references ino }
     ensures { result ≡ is_directory (node_in nodes.now.store ino).mode }
 {

@@ -128,7 +128,7 @@ fn bury<T: Trace>(p: &mut Procs, s: Slot, dead: Slot, trace: &mut T) -> Answer
 /// # Errors
 ///
 /// `ECHILD`: the process has no child. `EINTR`: it would sleep, and a signal is due.
-#[tactic(auto, using(v6_base::proofs::Took::takes, fs_laws::proofs::RestLemmas::rest_stays, crate::proofs::Alive::calls_alive))]
+#[tactic(auto, using(v6_base::proofs::Took::takes, fs_nodes::proofs::RestLemmas::rest_stays, crate::proofs::Alive::calls_alive))]
 pub fn wait_child<T: Trace>(
     p: &mut Procs,
     tree: &mut Tree,

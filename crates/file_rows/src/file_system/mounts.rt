@@ -51,7 +51,8 @@ fn has_key(row: &Key) -> bool {
     if dev > 1 {
         return false;
     }
-    key_of(&Mounts::new(first, second), dev, ino) == key
+    let mounts = Mounts::new(first, second);
+    key_of(&mounts, dev, ino) == key
 }
 
 #[test]

@@ -15,6 +15,9 @@ write_named-requires-clause-directory g c =
 pub write_named-requires-clause-few : goal.write_named-requires-clause-few
 write_named-requires-clause-few g c = λ i. let few = (c.requires.sound any_row).few i in omega (arith, few)
 
+pub write_named-requires-clause-mounts : goal.write_named-requires-clause-mounts
+write_named-requires-clause-mounts g c = (c.requires.sound any_row).mounts
+
 pub returns-then-u-clause-whole : goal.returns-then-u-clause-whole
 returns-then-u-clause-whole g c = λ row.
     let image = g.S.Space.image c.args.space.now in

@@ -1,9 +1,13 @@
-use Rattle.std.proofs.Common.{◌∙◌}
-use Rattle.sys_files.specs.Handed.{handed}
+use Rattle.std.proofs.Common.{◌≡◌, Err, rules, ap, ◌∙◌}
+use Rattle.sys_files.specs.Handed.{Handed, handed, with_inodes}
+use Rattle.sys_files.specs.Entering.{did_of}
+use Rattle.sys_files.specs.Making.{enters_new}
+use Rattle.fs_tree.specs.Finding.{inodes_of}
 use Rattle.sys_files.specs.Core.{writes_parts}
 use Rattle.sys_files.proofs.GivingLemmas.{takes_keeps_gives}
-use Rattle.sys_files.proofs.MakingLemmas.{made_told}
+use Rattle.sys_files.proofs.MakingLemmas.{made_told, not_made}
 use Rattle.sys_files.proofs.EnteringLemmas.{disk_has, same_disk}
+use Rattle.sys_files.proofs.PartLemmas.{unnamed_told}
 use Rattle.sys_files.proofs.core_file.write_new.Goals as goal
 
 pub make_inode-requires-clause-there : goal.make_inode-requires-clause-there
@@ -16,6 +20,15 @@ enter_core-result-requires-clause-disk g c =
     same_disk c.args.f.now.tree.mounts c.args.f.now.tree.nodes.store c.disk_of-dev.result c.args.room.dir c.in_ok-ino.ino c.requires.mounts
     c.disk_of-dev.ensures.disk c.in_ok-ino.ensures.disk
 
+pub returns-in_err-ino-clause-did : goal.returns-in_err-ino-clause-did
+returns-in_err-ino-clause-did g c = λ row.
+    let h : Handed = handed c.args.f.now c.args.u.now row (g.S.Space.image c.args.space.now) in
+    let is : Err c.in_err-ino.field-0.0 ≡ c.from_residual.result = search rules in
+    not_made h c.args.room.dir c.args.room.offset c.args.room.name 0o666 c.args.now (writes_parts c.args.now) c.user_of.result
+    c.user_of.ensures c.disk_of-dev.result c.disk_of-dev.ensures.disk c.in_err-ino.field-0.0 (inodes_of c.make_inode.new.nodes)
+    c.in_err-ino.ensures.answer c.make_inode.ensures.inodes
+    ∙ ap (did_of (with_inodes h (inodes_of c.make_inode.new.nodes))) is
+
 pub returns-clause-did : goal.returns-clause-did
 returns-clause-did g c = λ row.
     let image = g.S.Space.image c.args.space.now in
@@ -24,7 +37,10 @@ returns-clause-did g c = λ row.
     c.disk_of-dev.result c.disk_of-dev.ensures.disk
     c.in_ok-ino.ino _ _ (handed c.enter_core-result.new.f c.args.u.now row image) c.enter_core-result.result
     c.in_ok-ino.ensures.answer c.make_inode.ensures.inodes
-    (c.enter_core-result.ensures.did row) c.let_go.ensures.inodes
+    (unnamed_told (handed c.enter_core-result.new.f c.args.u.now row image)
+    (enters_new (handed (record c.args.f.now { tree = record c.args.f.now.tree { nodes = c.make_inode.new.nodes } }) c.args.u.now row image)
+    c.args.room.dir c.args.room.offset c.args.room.name c.in_ok-ino.ino c.args.now (writes_parts c.args.now))
+    c.enter_core-result.result (c.enter_core-result.ensures.did row)) c.let_go.ensures.inodes
 
 pub returns-clause-kept : goal.returns-clause-kept
 returns-clause-kept g c =

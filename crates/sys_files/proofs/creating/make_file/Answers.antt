@@ -1,8 +1,13 @@
-use Rattle.std.proofs.Common.{◌∙◌, [], refl}
+use Rattle.std.proofs.Common.{◌∙◌, [], bit_and, refl, ap}
 use Rattle.v6_base.specs.Image.{Image}
+use Rattle.fs_tree.specs.Finding.{inodes_of}
+use Rattle.fs_tree.proofs.MountLemmas.{mounts_stay}
 use Rattle.sys_files.specs.Handed.{handed}
+use Rattle.sys_files.specs.Did.{unnamed}
+use Rattle.sys_files.specs.Making.{opens_for_writing}
 use Rattle.sys_files.proofs.CreatingLemmas.{between_kept, between_more, between_blocks}
 use Rattle.sys_files.proofs.EnteringLemmas.{disk_has, same_disk}
+use Rattle.sys_files.proofs.MakingLemmas.{made_answered, not_made}
 use Rattle.sys_files.proofs.creating.make_file.Goals as goal
 
 pub make_inode-requires-clause-there : goal.make_inode-requires-clause-there
@@ -14,6 +19,25 @@ pub enter_file-answer-requires-clause-disk : goal.enter_file-answer-requires-cla
 enter_file-answer-requires-clause-disk c =
     same_disk c.args.f.now.tree.mounts c.args.f.now.tree.nodes.store c.disk_of-dev.result c.args.room.dir c.in-Ok.ino c.requires.mounts
     c.disk_of-dev.ensures.disk c.in-Ok.ensures.disk
+
+pub enter_file-answer-requires-clause-mounts : goal.enter_file-answer-requires-clause-mounts
+enter_file-answer-requires-clause-mounts c =
+    mounts_stay c.args.f.now.tree.mounts c.args.f.now.tree.nodes.store c.make_inode.new.nodes.store c.in-Ok.ensures.found.counts
+    c.requires.mounts
+
+pub returns-in-Err-clause-did : goal.returns-in-Err-clause-did
+returns-in-Err-clause-did c = λ image.
+    not_made (handed c.args.f.now c.args.u.now c.args.row.now image) c.args.room.dir c.args.room.offset c.args.room.name
+    (bit_and c.args.mode 0o6777) c.args.now opens_for_writing c.user_of.result c.user_of.ensures c.disk_of-dev.result
+    c.disk_of-dev.ensures.disk c.in-Err.e (inodes_of c.make_inode.new.nodes) c.in-Err.ensures.answer c.make_inode.ensures.inodes
+
+pub returns-clause-did : goal.returns-clause-did
+returns-clause-did c = λ image.
+    made_answered (handed c.args.f.now c.args.u.now c.args.row.now image) c.args.room.dir c.args.room.offset c.args.room.name
+    (bit_and c.args.mode 0o6777) c.args.now opens_for_writing c.user_of.result c.user_of.ensures c.disk_of-dev.result
+    c.disk_of-dev.ensures.disk c.in-Ok.ino (inodes_of c.make_inode.new.nodes) (inodes_of c.let_go.new.nodes)
+    (handed c.enter_file-answer.new.f c.enter_file-answer.new.u c.enter_file-answer.new.row image) c.enter_file-answer.result
+    c.in-Ok.ensures.answer c.make_inode.ensures.inodes (ap unnamed (c.enter_file-answer.ensures.did image)) c.let_go.ensures.inodes
 
 pub returns-clause-kept : goal.returns-clause-kept
 returns-clause-kept c = λ image.

@@ -1,7 +1,13 @@
 use Rattle.std.proofs.Common.{refl}
 use Rattle.sys_files.specs.Handed.{handed}
+use Rattle.sys_files.proofs.ClosingLemmas.{sound_any}
 use Rattle.sys_files.proofs.DoesLemmas.{does_whole}
 use Rattle.sys_files.proofs.mounting.mount_on.Goals as goal
+
+pub mount-result-requires : goal.mount-result-requires
+mount-result-requires g c = record {
+  sound = λ row. sound_any c.args.f.now c.args.u.now _ row _ (g.S.Space.image c.args.space.now) c.requires.sound;
+}
 
 pub returns-clause-does : goal.returns-clause-does
 returns-clause-does g c =

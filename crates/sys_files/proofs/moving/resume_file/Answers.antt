@@ -93,6 +93,7 @@ returns-then-is_on_line-clause-does g c =
     (record rest { lines = new.lines; u = c.resume_line.new.u; image = g.S.Space.image c.resume_line.new.space }) =
     (λ i. record rest {
       inodes = inodes_of (e.tree i).nodes;
+      mounts = (e.tree i).mounts;
       marks = (e.tree i).marks;
       files = e.table i;
       pipes = e.pipes i;

@@ -17,6 +17,7 @@ returns-in-Ok-clause-state c = λ image.
     (λ i. record (handed c.add_number.new.f c.add_number.new.u c.args.row.now image) { inodes = inodes i; row = row i; lines = lines i })
     ∙ (λ i. record h {
       inodes = with_reference (inodes_of (tree i).nodes) c.args.ino;
+      mounts = (tree i).mounts;
       marks = (tree i).marks;
       files = a.1 i;
       pipes = c.add_number.ensures.pipes i;
