@@ -29,6 +29,8 @@ use Rattle.abstract_unix.specs.Calls.{answers, came_by, with_world, world_of}
 use Rattle.unix_core.specs.Parts.{unix_of, board_in, IsGood, IsReady, HasCome, is_over}
 use Rattle.abstract_unix.specs.Whole.{told_in, Owes, Owed, CanGoOn}
 use Rattle.abstract_unix.proofs.Owing.{few_references, stands_within}
+use Rattle.abstract_unix.proofs.StillWorlds as worlds
+use Rattle.sys_procs.proofs.Slots.{fifty_processes}
 use Rattle.unix_core.proofs.GoingLemmas.{going_same}
 use Rattle.unix_core.proofs.GoodLemmas.{told_of_slot, forty, fifty_told, told_of_image, still_runs, Rests, moved_unix, good_then}
 use Rattle.unix_core.proofs.WorldLemmas.{ready_alive, slot_is, is_living, references_in}
@@ -65,6 +67,16 @@ ready_calls w s ready long holds =
 abbrev pub given : World → its.World
 given w = handed w.procs w.files.tree.nodes
 
+-- before it they are what they are
+pub still_given : (w : World) (s : ℕ) → IsReady w s → worlds.IsStill (given w) s (given w)
+still_given w s ready = record {
+  count = refl;
+  told = refl;
+  there = slot_is w s ready;
+  lives = is_living w s ready;
+  fifty = fifty_processes w.procs.rows.slots w.procs.images.kept;
+}
+
 -- what the call is handed is what the Unix says
 pub near_here : (w : World) (s : ℕ) → IsReady w s → IsNear (given w) (given w) s
 near_here w s ready = record {
@@ -90,8 +102,8 @@ pub record StaysBeside (w now : World) : Type 0 where
 abbrev pub after : World → Tree → Procs → World
 after w tree procs = record w { files = record w.files { tree = tree }; procs = procs }
 
-pub beside : (w : World) (tree : Tree) (procs : Procs) → StaysBeside w (after w tree procs)
-beside w tree procs = record { table = refl; rests = record { pipes = refl; lines = refl; tape = refl; core = refl; slots = refl } }
+pub beside : (w : World) (tree : Tree) (procs : Procs) → tree.mounts ≡ w.files.tree.mounts → StaysBeside w (after w tree procs)
+beside w tree procs same = record { table = refl; rests = record { mounts = same; pipes = refl; lines = refl; tape = refl; core = refl; slots = refl } }
 
 -- how often the texts refer to an inode
 abbrev pub shared : List (Option Text) → ℕ → ℕ
@@ -249,10 +261,12 @@ module _ (w now : World) (c : Comes) (still : IsStill w c) (stays : StaysBeside 
 
 pub gone_ready : (w now : World) (s : ℕ) (c : Comes) → IsTame w c → StaysBeside w now → {start end : Taken} → HasLeft w.procs now.procs now.files.tree.nodes start end c
     → (came w.procs c).stop ≡ None → IsReady w s → AreProcs now.procs
-    → CanGoOn (with_world (unix_of w) c.state) → IsMarked now.procs now.files.tree.marks → IsReady now s
-gone_ready w now s c is stays left none ready agree waits marks =
-    moved_ready w now s ready c.state agree (left.state ∙ ap (λ o. left_by o c.state) none) (is.like none) (gone_moved w now c is.still stays left none) stays
-    waits marks
+    → CanGoOn (with_world (unix_of w) c.state) → IsMarked now.procs now.files.tree.marks → counts c.state.inodes.store ≡ counts w.files.tree.nodes.store
+    → IsReady now s
+gone_ready w now s c is stays left none ready agree waits marks same =
+    let state = left.state ∙ ap (λ o. left_by o c.state) none in
+    moved_ready w now s ready c.state agree state (is.like none) (gone_moved w now c is.still stays left none) stays
+    waits marks (ap (λ (v : its.World). counts v.inodes.store) state ∙ same)
 
 -- The same of a call of the table, by its answer.
 module _ (w now : World) (s : ℕ) (c : Comes) (is : IsTame w c) (stays : StaysBeside w now) {r : Result Answer PanicKind} {start end : Taken}
@@ -281,8 +295,9 @@ module _ (w now : World) (s : ℕ) (c : Comes) (is : IsTame w c) (stays : StaysB
     pub call_unix : unix_of now ≡ with_world (unix_of w) c.state
     call_unix = gone_unix w now c is.still stays left went.0
 
-    pub call_ready : IsReady w s → AreProcs now.procs → CanGoOn (with_world (unix_of w) c.state) → IsMarked now.procs now.files.tree.marks → IsReady now s
-    call_ready ready agree waits marks = gone_ready w now s c is stays left went.0 ready agree waits marks
+    pub call_ready : IsReady w s → AreProcs now.procs → CanGoOn (with_world (unix_of w) c.state) → IsMarked now.procs now.files.tree.marks
+        → counts c.state.inodes.store ≡ counts w.files.tree.nodes.store → IsReady now s
+    call_ready ready agree waits marks same = gone_ready w now s c is stays left went.0 ready agree waits marks same
 
     -- the marks, where it has left them and the texts' files
     pub call_marked : now.files.tree.marks ≡ w.files.tree.marks → IsMarked w.procs w.files.tree.marks → marks_of c.state.texts ≡ marks_of (unix_of w).texts

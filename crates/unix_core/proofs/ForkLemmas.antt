@@ -13,6 +13,8 @@ use Rattle.proc_tab.proofs.SearchLemmas.{lowest_finds}
 use Rattle.open_files.specs.declared.file.OpenFile.{OpenFile}
 use Rattle.pipe_ends.specs.declared.ends.Pipe.{Pipe}
 use Rattle.fs_nodes.specs.FileSystem.{IsFileSystem}
+use Rattle.fs_nodes.specs.Keys.{counts}
+use Rattle.fs_tree.specs.declared.tree.Tree.{Tree}
 use Rattle.sys_procs.specs.Process.{Process, no_process, member_of}
 use Rattle.sys_procs.specs.World as its
 use Rattle.sys_procs.specs.World.{members}
@@ -80,6 +82,7 @@ record ForkOwes (w : World) (s : ℕ) (c : Comes) : Type 0 where
   stays : (t : Told) → told_of_slot w s ≡ Some t → get_or (told_in c.state.processes) s None ≡ Some t
   owed : Owes w.files.tree.mounts.covered c.state.inodes.references (shares w.files.table (process_of (unix_of w) s).u.files c.answer) w.files.pipes c.state.texts (told_in c.state.processes)
   marks : marks_of c.state.texts ≡ marks_of (unix_of w).texts
+  same : counts c.state.inodes.store ≡ counts w.files.tree.nodes.store
 
 module _ (w : World) (s : ℕ) (ready : IsReady w s) where
   abbrev ps : List (Option Process)
@@ -101,6 +104,7 @@ module _ (w : World) (s : ℕ) (ready : IsReady w s) where
         stays = λ t is. ap (λ l. get_or l s None) same ∙ is;
         owed = subst (Owes w.files.tree.mounts.covered refs w.files.table w.files.pipes (unix_of w).texts) (sym same) ready.good.owed;
         marks = refl;
+        same = refl;
       }
   fork_by (Some child) found =
       let free = free_slot w child found in
@@ -122,6 +126,7 @@ module _ (w : World) (s : ℕ) (ready : IsReady w s) where
             (same_owes texts joins (files_of_child texts p.text) refs w.files.table w.files.pipes ts ready.good.owed) (told_here w s ready) (told_none ps child free.empty)
             (let low = free.low in let long = fifty_told w in omega (arith, low, long)));
         marks = same_marks texts joins (files_of_child texts p.text);
+        same = refl;
       }
 
   fork_owes : ForkOwes w s (call w s)
@@ -158,7 +163,8 @@ module _ (w now : World) (s : ℕ) (ready : IsReady w s) (agree : AreProcs now.p
             (subst (P (given now) now.files.table) (sym rests.pipes) (subst (λ files. P (given now) files w.files.pipes) (sym table)
             (subst (λ x. P x mine w.files.pipes) (sym state) owes.owed)))
             (forked_waits user)
-            (still_marked w now (call w s).state ready.good.marks marks state owes.marks);
+            (still_marked w now (call w s).state ready.good.marks marks state owes.marks)
+            (ap (λ (x : its.World). counts x.inodes.store) state ∙ owes.same);
         runs = moved.running ∙ ready.runs;
         user = ready.user;
       }
@@ -233,7 +239,7 @@ module _ (w done : World) (s : ℕ) (ready : IsReady w s) (form : IsFileSystem w
     switches = (fork_still w s).switches went.0
 
     rests : Rests w now
-    rests = record { pipes = pipes; lines = lines; tape = tape; core = core; slots = slots }
+    rests = record { mounts = ap (λ (t : Tree). t.mounts) tree ∙ stays.rests.mounts; pipes = pipes; lines = lines; tape = tape; core = core; slots = slots }
 
     pub fork_ready : is_user (process_of (unix_of w) s) ≡ true → done.files.tree.marks ≡ w.files.tree.marks → IsReady now s
     fork_ready user marks = forked_ready w now s ready agree state switches moved its_table rests user (ap (λ t. t.marks) tree ∙ marks)

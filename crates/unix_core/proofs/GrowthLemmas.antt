@@ -15,6 +15,7 @@ use Rattle.pick_rules.specs.Effects as effects
 use Rattle.pick_rules.specs.Effects.{Effect, Size, Lets, image_at, lifted}
 use Rattle.pick_rules.specs.Logged.{Logged, Stop, logged, log_one, with_what_came, left_by}
 use Rattle.fs_nodes.specs.FileSystem.{IsFileSystem}
+use Rattle.fs_nodes.specs.Keys.{counts}
 use Rattle.seg_regs.specs.Sizes.{is_refused}
 use Rattle.sys_procs.specs.Process.{Process}
 use Rattle.sys_procs.specs.World as its
@@ -93,6 +94,7 @@ module _ (w : World) (s : ℕ) (ready : IsReady w s) where
   -- no text changes, and who waits can go on
   record Leaves (c : Comes) : Type 0 where
     texts : c.state.texts ≡ (unix_of w).texts
+    same : counts c.state.inodes.store ≡ counts w.files.tree.nodes.store
     waits : CanGoOn (with_world (unix_of w) c.state)
     handlers : (its.process_of c.state s).u.handlers ≡ (process_of (unix_of w) s).u.handlers
     halts : ((came w.procs c).stop ≡ None) ⊎ ((came w.procs c).board ≡ board w.procs)
@@ -100,6 +102,7 @@ module _ (w : World) (s : ℕ) (ready : IsReady w s) where
   expands_leaves : (d stack : ℕ) → Leaves (expands (given w) s d stack)
   expands_leaves d stack = record {
     texts = refl;
+    same = refl;
     waits = going_put (unix_of w) s (process_of (unix_of w) s) (sized d stack (process_of (unix_of w) s)) (slot_is w s ready)
         (record { pending = refl; call = refl; files = refl; lives = refl }) ready.good.pending;
     handlers = ap (λ (x : Process). x.u.handlers)
@@ -149,7 +152,7 @@ row_tame w s sp ready None e = tame_comes w (given w) _ refl (given_like w)
 row_tame w s sp ready (Some c) e = grow_tame w s ready sp c e
 
 row_leaves : (w : World) (s sp : ℕ) (ready : IsReady w s) (o : Option Comes) → growth w s sp ≡ o → Leaves w s ready (row w s o)
-row_leaves w s sp ready None e = record { texts = refl; waits = ready.good.pending; handlers = refl; halts = inl refl }
+row_leaves w s sp ready None e = record { texts = refl; same = refl; waits = ready.good.pending; handlers = refl; halts = inl refl }
 row_leaves w s sp ready (Some c) e = grow_leaves w s ready sp c e
 
 -- effects after which a turn just ends
@@ -181,7 +184,7 @@ module _ (w now : World) (s sp : ℕ) (ready : IsReady w s) (form : IsFileSystem
     grows_ready agree marks =
         let leaves = row_leaves w s sp ready (growth w s sp) refl in
         gone_ready w now s its_row tame stays does.left went.0 ready agree leaves.waits
-        (still_marked w now its_row.state ready.good.marks marks (does.left.state ∙ ap (λ o. left_by o its_row.state) went.0) (ap marks_of leaves.texts))
+        (still_marked w now its_row.state ready.good.marks marks (does.left.state ∙ ap (λ o. left_by o its_row.state) went.0) (ap marks_of leaves.texts)) leaves.same
 
     -- who is told of signals as before
     pub grows_handlers : (process_of (unix_of now) s).u.handlers ≡ (process_of (unix_of w) s).u.handlers

@@ -41,7 +41,7 @@ module _ (w : World) (s n : ℕ) (ready : IsReady w s) (p : Procs) (agree : AreP
   x = change (given w) s (signalled n)
 
   stays : StaysBeside w sent
-  stays = record { table = refl; rests = record { pipes = refl; lines = refl; tape = refl; core = refl; slots = refl } }
+  stays = record { table = refl; rests = record { mounts = refl; pipes = refl; lines = refl; tape = refl; core = refl; slots = refl } }
 
   moved : MovedBoard (board w.procs) (board p)
   moved =
@@ -61,7 +61,7 @@ module _ (w : World) (s n : ℕ) (ready : IsReady w s) (p : Procs) (agree : AreP
       }) moved stays
       (going_put (unix_of w) s (process_of (unix_of w) s) (signalled n (process_of (unix_of w) s)) (slot_is w s ready)
       (record { pending = refl; call = refl; files = refl; lives = refl }) ready.good.pending)
-      (still_marked w sent x ready.good.marks refl (state w.files.tree.nodes) refl)
+      (still_marked w sent x ready.good.marks refl (state w.files.tree.nodes) refl) refl
 
   pub sent_come : HasCome (board_in w) (signals (unix_of w) s n) Trapped sent
   sent_come =

@@ -32,7 +32,7 @@ pub tell-caught-requires-clause-image : goal.tell-caught-requires-clause-image
 tell-caught-requires-clause-image g c =
     let w : World = c.args.world.now in
     let e = c.grow.ensures in
-    let then_ready = grows_ready w (after w c.grow.new.tree c.grow.new.p) c.args.s _ c.requires.ready c.see.ensures (beside w c.grow.new.tree c.grow.new.p)
+    let then_ready = grows_ready w (after w c.grow.new.tree c.grow.new.p) c.args.s _ c.requires.ready c.see.ensures (beside w c.grow.new.tree c.grow.new.p c.grow.ensures.mounts)
     e.does c.in-Ok.field-0 c.in-Ok.is e.agree e.marks in
     then_ready.good.running c.args.s then_ready.runs then_ready.user
 
@@ -41,9 +41,9 @@ tell-caught-requires-clause-heeded g c =
     let w : World = c.args.world.now in
     let now : World = after w c.grow.new.tree c.grow.new.p in
     let e = c.grow.ensures in
-    let grown = grows_ready w now c.args.s _ c.requires.ready c.see.ensures (beside w c.grow.new.tree c.grow.new.p) e.does c.in-Ok.field-0 c.in-Ok.is e.agree e.marks in
+    let grown = grows_ready w now c.args.s _ c.requires.ready c.see.ensures (beside w c.grow.new.tree c.grow.new.p c.grow.ensures.mounts) e.does c.in-Ok.field-0 c.in-Ok.is e.agree e.marks in
     let same = ap (λ (u : UArea). u.handlers) (own_area now c.args.s grown)
-    ∙ grows_handlers w now c.args.s _ c.requires.ready c.see.ensures (beside w c.grow.new.tree c.grow.new.p) e.does c.in-Ok.field-0 c.in-Ok.is
+    ∙ grows_handlers w now c.args.s _ c.requires.ready c.see.ensures (beside w c.grow.new.tree c.grow.new.p c.grow.ensures.mounts) e.does c.in-Ok.field-0 c.in-Ok.is
     ∙ ap (λ (u : UArea). u.handlers) (sym (own_area w c.args.s c.requires.ready)) in
     ap (λ (l : List ℕ). slice_index l c.args.sig % 2) same ∙ c.requires.heeded
 
@@ -53,7 +53,7 @@ returns-in-Ok-clause-come g c =
     let s = c.args.s in
     let sig = c.args.sig in
     let now : World = after w c.grow.new.tree c.grow.new.p in
-    let stays = beside w c.grow.new.tree c.grow.new.p in
+    let stays = beside w c.grow.new.tree c.grow.new.p c.grow.ensures.mounts in
     let e = c.grow.ensures in
     let t = c.tell-caught.ensures in
     let k : ImagesState = c.tell-caught.new.world.procs.images in
@@ -69,13 +69,13 @@ returns-in-Ok-clause-ready g c goes =
     let now : World = after w c.grow.new.tree c.grow.new.p in
     let e = c.grow.ensures in
     let t = c.tell-caught.ensures in
-    let grown = grows_ready w now s _ c.requires.ready c.see.ensures (beside w c.grow.new.tree c.grow.new.p) e.does c.in-Ok.field-0 c.in-Ok.is e.agree e.marks in
+    let grown = grows_ready w now s _ c.requires.ready c.see.ensures (beside w c.grow.new.tree c.grow.new.p c.grow.ensures.mounts) e.does c.in-Ok.field-0 c.in-Ok.is e.agree e.marks in
     subst (λ x. IsReady x s) (sym t.others) (told_ready now s grown t.holds c.args.sig c.tell-caught.new.world.procs.images t.images)
 
 pub returns-in-Ok-clause-items : goal.returns-in-Ok-clause-items
 returns-in-Ok-clause-items g c =
     let w : World = c.args.world.now in
-    caught_took w (after w c.grow.new.tree c.grow.new.p) c.args.s _ c.args.sig c.requires.ready c.see.ensures (beside w c.grow.new.tree c.grow.new.p)
+    caught_took w (after w c.grow.new.tree c.grow.new.p) c.args.s _ c.args.sig c.requires.ready c.see.ensures (beside w c.grow.new.tree c.grow.new.p c.grow.ensures.mounts)
     (address w c.args.s c.area.result c.requires.ready c.area.ensures.u) c.grow.ensures.does c.in-Ok.field-0 c.in-Ok.is
 
 pub returns-in-Ok-clause-rest : goal.returns-in-Ok-clause-rest
@@ -85,7 +85,7 @@ returns-in-Ok-clause-rest g c =
 pub returns-in-Err-clause-come : goal.returns-in-Err-clause-come
 returns-in-Err-clause-come g c =
     let w : World = c.args.world.now in
-    catch_stops w (after w c.grow.new.tree c.grow.new.p) c.args.s _ c.args.sig c.requires.ready c.see.ensures (beside w c.grow.new.tree c.grow.new.p)
+    catch_stops w (after w c.grow.new.tree c.grow.new.p) c.args.s _ c.args.sig c.requires.ready c.see.ensures (beside w c.grow.new.tree c.grow.new.p c.grow.ensures.mounts)
     (address w c.args.s c.area.result c.requires.ready c.area.ensures.u) c.grow.ensures.does c.in-Err.kind c.in-Err.is
 
 pub returns-in-Err-clause-ready : goal.returns-in-Err-clause-ready
@@ -94,7 +94,7 @@ returns-in-Err-clause-ready g c goes = over_then c.in-Err.kind goes
 pub returns-in-Err-clause-items : goal.returns-in-Err-clause-items
 returns-in-Err-clause-items g c =
     let w : World = c.args.world.now in
-    catch_cut w (after w c.grow.new.tree c.grow.new.p) c.args.s _ c.args.sig c.requires.ready c.see.ensures (beside w c.grow.new.tree c.grow.new.p)
+    catch_cut w (after w c.grow.new.tree c.grow.new.p) c.args.s _ c.args.sig c.requires.ready c.see.ensures (beside w c.grow.new.tree c.grow.new.p c.grow.ensures.mounts)
     (address w c.args.s c.area.result c.requires.ready c.area.ensures.u) c.grow.ensures.does c.in-Err.kind c.in-Err.is
 
 pub see_covered-requires : goal.see_covered-requires
@@ -104,12 +104,12 @@ pub returns-in-Ok-clause-runs : goal.returns-in-Ok-clause-runs
 returns-in-Ok-clause-runs g c =
     let w : World = c.args.world.now in
     let e = c.grow.ensures in
-    let grown = grows_ready w (after w c.grow.new.tree c.grow.new.p) c.args.s _ c.requires.ready c.see.ensures (beside w c.grow.new.tree c.grow.new.p)
+    let grown = grows_ready w (after w c.grow.new.tree c.grow.new.p) c.args.s _ c.requires.ready c.see.ensures (beside w c.grow.new.tree c.grow.new.p c.grow.ensures.mounts)
     e.does c.in-Ok.field-0 c.in-Ok.is e.agree e.marks in
     ap (λ (x : World). x.procs.table.running) c.tell-caught.ensures.others ∙ grown.runs
 
 pub returns-in-Err-clause-runs : goal.returns-in-Err-clause-runs
 returns-in-Err-clause-runs g c =
     let w : World = c.args.world.now in
-    grows_runs w (after w c.grow.new.tree c.grow.new.p) c.args.s _ c.requires.ready c.see.ensures (beside w c.grow.new.tree c.grow.new.p)
+    grows_runs w (after w c.grow.new.tree c.grow.new.p) c.args.s _ c.requires.ready c.see.ensures (beside w c.grow.new.tree c.grow.new.p c.grow.ensures.mounts)
     c.grow.ensures.does c.in-Err.kind c.in-Err.is (returns (unix_of w))

@@ -6,6 +6,7 @@ use Rattle.sys_procs.specs.Agree.{ended_by}
 use Rattle.sys_procs.specs.World as its
 use Rattle.v6_base.specs.Trace.{Took}
 use Rattle.fs_nodes.proofs.RestLemmas.{rest_then}
+use Rattle.fs_nodes.specs.Keys.{counts}
 use Rattle.pick_rules.specs.declared.table.Table.{Table}
 use Rattle.pick_rules.specs.Effects.{Show}
 use Rattle.pick_rules.specs.Logged.{Stop, logged}
@@ -17,6 +18,7 @@ use Rattle.abstract_unix.specs.Calls.{in_order, closes_all, handed_of, with_hand
 use Rattle.sys_files.specs.Handed.{Handed}
 use Rattle.sys_procs.specs.Process.{Process}
 use Rattle.abstract_unix.proofs.PendingRows.{close_user}
+use Rattle.abstract_unix.proofs.StillWorlds as worlds
 use Rattle.unix_core.proofs.AreaLemmas.{none_pending, own_put}
 use Rattle.unix_core.specs.Parts.{unix_of, board_in, IsReady, IsReadyToShow}
 use Rattle.unix_core.specs.Passing.{all_woken}
@@ -25,7 +27,7 @@ use Rattle.abstract_unix.proofs.Owing.{some_within}
 use Rattle.unix_core.proofs.WorldLemmas.{slot_is, told_here}
 use Rattle.unix_core.proofs.ShowingLemmas.{with_table, passed_ready, passed_unix, passed_board}
 use Rattle.unix_core.proofs.GoodLemmas.{Rests}
-use Rattle.unix_core.proofs.CameLemmas.{ready_calls, over_then}
+use Rattle.unix_core.proofs.CameLemmas.{ready_calls, given, still_given, over_then}
 use Rattle.unix_core.proofs.ExitLemmas.{end_state, exit_took, exit_come, exit_stops}
 use Rattle.unix_core.proofs.EndedLemmas.{all_closed, ended_unix, ended_good, stopped_unix, stopped_runs}
 use Rattle.unix_core.proofs.delivery.end_with.Goals as goal
@@ -108,7 +110,7 @@ returns-in-Ok-clause-come g c =
     let ready = then w new s t shown state is in
     let now : World = record w1 { files = record w1.files { tree = c.end_proc-ended.new.tree }; procs = c.end_proc-ended.new.p } in
     let e = c.end_proc-ended.ensures in
-    let rests : Rests w1 now = record { pipes = refl; lines = refl; tape = refl; core = refl; slots = refl } in
+    let rests : Rests w1 now = record { mounts = e.mounts; pipes = refl; lines = refl; tape = refl; core = refl; slots = refl } in
     let none = ended_goes _ _ e.does.answer c.in-Ok.is in
     exit_come w w1 now s ready n c.see.ensures (closed_unix w new s t shown state is) (closed_board w new s t shown state is) none
     (ended_unix w1 now s ready n e.agree none (end_state w1 s ready n _ none e.does.left.state) e.does.left.shown refl rests) e.does.left.shown
@@ -127,11 +129,13 @@ returns-in-Ok-clause-good g c goes =
     let ready = then w new s t shown state is in
     let now : World = record w1 { files = record w1.files { tree = c.end_proc-ended.new.tree }; procs = c.end_proc-ended.new.p } in
     let e = c.end_proc-ended.ensures in
-    let rests : Rests w1 now = record { pipes = refl; lines = refl; tape = refl; core = refl; slots = refl } in
+    let rests : Rests w1 now = record { mounts = e.mounts; pipes = refl; lines = refl; tape = refl; core = refl; slots = refl } in
     let closed = closed_then w w1 s c.requires.ready ready (closed_unix w new s t shown state is) in
     let none = ended_goes _ _ e.does.answer c.in-Ok.is in
-    ended_good w1 now s ready n e.agree none (end_state w1 s ready n _ none e.does.left.state) e.does.left.shown refl rests c.see.ensures closed
+    let left = end_state w1 s ready n _ none e.does.left.state in
+    ended_good w1 now s ready n e.agree none left e.does.left.shown refl rests c.see.ensures closed
     (closed_free w new s t shown state is c.requires.ready (none_pending (process_of (unix_of w) s) c.requires.user)) e.marks
+    (ap (λ (v : its.World). counts v.inodes.store) left ∙ (worlds.gone_ended (given w1) s (given w1) n (still_given w1 s ready)).count)
 
 pub returns-in-Ok-clause-items : goal.returns-in-Ok-clause-items
 returns-in-Ok-clause-items g c =
@@ -161,7 +165,7 @@ returns-in-Err-clause-come g c =
     let ready = then w new s t shown state is in
     let now : World = record w1 { files = record w1.files { tree = c.end_proc-ended.new.tree }; procs = c.end_proc-ended.new.p } in
     let e = c.end_proc-ended.ensures in
-    let rests : Rests w1 now = record { pipes = refl; lines = refl; tape = refl; core = refl; slots = refl } in
+    let rests : Rests w1 now = record { mounts = e.mounts; pipes = refl; lines = refl; tape = refl; core = refl; slots = refl } in
     let halt = ended_stops _ c.in-Err.kind _ e.does.answer c.in-Err.is in
     exit_stops w w1 now s ready n c.see.ensures (closed_unix w new s t shown state is) (closed_board w new s t shown state is)
     halt.0 halt.1.0 (Panic c.in-Err.kind) (ap Panic halt.1.1)
@@ -180,7 +184,7 @@ returns-in-Err-clause-runs g c other =
     let ready = then w new s t c.close_files.ensures.shown c.close_files.ensures.unix c.pass_on.ensures.table in
     let now : World = record w1 { files = record w1.files { tree = c.end_proc-ended.new.tree }; procs = c.end_proc-ended.new.p } in
     let e = c.end_proc-ended.ensures in
-    let rests : Rests w1 now = record { pipes = refl; lines = refl; tape = refl; core = refl; slots = refl } in
+    let rests : Rests w1 now = record { mounts = e.mounts; pipes = refl; lines = refl; tape = refl; core = refl; slots = refl } in
     let halt = ended_stops _ c.in-Err.kind _ e.does.answer c.in-Err.is in
     stopped_runs w1 now s ready c.args.status halt.0 halt.1.0 e.does.left.state e.does.left.shown refl rests
 

@@ -29,13 +29,21 @@ use Rattle.unix_core.proofs.CountLemmas.{has_not_waited}
 use Rattle.unix_core.proofs.EndingLemmas.{came_goes}
 use Rattle.unix_core.proofs.WaitLemmas.{takes_disk, slept_goes, waited_any, timed_effects, untimed_come, timed_come, cut_come, stopped_by}
 use Rattle.unix_core.specs.Parts.{unix_of, board_in, HasCome, IsReady}
-use Rattle.unix_core.proofs.CameLemmas.{given, IsTame, goes_on, after, beside, world_is, ready_calls, over_then, call_took, call_cut, call_stops, call_ready, call_come}
+use Rattle.unix_core.proofs.CameLemmas.{given, still_given, IsTame, goes_on, after, beside, world_is, ready_calls, over_then, call_took, call_cut, call_stops, call_ready, call_come}
 use Rattle.unix_core.proofs.CoverLemmas.{stopped_covered}
+use Rattle.unix_core.proofs.WorldLemmas.{mounts_is}
+use Rattle.abstract_unix.proofs.StillWorlds as worlds
 use Rattle.unix_core.proofs.TameRows.{tame_row}
 use Rattle.unix_core.proofs.process.call_processes.Goals as goal
 
 abbrev row : World → ProcessCall → ℕ → List ℕ → Comes
 row w call s args = process_row call w.files.tree.mounts (given w) s args
+
+-- that of the Unix
+row_is : (w : World) (call : ProcessCall) (s : ℕ) (args : List ℕ) → IsReady w s → IsFileSystem w.files.tree.nodes
+    → row w call s args ≡ process_row call (mounts_of (unix_of w)) (world_of (unix_of w)) s args
+row_is w call s args ready form =
+    λ i. process_row call (mounts_is w.files.tree.mounts w.files.tree.nodes.store ready.good.mounts i) (world_is w s ready form i) s args
 
 tame : (w : World) (call : ProcessCall) (s : ℕ) (args : List ℕ) → IsReady w s → IsFileSystem w.files.tree.nodes → IsKept w.procs.images.kept → IsTame w (row w call s args)
 tame w call s args ready form holds = tame_row w s ready form holds call args
@@ -59,7 +67,7 @@ waits_so : (w : World) (call : ProcessCall) (s : ℕ) (args : List ℕ) → IsRe
 waits_so w call s args ready form answer is loaded slots same told =
     sym (told ∙ ap (λ (x : Slots). loads_program call answer && not (x.disk == 0)) same
     ∙ ap (λ a. loads_program call a && not (w.slots.disk == 0))
-    (is ∙ ap (λ x. (process_row call x s args).answer) (world_is w s ready form)))
+    (is ∙ ap (λ (x : Comes). x.answer) (row_is w call s args ready form)))
 
 waits_then : (w : World) (call : ProcessCall) (s : ℕ) (args : List ℕ) (loaded : Bool) → waits_in_call (unix_of w) s (OnProcesses call) args ≡ loaded
     → let its : Comes = process_row call (mounts_of (unix_of w)) (world_of (unix_of w)) s args in
@@ -74,15 +82,19 @@ do_process_call-requires-clause-calls g c = ready_calls c.args.world.now c.args.
 pub do_process_call-requires-clause-marks : goal.do_process_call-requires-clause-marks
 do_process_call-requires-clause-marks g c = c.requires.ready.good.marks
 
+pub do_process_call-requires-clause-mounts : goal.do_process_call-requires-clause-mounts
+do_process_call-requires-clause-mounts g c = c.requires.ready.good.mounts
+
 pub conclude-ending-requires : goal.conclude-ending-requires
 conclude-ending-requires g c =
     let w : World = c.args.world.now in
     let e = c.do_process_call.ensures in
     call_ready w (after w c.do_process_call.new.tree c.do_process_call.new.p) c.args.s (row w c.args.call c.args.s c.args.args)
-    (tame w c.args.call c.args.s c.args.args c.requires.ready c.see.ensures c.see_kept.ensures) (beside w c.do_process_call.new.tree c.do_process_call.new.p) e.does
+    (tame w c.args.call c.args.s c.args.args c.requires.ready c.see.ensures c.see_kept.ensures) (beside w c.do_process_call.new.tree c.do_process_call.new.p c.do_process_call.ensures.mounts) e.does
     c.in-Ok.answer c.in-Ok.is c.requires.ready
     (IfOk-at_ok (λ (a : Answer). AreProcs c.do_process_call.new.p) c.in-Ok.is e.agree)
     (waits w c.args.call c.args.s c.args.args c.requires.ready c.requires.user) e.marks
+    (worlds.still_row (given w) c.args.s c.args.call w.files.tree.mounts (given w) c.args.args (still_given w c.args.s c.requires.ready)).count
 
 pub wait_for_disk-requires-clause-waits : goal.wait_for_disk-requires-clause-waits
 wait_for_disk-requires-clause-waits g c = subst CanWait (sym c.conclude-ending.ensures.slots) c.requires.waits
@@ -100,10 +112,10 @@ returns-then-has_loaded-clause-come g c =
     let waits = waits_so w c.args.call s c.args.args c.requires.ready c.see.ensures c.in-Ok.answer is c.has_loaded.result c.conclude-ending.new.world.slots
     c.conclude-ending.ensures.slots c.has_loaded.ensures in
     let done : HasCome (board_in w) (came_by (unix_of w) s its) c.conclude-ending.result c.conclude-ending.new.world =
-    subst (λ x. HasCome (board_in w) (came_by (unix_of w) s (process_row c.args.call x s c.args.args)) c.conclude-ending.result c.conclude-ending.new.world)
-    (world_is w s c.requires.ready c.see.ensures)
+    subst (λ (x : Comes). HasCome (board_in w) (came_by (unix_of w) s x) c.conclude-ending.result c.conclude-ending.new.world)
+    (row_is w c.args.call s c.args.args c.requires.ready c.see.ensures)
     (call_come w (after w c.do_process_call.new.tree c.do_process_call.new.p) s (row w c.args.call s c.args.args)
-    (tame w c.args.call s c.args.args c.requires.ready c.see.ensures c.see_kept.ensures) (beside w c.do_process_call.new.tree c.do_process_call.new.p) e.does
+    (tame w c.args.call s c.args.args c.requires.ready c.see.ensures c.see_kept.ensures) (beside w c.do_process_call.new.tree c.do_process_call.new.p c.do_process_call.ensures.mounts) e.does
     c.in-Ok.answer c.in-Ok.is c.conclude-ending.result c.conclude-ending.new.world c.conclude-ending.ensures.come) in
     timed_come (board_in w) (came_by (unix_of w) s its) c.conclude-ending.result c.conclude-ending.new.world done
     (loads_program c.args.call its.answer) s c.wait_for_disk.new.world c.wait_for_disk.result c.conclude-ending.ensures.goes
@@ -118,11 +130,11 @@ returns-then-has_loaded-clause-items g c =
     let its : Comes = process_row c.args.call (mounts_of (unix_of w)) (world_of (unix_of w)) s c.args.args in
     subst (λ es. Took (g.T.Trace.taken c.args.trace.now) (logged (board_in w) es).items (g.T.Trace.taken c.conclude-ending.new.trace))
     (sym (timed_effects (loads_program c.args.call its.answer) s (came_by (unix_of w) s its)))
-    (subst (λ x. Took (g.T.Trace.taken c.args.trace.now) (logged (board_in w) (came_by (unix_of w) s (process_row c.args.call x s c.args.args)).effects).items
+    (subst (λ (x : Comes). Took (g.T.Trace.taken c.args.trace.now) (logged (board_in w) (came_by (unix_of w) s x).effects).items
     (g.T.Trace.taken c.conclude-ending.new.trace))
-    (world_is w s c.requires.ready c.see.ensures)
+    (row_is w c.args.call s c.args.args c.requires.ready c.see.ensures)
     (call_took w (after w c.do_process_call.new.tree c.do_process_call.new.p) s (row w c.args.call s c.args.args)
-    (tame w c.args.call s c.args.args c.requires.ready c.see.ensures c.see_kept.ensures) (beside w c.do_process_call.new.tree c.do_process_call.new.p) e.does
+    (tame w c.args.call s c.args.args c.requires.ready c.see.ensures c.see_kept.ensures) (beside w c.do_process_call.new.tree c.do_process_call.new.p c.do_process_call.ensures.mounts) e.does
     c.in-Ok.answer c.in-Ok.is _ c.conclude-ending.ensures.items))
 
 pub returns-then-has_loaded-clause-covered : goal.returns-then-has_loaded-clause-covered
@@ -151,10 +163,10 @@ returns-else-has_loaded-clause-come g c =
     let waits = waits_so w c.args.call s c.args.args c.requires.ready c.see.ensures c.in-Ok.answer is c.has_loaded.result c.conclude-ending.new.world.slots
     c.conclude-ending.ensures.slots c.has_loaded.ensures in
     let done : HasCome (board_in w) (came_by (unix_of w) s its) c.conclude-ending.result c.conclude-ending.new.world =
-    subst (λ x. HasCome (board_in w) (came_by (unix_of w) s (process_row c.args.call x s c.args.args)) c.conclude-ending.result c.conclude-ending.new.world)
-    (world_is w s c.requires.ready c.see.ensures)
+    subst (λ (x : Comes). HasCome (board_in w) (came_by (unix_of w) s x) c.conclude-ending.result c.conclude-ending.new.world)
+    (row_is w c.args.call s c.args.args c.requires.ready c.see.ensures)
     (call_come w (after w c.do_process_call.new.tree c.do_process_call.new.p) s (row w c.args.call s c.args.args)
-    (tame w c.args.call s c.args.args c.requires.ready c.see.ensures c.see_kept.ensures) (beside w c.do_process_call.new.tree c.do_process_call.new.p) e.does
+    (tame w c.args.call s c.args.args c.requires.ready c.see.ensures c.see_kept.ensures) (beside w c.do_process_call.new.tree c.do_process_call.new.p c.do_process_call.ensures.mounts) e.does
     c.in-Ok.answer c.in-Ok.is c.conclude-ending.result c.conclude-ending.new.world c.conclude-ending.ensures.come) in
     untimed_come (board_in w) (came_by (unix_of w) s its) c.conclude-ending.result c.conclude-ending.new.world done
     (loads_program c.args.call its.answer) s (waits_then w c.args.call s c.args.args c.has_loaded.result waits ∙ c.if-has_loaded.false)
@@ -176,11 +188,11 @@ returns-else-has_loaded-clause-items g c =
     let its : Comes = process_row c.args.call (mounts_of (unix_of w)) (world_of (unix_of w)) s c.args.args in
     subst (λ es. Took (g.T.Trace.taken c.args.trace.now) (logged (board_in w) es).items (g.T.Trace.taken c.conclude-ending.new.trace))
     (sym (timed_effects (loads_program c.args.call its.answer) s (came_by (unix_of w) s its)))
-    (subst (λ x. Took (g.T.Trace.taken c.args.trace.now) (logged (board_in w) (came_by (unix_of w) s (process_row c.args.call x s c.args.args)).effects).items
+    (subst (λ (x : Comes). Took (g.T.Trace.taken c.args.trace.now) (logged (board_in w) (came_by (unix_of w) s x).effects).items
     (g.T.Trace.taken c.conclude-ending.new.trace))
-    (world_is w s c.requires.ready c.see.ensures)
+    (row_is w c.args.call s c.args.args c.requires.ready c.see.ensures)
     (call_took w (after w c.do_process_call.new.tree c.do_process_call.new.p) s (row w c.args.call s c.args.args)
-    (tame w c.args.call s c.args.args c.requires.ready c.see.ensures c.see_kept.ensures) (beside w c.do_process_call.new.tree c.do_process_call.new.p) e.does
+    (tame w c.args.call s c.args.args c.requires.ready c.see.ensures c.see_kept.ensures) (beside w c.do_process_call.new.tree c.do_process_call.new.p c.do_process_call.ensures.mounts) e.does
     c.in-Ok.answer c.in-Ok.is _ c.conclude-ending.ensures.items))
 
 pub returns-else-has_loaded-clause-covered : goal.returns-else-has_loaded-clause-covered
@@ -201,10 +213,10 @@ returns-in-Err-clause-come g c =
     let its : Comes = process_row c.args.call (mounts_of (unix_of w)) (world_of (unix_of w)) s c.args.args in
     let now : World = after w c.do_process_call.new.tree c.do_process_call.new.p in
     let done : HasCome (board_in w) (came_by (unix_of w) s its) (Panic c.in-Err.kind) now =
-    subst (λ x. HasCome (board_in w) (came_by (unix_of w) s (process_row c.args.call x s c.args.args)) (Panic c.in-Err.kind) now)
-    (world_is w s c.requires.ready c.see.ensures)
+    subst (λ (x : Comes). HasCome (board_in w) (came_by (unix_of w) s x) (Panic c.in-Err.kind) now)
+    (row_is w c.args.call s c.args.args c.requires.ready c.see.ensures)
     (call_stops w now s (row w c.args.call s c.args.args)
-    (tame w c.args.call s c.args.args c.requires.ready c.see.ensures c.see_kept.ensures) (beside w c.do_process_call.new.tree c.do_process_call.new.p) e.does
+    (tame w c.args.call s c.args.args c.requires.ready c.see.ensures c.see_kept.ensures) (beside w c.do_process_call.new.tree c.do_process_call.new.p c.do_process_call.ensures.mounts) e.does
     c.in-Err.kind c.in-Err.is (Panic c.in-Err.kind) refl) in
     let stop = stopped_by (board_in w) (came_by (unix_of w) s its) (Panic c.in-Err.kind) now done refl (came_goes (unix_of w) s its) in
     cut_come (board_in w) (came_by (unix_of w) s its) (Panic c.in-Err.kind) now done (loads_program c.args.call its.answer) s stop.0 stop.1
@@ -223,11 +235,11 @@ returns-in-Err-clause-items g c =
     let its : Comes = process_row c.args.call (mounts_of (unix_of w)) (world_of (unix_of w)) s c.args.args in
     subst (λ es. Took (g.T.Trace.taken c.args.trace.now) (logged (board_in w) es).items (g.T.Trace.taken c.do_process_call.new.trace))
     (sym (timed_effects (loads_program c.args.call its.answer) s (came_by (unix_of w) s its)))
-    (subst (λ x. Took (g.T.Trace.taken c.args.trace.now) (logged (board_in w) (came_by (unix_of w) s (process_row c.args.call x s c.args.args)).effects).items
+    (subst (λ (x : Comes). Took (g.T.Trace.taken c.args.trace.now) (logged (board_in w) (came_by (unix_of w) s x).effects).items
     (g.T.Trace.taken c.do_process_call.new.trace))
-    (world_is w s c.requires.ready c.see.ensures)
+    (row_is w c.args.call s c.args.args c.requires.ready c.see.ensures)
     (call_cut w (after w c.do_process_call.new.tree c.do_process_call.new.p) s (row w c.args.call s c.args.args)
-    (tame w c.args.call s c.args.args c.requires.ready c.see.ensures c.see_kept.ensures) (beside w c.do_process_call.new.tree c.do_process_call.new.p) e.does
+    (tame w c.args.call s c.args.args c.requires.ready c.see.ensures c.see_kept.ensures) (beside w c.do_process_call.new.tree c.do_process_call.new.p c.do_process_call.ensures.mounts) e.does
     c.in-Err.kind c.in-Err.is))
 
 pub returns-in-Err-clause-covered : goal.returns-in-Err-clause-covered

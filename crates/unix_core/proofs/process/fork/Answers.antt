@@ -54,7 +54,7 @@ conclude-requires g c =
     let w : World = c.args.world.now in
     let e = c.fork_one.ensures in
     fork_ready w (after w c.fork_one.new.tree c.fork_one.new.p) c.args.s c.requires.ready c.see.ensures
-    (beside w c.fork_one.new.tree c.fork_one.new.p) e.does
+    (beside w c.fork_one.new.tree c.fork_one.new.p c.fork_one.ensures.mounts) e.does
     c.in-Ok.answer c.in-Ok.is (shared w c.fork_one.new.tree c.share_files.new.table c.fork_one.new.p) refl refl
     (its_table w c.args.s c.area-u.result _ c.in-Ok.answer c.requires.ready c.area-u.ensures.u c.share_files.ensures) refl refl refl refl refl
     e.agree c.requires.user e.marks
@@ -64,7 +64,7 @@ returns-in-Ok-clause-come g c =
     let w : World = c.args.world.now in
     let e = c.fork_one.ensures in
     fork_come w (after w c.fork_one.new.tree c.fork_one.new.p) c.args.s c.requires.ready c.see.ensures
-    (beside w c.fork_one.new.tree c.fork_one.new.p) e.does
+    (beside w c.fork_one.new.tree c.fork_one.new.p c.fork_one.ensures.mounts) e.does
     c.in-Ok.answer c.in-Ok.is (shared w c.fork_one.new.tree c.share_files.new.table c.fork_one.new.p) refl refl
     (its_table w c.args.s c.area-u.result _ c.in-Ok.answer c.requires.ready c.area-u.ensures.u c.share_files.ensures) refl refl refl refl refl
     e.agree
@@ -75,7 +75,7 @@ returns-in-Ok-clause-items g c =
     let w : World = c.args.world.now in
     let e = c.fork_one.ensures in
     fork_took w (after w c.fork_one.new.tree c.fork_one.new.p) c.args.s c.requires.ready c.see.ensures
-    (beside w c.fork_one.new.tree c.fork_one.new.p) e.does
+    (beside w c.fork_one.new.tree c.fork_one.new.p c.fork_one.ensures.mounts) e.does
     c.in-Ok.answer c.in-Ok.is (shared w c.fork_one.new.tree c.share_files.new.table c.fork_one.new.p) refl refl
     (its_table w c.args.s c.area-u.result _ c.in-Ok.answer c.requires.ready c.area-u.ensures.u c.share_files.ensures) refl refl refl refl refl
     e.agree _ c.conclude.ensures.items
@@ -95,7 +95,7 @@ returns-in-Err-clause-come g c =
     let w : World = c.args.world.now in
     let e = c.fork_one.ensures in
     fork_stops w (after w c.fork_one.new.tree c.fork_one.new.p) c.args.s c.requires.ready c.see.ensures
-    (beside w c.fork_one.new.tree c.fork_one.new.p) e.does c.in-Err.kind c.in-Err.is
+    (beside w c.fork_one.new.tree c.fork_one.new.p c.fork_one.ensures.mounts) e.does c.in-Err.kind c.in-Err.is
 
 pub returns-in-Err-clause-ready : goal.returns-in-Err-clause-ready
 returns-in-Err-clause-ready g c goes = over_then c.in-Err.kind goes
@@ -105,7 +105,7 @@ returns-in-Err-clause-items g c =
     let w : World = c.args.world.now in
     let e = c.fork_one.ensures in
     fork_cut w (after w c.fork_one.new.tree c.fork_one.new.p) c.args.s c.requires.ready c.see.ensures
-    (beside w c.fork_one.new.tree c.fork_one.new.p) e.does c.in-Err.kind c.in-Err.is
+    (beside w c.fork_one.new.tree c.fork_one.new.p c.fork_one.ensures.mounts) e.does c.in-Err.kind c.in-Err.is
 
 pub see_covered-requires : goal.see_covered-requires
 see_covered-requires g c = c.fork_one.ensures.agree

@@ -18,7 +18,8 @@ use Rattle.abstract_unix.proofs.GoingOnLemmas.{world_goes_on}
 use Rattle.abstract_unix.proofs.WaitingRows.{resume_waited}
 use Rattle.abstract_unix.proofs.ProcessRows.{resume_plain}
 use Rattle.abstract_unix.proofs.Mild.{IsMild, mild_plain, near_change}
-use Rattle.unix_core.proofs.CameLemmas.{given, IsTame, mild_tame, mild_goes, near_here, after, beside, world_is, ready_calls, stops, call_took, call_ready, call_marked, call_come}
+use Rattle.abstract_unix.proofs.StillWorlds as worlds
+use Rattle.unix_core.proofs.CameLemmas.{given, still_given, IsTame, mild_tame, mild_goes, near_here, after, beside, world_is, ready_calls, stops, call_took, call_ready, call_marked, call_come}
 use Rattle.unix_core.proofs.process.go_on_waiting.Goals as goal
 
 abbrev row : World → ℕ → Comes
@@ -40,13 +41,14 @@ conclude-requires g c =
     let w : World = c.args.world.now in
     let e = c.resume_proc.ensures in
     call_ready w (after w c.resume_proc.new.tree c.resume_proc.new.p) c.args.s (row w c.args.s)
-    (tame w c.args.s c.requires) (beside w c.resume_proc.new.tree c.resume_proc.new.p) e.does
+    (tame w c.args.s c.requires) (beside w c.resume_proc.new.tree c.resume_proc.new.p c.resume_proc.ensures.mounts) e.does
     c.in-Ok.answer c.in-Ok.is c.requires
     e.agree
     (world_goes_on (unix_of w) (row w c.args.s).state c.requires.good.pending (resume_waited (given w) c.args.s))
     (call_marked w (after w c.resume_proc.new.tree c.resume_proc.new.p) c.args.s (row w c.args.s)
-    (tame w c.args.s c.requires) (beside w c.resume_proc.new.tree c.resume_proc.new.p) e.does
+    (tame w c.args.s c.requires) (beside w c.resume_proc.new.tree c.resume_proc.new.p c.resume_proc.ensures.mounts) e.does
     c.in-Ok.answer c.in-Ok.is e.marks c.requires.good.marks (ap marks_of (mild w c.args.s c.requires).texts))
+    (worlds.still_resume (given w) c.args.s (given w) (still_given w c.args.s c.requires)).count
 
 pub returns-in-Ok-clause-come : goal.returns-in-Ok-clause-come
 returns-in-Ok-clause-come g c =
@@ -56,7 +58,7 @@ returns-in-Ok-clause-come g c =
     subst (λ x. HasCome (board_in w) (came_by (unix_of w) s (resume_proc x s)) c.conclude.result c.conclude.new.world)
     (world_is w s c.requires c.see.ensures)
     (call_come w (after w c.resume_proc.new.tree c.resume_proc.new.p) s (row w s)
-    (tame w s c.requires) (beside w c.resume_proc.new.tree c.resume_proc.new.p) e.does
+    (tame w s c.requires) (beside w c.resume_proc.new.tree c.resume_proc.new.p c.resume_proc.ensures.mounts) e.does
     c.in-Ok.answer c.in-Ok.is c.conclude.result c.conclude.new.world c.conclude.ensures.come)
 
 pub returns-in-Ok-clause-items : goal.returns-in-Ok-clause-items
@@ -68,7 +70,7 @@ returns-in-Ok-clause-items g c =
     (g.T.Trace.taken c.conclude.new.trace))
     (world_is w s c.requires c.see.ensures)
     (call_took w (after w c.resume_proc.new.tree c.resume_proc.new.p) s (row w s)
-    (tame w s c.requires) (beside w c.resume_proc.new.tree c.resume_proc.new.p) e.does
+    (tame w s c.requires) (beside w c.resume_proc.new.tree c.resume_proc.new.p c.resume_proc.ensures.mounts) e.does
     c.in-Ok.answer c.in-Ok.is _ c.conclude.ensures.items)
 
 pub returns-in-Ok-clause-covered : goal.returns-in-Ok-clause-covered
