@@ -1,8 +1,11 @@
 -- A volume on the disk of an image is what a kernel begins with.
-use Rattle.std.proofs.Common.{◌≡◌, ◌≤◌, if◌then◌else◌, ◌||◌, ℕ, false, List, Option, Some, None, is_some, sym, ap, ◌∙◌, subst, arith}
+use Rattle.std.proofs.Common.{◌≡◌, ◌≤◌, if◌then◌else◌, ◌||◌, nat_lt, ℕ, Bool, true, false, List, length, replicate, slice_index, Option, Some, None, is_some, inl, inr, refl, sym, ap, ◌∙◌, subst, arith}
+use Rattle.std.proofs.lemmas.Bool.{cases_lt}
+use Rattle.std.proofs.lemmas.List.{get_or-replicate, get_or_past, length-replicate}
 use Rattle.fs_codec.specs.Fields.{super_of}
 use Rattle.fs_codec.specs.Disk.{Disk, disk_of, head}
-use Rattle.fs_codec.specs.Faults.{disk_fault, image_fault}
+use Rattle.fs_codec.specs.Faults.{disk_fault, fault_within, image_fault}
+use Rattle.fs_codec.specs.declared.fault.ImageFault.{ImageFault}
 use Rattle.fs_codec.specs.Stands.{store_of, StandsFor}
 use Rattle.fs_codec.specs.Store.{Store}
 use Rattle.fs_codec.specs.declared.layout.TheConstants.{DISK_BLOCKS, SWAP_START}
@@ -13,37 +16,89 @@ use Rattle.fs_laws.proofs.ImageLemmas.{block_of_image, image_within, image_files
 use Rattle.fs_laws.specs.Sync.{ReadsAlike}
 use Rattle.fs_laws.proofs.WholeLemmas.{whole_is, whole_has_none, whole_within}
 use Rattle.fs_laws.proofs.SyncLemmas.{alike_fault, alike_store}
-use Rattle.fs_laws.proofs.AgreeLemmas.{files_store}
+use Rattle.fs_laws.proofs.AgreeLemmas.{SameFiles, files_store}
 use Rattle.fs_blocks.specs.State.{State, disk, opened}
 use Rattle.fs_blocks.specs.Store.{store_now}
-use Rattle.fs_nodes.specs.Keys.{Stores}
+use Rattle.fs_nodes.specs.Disks.{Disks}
+use Rattle.fs_nodes.specs.Keys.{Stores, key_count}
+use Rattle.fs_nodes.proofs.SecondImage.{second_within, second_files, second_whole}
 use Rattle.abstract_unix.specs.Unix.{System}
 use Rattle.abstract_unix.specs.Runs.{system_with, system_of, stores_of, is_second_bad, boots}
+use Rattle.unix_core.specs.declared.boot.SecondFault.TheVariants.{Nodes}
+use Rattle.unix_core.specs.Boots.{fault_or_count, second_fault_of}
 
 clean_store : (volume : State) → volume.changed ≡ false → store_now volume ≡ store_of (disk volume)
 unfolding store_now store_of
 clean_store volume clean = ap (λ t. record (store_of (disk volume)) { mark = t }) clean
 
+module _ (bytes : List ℕ) (whole : IsWhole (block_at (blocks_of bytes))) (within : IsWhole (disk_of bytes)) (files : SameFiles (disk_of bytes) (block_at (blocks_of bytes)))
+    (volume : State) (blocks : volume.blocks ≡ blocks_of bytes) (clean : volume.changed ≡ false) (stored : volume.changed ≡ false → ReadsAlike (disk volume) (block_at volume.blocks)) where
+  on_blocks : IsWhole (block_at volume.blocks)
+  on_blocks = subst (λ l. IsWhole (block_at l)) (sym blocks) whole
+
+  disk_sound : disk_fault DISK_BLOCKS (disk volume) ≡ None
+  disk_sound = sym (alike_fault DISK_BLOCKS (disk volume) (block_at volume.blocks) (stored clean)) ∙ whole_has_none (block_at volume.blocks) on_blocks
+
+  disk_store : store_now volume ≡ store_of (disk_of bytes)
+  disk_store =
+      clean_store volume clean ∙ sym (alike_store (disk volume) (block_at volume.blocks) (stored clean) (whole_is (disk volume) disk_sound))
+      ∙ ap (λ l. store_of (block_at l)) blocks ∙ files_store (disk_of bytes) (block_at (blocks_of bytes)) within files
+
+-- The volume of the root's disk, and of a second one.
 module _ (bytes : List ℕ) (good : image_fault bytes ≡ None) where
-  module _ (volume : State) (blocks : volume.blocks ≡ blocks_of bytes) (clean : volume.changed ≡ false)
-      (stored : volume.changed ≡ false → ReadsAlike (disk volume) (block_at volume.blocks)) where
-    on_blocks : IsWhole (block_at volume.blocks)
-    on_blocks = subst (λ l. IsWhole (block_at l)) (sym blocks) (image_whole bytes good)
+  pub volume_sound : (volume : State) → volume.blocks ≡ blocks_of bytes → volume.changed ≡ false → (volume.changed ≡ false → ReadsAlike (disk volume) (block_at volume.blocks))
+      → disk_fault DISK_BLOCKS (disk volume) ≡ None
+  volume_sound = disk_sound bytes (image_whole bytes good) (image_within bytes good).0 (image_files bytes good)
 
-    pub volume_sound : disk_fault DISK_BLOCKS (disk volume) ≡ None
-    volume_sound = sym (alike_fault DISK_BLOCKS (disk volume) (block_at volume.blocks) (stored clean)) ∙ whole_has_none (block_at volume.blocks) on_blocks
+  pub volume_store : (volume : State) → volume.blocks ≡ blocks_of bytes → volume.changed ≡ false → (volume.changed ≡ false → ReadsAlike (disk volume) (block_at volume.blocks))
+      → store_now volume ≡ store_of (disk_of bytes)
+  volume_store = disk_store bytes (image_whole bytes good) (image_within bytes good).0 (image_files bytes good)
 
-    pub volume_store : store_now volume ≡ store_of (disk_of bytes)
-    volume_store =
-        clean_store volume clean ∙ sym (alike_store (disk volume) (block_at volume.blocks) (stored clean) (whole_is (disk volume) volume_sound))
-        ∙ ap (λ l. store_of (block_at l)) blocks ∙ files_store (disk_of bytes) (block_at (blocks_of bytes)) (image_within bytes good).0 (image_files bytes good)
+  pub volume_stamp : (volume : State) → volume.head ≡ opened (super_of (block_at (blocks_of bytes) 1)) → volume.head.time ≡ (store_of (disk_of bytes)).stamp
+  unfolding store_of
+  volume_stamp volume is = ap (λ (h : SuperBlock). h.time) is ∙ ap (λ l. (super_of l).time) (block_of_image bytes 1 (omega arith))
 
-    pub volume_time : volume.head ≡ opened (super_of (block_at (blocks_of bytes) 1)) → volume.head.time ≡ (head (disk_of bytes)).time
-    volume_time is = ap (λ (h : SuperBlock). h.time) is ∙ ap (λ l. (super_of l).time) (block_of_image bytes 1 (omega arith))
+module _ (bytes : List ℕ) (good : fault_within DISK_BLOCKS bytes ≡ None) where
+  pub second_volume_sound : (volume : State) → volume.blocks ≡ blocks_of bytes → volume.changed ≡ false → (volume.changed ≡ false → ReadsAlike (disk volume) (block_at volume.blocks))
+      → disk_fault DISK_BLOCKS (disk volume) ≡ None
+  second_volume_sound = disk_sound bytes (second_whole bytes good) (second_within bytes good).0 (second_files bytes good)
 
-    pub volume_stamp : volume.head ≡ opened (super_of (block_at (blocks_of bytes) 1)) → volume.head.time ≡ (store_of (disk_of bytes)).stamp
-    unfolding store_of
-    volume_stamp is = volume_time is
+  pub second_volume_store : (volume : State) → volume.blocks ≡ blocks_of bytes → volume.changed ≡ false → (volume.changed ≡ false → ReadsAlike (disk volume) (block_at volume.blocks))
+      → store_now volume ≡ store_of (disk_of bytes)
+  second_volume_store = disk_store bytes (second_whole bytes good) (second_within bytes good).0 (second_files bytes good)
+
+-- what there is of one disk alone, and of two
+abbrev pub alone : {X : Type 0} → X → Disks X
+alone x = record { root = x; second = None }
+
+abbrev pub both : {X : Type 0} → X → X → Disks X
+both x y = record { root = x; second = Some y }
+
+-- Nobody is referred to.
+pub none_of : (n ino : ℕ) → slice_index (replicate n 0) ino ≡ 0
+none_of n ino = elim (cases_lt ino n) [
+  | inl low ↦ get_or-replicate n ino 0 0 low
+  | inr past ↦ get_or_past (replicate n 0) ino 0 (let long = length-replicate {A = ℕ} n 0 in omega (arith, long, past))
+]
+
+-- A second image is bad exactly where something is wrong with it.
+pub second_fine : (image bytes : List ℕ) → second_fault_of image bytes ≡ None → is_second_bad image (Some bytes) ≡ false
+second_fine image bytes = by (fault_within DISK_BLOCKS bytes) (nat_lt 65535 (key_count (stores_of image (Some bytes)))) refl
+  where
+    by : (f : Option ImageFault) (many : Bool) → nat_lt 65535 (key_count (stores_of image (Some bytes))) ≡ many
+        → fault_or_count f (key_count (stores_of image (Some bytes))) ≡ None → (is_some f || nat_lt 65535 (key_count (stores_of image (Some bytes)))) ≡ false
+    by (Some fault) many is none = absurd (cc none)
+    by None true is none = absurd (let some : Some (Nodes (key_count (stores_of image (Some bytes)))) ≡ None =
+        sym (ap (λ b. if b then Some (Nodes (key_count (stores_of image (Some bytes)))) else None) is) ∙ none in cc some)
+    by None false is none = is
+
+-- and it has no fault by itself
+pub second_good : (image bytes : List ℕ) → second_fault_of image bytes ≡ None → fault_within DISK_BLOCKS bytes ≡ None
+second_good image bytes = by (fault_within DISK_BLOCKS bytes)
+  where
+    by : (f : Option ImageFault) → fault_or_count f (key_count (stores_of image (Some bytes))) ≡ None → f ≡ None
+    by None none = refl
+    by (Some fault) none = absurd (cc none)
 
 -- Images without a fault are booted.
 pub boots_as : (image : List ℕ) (second : Option (List ℕ)) (core lines : ℕ) (store : Stores) (m : System) → image_fault image ≡ None

@@ -1,11 +1,11 @@
-use Rattle.std.proofs.Common.{◌≡◌, ◌∙◌, sym, ap, subst}
+use Rattle.std.proofs.Common.{◌≡◌, ◌∙◌, ◌+◌, ℕ, List, slice_index, sym, ap, subst}
 use Rattle.buf_cache.specs.Blocks.{block_at, blocks_of}
 use Rattle.buf_cache.specs.Cached.{Cached, cached_blocks, used}
 use Rattle.fs_codec.specs.Fields.{super_of}
 use Rattle.fs_blocks.specs.State.{opened}
 use Rattle.fs_laws.specs.Chain.{IsSound}
 use Rattle.fs_laws.proofs.ImageLemmas.{image_short, image_whole}
-use Rattle.unix_core.proofs.BootLemmas.{volume_sound, volume_store, volume_stamp}
+use Rattle.unix_core.proofs.BootLemmas.{volume_sound, volume_store, volume_stamp, alone, none_of}
 use Rattle.unix_core.proofs.boot.file_system_of.Goals as goal
 
 pub from_bytes-requires : goal.from_bytes-requires
@@ -26,16 +26,24 @@ new-requires-2 c = record { sound = volume_sound c.args.image.now c.requires c.o
 pub returns-clause-store : goal.returns-clause-store
 returns-clause-store c =
     c.new-2.ensures.store
-    ∙ volume_store c.args.image.now c.requires c.open_on-volume.result.state (c.open_on-volume.ensures.blocks ∙ c.in_ok-cache.ensures.blocks ∙ c.in_ok-disk.ensures) c.open_on-volume.ensures.clean c.head.ensures.stored
+    ∙ ap alone (volume_store c.args.image.now c.requires c.open_on-volume.result.state (c.open_on-volume.ensures.blocks ∙ c.in_ok-cache.ensures.blocks ∙ c.in_ok-disk.ensures)
+    c.open_on-volume.ensures.clean c.head.ensures.stored)
+
+pub returns-clause-references : goal.returns-clause-references
+returns-clause-references c ino = ap (λ (l : List ℕ). slice_index l ino) c.new-2.ensures.none ∙ none_of (c.new-2.result.store.root.count + 1) ino
+
+pub returns-clause-blocks : goal.returns-clause-blocks
+returns-clause-blocks c = c.new-2.ensures.blocks ∙ ap alone (c.open_on-volume.ensures.blocks ∙ c.in_ok-cache.ensures.blocks ∙ c.in_ok-disk.ensures)
 
 pub returns-clause-time : goal.returns-clause-time
 returns-clause-time c =
     let is = c.open_on-volume.ensures in
     ap (λ (h : _). h.time) c.head.ensures.head
-    ∙ volume_stamp c.args.image.now c.requires c.open_on-volume.result.state (is.blocks ∙ c.in_ok-cache.ensures.blocks ∙ c.in_ok-disk.ensures) is.clean c.head.ensures.stored
+    ∙ volume_stamp c.args.image.now c.requires c.open_on-volume.result.state
     (is.head ∙ ap (λ l. opened (super_of (block_at l 1))) (c.in_ok-cache.ensures.blocks ∙ c.in_ok-disk.ensures))
 
 pub returns-clause-stored : goal.returns-clause-stored
 unfolding used
 returns-clause-stored c =
-    c.new-2.ensures.stored ∙ c.open_on-volume.ensures.stored ∙ ap (λ (x : Cached). (used x 1).disk) c.in_ok-cache.ensures.cached ∙ c.in_ok-disk.ensures
+    c.new-2.ensures.stored
+    ∙ ap alone (c.open_on-volume.ensures.stored ∙ ap (λ (x : Cached). (used x 1).disk) c.in_ok-cache.ensures.cached ∙ c.in_ok-disk.ensures)

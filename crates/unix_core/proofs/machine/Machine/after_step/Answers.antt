@@ -106,6 +106,6 @@ returns-clause-frame g c =
 
 pub returns-clause-rest : goal.returns-clause-rest
 returns-clause-rest g c =
-    let first : List (List ℕ) = c.args.self.now.world.files.tree.nodes.blocks in
-    subst (λ (b : List (List ℕ)). SameAroundEach first b) (sym c.end.ensures.blocks)
+    let first : Disks (List (List ℕ)) = c.args.self.now.world.files.tree.nodes.blocks in
+    subst (λ (b : Disks (List (List ℕ))). SameAroundEach first b) (sym c.end.ensures.blocks)
     (rest_then first _ _ c.come_to-ending.ensures.rest c.deliver_after-ending.ensures.rest)
