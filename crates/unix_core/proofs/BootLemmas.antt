@@ -16,7 +16,7 @@ use Rattle.fs_laws.proofs.ImageLemmas.{block_of_image, image_within, image_files
 use Rattle.fs_laws.specs.Sync.{ReadsAlike}
 use Rattle.fs_laws.proofs.WholeLemmas.{whole_is, whole_has_none, whole_within}
 use Rattle.fs_laws.proofs.SyncLemmas.{alike_fault, alike_store}
-use Rattle.fs_laws.proofs.AgreeLemmas.{SameFiles, files_store}
+use Rattle.fs_laws.proofs.AgreeLemmas.{files_store}
 use Rattle.fs_blocks.specs.State.{State, disk, opened}
 use Rattle.fs_blocks.specs.Store.{store_now}
 use Rattle.fs_nodes.specs.Disks.{Disks}
@@ -31,41 +31,39 @@ clean_store : (volume : State) → volume.changed ≡ false → store_now volume
 unfolding store_now store_of
 clean_store volume clean = ap (λ t. record (store_of (disk volume)) { mark = t }) clean
 
-module _ (bytes : List ℕ) (whole : IsWhole (block_at (blocks_of bytes))) (within : IsWhole (disk_of bytes)) (files : SameFiles (disk_of bytes) (block_at (blocks_of bytes)))
-    (volume : State) (blocks : volume.blocks ≡ blocks_of bytes) (clean : volume.changed ≡ false) (stored : volume.changed ≡ false → ReadsAlike (disk volume) (block_at volume.blocks)) where
-  on_blocks : IsWhole (block_at volume.blocks)
-  on_blocks = subst (λ l. IsWhole (block_at l)) (sym blocks) whole
-
-  disk_sound : disk_fault DISK_BLOCKS (disk volume) ≡ None
-  disk_sound = sym (alike_fault DISK_BLOCKS (disk volume) (block_at volume.blocks) (stored clean)) ∙ whole_has_none (block_at volume.blocks) on_blocks
-
-  disk_store : store_now volume ≡ store_of (disk_of bytes)
-  disk_store =
-      clean_store volume clean ∙ sym (alike_store (disk volume) (block_at volume.blocks) (stored clean) (whole_is (disk volume) disk_sound))
-      ∙ ap (λ l. store_of (block_at l)) blocks ∙ files_store (disk_of bytes) (block_at (blocks_of bytes)) within files
-
--- The volume of the root's disk, and of a second one.
 module _ (bytes : List ℕ) (good : image_fault bytes ≡ None) where
-  pub volume_sound : (volume : State) → volume.blocks ≡ blocks_of bytes → volume.changed ≡ false → (volume.changed ≡ false → ReadsAlike (disk volume) (block_at volume.blocks))
-      → disk_fault DISK_BLOCKS (disk volume) ≡ None
-  volume_sound = disk_sound bytes (image_whole bytes good) (image_within bytes good).0 (image_files bytes good)
+  module _ (volume : State) (blocks : volume.blocks ≡ blocks_of bytes) (clean : volume.changed ≡ false)
+      (stored : volume.changed ≡ false → ReadsAlike (disk volume) (block_at volume.blocks)) where
+    on_blocks : IsWhole (block_at volume.blocks)
+    on_blocks = subst (λ l. IsWhole (block_at l)) (sym blocks) (image_whole bytes good)
 
-  pub volume_store : (volume : State) → volume.blocks ≡ blocks_of bytes → volume.changed ≡ false → (volume.changed ≡ false → ReadsAlike (disk volume) (block_at volume.blocks))
-      → store_now volume ≡ store_of (disk_of bytes)
-  volume_store = disk_store bytes (image_whole bytes good) (image_within bytes good).0 (image_files bytes good)
+    pub volume_sound : disk_fault DISK_BLOCKS (disk volume) ≡ None
+    volume_sound = sym (alike_fault DISK_BLOCKS (disk volume) (block_at volume.blocks) (stored clean)) ∙ whole_has_none (block_at volume.blocks) on_blocks
 
-  pub volume_stamp : (volume : State) → volume.head ≡ opened (super_of (block_at (blocks_of bytes) 1)) → volume.head.time ≡ (store_of (disk_of bytes)).stamp
-  unfolding store_of
-  volume_stamp volume is = ap (λ (h : SuperBlock). h.time) is ∙ ap (λ l. (super_of l).time) (block_of_image bytes 1 (omega arith))
+    pub volume_store : store_now volume ≡ store_of (disk_of bytes)
+    volume_store =
+        clean_store volume clean ∙ sym (alike_store (disk volume) (block_at volume.blocks) (stored clean) (whole_is (disk volume) volume_sound))
+        ∙ ap (λ l. store_of (block_at l)) blocks ∙ files_store (disk_of bytes) (block_at (blocks_of bytes)) (image_within bytes good).0 (image_files bytes good)
 
-module _ (bytes : List ℕ) (good : fault_within DISK_BLOCKS bytes ≡ None) where
-  pub second_volume_sound : (volume : State) → volume.blocks ≡ blocks_of bytes → volume.changed ≡ false → (volume.changed ≡ false → ReadsAlike (disk volume) (block_at volume.blocks))
-      → disk_fault DISK_BLOCKS (disk volume) ≡ None
-  second_volume_sound = disk_sound bytes (second_whole bytes good) (second_within bytes good).0 (second_files bytes good)
+    pub volume_time : volume.head ≡ opened (super_of (block_at (blocks_of bytes) 1)) → volume.head.time ≡ (head (disk_of bytes)).time
+    volume_time is = ap (λ (h : SuperBlock). h.time) is ∙ ap (λ l. (super_of l).time) (block_of_image bytes 1 (omega arith))
 
-  pub second_volume_store : (volume : State) → volume.blocks ≡ blocks_of bytes → volume.changed ≡ false → (volume.changed ≡ false → ReadsAlike (disk volume) (block_at volume.blocks))
-      → store_now volume ≡ store_of (disk_of bytes)
-  second_volume_store = disk_store bytes (second_whole bytes good) (second_within bytes good).0 (second_files bytes good)
+    pub volume_stamp : volume.head ≡ opened (super_of (block_at (blocks_of bytes) 1)) → volume.head.time ≡ (store_of (disk_of bytes)).stamp
+    unfolding store_of
+    volume_stamp is = volume_time is
+
+-- The volume of a second disk, when it has been opened.
+module _ (bytes : List ℕ) (good : fault_within DISK_BLOCKS bytes ≡ None) (blocks : List (List ℕ)) (volume : State) (is : blocks ≡ blocks_of bytes) where
+  second_blocks : IsWhole (block_at blocks)
+  second_blocks = subst (λ l. IsWhole (block_at l)) (sym is) (second_whole bytes good)
+
+  pub second_volume_sound : disk_fault DISK_BLOCKS (disk volume) ≡ disk_fault DISK_BLOCKS (block_at blocks) → disk_fault DISK_BLOCKS (disk volume) ≡ None
+  second_volume_sound faults = faults ∙ whole_has_none (block_at blocks) second_blocks
+
+  pub second_volume_store : volume.changed ≡ false → (IsWhole (block_at blocks) → store_of (disk volume) ≡ store_of (block_at blocks)) → store_now volume ≡ store_of (disk_of bytes)
+  second_volume_store clean stands =
+      clean_store volume clean ∙ stands second_blocks ∙ ap (λ l. store_of (block_at l)) is
+      ∙ files_store (disk_of bytes) (block_at (blocks_of bytes)) (second_within bytes good).0 (second_files bytes good)
 
 -- what there is of one disk alone, and of two
 abbrev pub alone : {X : Type 0} → X → Disks X

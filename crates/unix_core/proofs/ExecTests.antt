@@ -16,7 +16,8 @@ use Rattle.fs_tree.specs.Permission.{permission}
 use Rattle.fs_tree.specs.Name.{name_at, is_rooted, start_of}
 use Rattle.fs_tree.specs.Path.{way, found}
 use Rattle.fs_tree.specs.Finding.{Finding, can_refer, with_reference, finding, put_back}
-use Rattle.fs_tree.proofs.PathLemmas.{way_used, found_used}
+use Rattle.fs_tree.proofs.PathLemmas.{CrossesToNodes, way_used, found_used}
+use Rattle.fs_tree.proofs.MountLemmas.{crosses_of}
 use Rattle.aout_head.specs.Header.{Header, header_of, plan_of}
 use Rattle.seg_regs.specs.Sizes.{is_refused}
 use Rattle.sys_procs.specs.declared.program.Program.{Program}
@@ -156,12 +157,15 @@ module _ (w : World) (s : ℕ) (ready : IsReady w s) (form : IsFileSystem w.file
   abbrev dir : ℕ
   dir = (its.process_of base s).u.dir
 
+  crosses : CrossesToNodes store w.files.tree.mounts
+  crosses = crosses_of store w.files.tree.mounts ready.good.mounts form.second_root
+
   -- what is found is used
   found_is_used : (bytes : List ℕ) (ino : ℕ) → then_do (way store w.files.tree.mounts user dir bytes) (found store w.files.tree.mounts) ≡ Ok ino
       → IsSome (node_numbered store ino)
   found_is_used bytes ino is =
       let there = then_gives (way store w.files.tree.mounts user dir bytes) (found store w.files.tree.mounts) ino is in
-      found_used store there.0 ino (way_used store user dir bytes there.0 there.1 (start_used bytes)) there.2
+      found_used store w.files.tree.mounts crosses there.0 ino (way_used store w.files.tree.mounts crosses user dir bytes there.0 there.1 (start_used bytes)) there.2
 
   pub leaves_tests : (name list : ℕ) → Leaves base (tests w.files.tree.mounts base s name list).world (tests w.files.tree.mounts base s name list).answer
   leaves_tests name list =

@@ -8,7 +8,7 @@ ghost use Rattle.fs_nodes.specs.Keys.{key_count};
 ghost use Rattle.fs_tree.specs.Marks.{no_marks};
 ghost use Rattle.fs_tree.specs.Mounting.{AreMounts};
 ghost use Rattle.abstract_unix.specs.Runs.{stores_of};
-ghost use Rattle.unix_core.specs.Boots.{second_fault_of, blocks_on};
+ghost use Rattle.unix_core.specs.Boots.{counted_fault, second_fault_of, blocks_on};
 
 use crate::files::take_root;
 use crate::kernel::Kernel;
@@ -102,9 +102,21 @@ fn file_systems_of(alloc: Global, image: &[u8], second: &[u8]) -> Result<(Nodes,
 
 /// How many inodes the disk of an image has.
 fn inode_count(image: &[u8]) -> u32
-    ensures { result ≡ (store_of (disk_of image.now)).count }
+    ensures count { result ≡ (store_of (disk_of image.now)).count }
+    ensures most { result ≤ 1048560 }
 {
-    BLOCK_INODES as u32 * u32::from(super_in(image).i_size)
+    u32::from(BLOCK_INODES) * u32::from(super_in(image).i_size)
+}
+
+/// What is wrong where both disks have so many inodes.
+fn counted_fault(count: u32) -> Option<SecondFault>
+    ensures { result ≡ counted_fault count }
+{
+    if count > 65535 {
+        Some(SecondFault::Nodes(count))
+    } else {
+        None
+    }
 }
 
 /// What is wrong with the image of a second disk, beside the image of the root's: its first fault, or else that both disks have
@@ -112,14 +124,36 @@ fn inode_count(image: &[u8]) -> u32
 pub fn second_fault(image: &[u8], second: &[u8]) -> Option<SecondFault>
     ensures { result ≡ second_fault_of image.now second.now }
 {
-    if let Err(fault) = accept_second(second) {
-        return Some(SecondFault::Image(fault));
+    match accept_second(second) {
+        Ok(()) => counted_fault(inode_count(image) + inode_count(second)),
+        Err(fault) => Some(SecondFault::Image(fault)),
     }
-    let count = inode_count(image) + inode_count(second);
-    if count > 65535 {
-        return Some(SecondFault::Nodes(count));
-    }
-    None
+}
+
+/// The tree of names of one disk.
+fn one_tree(nodes: Nodes) -> Tree
+    requires one { nodes.store.second ≡ None }
+    requires few { nodes.store.root.count ≤ 65535 }
+    ensures nodes { result.nodes ≡ nodes }
+    ensures unmarked { result.marks ≡ no_marks }
+    ensures mounts { AreMounts result.mounts result.nodes.store }
+    ensures uncovered { result.mounts.covered ≡ None }
+{
+    Tree::new(nodes)
+}
+
+/// The tree of names of the disks of two images. Nothing is mounted.
+fn two_trees(image: &[u8], second: &[u8], nodes: Nodes) -> Tree
+    requires store { nodes.store ≡ stores_of image.now (Some second.now) }
+    requires few { key_count (stores_of image.now (Some second.now)) ≤ 65535 }
+    ensures nodes { result.nodes ≡ nodes }
+    ensures unmarked { result.marks ≡ no_marks }
+    ensures mounts { AreMounts result.mounts result.nodes.store }
+    ensures uncovered { result.mounts.covered ≡ None }
+{
+    let first = inode_count(image) as u16;
+    let other = inode_count(second) as u16;
+    Tree::new2(nodes, Mounts::new(first, other))
 }
 
 /// Puts what an image has of the swap area there.
@@ -167,7 +201,7 @@ impl Kernel {
             return Err(BootFault::NoMemory);
         };
         take_root(&mut nodes);
-        match Kernel::around(alloc, image, Tree::new(nodes), time, core, lines) {
+        match Kernel::around(alloc, image, one_tree(nodes), time, core, lines) {
             Ok(kernel) => Ok(kernel),
             Err(_) => Err(BootFault::NoMemory),
         }
@@ -230,8 +264,8 @@ impl Kernel {
             return Err(Boot2Fault::NoMemory);
         };
         take_root(&mut nodes);
-        let mounts = Mounts::new(inode_count(image) as u16, inode_count(second) as u16);
-        match Kernel::around(alloc, image, Tree::new2(nodes, mounts), time, core, 1) {
+        let tree = two_trees(image, second, nodes);
+        match Kernel::around(alloc, image, tree, time, core, 1) {
             Ok(kernel) => Ok(kernel),
             Err(_) => Err(Boot2Fault::NoMemory),
         }

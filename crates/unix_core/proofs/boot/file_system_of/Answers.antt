@@ -39,7 +39,7 @@ pub returns-clause-time : goal.returns-clause-time
 returns-clause-time c =
     let is = c.open_on-volume.ensures in
     ap (λ (h : _). h.time) c.head.ensures.head
-    ∙ volume_stamp c.args.image.now c.requires c.open_on-volume.result.state
+    ∙ volume_stamp c.args.image.now c.requires c.open_on-volume.result.state (is.blocks ∙ c.in_ok-cache.ensures.blocks ∙ c.in_ok-disk.ensures) is.clean c.head.ensures.stored
     (is.head ∙ ap (λ l. opened (super_of (block_at l 1))) (c.in_ok-cache.ensures.blocks ∙ c.in_ok-disk.ensures))
 
 pub returns-clause-stored : goal.returns-clause-stored

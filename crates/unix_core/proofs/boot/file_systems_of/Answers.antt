@@ -1,8 +1,12 @@
-use Rattle.std.proofs.Common.{◌≡◌, ◌∙◌, ◌≤◌, ◌+◌, sym, ap, subst}
+use Rattle.std.proofs.Common.{◌≡◌, ◌∙◌, ℕ, List, sym, ap, subst, arith}
 use Rattle.buf_cache.specs.Blocks.{block_at, blocks_of}
 use Rattle.buf_cache.specs.Cached.{Cached, cached_blocks, used}
 use Rattle.fs_codec.specs.Fields.{super_of}
 use Rattle.fs_codec.specs.Store.{Store}
+use Rattle.fs_codec.specs.Disk.{disk_of}
+use Rattle.fs_codec.specs.Stands.{store_of}
+use Rattle.fs_codec.specs.declared.layout.TheConstants.{DISK_BLOCKS}
+use Rattle.fs_blocks.specs.Store.{store_now}
 use Rattle.fs_blocks.specs.State.{opened}
 use Rattle.fs_laws.specs.Chain.{IsSound}
 use Rattle.fs_laws.proofs.ImageLemmas.{image_short, image_whole}
@@ -27,3 +31,54 @@ cache_is-2 c = c.in_ok-cache-2.ensures.blocks ∙ c.in_ok-disk-2.ensures
 
 pub open_on-requires : goal.open_on-requires
 open_on-requires c = subst (λ l. IsSound (block_at l)) (sym (cache_is-2 c)) (second_sound c.args.second.now c.requires.second)
+
+-- The first volume, and the second.
+first_blocks : (c : goal.After-open_on) → c.open_on-volume.result.state.blocks ≡ blocks_of c.args.image.now
+first_blocks c = c.open_on-volume.ensures.blocks ∙ c.in_ok-cache.ensures.blocks ∙ c.in_ok-disk.ensures
+
+first_store : (c : goal.After-open_on) → store_now c.open_on-volume.result.state ≡ store_of (disk_of c.args.image.now)
+first_store c = volume_store c.args.image.now c.requires.root c.open_on-volume.result.state (first_blocks c) c.open_on-volume.ensures.clean c.head.ensures.stored
+
+second_store : (c : goal.After-open_on) → store_now c.open_on.result.state ≡ store_of (disk_of c.args.second.now)
+second_store c =
+    second_volume_store c.args.second.now c.requires.second (cached_blocks c.in_ok-cache-2.cache) c.open_on.result.state (cache_is-2 c) c.open_on.ensures.clean c.open_on.ensures.stands
+
+pub new2-requires-clause-sound : goal.new2-requires-clause-sound
+new2-requires-clause-sound c = volume_sound c.args.image.now c.requires.root c.open_on-volume.result.state (first_blocks c) c.open_on-volume.ensures.clean c.head.ensures.stored
+
+pub new2-requires-clause-second : goal.new2-requires-clause-second
+new2-requires-clause-second c =
+    second_volume_sound c.args.second.now c.requires.second (cached_blocks c.in_ok-cache-2.cache) c.open_on.result.state (cache_is-2 c) (c.open_on.ensures.faults DISK_BLOCKS)
+
+pub new2-requires-clause-few : goal.new2-requires-clause-few
+new2-requires-clause-few c =
+    let first = ap (λ (x : Store). x.count) (first_store c) in
+    let second = ap (λ (x : Store). x.count) (second_store c) in
+    let few = c.requires.few in
+    omega (arith, first, second, few)
+
+pub returns-clause-store : goal.returns-clause-store
+returns-clause-store c =
+    let first = first_store c in
+    let second = second_store c in
+    c.new2.ensures.store ∙ (λ i. both {X = Store} (first i) (second i))
+
+pub returns-clause-blocks : goal.returns-clause-blocks
+returns-clause-blocks c =
+    let first = first_blocks c in
+    let second = c.open_on.ensures.blocks ∙ cache_is-2 c in
+    c.new2.ensures.blocks ∙ (λ i. both {X = List (List ℕ)} (first i) (second i))
+
+pub returns-clause-stored : goal.returns-clause-stored
+unfolding used
+returns-clause-stored c =
+    let first = c.open_on-volume.ensures.stored ∙ ap (λ (x : Cached). (used x 1).disk) c.in_ok-cache.ensures.cached ∙ c.in_ok-disk.ensures in
+    let second = c.open_on.ensures.stored ∙ ap (λ (x : Cached). (used x 1).disk) c.in_ok-cache-2.ensures.cached ∙ c.in_ok-disk-2.ensures in
+    c.new2.ensures.stored ∙ (λ i. both {X = List (List ℕ)} (first i) (second i))
+
+pub returns-clause-time : goal.returns-clause-time
+returns-clause-time c =
+    let is = c.open_on-volume.ensures in
+    ap (λ (h : _). h.time) c.head.ensures.head
+    ∙ volume_stamp c.args.image.now c.requires.root c.open_on-volume.result.state (first_blocks c) is.clean c.head.ensures.stored
+    (is.head ∙ ap (λ l. opened (super_of (block_at l 1))) (c.in_ok-cache.ensures.blocks ∙ c.in_ok-disk.ensures))

@@ -1,7 +1,39 @@
-use Rattle.std.proofs.Common.{◌∙◌}
+use Rattle.std.proofs.Common.{◌≡◌, ◌∙◌, ◌≤◌, ◌==◌, ℕ, List, None, if◌then◌else◌, slice_index, refl, sym, ap, subst}
+use Rattle.fs_codec.specs.Store.{Store}
+use Rattle.fs_nodes.specs.Disks.{Disks}
+use Rattle.fs_nodes.specs.Keys.{Stores}
+use Rattle.fs_nodes.specs.FileSystem.{FileSystem}
+use Rattle.abstract_unix.specs.Runs.{stores_of}
+use Rattle.abstract_unix.proofs.FirstTidy.{few_nodes}
 use Rattle.unix_core.proofs.BootLemmas.{boots_as}
 use Rattle.unix_core.proofs.kernel.Kernel.boot_with.Goals as goal
 
-pub returns-clause-system : goal.returns-clause-system
-returns-clause-system c =
-    boots_as c.args.image.now c.args.core c.args.lines c.take_root.new.nodes.store _ c.in_default.ensures (c.take_root.ensures.store ∙ c.in-Ok.ensures.store) c.new-4.ensures.system
+pub one_tree-requires-clause-one : goal.one_tree-requires-clause-one
+one_tree-requires-clause-one c = ap (λ (s : Stores). s.second) (c.take_root.ensures.store ∙ c.in-Ok.ensures.store)
+
+pub one_tree-requires-clause-few : goal.one_tree-requires-clause-few
+one_tree-requires-clause-few c =
+    subst (λ (s : Stores). s.root.count ≤ 65535) (sym (c.take_root.ensures.store ∙ c.in-Ok.ensures.store)) (few_nodes c.args.image.now c.in_default.ensures)
+
+pub around-requires-clause-referred : goal.around-requires-clause-referred
+around-requires-clause-referred c =
+    subst (λ (fs : FileSystem). (ino : ℕ) → slice_index fs.references ino ≡ (if ino == 1 then 2 else 0)) (sym c.one_tree.ensures.nodes) c.take_root.ensures.referred
+
+pub around-requires-clause-time : goal.around-requires-clause-time
+around-requires-clause-time c =
+    c.in-Ok.ensures.time
+    ∙ sym (ap (λ (fs : FileSystem). fs.store.root.stamp) c.one_tree.ensures.nodes ∙ ap (λ (s : Stores). s.root.stamp) (c.take_root.ensures.store ∙ c.in-Ok.ensures.store))
+
+pub returns-in-Ok-2-clause-system : goal.returns-in-Ok-2-clause-system
+returns-in-Ok-2-clause-system c =
+    boots_as c.args.image.now None c.args.core c.args.lines c.one_tree.result.nodes.store _ c.in_default.ensures refl
+    (ap (λ (fs : FileSystem). fs.store) c.one_tree.ensures.nodes ∙ c.take_root.ensures.store ∙ c.in-Ok.ensures.store) c.in-Ok-2.ensures.system
+
+pub returns-in-Ok-2-clause-blocks : goal.returns-in-Ok-2-clause-blocks
+returns-in-Ok-2-clause-blocks c =
+    c.in-Ok-2.ensures.blocks ∙ ap (λ (fs : FileSystem). fs.blocks) c.one_tree.ensures.nodes ∙ c.take_root.ensures.blocks ∙ c.in-Ok.ensures.blocks
+
+pub returns-in-Ok-2-clause-stored : goal.returns-in-Ok-2-clause-stored
+returns-in-Ok-2-clause-stored c =
+    c.in-Ok-2.ensures.stored ∙ ap (λ (fs : FileSystem). fs.stored) c.one_tree.ensures.nodes
+    ∙ c.take_root.ensures.stored (c.in-Ok.ensures.stored ∙ sym c.in-Ok.ensures.blocks) ∙ c.in-Ok.ensures.blocks

@@ -1,5 +1,6 @@
 use Rattle.std.proofs.Common.{◌≡◌, ◌∙◌, ◌≤◌, ℕ, List, refl, ap, sym, subst}
 use Rattle.v6_base.specs.Trace.{Took}
+use Rattle.fs_nodes.specs.Disks.{Disks}
 use Rattle.fs_nodes.specs.FileSystem.{SameAroundEach}
 use Rattle.fs_nodes.proofs.RestLemmas.{rest_then}
 use Rattle.unix_core.specs.declared.world.World.{World}

@@ -1,0 +1,9 @@
+use Rattle.std.proofs.Common.{◌∙◌, ◌*◌, ap}
+use Rattle.fs_codec.specs.Disk.{inode_count}
+use Rattle.fs_codec.specs.Stands.{store_of}
+use Rattle.fs_codec.specs.declared.super_block.SuperBlock.{SuperBlock}
+use Rattle.unix_core.proofs.boot.inode_count.Goals as goal
+
+pub returns-clause-count : goal.returns-clause-count
+unfolding store_of
+returns-clause-count c = ap (λ (h : SuperBlock). 16 * h.i_size) c.super_in.ensures
