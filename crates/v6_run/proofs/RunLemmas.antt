@@ -1,5 +1,5 @@
 -- What `run` answers, exit by exit.
-use Rattle.std.proofs.Common.{◌≡◌, ◌≢◌, ℕ, Bool, true, false, ◌&&◌, Option, Some, None, IsSome, IfSome, IsSomeAnd, List, [], ◌∷◌, take, refl, sym, Ok, Err, IsOk, ◌∙◌, ap, subst, is_some, if◌then◌else◌, ◌||◌, lit<}
+use Rattle.std.proofs.Common.{◌≡◌, ◌≢◌, ℕ, Bool, true, false, ◌&&◌, Option, Some, None, IsSome, IfSome, IsSomeAnd, List, ◌∷◌, take, refl, sym, Ok, Err, IsOk, ◌∙◌, ap, subst, is_some, if◌then◌else◌, ◌||◌, lit<}
 use Rattle.std.specs.Option.{option_map}
 use Rattle.v6_port.specs.declared.host.InPort.TheVariants as in_port
 use Rattle.v6_port.specs.declared.host.OutPort.{OutPort}
@@ -268,9 +268,10 @@ module _ (words : RunWords) (image : List ℕ) (second : Option (List ℕ)) (byt
       ∙ script_done words (old.fixed.given words.script) image second bytes (files.script_is told)
 
   images_good : Tells old → AreGood old.fixed (input in_port.Image words.image ∷ second_inputs (second_image words.outputs))
-  images_good told =
-      (given_and IMAGE_LIMIT _ image (λ l. image_fault l ≡ None) (files.image_is told) files.good,
-      second_good image (second_image words.outputs) second old files.second told)
+  images_good told = (
+    given_and IMAGE_LIMIT _ image (λ l. image_fault l ≡ None) (files.image_is told) files.good,
+    second_good image (second_image words.outputs) second old files.second told,
+  )
 
   before_good : Tells old → AreGood old.fixed (ports_before (command_ports (Run words)) (In in_port.Script))
   before_good told = subst (AreGood old.fixed) (sym (before_script words)) (images_good told)
@@ -347,9 +348,11 @@ module _ (words : RunWords) (image : List ℕ) (second : Option (List ℕ)) (byt
 
       all_good : (ended : Ends) → EndsRun words.outputs (writes run) run ended middle new → Tells old → AreGood old.fixed (command_ports (Run words))
       all_good ended all told =
-          let images = images_good told in
-          (images.0, good_both old.fixed (second_inputs (second_image words.outputs)) _ images.1
-          (script_good told, with_inputs (output_ports words.outputs) all.order told))
+          let images = images_good told in (
+            images.0,
+            good_both old.fixed (second_inputs (second_image words.outputs)) _ images.1
+                (script_good told, with_inputs (output_ports words.outputs) all.order told),
+          )
 
       pub run_ended : (ended : Ends) → EndsRun words.outputs (writes run) run ended middle new → Answers (Run words) (status_at ended) old new
       run_ended AtEnd ended = record {
@@ -403,9 +406,11 @@ module _ (words : RunWords) (image : List ℕ) (second : Option (List ℕ)) (byt
                   (Out port) (images_good told) (good_first old.fixed (input in_port.Script words.script) (output_ports words.outputs) (Out port) (script_good told)
                   (with_inputs (ports_before (output_ports words.outputs) (Out port)) stops.order told));
               opened = λ told p grew.
-                  let images = images_good told in
-                  (images.0, good_both old.fixed (second_inputs (second_image words.outputs)) _ images.1
-                  (script_good told, with_inputs (output_ports words.outputs) (λ so. stops.opened so p (grown p grew)) told));
+                  let images = images_good told in (
+                    images.0,
+                    good_both old.fixed (second_inputs (second_image words.outputs)) _ images.1
+                        (script_good told, with_inputs (output_ports words.outputs) (λ so. stops.opened so p (grown p grew)) told),
+                  );
               none = λ before. not_so _ (sym before);
               closed = λ is. absurd (cc);
               cause = fault_known (Out port) _ _ old new known (fault_then _ _ old middle new files.only.fixed files.calm stops.fault);

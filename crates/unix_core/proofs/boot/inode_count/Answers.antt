@@ -1,5 +1,4 @@
-use Rattle.std.proofs.Common.{◌∙◌, ◌*◌, ap}
-use Rattle.fs_codec.specs.Disk.{inode_count}
+use Rattle.std.proofs.Common.{◌*◌, ap}
 use Rattle.fs_codec.specs.Stands.{store_of}
 use Rattle.fs_codec.specs.declared.super_block.SuperBlock.{SuperBlock}
 use Rattle.unix_core.proofs.boot.inode_count.Goals as goal

@@ -1,4 +1,4 @@
-use Rattle.std.proofs.Common.{◌≡◌, ℕ, List, Option, Some, None, rules, refl, sym, ◌∙◌, ap, subst}
+use Rattle.std.proofs.Common.{◌≡◌, ℕ, List, Option, Some, None, rules, ap, subst}
 use Rattle.buf_cache.specs.Blocks.{IsDisk}
 use Rattle.fs_blocks.proofs.LateLemmas.{late_twice}
 use Rattle.fs_nodes.specs.Disks.{Disks, OfSecond}

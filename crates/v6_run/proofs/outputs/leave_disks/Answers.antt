@@ -27,10 +27,12 @@ pub returns-in-Ok-clause-written : goal.returns-in-Ok-clause-written
 returns-in-Ok-clause-written g c =
     let left = c.in-Ok.ensures in
     let second = c.leave_second.ensures in
-    let before = c.requires.is_open out_port.Final refl in
-    (left.written.0, left.written.1,
-    leaves_then c.args.two _ _ _ _ left.only before left.is_open _ left.written.2 left.cause second.only (leave_second-requires-clause-is_open g c) second.is_open
-    c.leave_second.result second.whole second.front second.cause second.named)
+    let before = c.requires.is_open out_port.Final refl in (
+      left.written.0,
+      left.written.1,
+      leaves_then c.args.two _ _ _ _ left.only before left.is_open _ left.written.2 left.cause second.only (leave_second-requires-clause-is_open g c) second.is_open
+          c.leave_second.result second.whole second.front second.cause second.named,
+    )
 
 pub returns-in-Err-clause-written : goal.returns-in-Err-clause-written
 returns-in-Err-clause-written g c =

@@ -1,9 +1,6 @@
-use Rattle.std.proofs.Common.{◌≡◌, ◌∙◌, ◌≤◌, ◌==◌, ℕ, List, None, if◌then◌else◌, slice_index, refl, sym, ap, subst}
-use Rattle.fs_codec.specs.Store.{Store}
-use Rattle.fs_nodes.specs.Disks.{Disks}
+use Rattle.std.proofs.Common.{◌≡◌, ◌∙◌, ◌≤◌, ◌==◌, ℕ, None, if◌then◌else◌, slice_index, refl, sym, ap, subst}
 use Rattle.fs_nodes.specs.Keys.{Stores}
 use Rattle.fs_nodes.specs.FileSystem.{FileSystem}
-use Rattle.abstract_unix.specs.Runs.{stores_of}
 use Rattle.abstract_unix.proofs.FirstTidy.{few_nodes}
 use Rattle.unix_core.proofs.BootLemmas.{boots_as}
 use Rattle.unix_core.proofs.kernel.Kernel.boot_with.Goals as goal
