@@ -4,7 +4,7 @@ ghost use Rattle.v6_port.specs.Outside.{Out, OnlyAt, Tells, same};
 ghost use Rattle.v6_port.specs.declared.host.OutPort.TheVariants.{Report};
 ghost use Rattle.v6_port.specs.Causes.{Calm, FaultAt};
 ghost use Rattle.v6_run.specs.Fronts.{HoldsFront};
-ghost use Rattle.v6_run.specs.Report.{report, status_line, panic_line, script_line, fault_line, second_line, ok_line, demo_line, lawful_line, found_line};
+ghost use Rattle.v6_run.specs.Report.{report, status_line, panic_line, script_line, fault_line, second_fault_line, second_line, ok_line, demo_line, lawful_line, found_line};
 ghost use Rattle.v6_run.specs.Answers.{Reports};
 
 use crate::demo::Summary;
@@ -65,23 +65,41 @@ fn fault_line(fault: ImageFault) -> Line
 }
 
 /// The line of what is wrong with a second image. It leaves no room for a swap area, and needs none.
-fn second_line(fault: SecondFault) -> Line
-    ensures { result.bytes ≡ second_line fault }
+fn second_fault_line(fault: ImageFault) -> Line
+    ensures { result.bytes ≡ second_fault_line fault }
 {
     match fault {
-        SecondFault::Image(ImageFault::NoSwap(blocks)) => {
+        ImageFault::TooLong => plain("second image: too long"),
+        ImageFault::BadSuper => plain("second image: bad super-block"),
+        ImageFault::NoSwap(blocks) => {
             numbered(
                 "second image: file system of ",
                 blocks,
                 " blocks is too long",
             )
         }
-        SecondFault::Image(fault) => {
-            let mut line = Line::new();
-            line.push_str("second ");
-            line.push_str(fault_line(fault).as_str());
-            line
+        ImageFault::FreeCount(block) => numbered(
+            "second image: free count in block ",
+            block,
+            "",
+        ),
+        ImageFault::FreeOutside(block) => {
+            numbered("second image: free block ", block, " outside")
         }
+        ImageFault::NodeOutside(inode, block) => {
+            twice_numbered("second image: inode ", inode, " has block ", block, " outside")
+        }
+        ImageFault::BlockTwice(block) => numbered("second image: block ", block, " twice"),
+        ImageFault::NoRoot => plain("second image: no root"),
+    }
+}
+
+/// The line of why a command has no second disk.
+fn second_line(fault: SecondFault) -> Line
+    ensures { result.bytes ≡ second_line fault }
+{
+    match fault {
+        SecondFault::Image(fault) => second_fault_line(fault),
         SecondFault::Nodes(count) => numbered("second image: ", count, " nodes in all"),
     }
 }
