@@ -80,6 +80,18 @@ fn set_pace_on<T: Trace>(line: &mut Line, l: u8, on: bool, trace: &mut T) -> boo
     line.set_pace(on, &mut seen)
 }
 
+/// Whether bytes wait to go out on one of these lines.
+fn any_holds(lines: &[Line]) -> bool
+    ensures { result ≡ list_any holds lines.now }
+{
+    for l in 0..lines.len() {
+        if lines[l].holds() {
+            return true;
+        }
+    }
+    false
+}
+
 impl Lines {
     /// So many lines that nobody has opened yet.
     pub fn new(count: u8) -> Lines
@@ -107,13 +119,7 @@ impl Lines {
     pub fn holds(&self) -> bool
         ensures { result ≡ list_any holds self.now }
     {
-        let lines = self.lines.as_slice();
-        for l in 0..lines.len() {
-            if lines[l].holds() {
-                return true;
-            }
-        }
-        false
+        any_holds(self.lines.as_slice())
     }
 
     /// Whether a line is open.

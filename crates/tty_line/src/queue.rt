@@ -16,15 +16,35 @@ pub(crate) const QUEUE_ROOM: usize = 1009;
 /// is one: of line 0 alone, and of no entries.
 #[derive(Drop)]
 pub(crate) struct Queue {
+    /// Those that wait, behind some that have gone out.
     bytes: ArrayVec<u8, QUEUE_ROOM>,
+    /// How many of them have gone out.
+    gone: usize,
 }
 
 impl Model for Queue {
-    ghost use Rattle.std.specs.Prelude.{ℕ, List};
+    ghost use Rattle.std.specs.Prelude.{ℕ, List, drop, length, ◌≤◌};
 
     ghost Value = { List ℕ };
 
-    ghost view = { λ q. q.bytes.items };
+    ghost view = { λ q. drop q.gone q.bytes.items };
+
+    ghost invariant = { λ q. q.gone ≤ length q.bytes.items };
+}
+
+/// Takes out those that have gone, where there is no room behind them, and gives how many of them are still there.
+#[inline]
+fn make_room(bytes: &mut ArrayVec<u8, QUEUE_ROOM>, gone: usize) -> usize
+    requires { gone ≤ length bytes.old.items }
+    ensures waiting { drop result bytes.new.items ≡ drop gone bytes.old.items }
+    ensures within { result ≤ length bytes.new.items }
+    ensures room { QUEUE_ROOM ≤ length bytes.new.items → result ≡ 0 }
+{
+    if bytes.len() == QUEUE_ROOM {
+        bytes.drain(..gone);
+        return 0;
+    }
+    gone
 }
 
 impl Queue {
@@ -34,20 +54,21 @@ impl Queue {
     {
         Queue {
             bytes: ArrayVec::new(),
+            gone: 0,
         }
     }
 
     pub(crate) fn len(&self) -> usize
         ensures { result ≡ length self.now }
     {
-        self.bytes.len()
+        self.bytes.len() - self.gone
     }
 
     /// All of them, in order.
     pub(crate) fn as_slice(&self) -> &[u8]
         ensures { result.now ≡ self.now }
     {
-        self.bytes.as_slice()
+        &self.bytes.as_slice()[self.gone..]
     }
 
     /// None any more.
@@ -55,6 +76,7 @@ impl Queue {
         ensures { self.new ≡ [] }
     {
         self.bytes.clear();
+        self.gone = 0;
     }
 
     /// Takes the first of them out.
@@ -63,8 +85,8 @@ impl Queue {
         ensures first { result ≡ slice_index self.old 0 }
         ensures rest { self.new ≡ drop 1 self.old }
     {
-        let byte = self.bytes[0];
-        self.bytes.drain(..1);
+        let byte = self.bytes[self.gone];
+        self.gone += 1;
         byte
     }
 
@@ -72,6 +94,7 @@ impl Queue {
     fn push(&mut self, byte: u8)
         ensures { self.new ≡ with_waiting self.old byte }
     {
+        self.gone = make_room(&mut self.bytes, self.gone);
         let _ = self.bytes.try_push(byte);
     }
 
