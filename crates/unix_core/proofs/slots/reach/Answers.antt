@@ -1,15 +1,14 @@
 use Rattle.std.proofs.Common.{◌≡◌, ◌∙◌, sym, ap}
 use Rattle.sys_procs.specs.declared.procs.Procs.{Procs}
 use Rattle.unix_core.specs.declared.world.World.{World}
-use Rattle.unix_core.specs.declared.slots.Slots.{Slots}
 use Rattle.unix_core.proofs.SlotWorlds.{none_woken_now, due_later, reach_good, reach_passed, reach_timed, sent_unix, sent_board, sent_any, sent_took, none_woken}
 use Rattle.unix_core.proofs.slots.reach.Goals as goal
 
 -- what is as it was
-reach_others : (w v : World) (p : Procs) (slots : Slots)
-    → v ≡ record (record w { procs = p; slots = slots }) { files = record w.files { lines = v.files.lines }; procs = record p { table = v.procs.table }; slots = v.slots }
+reach_others : (w v : World) (p : Procs)
+    → v ≡ record w { files = record w.files { lines = v.files.lines }; procs = record p { table = v.procs.table }; slots = v.slots }
     → v ≡ record w { files = record w.files { lines = v.files.lines }; procs = v.procs; slots = v.slots }
-reach_others w v p slots sent =
+reach_others w v p sent =
     let procs : record p { table = v.procs.table } ≡ v.procs = sym (ap (λ (y : World). y.procs) sent) in
     sent ∙ (λ i. record w { files = record w.files { lines = v.files.lines }; procs = procs i; slots = v.slots })
 
@@ -77,7 +76,7 @@ returns-clause-tree g c = ap (λ (x : World). x.files.tree) c.send_after-sent.en
 
 pub returns-clause-others : goal.returns-clause-others
 returns-clause-others g c =
-    reach_others c.args.world.now c.send_after-sent.new.world c.wake_due-woken.new.procs _ c.send_after-sent.ensures.others
+    reach_others c.args.world.now c.send_after-sent.new.world c.wake_due-woken.new.procs c.send_after-sent.ensures.others
 
 pub returns-clause-same : goal.returns-clause-same
 returns-clause-same g c none =

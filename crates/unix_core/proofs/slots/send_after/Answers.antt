@@ -1,6 +1,4 @@
 use Rattle.std.proofs.Common.{◌≡◌, ◌<◌, ◌∙◌, ◌-◌, ◌%◌, refl, sym, ap, subst, arith}
-use Rattle.pick_rules.specs.declared.table.Table.{Table}
-use Rattle.tty_line.specs.Terminal.{Terminal}
 use Rattle.abstract_unix.specs.Unix.{Unix}
 use Rattle.unix_core.specs.declared.world.World.{World}
 use Rattle.unix_core.specs.declared.slots.Slots.{Slots}
