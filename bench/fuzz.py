@@ -16,6 +16,7 @@ Each case comes from its number, the seed, and from nothing else. The kinds are
              ports, files with a limit of bytes
     command  words of commands, good and bad
     lines    programs over the lines of a terminal, mostly under `run8`
+    slow     programs of the other benches, or over some lines of a terminal, under a slow disk and a paced terminal
 
 Without `--seed` cases are tried for so many hours (1), or `--count` of them, from `--first` on (by the clock where it isn't
 given). The program runs with limits of time and memory; every thousandth seed runs under valgrind too. A share of the other

@@ -12,8 +12,8 @@ import processes
 import spoil
 from fuzz_hosts import random_host
 from random_disk import Tree
-from random_lines import random_lines
-from random_script import random_script
+from random_lines import over, random_lines
+from random_script import random_script, slowed
 
 TOP = __file__.rsplit("/", 2)[0]
 HI = f"{TOP}/examples/hi/image"
@@ -21,7 +21,7 @@ INODE_7, HEADER, TEXT = 1216, 33792, 33808  # of /etc/init on the disk of exampl
 RUN = ("run", "image", "CORE", "script", "term", "log", "final")
 RUN8 = ("run8", *RUN[1:])
 MEMORY = ("memory", "image", "CORE", "script", "final")
-KINDS = {"disk": 26, "words": 12, "hostile": 22, "script": 14, "host": 12, "command": 4, "odd": 10, "lines": 14}
+KINDS = {"disk": 26, "words": 12, "hostile": 22, "script": 14, "host": 12, "command": 4, "odd": 10, "lines": 14, "slow": 14}
 BENCH = (file_calls.Case, console.Case, processes.Case, processes.ExecCase, processes.PipeCase, processes.SignalCase)
 CORES = (64, 65, 100, 200, 600, 1200, 2048, 3967, 3968)
 
@@ -75,9 +75,14 @@ def of_bench(rng, seed, kinds=BENCH):
     return Case(seed, "", case.image, str(case.core), lines, end, sort=kind.__name__)
 
 
+def lines_of_disk(image):
+    """The lines beside the console that a disk has."""
+    return [line for line in range(1, 8) if b"tty%d\0" % line in image]
+
+
 def on_lines(rng, case):
     """The same under `run8`, where programs open other lines than the console under some of its names: those that the disk has."""
-    there = [line for line in range(1, 8) if b"tty%d\0" % line in case.image]
+    there = lines_of_disk(case.image)
     image = re.sub(rb"(?<=/dev/tty)8(?=\0)", lambda found: b"%d" % rng.choice((8, *there)), case.image)
     return case.with_(image=image, command=RUN8)
 
@@ -207,8 +212,21 @@ def lines(rng, seed):
     return Case(seed, "", image, core, said, command=RUN8 if is_eight else RUN)
 
 
+def slow(rng, seed):
+    """Programs of another bench, or over the console or two lines, under a slow disk and a paced terminal; many under `run8`."""
+    if rng.random() < 0.5:
+        case = of_bench(rng, seed, BENCH[1:])
+        case = on_lines(rng, case) if rng.random() < 0.3 else case
+        there = lines_of_disk(case.image) if case.command == RUN8 else []
+    else:
+        there = rng.sample(range(1, 8), rng.choice((0, 0, 0, 1, 2)))
+        image, said = over(rng, read(HI), [0, *there], rng.choice((300, 1000, 2000)))
+        case = Case(seed, "", image, str(rng.choice((3968, 1200, 200, 100))), said, command=RUN8 if there else RUN)
+    return case.with_(lines=slowed(rng, case.lines, there))
+
+
 MAKERS = {"disk": disk, "words": words, "hostile": hostile_program, "script": script, "host": host, "command": command,
-          "odd": odd, "lines": lines}
+          "odd": odd, "lines": lines, "slow": slow}
 
 
 def case_of(seed, kind=None):

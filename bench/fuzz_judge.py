@@ -28,6 +28,11 @@ NOBODY = 65534
 VALGRIND = ("valgrind", "-q", "--error-exitcode=99")
 LATER_CALLS = (21, 22)  # mount and umount
 
+# what is counted in the logs of runs
+MET = (("waits for the disk", r"^sleep \d+ -50 disk"), ("waits for room on the console", r"^sleep \d+ 20 show$"),
+       ("waits for room on other lines", r"^sleep \d+ 20 show\."), ("waits for keys of the console", r"^sleep \d+ 10 keys$"),
+       ("waits for keys of other lines", r"^sleep \d+ 10 keys\."), ("signals of a hangup", r"^signal \d+ 1$"))
+
 ALL_BITS = bytes([0, 255] + [0] * 254)
 
 Outcome = collections.namedtuple("Outcome", "status report run")
@@ -284,6 +289,19 @@ def by_itself(program, case):
 # whole cases
 
 
+def count(case, run, counts):
+    """What a run has met."""
+    log = "\n".join(run.log)
+    counts["lines of logs"] += len(run.log)
+    for name, text in MET:
+        found = len(re.findall(text, log, re.MULTILINE))
+        counts[name] += found
+        counts[f"runs with {name}"] += found > 0
+    counts["runs under `run8`"] += case.command[0] == "run8"
+    for word in (b"disk", b"pace", b"line", b"hangup"):
+        counts[f"scripts with {word.decode()}"] += any(line.startswith(word + b" ") for line in case.lines)
+
+
 def run_case(program, case, counts):
     """A run whose files are plain."""
     try:
@@ -296,7 +314,8 @@ def run_case(program, case, counts):
     yield from ended(ran.status, ran.report)
     yield from run_differences(case, ran, want)
     counts[f"status {want.status}"] += 1
-    counts["lines of logs"] += len(want.run.log) if want.run else 0
+    if want.run:
+        count(case, want.run, counts)
     if case.seed % 3 == 0 and case.command[0] == "run":
         counts["memories compared"] += 1
         yield from memory_differences(program, case, want)

@@ -15,7 +15,7 @@ from row import plain
 from rowfile import HEADER, INODE_7, RowError, Row, place
 
 PAGES = {"disk": "disk-image.md", "odd": "disk-image.md", "words": "calls.md", "hostile": "calls.md", "script": "scripts.md",
-         "host": "ports.md", "command": "commands.md", "lines": "terminal.md"}
+         "host": "ports.md", "command": "commands.md", "lines": "terminal.md", "slow": "scripts.md"}
 IN_LINE, GAP = 16, 3  # bytes of a disk in a line, and how far two that differ may be apart in it
 MOST_BYTES = 100_000  # of a disk that differ, in a row file
 

@@ -182,12 +182,17 @@ def script(rng, lines, slots):
     return out
 
 
+def over(rng, base, lines, slots):
+    """An image with a program over these lines, and the lines of a script for it."""
+    program = Lines(rng, lines).bytes()
+    while len(program) > 512 * BLOCKS:
+        program = Lines(rng, lines).bytes()
+    return disk(base, program), script(rng, lines, slots)
+
+
 def random_lines(rng, base):
     """An image, the lines of a script, and whether the machine has eight lines."""
     lines = rng.sample(range(8), rng.choice((1, 2, 2, 3, 8)))
     is_eight = rng.random() < 0.8
     lines = lines if is_eight else [0, 0, 0, lines[0]]
-    program = Lines(rng, lines).bytes()
-    while len(program) > 512 * BLOCKS:
-        program = Lines(rng, lines).bytes()
-    return disk(base, program), script(rng, lines, rng.choice((300, 1000, 3000))), is_eight
+    return *over(rng, base, lines, rng.choice((300, 1000, 3000))), is_eight

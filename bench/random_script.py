@@ -2,6 +2,8 @@
 
 A share of them has a line that is none, or too many slots, and a share a key that makes a signal.
 """
+import re
+
 SIGNALS = (0o177, 0o34)
 KEYS = (4, 4, 4, 0o12, 0o15, 0o11, 0o10, 0, ord("#"), ord("@"), ord("\\"), ord("A"), 0o204, 0o212, 0o215, 0o376)
 TEXT = b"abcxyzABCXYZ 019" + b"##@@\\\\\\" + b"!()'^{}|~`" + b"#\\"
@@ -159,3 +161,27 @@ def random_script(rng):
     returns = rng.choice((0, 0, 0.1, 1))
     ends = [b"\r\n" if rng.random() < returns else b"\n" for _ in typist.lines]
     return Script(typist.lines, ends[:-1] + [b"" if rng.random() < 0.2 else ends[-1]])
+
+
+def slowed(rng, lines, there, most=3000):
+    """Lines of a script up to so many slots, with a slow disk and a pace from near the start on, more lines of both behind it,
+    and hangups; and of the lines of a terminal that are there beside the console what is typed on one."""
+    out, slots = [], 0
+    for line in lines:
+        found = re.fullmatch(rb"run ([0-9]{1,9})", line)
+        slots += int(found[1]) if found else 0
+        if slots > 3 * most:
+            break
+        out.append(line)
+        if slots > most:
+            break
+    first = [b"disk %d" % rng.choice((1, 1, 2, 3, 5, 7, 20, 60, 300)), b"pace %d" % rng.choice((1, 1, 1, 2, 3, 7, 20))]
+    at = rng.choice((0, 0, 0, min(2, len(out))))
+    out[at:at] = rng.sample(first, 2)
+    more = [b"disk %d" % rng.choice((0, 1, 1, 2, 3, 7, 50, 400)) for _ in range(rng.randrange(3))]
+    more += [b"pace %d" % rng.choice((0, 0, 1, 1, 2, 3, 9, 100)) for _ in range(rng.randrange(5))]
+    more += [b"hangup %d" % rng.choice((0, 0, *there, rng.randrange(8))) for _ in range(rng.choice((0, 0, 0, 1, 2)))]
+    more += [b"line %d" % rng.choice((0, *there, *there)) for _ in range(rng.randrange(1, 7) if there else 0)]
+    for line in more:
+        out.insert(rng.randrange(len(out) + 1), line)
+    return out

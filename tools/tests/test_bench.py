@@ -70,6 +70,23 @@ class Cases(unittest.TestCase):
         self.assertEqual(set(commands), {RUN, RUN8})
         self.assertGreater(commands.count(RUN8), len(commands) / 2)
 
+    def test_the_kind_slow(self):
+        """Each has a slow disk and a paced terminal from near its start on; both commands come, and programs of all sorts."""
+        commands, sorts = set(), set()
+        for seed in range(MANY // 3):
+            case = fuzz_cases.case_of(seed, "slow")
+            self.assertLessEqual({line for line in case.lines if not is_good(line)}, set(random_script.NO_LINES))
+            self.assertLessEqual({b"disk", b"pace"}, {line.partition(b" ")[0] for line in case.lines if is_good(line)})
+            self.assertLess(scriptfile.slots_of(case.script()), 20_000)
+            commands.add(case.command)
+            sorts.add(case.sort)
+        self.assertEqual(commands, {RUN, RUN8})
+        self.assertLessEqual({"", "Case", "ExecCase", "PipeCase", "SignalCase"}, sorts)
+
+    def test_all_kinds(self):
+        self.assertEqual(set(fuzz_cases.MAKERS), set(fuzz_cases.KINDS))
+        self.assertEqual(set(fuzz_row.PAGES), set(fuzz_cases.KINDS))
+
     def test_other_cases_over_lines(self):
         """A program finds other lines under the console's name, and no line that the disk hasn't."""
         image = b"/dev/tty8\0" * 20 + b"tty3\0" + b"tty5\0"
