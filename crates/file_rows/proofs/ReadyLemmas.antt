@@ -10,19 +10,36 @@ use Rattle.proc_tab.specs.declared.row.Row.{Row}
 use Rattle.u_area.specs.declared.area.UArea.{UArea}
 use Rattle.open_files.specs.declared.file.OpenFile.{OpenFile}
 use Rattle.open_files.specs.Files.{file_at, times, HaveRoom}
+use Rattle.fs_codec.specs.Store.{Store}
+use Rattle.fs_nodes.specs.Disks.{Disks}
 use Rattle.fs_nodes.specs.FileSystem.{FileSystem}
+use Rattle.fs_nodes.specs.Keys.{Stores, counts}
+use Rattle.mount_tab.specs.Mounted.{MountTable, is_the}
+use Rattle.fs_tree.specs.Mounting.{AreMounts}
 use Rattle.pipe_ends.specs.declared.ends.Pipe.{Pipe}
 use Rattle.sys_files.specs.declared.files.Files.{Files}
 use Rattle.sys_files.specs.Handed.{Handed, handed}
 use Rattle.sys_files.specs.Pipes.{ArePipes}
 use Rattle.sys_files.specs.Sound.{IsSound, IsKept, numbers_of, is_of}
-use Rattle.file_rows.specs.Ready.{IsReady}
+use Rattle.file_rows.specs.Ready.{FitsDisks, IsReady}
+
+-- The mount table fits the stores where it has their numbers of inodes, and else not.
+fits_of : (mounts : MountTable) (root : Store) (second : Option Store) → AreMounts mounts (record { root = root; second = second })
+    → FitsDisks mounts (counts (record { root = root; second = second }))
+fits_of mounts root None are = record { first = are.first; second = are.second; covered = are.covered }
+fits_of mounts root (Some s) are = record { first = are.first; second = are.second; covered = λ some. refl }
+
+mounts_of : (mounts : MountTable) (root : Store) (second : Option Store)
+    → FitsDisks mounts (counts (record { root = root; second = second })) → AreMounts mounts (record { root = root; second = second })
+mounts_of mounts root None fits = record { first = fits.first; second = fits.second; covered = fits.covered }
+mounts_of mounts root (Some s) fits = record { first = fits.first; second = fits.second; covered = λ some. refl }
 
 one_or_none : (b : Bool) → (if b then 1 else 0) ≤ 1
 one_or_none true = omega arith
 one_or_none false = omega arith
 
-pub sound_of : (f : Files) (u : UArea) (row : Row) (image : Image) → IsReady f.table f.pipes u.files u.dir f.tree.nodes.references
+pub sound_of : (f : Files) (u : UArea) (row : Row) (image : Image)
+    → IsReady f.table f.pipes u.files u.dir f.tree.mounts f.tree.nodes.references (counts f.tree.nodes.store)
     → length f.table ≡ 100 → HaveRoom f.table → IsSound (handed f u row image)
 sound_of f u row image ready long room = record {
   is_open = ready.is_open;
@@ -36,12 +53,15 @@ sound_of f u row image ready long room = record {
       let n = ready.few ino in
       let c = count_by-le-length (is_of ino) f.table in
       let o = one_or_none (u.dir == ino) in
-      omega (arith, n, c, o, long);
+      let m = one_or_none (is_the f.tree.mounts.covered ino) in
+      omega (arith, n, c, o, m, long);
   pipes = ready.piped;
+  mounts = mounts_of f.tree.mounts f.tree.nodes.store.root f.tree.nodes.store.second ready.fits;
 }
 
-pub kept_ready : (old new : Handed) → IsReady old.files old.pipes old.u.files old.u.dir old.inodes.references → IsKept old new
-    → IsReady new.files new.pipes new.u.files new.u.dir new.inodes.references
+pub kept_ready : (old new : Handed)
+    → IsReady old.files old.pipes old.u.files old.u.dir old.mounts old.inodes.references (counts old.inodes.store) → IsKept old new
+    → IsReady new.files new.pipes new.u.files new.u.dir new.mounts new.inodes.references (counts new.inodes.store)
 kept_ready old new ready kept = record {
   is_open = kept.is_open;
   counted = λ entry.
@@ -57,13 +77,14 @@ kept_ready old new ready kept = record {
       let b = kept.references ino in
       omega (arith, a, b);
   piped = kept.pipes;
+  fits = fits_of new.mounts new.inodes.store.root new.inodes.store.second kept.mounts;
 }
 
 -- The same references, by another name.
-pub same : (files : List (Option OpenFile)) (pipes : List Pipe) (numbers : List ℕ) (dir : ℕ) (old new : List ℕ) → new ≡ old
-    → IsReady files pipes numbers dir old → IsReady files pipes numbers dir new
-same files pipes numbers dir old new e ready =
-    let P : List ℕ → Type 0 = λ r. IsReady files pipes numbers dir r in subst P (sym e) ready
+pub same : (files : List (Option OpenFile)) (pipes : List Pipe) (numbers : List ℕ) (dir : ℕ) (mounts : MountTable) (c : Disks ℕ)
+    (old new : List ℕ) → new ≡ old → IsReady files pipes numbers dir mounts old c → IsReady files pipes numbers dir mounts new c
+same files pipes numbers dir mounts c old new e ready =
+    let P : List ℕ → Type 0 = λ r. IsReady files pipes numbers dir mounts r c in subst P (sym e) ready
 
 zeros : (n i : ℕ) → slice_index (replicate n 0) i ≡ 0
 zeros zero i = refl
@@ -79,14 +100,16 @@ named_by_none n entry =
     omega (arith, all, product)
 
 -- another process, without an open file
-pub fresh_ready : (files : List (Option OpenFile)) (pipes : List Pipe) (numbers : List ℕ) (dir : ℕ) (references : List ℕ)
-    → IsReady files pipes numbers dir references → IsReady files pipes (replicate 15 0) dir references
-fresh_ready files pipes numbers dir references ready = record {
+pub fresh_ready : (files : List (Option OpenFile)) (pipes : List Pipe) (numbers : List ℕ) (dir : ℕ) (mounts : MountTable)
+    (references : List ℕ) (c : Disks ℕ) → IsReady files pipes numbers dir mounts references c
+    → IsReady files pipes (replicate 15 0) dir mounts references c
+fresh_ready files pipes numbers dir mounts references c ready = record {
   is_open = λ fd used. let z = zeros 15 fd in absurd (omega (arith, used, z));
   counted = λ entry. let z = named_by_none 15 entry in omega (arith, z);
   referred = ready.referred;
   few = ready.few;
   piped = ready.piped;
+  fits = ready.fits;
 }
 
 all_free : (n entry : ℕ) → file_at (replicate n None) entry ≡ None
@@ -110,24 +133,30 @@ no_pipes = record {
 }
 
 -- Nothing is open, and the process is in the root.
-begins : (references : List ℕ) → ((i : ℕ) → slice_index references i ≤ 2) → 0 < slice_index references 1
-    → IsReady (replicate 100 None) [] (replicate 15 0) 1 references
-begins references few root = record {
+begins : (mounts : MountTable) (fs : FileSystem) → AreMounts mounts fs.store → mounts.covered ≡ None
+    → ((i : ℕ) → slice_index fs.references i ≤ 2) → 0 < slice_index fs.references 1
+    → IsReady (replicate 100 None) [] (replicate 15 0) 1 mounts fs.references (counts fs.store)
+begins mounts fs are uncovered few root = record {
   is_open = λ fd used. let z = zeros 15 fd in absurd (omega (arith, used, z));
   counted = λ entry. let z = named_by_none 15 entry in omega (arith, z);
   referred = λ ino.
       let n = none_of 100 ino in
-      let o = owing_root ino references (1 == ino) refl root in
-      omega (arith, n, o);
+      let o = owing_root ino fs.references (1 == ino) refl root in
+      let c : cond {A = ℕ} (is_the mounts.covered ino) 1 0 ≡ 0 = ap (λ o. cond {A = ℕ} (is_the o ino) 1 0) uncovered in
+      omega (arith, n, o, c);
   few = λ ino. let f = few ino in omega (arith, f);
   piped = no_pipes;
+  fits = fits_of mounts fs.store.root fs.store.second are;
 }
 
-pub begun : (files : List (Option OpenFile)) (pipes : List Pipe) (old new : FileSystem) → files ≡ replicate 100 None → pipes ≡ []
-    → new ≡ old → ((i : ℕ) → slice_index old.references i ≤ 2) → 0 < slice_index old.references 1
-    → IsReady files pipes (replicate 15 0) 1 new.references
-begun files pipes old new free none here few root =
-    let P : List (Option OpenFile) → Type 0 = λ l. IsReady l pipes (replicate 15 0) 1 new.references in
-    let Q : List Pipe → Type 0 = λ l. IsReady (replicate 100 None) l (replicate 15 0) 1 new.references in
-    let R : FileSystem → Type 0 = λ fs. IsReady (replicate 100 None) [] (replicate 15 0) 1 fs.references in
-    subst P (sym free) (subst Q (sym none) (subst R (sym here) (begins old.references few root)))
+pub begun : (files : List (Option OpenFile)) (pipes : List Pipe) (mounts : MountTable) (old new : FileSystem)
+    → files ≡ replicate 100 None → pipes ≡ [] → new ≡ old → AreMounts mounts old.store → mounts.covered ≡ None
+    → ((i : ℕ) → slice_index old.references i ≤ 2) → 0 < slice_index old.references 1
+    → IsReady files pipes (replicate 15 0) 1 mounts new.references (counts new.store)
+begun files pipes mounts old new free none here are uncovered few root =
+    let P : List (Option OpenFile) → Type 0 = λ l. IsReady l pipes (replicate 15 0) 1 mounts new.references (counts new.store) in
+    let Q : List Pipe → Type 0 = λ l.
+    IsReady (replicate 100 None) l (replicate 15 0) 1 mounts new.references (counts new.store) in
+    let R : FileSystem → Type 0 = λ fs.
+    IsReady (replicate 100 None) [] (replicate 15 0) 1 mounts fs.references (counts fs.store) in
+    subst P (sym free) (subst Q (sym none) (subst R (sym here) (begins mounts old are uncovered few root)))

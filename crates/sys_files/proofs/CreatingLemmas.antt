@@ -133,10 +133,10 @@ module _ (h after : Handed) (name mode now : ℕ)
     pub creat_found : (ino : ℕ) → m ≡ made.Found ino → unnamed (opens_again now after ino) ≡ did_with end a → last ≡ put_back end.inodes ino
         → unnamed (creat_file h name mode now) ≡ did_with (with_inodes end last) a
     creat_found ino is did back =
-        ap unnamed (made_is (Ok m) answer ∙ ap (by_made (opens_again now) (makes_file mode now) after) is) ∙ until_answered end ino _ a last did back
+        ap unnamed (made_is (Ok m) answer ∙ ap (by_made (opens_again now) (makes_file mode now) after) is) ∙ until_answered end ino (opens_again now after ino) a last did back
 
     pub creat_new : (dir offset : ℕ) (entry : List ℕ) → m ≡ made.Room dir offset entry
         → unnamed (makes_file mode now after dir offset entry) ≡ did_with end a → last ≡ put_back end.inodes dir
         → unnamed (creat_file h name mode now) ≡ did_with (with_inodes end last) a
     creat_new dir offset entry is did back =
-        ap unnamed (made_is (Ok m) answer ∙ ap (by_made (opens_again now) (makes_file mode now) after) is) ∙ until_answered end dir _ a last did back
+        ap unnamed (made_is (Ok m) answer ∙ ap (by_made (opens_again now) (makes_file mode now) after) is) ∙ until_answered end dir (makes_file mode now after dir offset entry) a last did back

@@ -66,9 +66,9 @@ tested_so n true false device is = absurd (cc)
 tested_so n false disk device is = absurd (cc)
 
 second_of : (root one there : Bool) → (root || (one && there)) ≡ true → root ≡ false → there ≡ true
-second_of true one there is no = absurd (cc)
-second_of false true there is no = is
-second_of false false there is no = absurd (cc)
+second_of true one there is other = absurd (false≢true (sym other))
+second_of false true there is other = is
+second_of false false there is other = absurd (false≢true is)
 
 not_root : (n : ℕ) → n ≢ 0 → (n == 0) ≡ false
 not_root n other = by (n == 0) refl where

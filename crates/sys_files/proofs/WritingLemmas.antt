@@ -1,6 +1,6 @@
 -- Bytes of a memory that are written into a file, in one write or in two.
 use Rattle.std.proofs.Common.{◌≡◌, ◌⊎◌, ◌+◌, ◌-◌, ◌%◌, ◌≤◌, ◌==◌, ◌||◌, ℕ, Bool, true, false, not, List, min, Option, Some, None, IsSome, unwrap_or, Result, Ok, Err, inl, inr, refl, sym, ap, ◌∙◌, subst, arith}
-use Rattle.std.proofs.lemmas.Bool.{cases_eq, eq-eqb, ne_eqb}
+use Rattle.std.proofs.lemmas.Bool.{cases_lt, cases_eq, eq-eqb, ne_eqb}
 use Rattle.std.proofs.lemmas.List.{set-set}
 use Rattle.v6_base.specs.Image.{Image}
 use Rattle.v6_base.specs.Copy.{load_bytes}
@@ -10,7 +10,7 @@ use Rattle.fs_codec.specs.Store.{Node, Store}
 use Rattle.fs_laws.specs.Pieces.{Moving, write_file}
 use Rattle.fs_laws.specs.Numbers as numbers
 use Rattle.fs_nodes.specs.Keys.{Stores, store_at, number_of, node_numbered, room_at, with_store_at, with_node}
-use Rattle.fs_nodes.proofs.KeyLaws.{stands, put_twice, node_set}
+use Rattle.fs_nodes.proofs.KeyLaws.{stands, put_twice, node_set, room_set}
 use Rattle.fs_nodes.specs.Copy.{get_from, get_kernel}
 use Rattle.fs_nodes.specs.FileSystem.{FileSystem}
 use Rattle.fs_tree.specs.Entries.{written, answer_to, WritesEntry}
@@ -151,9 +151,12 @@ module _ (store middle last : Stores) (ino : ℕ) (image : Image) (at rest offse
         let found : node_numbered middle ino ≡ Some first.node =
         ap (λ (s : Stores). node_numbered s ino) w.store ∙ node_set store ino first.room (node_in store ino) first.node there in
         let wrote : WritesEntry (with_node store ino first.node first.room) ino second last r =
-        subst (λ (s : Stores). WritesEntry s ino
+        subst (λ c. WritesEntry (with_node store ino first.node first.room) ino
+        (write_file (get_from image rest) first.node c (tt {0}) (offset + k) n now) last r)
+        (room_set store ino first.room first.node)
+        (subst (λ (s : Stores). WritesEntry s ino
         (write_file (get_from image rest) first.node (room_at s ino) (tt {0}) (offset + k) n now) last r) w.store
-        (each first.node found) in
+        (each first.node found)) in
         let twice : last ≡ with_node store ino second.node second.room =
         wrote.store ∙ node_twice store ino first.node second.node first.room second.room
         (file_keeps (get_from image at) (node_in store ino) (room_at store ino) offset k now)

@@ -1,6 +1,6 @@
 -- What a read leaves of a file: its owner and its group, and whether it sets them.
 use Rattle.std.proofs.Common.{◌≡◌, ◌∙◌, ◌+◌, ◌/◌, ◌==◌, ℕ, Bool, true, false, not, cond, if◌then◌else◌, List, [], ◌∷◌, min, bit_and, bit_or, Option, Some, None, IsSome, replicate, refl, sym, ap, subst}
-use Rattle.std.specs.Prelude.{◌-◌, ◌<◌}
+use Rattle.std.specs.Prelude.{◌-◌}
 use Rattle.std.specs.Option.{unwrap_or}
 use Rattle.std.proofs.lemmas.Nat.{and_or_apart}
 use Rattle.bmap_path.specs.declared.BlockName.{BlockName}

@@ -1,7 +1,6 @@
 -- The data of a program that are read into an image: they go into its data, and leave its stack as it was.
 use Rattle.std.proofs.Common.{◌≡◌, ◌+◌, ◌-◌, ◌*◌, ◌/◌, ◌%◌, ◌==◌, ◌||◌, ◌<◌, ◌≤◌, ℕ, zero, suc, Bool, true, false, not, cond, List, [], ◌∷◌, length, set, min, replicate, slice_range, drop, nat_lt, nat_le, Option, Some, None, Ok, if◌then◌else◌, refl, sym, ap, subst, ◌∙◌, inl, inr, arith, IfSome, IsSome}
 use Rattle.std.specs.Option.{unwrap_or}
-use Rattle.std.proofs.Math.Nat.{min-le_right}
 use Rattle.std.proofs.lemmas.Bool.{cases_lt, lt-ltb, le-ltb, le-leb, ltb-false}
 use Rattle.std.proofs.lemmas.List.{length-replicate, length-set, length-take}
 use Rattle.v6_base.specs.declared.named.Named.TheVariants.{InData}

@@ -15,7 +15,7 @@ use Rattle.pick_rules.specs.Effects as effect
 use Rattle.mount_tab.specs.Mounted.{MountTable}
 use Rattle.sys_procs.specs.declared.program.Program.{Program}
 use Rattle.sys_procs.specs.Process.{Process, register}
-use Rattle.sys_procs.specs.TextTable.{Text, text_of, with_text, text_bytes, entry_of}
+use Rattle.sys_procs.specs.TextTable.{text_of, with_text, text_bytes, entry_of}
 use Rattle.sys_procs.specs.Texts.{xalloc, xalloc_by}
 use Rattle.sys_procs.specs.World.{World, process_of, with_process, change}
 use Rattle.sys_procs.specs.Tests.{node_at}

@@ -6,6 +6,7 @@ ghost use Rattle.proc_tab.specs.declared.row.Row.{Row};
 ghost use Rattle.open_files.specs.Files.{HaveRoom};
 ghost use Rattle.sys_files.specs.Handed.{handed};
 ghost use Rattle.sys_files.specs.Sound.{IsSound, IsKept};
+ghost use Rattle.fs_nodes.specs.Keys.{counts};
 ghost use Rattle.file_rows.specs.Ready.{IsReady};
 
 use crate::system_calls::world::{DATA_END, World};
@@ -178,10 +179,12 @@ fn by_name(
 
 /// What a call answers.
 pub fn answer(w: &mut World, call: Call) -> Answer
-    requires ready { IsReady w.old.files.table w.old.files.pipes w.old.u.files w.old.u.dir w.old.files.tree.nodes.references }
+    requires ready { IsReady w.old.files.table w.old.files.pipes w.old.u.files w.old.u.dir w.old.files.tree.mounts
+        w.old.files.tree.nodes.references (counts w.old.files.tree.nodes.store) }
     requires long { length w.old.files.table ≡ 100 }
     requires room { HaveRoom w.old.files.table }
-    ensures { IsReady w.new.files.table w.new.files.pipes w.new.u.files w.new.u.dir w.new.files.tree.nodes.references }
+    ensures { IsReady w.new.files.table w.new.files.pipes w.new.u.files w.new.u.dir w.new.files.tree.mounts
+        w.new.files.tree.nodes.references (counts w.new.files.tree.nodes.store) }
 {
     let args = arguments(&mut w.space, call);
     w.u.r[0] = number(call);

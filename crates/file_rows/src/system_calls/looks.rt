@@ -1,5 +1,6 @@
 //! Looks at what calls leave.
 ghost use Rattle.std.specs.Prelude.{◌≡◌};
+ghost use Rattle.fs_nodes.specs.Keys.{counts};
 
 use crate::file_system::fixtures::put;
 use crate::system_calls::disk::{BLOCKS, BYTES};
@@ -62,7 +63,8 @@ pub enum Look {
 
 /// The inode of a number: one that no disk has where it is free.
 fn inode(nodes: &mut Nodes, ino: u16) -> DiskNode
-    ensures { nodes.new.references ≡ nodes.old.references }
+    ensures references { nodes.new.references ≡ nodes.old.references }
+    ensures counts { counts nodes.new.store ≡ counts nodes.old.store }
 {
     match nodes.peek(ino) {
         Some(inode) => inode,
@@ -94,7 +96,8 @@ fn has_address(inode: &DiskNode, place: usize, address: u16) -> bool {
 }
 
 fn has_body(nodes: &mut Nodes, ino: u16, offset: u32, bytes: &[u8]) -> bool
-    ensures { nodes.new.references ≡ nodes.old.references }
+    ensures references { nodes.new.references ≡ nodes.old.references }
+    ensures counts { counts nodes.new.store ≡ counts nodes.old.store }
 {
     let mut found = [0; 16];
     if nodes.peek(ino).is_none() {
@@ -198,7 +201,8 @@ fn disk(nodes: &Nodes) -> [u8; BYTES] {
 }
 
 fn counts(nodes: &mut Nodes, used: u16, free: u16, now: u32) -> bool
-    ensures { nodes.new.references ≡ nodes.old.references }
+    ensures references { nodes.new.references ≡ nodes.old.references }
+    ensures counts { counts nodes.new.store ≡ counts nodes.old.store }
 {
     nodes.update_all(now);
     let bytes = disk(nodes);
@@ -213,7 +217,8 @@ fn stands(nodes: &Nodes, at: usize, bytes: &[u8]) -> bool {
 }
 
 fn shows_inode(nodes: &mut Nodes, look: Look) -> bool
-    ensures { nodes.new.references ≡ nodes.old.references }
+    ensures references { nodes.new.references ≡ nodes.old.references }
+    ensures counts { counts nodes.new.store ≡ counts nodes.old.store }
 {
     match look {
         Look::Inode(ino, mode, owners, size) => is_inode(&inode(nodes, ino), mode, owners, size),
@@ -233,6 +238,8 @@ fn shows_inode(nodes: &mut Nodes, look: Look) -> bool
 /// Whether what must be there is there.
 pub fn shows(w: &mut World, look: Look) -> bool
     ensures references { w.new.files.tree.nodes.references ≡ w.old.files.tree.nodes.references }
+    ensures counts { counts w.new.files.tree.nodes.store ≡ counts w.old.files.tree.nodes.store }
+    ensures mounts { w.new.files.tree.mounts ≡ w.old.files.tree.mounts }
     ensures table { w.new.files.table ≡ w.old.files.table }
     ensures pipes { w.new.files.pipes ≡ w.old.files.pipes }
     ensures process { w.new.u ≡ w.old.u }

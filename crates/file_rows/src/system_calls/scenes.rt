@@ -4,6 +4,7 @@ ghost use Rattle.v6_base.specs.Image.{Image};
 ghost use Rattle.proc_tab.specs.declared.row.Row.{Row};
 ghost use Rattle.sys_files.specs.Handed.{handed};
 ghost use Rattle.sys_files.specs.Sound.{CanGoOn};
+ghost use Rattle.fs_nodes.specs.Keys.{counts};
 ghost use Rattle.file_rows.specs.Ready.{IsReady};
 
 use crate::file_system::files::have_room;
@@ -63,8 +64,10 @@ pub struct Scene {
 }
 
 fn does(w: &mut World, call: Call, told: Told) -> bool
-    requires { IsReady w.old.files.table w.old.files.pipes w.old.u.files w.old.u.dir w.old.files.tree.nodes.references }
-    ensures { IsReady w.new.files.table w.new.files.pipes w.new.u.files w.new.u.dir w.new.files.tree.nodes.references }
+    requires { IsReady w.old.files.table w.old.files.pipes w.old.u.files w.old.u.dir w.old.files.tree.mounts
+        w.old.files.tree.nodes.references (counts w.old.files.tree.nodes.store) }
+    ensures { IsReady w.new.files.table w.new.files.pipes w.new.u.files w.new.u.dir w.new.files.tree.mounts
+        w.new.files.tree.nodes.references (counts w.new.files.tree.nodes.store) }
 {
     if !have_room(&w.files.table) {
         return false;
@@ -85,8 +88,10 @@ fn can_go_on(w: &World) -> bool
 }
 
 fn goes_on(w: &mut World, told: Told) -> bool
-    requires { IsReady w.old.files.table w.old.files.pipes w.old.u.files w.old.u.dir w.old.files.tree.nodes.references }
-    ensures { IsReady w.new.files.table w.new.files.pipes w.new.u.files w.new.u.dir w.new.files.tree.nodes.references }
+    requires { IsReady w.old.files.table w.old.files.pipes w.old.u.files w.old.u.dir w.old.files.tree.mounts
+        w.old.files.tree.nodes.references (counts w.old.files.tree.nodes.store) }
+    ensures { IsReady w.new.files.table w.new.files.pipes w.new.u.files w.new.u.dir w.new.files.tree.mounts
+        w.new.files.tree.nodes.references (counts w.new.files.tree.nodes.store) }
 {
     if !have_room(&w.files.table) || !can_go_on(w) {
         return false;
@@ -131,8 +136,10 @@ fn sends(lines: &mut Lines, l: u8, count: u16, show: bool, tape: &mut Tape) -> b
 }
 
 fn opens(w: &mut World, count: u16) -> bool
-    requires { IsReady w.old.files.table w.old.files.pipes w.old.u.files w.old.u.dir w.old.files.tree.nodes.references }
-    ensures { IsReady w.new.files.table w.new.files.pipes w.new.u.files w.new.u.dir w.new.files.tree.nodes.references }
+    requires { IsReady w.old.files.table w.old.files.pipes w.old.u.files w.old.u.dir w.old.files.tree.mounts
+        w.old.files.tree.nodes.references (counts w.old.files.tree.nodes.store) }
+    ensures { IsReady w.new.files.table w.new.files.pipes w.new.u.files w.new.u.dir w.new.files.tree.mounts
+        w.new.files.tree.nodes.references (counts w.new.files.tree.nodes.store) }
 {
     for fd in 0..count {
         if !does(w, Call::Open(b"/f\0", 0), Told::Gives(fd)) {
@@ -151,8 +158,10 @@ fn puts(space: &mut Whole, at: u16, bytes: &[u8]) -> bool {
 
 /// A change of what a call is handed.
 fn changes(w: &mut World, step: Step) -> bool
-    requires { IsReady w.old.files.table w.old.files.pipes w.old.u.files w.old.u.dir w.old.files.tree.nodes.references }
-    ensures { IsReady w.new.files.table w.new.files.pipes w.new.u.files w.new.u.dir w.new.files.tree.nodes.references }
+    requires { IsReady w.old.files.table w.old.files.pipes w.old.u.files w.old.u.dir w.old.files.tree.mounts
+        w.old.files.tree.nodes.references (counts w.old.files.tree.nodes.store) }
+    ensures { IsReady w.new.files.table w.new.files.pipes w.new.u.files w.new.u.dir w.new.files.tree.mounts
+        w.new.files.tree.nodes.references (counts w.new.files.tree.nodes.store) }
 {
     match step {
         Step::User(uid, gid) => (w.u.uid, w.u.gid) = (uid, gid),
@@ -168,8 +177,10 @@ fn changes(w: &mut World, step: Step) -> bool
 }
 
 fn holds(w: &mut World, step: Step) -> bool
-    requires { IsReady w.old.files.table w.old.files.pipes w.old.u.files w.old.u.dir w.old.files.tree.nodes.references }
-    ensures { IsReady w.new.files.table w.new.files.pipes w.new.u.files w.new.u.dir w.new.files.tree.nodes.references }
+    requires { IsReady w.old.files.table w.old.files.pipes w.old.u.files w.old.u.dir w.old.files.tree.mounts
+        w.old.files.tree.nodes.references (counts w.old.files.tree.nodes.store) }
+    ensures { IsReady w.new.files.table w.new.files.pipes w.new.u.files w.new.u.dir w.new.files.tree.mounts
+        w.new.files.tree.nodes.references (counts w.new.files.tree.nodes.store) }
 {
     match step {
         Step::Does(call, told) => does(w, call, told),
@@ -187,7 +198,8 @@ fn holds(w: &mut World, step: Step) -> bool
 
 /// The number of the first step that does not hold, from 0 on.
 pub fn first_of(w: &mut World, steps: &[Step]) -> Option<usize>
-    requires { IsReady w.old.files.table w.old.files.pipes w.old.u.files w.old.u.dir w.old.files.tree.nodes.references }
+    requires { IsReady w.old.files.table w.old.files.pipes w.old.u.files w.old.u.dir w.old.files.tree.mounts
+        w.old.files.tree.nodes.references (counts w.old.files.tree.nodes.store) }
 {
     for (k, step) in steps.iter().enumerate() {
         if !holds(w, *step) {

@@ -1,5 +1,6 @@
 //! Files whose text is shared: `access` of Lions' Commentary, `fio.c`, and open(II) and creat(II).
 ghost use Rattle.std.specs.Prelude.{◌≡◌, ◌+◌, ◌≤◌, ◌==◌, ℕ, true, if◌then◌else◌, slice_index};
+ghost use Rattle.fs_nodes.specs.Keys.{counts};
 
 use crate::system_calls::calls::Call::{Chmod, Close, Creat, Link, Mknod, Open, Read, Unlink};
 use crate::system_calls::calls::Told::{Done, Fails, Gives};
@@ -115,12 +116,14 @@ const UNMARKED: [Step; 7] = [
 /// Refers to an inode.
 fn refer(nodes: &mut Nodes, ino: u16) -> bool
     requires few { (i : ℕ) → slice_index nodes.old.references i ≤ 2 }
-    ensures { result ≡ true → (i : ℕ) → slice_index nodes.new.references i
+    ensures references { result ≡ true → (i : ℕ) → slice_index nodes.new.references i
         ≡ slice_index nodes.old.references i + (if ino == i then 1 else 0) }
+    ensures store { nodes.new.store ≡ nodes.old.store }
 {
     if nodes.peek(ino).is_none() || nodes.refs(ino) != 0 {
         return false;
     }
+    nodes.see();
     match nodes.take(ino) {
         Ok(()) => true,
         Err(_) => false,
@@ -130,8 +133,10 @@ fn refer(nodes: &mut Nodes, ino: u16) -> bool
 /// Marks an inode.
 fn mark(tree: &mut Tree, ino: u16) -> bool
     requires few { (i : ℕ) → slice_index tree.old.nodes.references i ≤ 65530 }
-    ensures { result ≡ true → (i : ℕ) → slice_index tree.new.nodes.references i
+    ensures references { result ≡ true → (i : ℕ) → slice_index tree.new.nodes.references i
         ≡ slice_index tree.old.nodes.references i + (if ino == i then 1 else 0) }
+    ensures counts { counts tree.new.nodes.store ≡ counts tree.old.nodes.store }
+    ensures mounts { tree.new.mounts ≡ tree.old.mounts }
 {
     if tree.nodes.refs(ino) == 0 || tree.marks.has(ino) {
         return false;
@@ -143,8 +148,10 @@ fn mark(tree: &mut Tree, ino: u16) -> bool
 /// Refers to an inode, and marks it.
 fn share(tree: &mut Tree, ino: u16) -> bool
     requires few { (i : ℕ) → slice_index tree.old.nodes.references i ≤ 2 }
-    ensures { result ≡ true → (i : ℕ) → slice_index tree.new.nodes.references i
+    ensures references { result ≡ true → (i : ℕ) → slice_index tree.new.nodes.references i
         ≡ slice_index tree.old.nodes.references i + (if ino == i then 2 else 0) }
+    ensures counts { counts tree.new.nodes.store ≡ counts tree.old.nodes.store }
+    ensures mounts { tree.new.mounts ≡ tree.old.mounts }
 {
     if !refer(&mut tree.nodes, ino) {
         return false;
@@ -154,8 +161,10 @@ fn share(tree: &mut Tree, ino: u16) -> bool
 
 /// Takes the mark of an inode away.
 fn unshare(tree: &mut Tree, ino: u16) -> bool
-    ensures { result ≡ true → (i : ℕ) → slice_index tree.new.nodes.references i + (if ino == i then 1 else 0)
+    ensures references { result ≡ true → (i : ℕ) → slice_index tree.new.nodes.references i + (if ino == i then 1 else 0)
         ≡ slice_index tree.old.nodes.references i }
+    ensures counts { counts tree.new.nodes.store ≡ counts tree.old.nodes.store }
+    ensures mounts { tree.new.mounts ≡ tree.old.mounts }
 {
     if tree.nodes.refs(ino) == 0 || !tree.marks.has(ino) {
         return false;

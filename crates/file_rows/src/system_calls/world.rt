@@ -1,5 +1,6 @@
 //! What the calls work on: a small disk, the table of open files, the console, and one process at a time.
 ghost use Rattle.std.specs.Prelude.{◌≡◌, ◌<◌, ◌≤◌, ℕ, true, None, IfOk, IfSome, slice_index};
+ghost use Rattle.fs_nodes.specs.Keys.{counts};
 ghost use Rattle.file_rows.specs.Ready.{IsReady};
 
 use crate::file_system::opened::open;
@@ -76,7 +77,8 @@ fn memory(alloc: Global) -> Result<Whole, AllocError> {
 /// Refers to an inode that is used, and to which nobody refers yet.
 fn refer(nodes: &mut Nodes, ino: u16)
     requires { (i : ℕ) → slice_index nodes.old.references i ≤ 1 }
-    ensures { (i : ℕ) → slice_index nodes.new.references i ≤ 1 }
+    ensures few { (i : ℕ) → slice_index nodes.new.references i ≤ 1 }
+    ensures store { nodes.new.store ≡ nodes.old.store }
 {
     if nodes.peek(ino).is_some() && nodes.refs(ino) == 0 {
         let _ = nodes.take(ino);
@@ -86,7 +88,8 @@ fn refer(nodes: &mut Nodes, ino: u16)
 /// Refers to so many inodes from number 30 on, and to the root.
 fn refer_to_crowd(nodes: &mut Nodes, crowd: u16)
     requires { (i : ℕ) → slice_index nodes.old.references i ≡ 0 }
-    ensures { (i : ℕ) → slice_index nodes.new.references i ≤ 1 }
+    ensures few { (i : ℕ) → slice_index nodes.new.references i ≤ 1 }
+    ensures store { nodes.new.store ≡ nodes.old.store }
 {
     for ino in 30..crowd.saturating_add(30) {
         refer(nodes, ino);
@@ -99,6 +102,7 @@ fn refer_to_root(nodes: &mut Nodes) -> bool
     requires { (i : ℕ) → slice_index nodes.old.references i ≤ 1 }
     ensures few { (i : ℕ) → slice_index nodes.new.references i ≤ 2 }
     ensures root { result ≡ true → 0 < slice_index nodes.new.references 1 }
+    ensures store { nodes.new.store ≡ nodes.old.store }
 {
     nodes.peek(1).is_some() && nodes.refs(1) < 9 && nodes.take(1).is_ok()
 }
@@ -107,7 +111,10 @@ fn refer_to_root(nodes: &mut Nodes) -> bool
 fn parts(nodes: Nodes, space: Whole, tape: Tape) -> World
     requires few { (i : ℕ) → slice_index nodes.references i ≤ 2 }
     requires root { 0 < slice_index nodes.references 1 }
-    ensures ready { IsReady result.files.table result.files.pipes result.u.files result.u.dir result.files.tree.nodes.references }
+    requires one { nodes.store.second ≡ None }
+    requires words { nodes.store.root.count ≤ 65535 }
+    ensures ready { IsReady result.files.table result.files.pipes result.u.files result.u.dir result.files.tree.mounts
+        result.files.tree.nodes.references (counts result.files.tree.nodes.store) }
     ensures few { (i : ℕ) → slice_index result.files.tree.nodes.references i ≤ 2 }
 {
     World {
@@ -133,7 +140,8 @@ pub fn begin(
     crowd: u16,
 ) -> Result<Option<World>, AllocError>
     ensures ready { IfOk result (λ found. IfSome found (λ w.
-        IsReady w.files.table w.files.pipes w.u.files w.u.dir w.files.tree.nodes.references)) }
+        IsReady w.files.table w.files.pipes w.u.files w.u.dir w.files.tree.mounts
+        w.files.tree.nodes.references (counts w.files.tree.nodes.store))) }
     ensures few { IfOk result (λ found. IfSome found (λ w.
         (i : ℕ) → slice_index w.files.tree.nodes.references i ≤ 2)) }
 {
@@ -143,6 +151,9 @@ pub fn begin(
     let Some(mut nodes) = open(alloc, &bytes)? else {
         return Ok(None);
     };
+    if nodes.root_count() > 65535 {
+        return Ok(None);
+    }
     refer_to_crowd(&mut nodes, crowd);
     if refer_to_root(&mut nodes) {
         Ok(Some(parts(nodes, space, tape)))
