@@ -7,8 +7,8 @@ from common import TOP, Case, read, v6
 
 SOURCE = os.path.join(TOP, "crates", "v6_run", "src", "report.rt")
 PAGE = os.path.join(TOP, "docs", "manual", "commands.md")
-# no command opens a second disk, and a report that failed isn't followed by another
-NEVER = ("write fault: report", "read fault: second", "write fault: second")
+# a report that failed isn't followed by another
+NEVER = ("write fault: report",)
 
 
 def reported():
