@@ -53,6 +53,7 @@ use Rattle.v6_run.specs.Steps.{StopsReading, StopsImage, StopsSecond}
 use Rattle.v6_run.specs.Headline.{MaybeCompletion, Known, IsKnownAnd, ends_with, course_completion, lines_completion, bytes_completion, script_completion, fault_completion, image_completion, second_fault_completion, given_second, second_completion, command_completion, IsComplete, IsPartial, status_at, is_named, may_end, is_known}
 use Rattle.v6_run.specs.Answers.{Answers, HasSecond, HasFiles}
 use Rattle.v6_run.proofs.OpenedLemmas.{good_first, good_both, good_through, given_and}
+use Rattle.v6_run.proofs.LinePorts.{or_false}
 use Rattle.v6_port.proofs.CauseLemmas.{still_tells, only_then, calm_then, fault_then}
 use Rattle.v6_run.proofs.CauseLemmas.{fault_known, only_within, not_input, second_unread, names_image, names_second, names_script, names_outputs, named_outputs, known_outputs, named_script, known_script, before_script, named_second, known_second, before_second, named_report}
 use Rattle.v6_run.proofs.AnswerLemmas.{not_so, unwritten, complete_unwritten, image_stops}
@@ -120,6 +121,22 @@ second_faulty : (image : List ℕ) (given : Option (List ℕ)) (rest : Option (L
     → IsSomeAnd given (λ bytes. second_fault_of image (take IMAGE_LIMIT bytes) ≡ Some fault) → given_second image given rest ≡ Known (ends_with (status.SecondFault fault))
 second_faulty image None rest fault is = absurd is
 second_faulty image (Some bytes) rest fault is = ap (λ f. second_fault_completion f (rest (Some (take IMAGE_LIMIT bytes)))) is
+
+-- The second image is read where the words name it.
+pub other_only : (o : Option (List ℕ)) (name : List ℕ) (old new : Outside) → o ≡ Some name → OnlyAt (same (In in_port.Second)) old new
+    → OnlyAt (has_port (second_inputs o)) old new
+other_only o name old new is only =
+    subst (λ n. OnlyAt (has_port (second_inputs n)) old new) (sym is) (only_within _ _ _ _ (λ q other. sym (or_false (same (In in_port.Second) q)) ∙ other) only)
+
+pub other_read : (image : List ℕ) (o : Option (List ℕ)) (name bytes : List ℕ) (old : Outside) → o ≡ Some name → second_fault_of image bytes ≡ None
+    → (Tells old → option_map (take IMAGE_LIMIT) (old.fixed.given name) ≡ Some bytes) → HasSecond image o (Some bytes) old
+other_read image o name bytes old is good whole = subst (λ n. HasSecond image n (Some bytes) old) (sym is) (good, whole)
+
+pub none_read : (image : List ℕ) (o : Option (List ℕ)) (old : Outside) → o ≡ None → HasSecond image o None old
+none_read image o old is = subst (λ n. HasSecond image n None old) (sym is) refl
+
+pub other_stops : (P : List ℕ → Type 0) (o : Option (List ℕ)) (name : List ℕ) → o ≡ Some name → P name → IsSomeAnd o P
+other_stops P o name is stops = subst (λ n. IsSomeAnd n P) (sym is) stops
 
 -- An image without a fault has been read, and then the second one, where the words name one.
 module _ (words : RunWords) (image : List ℕ) (old middle new : Outside) (first : OnlyAt (same (In in_port.Image)) old middle) (calm : Calm old middle)

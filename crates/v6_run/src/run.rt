@@ -356,7 +356,10 @@ fn read_other<H: Host>(
         StopsSecond image.now name error (H.outside host.old) (H.outside host.new))) }
 {
     match words.outputs.second() {
-        Some(second) => Ok(Some(read_second(alloc, image, second.image, host)?)),
+        Some(second) => match read_second(alloc, image, second.image, host) {
+            Ok(bytes) => Ok(Some(bytes)),
+            Err(error) => Err(error),
+        },
         None => Ok(None),
     }
 }
