@@ -9,6 +9,9 @@ environment; the difference of the two counts, divided by the number, is what a 
 more than a round of the same program without the call. Of a search it is what a name late in a directory costs more
 than an early one, for each entry between them.
 
+Then two disks are run by `run2`: printed is what a read costs on the first and on the second, which is mounted, and what a name
+that crosses costs more than the same name before the mount.
+
 Before a program is measured it is run with a test behind each call, that C is clear and R0 as it should be, and must
 show that it came through: by the v6 itself, and, where the environment variable ABSTRACT_UNIX names its folder, by the
 reference too (see bench/file_calls.py).
@@ -23,7 +26,7 @@ import sys
 import tempfile
 
 from file_calls import reference
-from instructions import count
+from instructions import RUN, count
 from random_disk import CONSOLE, Inode, Tree, Writer, entry, in_blocks
 from random_program import MOST_BYTES, TRAP, Words
 
@@ -34,10 +37,13 @@ FREE_BLOCKS = 200
 BUFFER, BUFFER_BYTES = 1024, 512
 BR, BNE, BCS = 0o000400, 0o001000, 0o103400
 
+SECOND_DISK = 1
+RUN2 = ["run2", *RUN[1:], "second", "final2"]
+
 # a call, its arguments (a number or a name), and what it puts into R0, where that is known
 Call = collections.namedtuple("Call", "number args gives", defaults=(None,))
-# what is in the loop before the call, the calls, and what comes before the loop
-Program = collections.namedtuple("Program", "before calls first rounds", defaults=((), ROUNDS))
+# what is in the loop before the call, the calls, what comes before the loop, and whether there is a second disk
+Program = collections.namedtuple("Program", "before calls first rounds two", defaults=((), ROUNDS, False))
 
 
 def opened(name, mode):
@@ -67,6 +73,12 @@ CALLS = [
     ("write of 512 bytes", Program(AT_START, (moved(4, 512),), FILE)),
     ("stat of /etc/init", Program((), (Call(STAT, ("/etc/init", BUFFER)),))),
 ]
+# what each of two disks has, the root's in /u and, for a name that doesn't cross, in /m too
+MOUNT = Call(21, ("/dev/rk1", "/m", 0))
+ON_TWO = [
+    (f"read of 512 bytes on the {name} disk", Program(AT_START, (moved(3, 512),), (MOUNT, opened(path, 2), R0_TO_R5), two=True))
+    for name, path in (("first", "/u/file"), ("second", "/m/file"))
+]
 # what a search looks through: how many entries a directory has, beside its own two
 DIRECTORIES = {"/u/small": 98, "/u/large": 998}
 
@@ -91,6 +103,13 @@ class Disk(Tree):
         for path, names in DIRECTORIES.items():
             ino = self.add(u, path.split("/")[-1], Inode(0o140755))
             self.entries[ino] += [(self.file, name_of(place).encode()) for place in range(names)]
+
+    def add_second(self):
+        """The directory on which a second disk is mounted, with a file of the name that is there too, and its special file."""
+        m = self.add(1, "m", Inode(0o140755))
+        self.entries[m].append((self.file, b"file"))
+        dev = next(ino for ino, name in self.entries[1] if name == b"dev")
+        self.add(dev, "rk1", Inode(0o160666, device=SECOND_DISK))
 
     def with_init(self, init):
         """The bytes of the disk whose /etc/init is these bytes."""
@@ -149,9 +168,26 @@ def init_of(program, judged):
     return struct.pack("<8H", 0o407, MOST_BYTES, 0, 0, 0, 0, 0, 0) + body.ljust(MOST_BYTES, b"\0")
 
 
+class Second(Disk):
+    """A disk with one file."""
+
+    def __init__(self):
+        self.rng, self.inodes, self.entries, self.paths = random.Random(0), {}, {}, []
+        self.isize, self.time = 2, 0
+        self.count = 16 * self.isize
+        self.numbers = list(range(self.count, 1, -1))
+        root = self.add(None, "", Inode(0o140755))
+        self.init = self.add(root, "file", Inode(0o100644))
+
+
 def write_image(folder, program, judged):
+    disk = Disk()
+    if program.two:
+        disk.add_second()
+        with open(f"{folder}/second", "wb") as file:
+            file.write(Second().with_init(bytes(BUFFER_BYTES)))
     with open(f"{folder}/image", "wb") as file:
-        file.write(Disk().with_init(init_of(program, judged)))
+        file.write(disk.with_init(init_of(program, judged)))
 
 
 def shown(run, words, term):
@@ -170,9 +206,10 @@ def judge(command, program):
         write_image(folder, program, True)
         with open(f"{folder}/script", "w") as file:
             file.write("run 200\n")
-        image, script, term, log, final = (f"{folder}/{name}" for name in ("image", "script", "term", "log", "final"))
+        verb, image, core, *files = RUN2 if program.two else RUN
+        words = [verb, f"{folder}/{image}", core, *(f"{folder}/{name}" for name in files)]
         for run in runs:
-            if shown(run, ["run", image, "100", script, term, log, final], term) != b"DONE\r\n":
+            if shown(run, words, f"{folder}/term") != b"DONE\r\n":
                 sys.exit(f"a call fails: {program}")
 
 
@@ -182,7 +219,8 @@ def cost_of_round(command, program):
     slots, before = len(program.before) + len(program.calls) + 1, len(program.first) + 2
     with tempfile.TemporaryDirectory() as folder:
         write_image(folder, program, False)
-        once, twice = (count(command, before + slots * n, folder) for n in (program.rounds, 2 * program.rounds))
+        run = RUN2 if program.two else RUN
+        once, twice = (count(command, before + slots * n, folder, run=run) for n in (program.rounds, 2 * program.rounds))
     return (twice - once) / program.rounds
 
 
@@ -197,6 +235,13 @@ def cost_of_entry(command, path, last):
     return (late - early) / last
 
 
+def cost_of_crossing(command):
+    """What the name of a file on the second disk costs more than the same name of one on the root's, before the mount."""
+    stat = Call(STAT, ("/m/file", BUFFER))
+    plain, crossing = (cost(command, Program((), (stat,), first, two=True)) for first in ((), (MOUNT,)))
+    return crossing - plain
+
+
 def main():
     if len(sys.argv) != 2 or not os.access(sys.argv[1], os.X_OK):
         sys.exit(__doc__)
@@ -205,6 +250,9 @@ def main():
         print(f"{cost(command, program):8.0f}  {name}", flush=True)
     for path, entries in DIRECTORIES.items():
         print(f"{cost_of_entry(command, path, entries - 1):8.1f}  an entry looked at, of {entries + 2}", flush=True)
+    for name, program in ON_TWO:
+        print(f"{cost(command, program):8.0f}  {name}", flush=True)
+    print(f"{cost_of_crossing(command):8.0f}  a name that crosses", flush=True)
 
 
 if __name__ == "__main__":

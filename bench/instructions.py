@@ -74,6 +74,9 @@ ONES = [
     ("MOV -(SP),(SP)+", [0o014626]),
 ]
 
+# the words of a run, whose files stand in one folder
+RUN = ["run", "image", "100", "script", "term", "log", "final"]
+
 CLOCKED = {name for name, _ in LOOPS} | {"MOV R1,R2", "ADD R1,R2", "MOV @#700,R1", "INC @#700", "DIV #3,R2"}
 
 
@@ -93,11 +96,10 @@ def disk_of(words, least=0o710):
     return image
 
 
-def count(program, slots, folder, before=""):
+def count(program, slots, folder, before="", run=RUN):
     with open(f"{folder}/script", "w") as file:
         file.write(f"{before}run {slots}\n")
-    words = ["valgrind", "--tool=callgrind", "--callgrind-out-file=/dev/null", program]
-    words += ["run", "image", "100", "script", "term", "log", "final"]
+    words = ["valgrind", "--tool=callgrind", "--callgrind-out-file=/dev/null", program, *run]
     ran = subprocess.run(words, cwd=folder, stderr=subprocess.PIPE, text=True, check=True)
     return int(re.search(r"Collected : (\d+)", ran.stderr)[1])
 
