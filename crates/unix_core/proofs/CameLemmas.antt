@@ -9,6 +9,7 @@ use Rattle.pick_rules.specs.Effects.{Effect, lifted}
 use Rattle.pick_rules.specs.Logged.{Logged, Stop, logged, left_by}
 use Rattle.open_files.specs.declared.file.OpenFile.{OpenFile}
 use Rattle.pipe_ends.specs.declared.ends.Pipe.{Pipe}
+use Rattle.mount_tab.specs.Mounted.{MountTable}
 use Rattle.fs_nodes.specs.FileSystem.{IsFileSystem}
 use Rattle.fs_tree.specs.declared.tree.Tree.{Tree}
 use Rattle.fs_nodes.specs.Keys.{counts}
@@ -132,9 +133,10 @@ module _ (w now : World) (s : ℕ) (ready : IsReady w s) (x : its.World) (agree 
 
   moved_owed : Owed now.files.tree.nodes.references (unix_of now)
   moved_owed =
-      let P : its.World → List (Option OpenFile) → List Pipe → Type 0 = λ v files pipes. Owes w.files.tree.mounts.covered v.inodes.references files pipes v.texts (told_in v.processes) in
-      subst (P (given now) now.files.table) (sym stays.rests.pipes)
-      (subst (λ files. P (given now) files w.files.pipes) (sym stays.table) (subst (λ v. P v w.files.table w.files.pipes) (sym state) (like_owes w x like ready.good)))
+      let P : MountTable → its.World → List (Option OpenFile) → List Pipe → Type 0 = λ m v files pipes. Owes m.covered v.inodes.references files pipes v.texts (told_in v.processes) in
+      let before : MountTable = w.files.tree.mounts in
+      subst (λ m. P m (given now) now.files.table now.files.pipes) (sym stays.rests.mounts) (subst (P before (given now) now.files.table) (sym stays.rests.pipes)
+      (subst (λ files. P before (given now) files w.files.pipes) (sym stays.table) (subst (λ v. P before v w.files.table w.files.pipes) (sym state) (like_owes w x like ready.good))))
 
   pub moved_ready : CanGoOn (with_world (unix_of w) x) → IsMarked now.procs now.files.tree.marks
       → counts now.files.tree.nodes.store ≡ counts w.files.tree.nodes.store → IsReady now s

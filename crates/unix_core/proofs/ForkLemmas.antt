@@ -12,6 +12,7 @@ use Rattle.proc_tab.specs.Processes.{Finds, IsLowest, lowest}
 use Rattle.proc_tab.proofs.SearchLemmas.{lowest_finds}
 use Rattle.open_files.specs.declared.file.OpenFile.{OpenFile}
 use Rattle.pipe_ends.specs.declared.ends.Pipe.{Pipe}
+use Rattle.mount_tab.specs.Mounted.{MountTable}
 use Rattle.fs_nodes.specs.FileSystem.{IsFileSystem}
 use Rattle.fs_nodes.specs.Keys.{counts}
 use Rattle.fs_tree.specs.declared.tree.Tree.{Tree}
@@ -154,14 +155,16 @@ module _ (w now : World) (s : ℕ) (ready : IsReady w s) (agree : AreProcs now.p
   forked_ready user marks =
       let owes = fork_owes w s ready in
       let mine : List (Option OpenFile) = shares w.files.table (process_of (unix_of w) s).u.files (call w s).answer in
-      let P : its.World → List (Option OpenFile) → List Pipe → Type 0 = λ x files pipes. Owes w.files.tree.mounts.covered x.inodes.references files pipes x.texts (told_in x.processes) in
+      let P : MountTable → its.World → List (Option OpenFile) → List Pipe → Type 0 = λ m x files pipes. Owes m.covered x.inodes.references files pipes x.texts (told_in x.processes) in
+      let before : MountTable = w.files.tree.mounts in
       record {
         good = good_then w now rests moved.core ready.good agree
             (still_runs w now ready.good agree (λ r is. sym moved.running ∙ is) (λ r t was is.
             let same : s ≡ r = ap (λ o. unwrap_or o 0) (sym ready.runs ∙ was) in
             subst (λ n. told_of_slot now n ≡ Some t) same (told s ∙ owes.stays t (subst (λ n. told_of_slot w n ≡ Some t) (sym same) is))))
-            (subst (P (given now) now.files.table) (sym rests.pipes) (subst (λ files. P (given now) files w.files.pipes) (sym table)
-            (subst (λ x. P x mine w.files.pipes) (sym state) owes.owed)))
+            (subst (λ m. P m (given now) now.files.table now.files.pipes) (sym rests.mounts)
+            (subst (P before (given now) now.files.table) (sym rests.pipes) (subst (λ files. P before (given now) files w.files.pipes) (sym table)
+            (subst (λ x. P before x mine w.files.pipes) (sym state) owes.owed))))
             (forked_waits user)
             (still_marked w now (call w s).state ready.good.marks marks state owes.marks)
             (ap (λ (x : its.World). counts x.inodes.store) state ∙ owes.same);
