@@ -64,7 +64,9 @@ fn add_lines(
     ensures { OnOk result (map output_value outputs.new.items
         ≡ map output_value outputs.old.items ++ line_outputs (disk_files_value files.now).lines files.now.term.now) }
 {
-    'numbers: for line in 1..files.lines().count() {
+    let lines = files.lines();
+    let last = lines.count();
+    'numbers: for line in 1..last {
         let name = line_name(alloc, files.term, line)?;
         add_output(alloc, outputs, OutPort::Line(line), name.as_str())?;
     }
