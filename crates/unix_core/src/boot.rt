@@ -142,6 +142,14 @@ fn one_tree(nodes: Nodes) -> Tree
     Tree::new(nodes)
 }
 
+/// A number that is a word.
+fn word(n: u32) -> u16
+    requires { n ≤ 65535 }
+    ensures { result ≡ n }
+{
+    n as u16
+}
+
 /// The tree of names of the disks of two images. Nothing is mounted.
 fn two_trees(image: &[u8], second: &[u8], nodes: Nodes) -> Tree
     requires store { nodes.store ≡ stores_of image.now (Some second.now) }
@@ -151,8 +159,8 @@ fn two_trees(image: &[u8], second: &[u8], nodes: Nodes) -> Tree
     ensures mounts { AreMounts result.mounts result.nodes.store }
     ensures uncovered { result.mounts.covered ≡ None }
 {
-    let first = inode_count(image) as u16;
-    let other = inode_count(second) as u16;
+    let first = word(inode_count(image));
+    let other = word(inode_count(second));
     Tree::new2(nodes, Mounts::new(first, other))
 }
 

@@ -1,5 +1,5 @@
 -- The disks that a run leaves are written one after the other.
-use Rattle.std.proofs.Common.{◌≡◌, ◌&&◌, Bool, true, false, Option, Some, None, is_some, ℕ, Result, Ok, Err, OnOk, IfErr, MatchResult, List, ◌++◌, refl, sym, ◌∙◌, ap, subst}
+use Rattle.std.proofs.Common.{◌≡◌, ◌&&◌, Bool, true, false, Option, Some, None, is_some, ℕ, Result, Ok, Err, OnOk, IfErr, MatchResult, List, [], ◌++◌, refl, sym, ◌∙◌, ap, subst}
 use Rattle.v6_base.specs.Trace.{Item}
 use Rattle.v6_port.specs.declared.host.OutPort.{OutPort}
 use Rattle.v6_port.specs.declared.host.OutPort.TheVariants as out_port
@@ -12,6 +12,7 @@ use Rattle.fs_nodes.specs.Disks.{Between}
 use Rattle.fs_nodes.specs.FileSystem.{SecondStands}
 use Rattle.v6_run.specs.Ports.{final_of, second_of, HasShown, HasShownFronts}
 use Rattle.v6_run.specs.Fronts.{HoldsFront}
+use Rattle.v6_run.specs.Final.{second_text}
 use Rattle.v6_run.specs.Outputs.{is_shown, is_other, is_left}
 use Rattle.v6_run.specs.Opening.{Leaves}
 use Rattle.v6_run.proofs.LinePorts.{right_true}
@@ -39,6 +40,10 @@ open_step p a b only before after q = by_test (same (Out p) (Out q)) _
     (λ other. ap (λ (state : PortState). state.is_open) (only.others (Out q) other))
 
 -- where there is no second disk, nothing is written of it
+pub none_text : (stored : Option (List (List ℕ))) → is_some stored ≡ false → second_text stored ≡ []
+none_text None none = refl
+none_text (Some blocks) none = absurd (cc none)
+
 pub none_only : (a : Outside) (two : Bool) → OnlyAt (is_other two) a a
 none_only a two = record { fixed = refl; others = λ q other. refl }
 

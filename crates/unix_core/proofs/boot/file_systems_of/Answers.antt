@@ -41,14 +41,16 @@ first_store c = volume_store c.args.image.now c.requires.root c.open_on-volume.r
 
 second_store : (c : goal.After-open_on) → store_now c.open_on.result.state ≡ store_of (disk_of c.args.second.now)
 second_store c =
-    second_volume_store c.args.second.now c.requires.second (cached_blocks c.in_ok-cache-2.cache) c.open_on.result.state (cache_is-2 c) c.open_on.ensures.clean c.open_on.ensures.stands
+    second_volume_store c.args.second.now c.requires.second (cached_blocks c.in_ok-cache-2.cache) c.open_on.result.state
+    (c.in_ok-cache-2.ensures.blocks ∙ c.in_ok-disk-2.ensures) c.open_on.ensures.clean c.open_on.ensures.stands
 
 pub new2-requires-clause-sound : goal.new2-requires-clause-sound
 new2-requires-clause-sound c = volume_sound c.args.image.now c.requires.root c.open_on-volume.result.state (first_blocks c) c.open_on-volume.ensures.clean c.head.ensures.stored
 
 pub new2-requires-clause-second : goal.new2-requires-clause-second
 new2-requires-clause-second c =
-    second_volume_sound c.args.second.now c.requires.second (cached_blocks c.in_ok-cache-2.cache) c.open_on.result.state (cache_is-2 c) (c.open_on.ensures.faults DISK_BLOCKS)
+    second_volume_sound c.args.second.now c.requires.second (cached_blocks c.in_ok-cache-2.cache) c.open_on.result.state
+    (c.in_ok-cache-2.ensures.blocks ∙ c.in_ok-disk-2.ensures) (c.open_on.ensures.faults DISK_BLOCKS)
 
 pub new2-requires-clause-few : goal.new2-requires-clause-few
 new2-requires-clause-few c =
@@ -59,14 +61,15 @@ new2-requires-clause-few c =
 
 pub returns-clause-store : goal.returns-clause-store
 returns-clause-store c =
-    let first = first_store c in
-    let second = second_store c in
+    let before = (goal.at.returns-clause-store c).After-open_on in
+    let first = first_store before in
+    let second = second_store before in
     c.new2.ensures.store ∙ (λ i. both {X = Store} (first i) (second i))
 
 pub returns-clause-blocks : goal.returns-clause-blocks
 returns-clause-blocks c =
-    let first = first_blocks c in
-    let second = c.open_on.ensures.blocks ∙ cache_is-2 c in
+    let first = first_blocks (goal.at.returns-clause-blocks c).After-open_on in
+    let second = c.open_on.ensures.blocks ∙ c.in_ok-cache-2.ensures.blocks ∙ c.in_ok-disk-2.ensures in
     c.new2.ensures.blocks ∙ (λ i. both {X = List (List ℕ)} (first i) (second i))
 
 pub returns-clause-stored : goal.returns-clause-stored
@@ -80,5 +83,5 @@ pub returns-clause-time : goal.returns-clause-time
 returns-clause-time c =
     let is = c.open_on-volume.ensures in
     ap (λ (h : _). h.time) c.head.ensures.head
-    ∙ volume_stamp c.args.image.now c.requires.root c.open_on-volume.result.state (first_blocks c) is.clean c.head.ensures.stored
+    ∙ volume_stamp c.args.image.now c.requires.root c.open_on-volume.result.state (first_blocks (goal.at.returns-clause-time c).After-open_on) is.clean c.head.ensures.stored
     (is.head ∙ ap (λ l. opened (super_of (block_at l 1))) (c.in_ok-cache.ensures.blocks ∙ c.in_ok-disk.ensures))

@@ -22,5 +22,5 @@ pub returns : goal.returns
 returns c =
     let files = c.args.files.now in
     let all : c.numbers.line ≡ machine_lines files.machine =
-    omega (arith, some_on files.machine, c.lines.ensures, c.count.ensures, c.numbers-test.false, c.numbers.auto.line-end) in
+    omega (arith, some_on files.machine, c.lines-lines.ensures, c.count-last.ensures, c.numbers-test.false, c.numbers.auto.line-end) in
     c.numbers.invariant.so_far ∙ ap (λ n. map output_value c.args.outputs.now.items ++ map (line_output files.term.now) (range_with_len 1 (n - 1))) all
