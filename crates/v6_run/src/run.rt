@@ -161,7 +161,8 @@ fn boot2(alloc: Global, image: &[u8], second: &[u8], core: u32) -> Result<Kernel
     see_bytes(image);
     match Kernel::boot2(alloc, image, second, core as u16) {
         Ok(kernel) => Ok(kernel),
-        Err(Boot2Fault::Image(_) | Boot2Fault::Second(_)) => unreachable!(),
+        Err(Boot2Fault::Image(_)) => unreachable!(),
+        Err(Boot2Fault::Second(_)) => unreachable!(),
         Err(Boot2Fault::NoMemory) => Err(RunError::NoMemory),
     }
 }

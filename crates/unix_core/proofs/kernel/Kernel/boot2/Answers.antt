@@ -5,6 +5,9 @@ use Rattle.abstract_unix.proofs.FirstTidy.{few_keys}
 use Rattle.unix_core.proofs.BootLemmas.{boots_as, second_fine, second_good}
 use Rattle.unix_core.proofs.kernel.Kernel.boot2.Goals as goal
 
+pub returns-in-Some-clause-refused : goal.returns-in-Some-clause-refused
+returns-in-Some-clause-refused c = (c.in_default.ensures, sym c.second_fault.ensures ∙ c.in-Some.is)
+
 pub file_systems_of-requires-clause-second : goal.file_systems_of-requires-clause-second
 file_systems_of-requires-clause-second c = second_good c.args.image.now c.args.second.now (sym c.second_fault.ensures ∙ c.in_default-2.is)
 
