@@ -10,7 +10,7 @@ count less the second is what showing costs. Behind each stands the most that it
 
 Under `pace 1` a byte goes out after each slot. The process sleeps in its write but for one slot in 21, when it is woken and goes
 on. Printed is such a slot, less one in which nobody runs and nothing waits: a byte with its part of a wake, of a choice, and of a
-write that goes on; and the same on line 7.
+write that goes on; its limit is that of the byte alone. And the same on line 7, where each slot asks eight lines.
 """
 import os
 import re
@@ -81,7 +81,7 @@ def main():
     row("a byte that is shown on line 0, under `run8`", shown(program, b"A", 0, "run8"), "80")
     row("a byte that is shown on line 7", shown(program, b"A", 7, "run8"), "80")
     row("a byte that goes out under `pace 1`", paced(program, 0, "run"), "200")
-    row("the same on line 7", paced(program, 7, "run8"), "200")
+    row("the same on line 7", paced(program, 7, "run8"))
 
 
 if __name__ == "__main__":
