@@ -11,7 +11,7 @@ count less the second is what showing costs. Behind each stands the most that it
 Under `pace 1` a byte goes out after each slot. A process that writes few bytes, and computes until they are out, isn't woken for
 them: printed is what each byte more costs there. One that writes many sleeps in its write but for one slot in 21, when it is woken
 and goes on: printed is such a slot, less one in which nobody runs and nothing waits, which is a byte with its part of a wake, of a
-choice, and of a write that goes on; and the same on line 7.
+choice, and of a write that goes on; and the same on line 7, where each slot asks eight lines.
 """
 import os
 import re

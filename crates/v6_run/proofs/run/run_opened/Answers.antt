@@ -1,4 +1,4 @@
-use Rattle.std.proofs.Common.{◌<◌, refl, sym, ◌∙◌, subst}
+use Rattle.std.proofs.Common.{◌<◌, true, false, refl, sym, ◌∙◌, subst}
 use Rattle.abstract_unix.specs.Runs.{started, course}
 use Rattle.v6_run.specs.Events.{events_of}
 use Rattle.v6_run.specs.Words.{disk_files_value}
@@ -21,7 +21,7 @@ open_outputs-requires-clause-there g c =
     let files = c.args.files.now in subst AreThere (sym c.requires.outputs) (ports_there files.machine files.term.now files.log.now files.final_disk.now)
 
 pub open_outputs-requires-clause-closed : goal.open_outputs-requires-clause-closed
-open_outputs-requires-clause-closed g c = files_at (disk_files_value c.args.files.now) _ c.requires.outputs _ _ c.requires.closed
+open_outputs-requires-clause-closed g c = files_at (disk_files_value c.args.files.now) _ c.requires.outputs false (g.H.Host.outside c.args.host.now) c.requires.closed
 
 pub returns-in_err-open_outputs-clause-only : goal.returns-in_err-open_outputs-clause-only
 returns-in_err-open_outputs-clause-only g c = only_opened (disk_files_value c.args.files.now) _ c.requires.outputs _ _ _ c.in_err-open_outputs.ensures
@@ -69,7 +69,9 @@ leave_disks-requires-clause-second g c = second_stays _ _ c.in_ok-ends.ensures.r
 pub leave_disks-requires-clause-is_open : goal.leave_disks-requires-clause-is_open
 leave_disks-requires-clause-is_open g c p left =
     let files = disk_files_value c.args.files.now in
-    left_open files _ _ (g.H.Host.outside c.play.new.host) (all_opened files _ c.requires.outputs _ _ c.in_ok-open_outputs.ensures) c.in_ok-ends.ensures.is_open p
+    let b = g.H.Host.outside c.open_outputs.new.host in
+    let played = g.H.Host.outside c.play.new.host in
+    left_open files b played played (all_opened files _ c.requires.outputs _ b c.in_ok-open_outputs.ensures) c.in_ok-ends.ensures.is_open p
     (left_on _ _ _ c.has_second.ensures left)
 
 pub returns-in_err-leave_disks-clause-only : goal.returns-in_err-leave_disks-clause-only
@@ -105,8 +107,11 @@ finish_outputs-requires-clause-there g c =
 pub finish_outputs-requires-clause-is_open : goal.finish_outputs-requires-clause-is_open
 finish_outputs-requires-clause-is_open g c =
     let files = disk_files_value c.args.files.now in
-    let opened = all_opened files _ c.requires.outputs _ _ c.in_ok-open_outputs.ensures in
-    files_at files _ c.requires.outputs _ _ (all_open files _ _ _ opened c.in_ok-ends.ensures.is_open c.in_ok-leave_disks.ensures.written.2.is_open)
+    let b = g.H.Host.outside c.open_outputs.new.host in
+    let played = g.H.Host.outside c.play.new.host in
+    let written = g.H.Host.outside c.leave_disks.new.host in
+    let opened = all_opened files _ c.requires.outputs _ b c.in_ok-open_outputs.ensures in
+    files_at files _ c.requires.outputs true written (all_open files b played written opened c.in_ok-ends.ensures.is_open c.in_ok-leave_disks.ensures.written.2.is_open)
 
 pub returns-in_err-finish_outputs-clause-only : goal.returns-in_err-finish_outputs-clause-only
 returns-in_err-finish_outputs-clause-only g c =
