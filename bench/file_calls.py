@@ -10,8 +10,8 @@ A seed gives a small disk made at random, whose /etc/init makes calls on files w
 their results, a size of core and a script. `make` writes them into a folder as `image`, `core` and `script`, with
 `listing`, in which a reader finds the calls and what is on the disk. `compare` runs COMMAND, a built v6, and the
 reference over COUNT seeds from FIRST on (0 where it isn't given), and prints each difference in status, report, bytes
-of the terminal, lines of the log and what the final disk stands for; then how often each call was made, and with which errors. `alone`
-does the same with the reference alone. `smallest` leaves out calls of a seed as long as there is a difference, and
+of the terminal, lines of the log and what the final disk stands for; then how often each call was made, and with which
+errors. `alone` does the same with the reference alone. `smallest` leaves out calls of a seed as long as there is a difference, and
 makes what is left.
 
 A result is counted where it is known of which call it is. A run that tells none, since its console isn't there or its
@@ -35,18 +35,21 @@ from random_disk import Tree
 from random_program import CALLS, MARK, RESULTS, Call, init_of, items_of, slots_of
 
 DISK_BYTES, SWAP_AT = 2494464, 2048000
-ERRORS = {1: "EPERM", 2: "ENOENT", 6: "ENXIO", 9: "EBADF", 13: "EACCES", 17: "EEXIST", 20: "ENOTDIR", 21: "EISDIR",
-          23: "ENFILE", 24: "EMFILE", 27: "EFBIG", 28: "ENOSPC", 29: "ESPIPE", 31: "EMLINK"}
-Outcome = collections.namedtuple("Outcome", "status report term final")
+ERRORS = {1: "EPERM", 2: "ENOENT", 6: "ENXIO", 9: "EBADF", 13: "EACCES", 15: "ENOTBLK", 16: "EBUSY", 17: "EEXIST",
+          18: "EXDEV", 20: "ENOTDIR", 21: "EISDIR", 22: "EINVAL", 23: "ENFILE", 24: "EMFILE", 27: "EFBIG", 28: "ENOSPC",
+          29: "ESPIPE", 31: "EMLINK"}
+Outcome = collections.namedtuple("Outcome", "status report term final second")
 
 
 class Case:
-    """What a seed gives. `calls` leaves some of its program's calls out."""
+    """What a seed gives. `calls` leaves some of its program's calls out. There may be a second disk, with its bytes."""
+
+    second, second_image = None, b""
 
     def __init__(self, seed, calls=None):
         self.seed, rng = seed, random.Random(f"run {seed}")
-        self.tree = Tree(random.Random(f"tree {seed}"))
-        self.plan = random_plan(random.Random(f"program {seed}"), self.tree)
+        self.tree = self.make_tree()
+        self.plan = self.make_plan()
         slots = slots_of(self.plan)
         self.core = rng.choice((64, 100, 1200, 3968, rng.randrange(64, 3969)))
         self.is_cut = rng.random() < 0.12 and not self.plan.ending
@@ -55,15 +58,23 @@ class Case:
             self.plan = self.plan._replace(calls=calls)
         self.image = self.tree.image(init_of(random.Random(f"init {seed}"), self.plan), random.Random(f"disk {seed}"))
 
+    def make_tree(self):
+        return Tree(random.Random(f"tree {self.seed}"))
+
+    def make_plan(self):
+        return random_plan(random.Random(f"program {self.seed}"), self.tree)
+
     def listing(self):
         lines = [f"{call.at:6}  {call}" for call in self.plan.all_calls()]
         head = "the calls, each with the address of its word"
-        return "\n".join([head, *lines, "", "the disk", *self.tree.listing()]) + "\n"
+        second = ["", "the second disk", *self.second.listing()] if self.second else []
+        return "\n".join([head, *lines, "", "the disk", *self.tree.listing(), *second]) + "\n"
 
     def write(self, folder):
         os.makedirs(folder, exist_ok=True)
         texts = {"core": f"{self.core}\n", "script": self.script, "listing": self.listing()}
-        for name, data in {"image": self.image, **{name: text.encode() for name, text in texts.items()}}.items():
+        images = {"image": self.image, **({"image2": self.second_image} if self.second else {})}
+        for name, data in {**images, **{name: text.encode() for name, text in texts.items()}}.items():
             with open(f"{folder}/{name}", "wb") as file:
                 file.write(data)
 
@@ -86,22 +97,29 @@ def reference(*words):
     return called([sys.executable, "-m", "abstract_unix", *words], os.environ["ABSTRACT_UNIX"])
 
 
+def second_of(case):
+    """The second disk of a case, where its kind has one."""
+    return getattr(case, "second", None)
+
+
 def words_of_run(case, folder, name):
     at = [f"{folder}/{file}" for file in ("image", "script", f"{name}.term", f"{name}.log", f"{name}.final")]
+    if second_of(case):
+        return ["run2", at[0], str(case.core), *at[1:], f"{folder}/image2", f"{folder}/{name}.final2"]
     return ["run", at[0], str(case.core), *at[1:]]
 
 
 def by_reference(case, folder):
     """What the reference comes to, and the lines of its log."""
     status, report = reference(*words_of_run(case, folder, "reference"))
-    final = read(f"{folder}/reference.final")
-    outcome = Outcome(status, report, read(f"{folder}/reference.term"), json.loads(final) if final else None)
+    finals = [read(f"{folder}/reference.{name}") for name in ("final", "final2")]
+    outcome = Outcome(status, report, read(f"{folder}/reference.term"), *(json.loads(final) if final else None for final in finals))
     return outcome, read(f"{folder}/reference.log").decode().splitlines()
 
 
 def by_command(command, case, folder):
     status, report = called(command + words_of_run(case, folder, "v6"))
-    return Outcome(status, report, read(f"{folder}/v6.term"), read(f"{folder}/v6.final"))
+    return Outcome(status, report, *(read(f"{folder}/v6.{name}") for name in ("term", "final", "final2")))
 
 
 # differences
@@ -114,18 +132,24 @@ def built_differences(case, folder, want, got):
     if len(got.final) != DISK_BYTES:
         yield f"a final disk of {len(got.final)} bytes"
     elif want.final:
-        yield from disk_differences(case, folder, want.final, got.final)
+        yield from disk_differences(folder, ("image", "v6.final"), case.image, case.tree, SWAP_AT, want.final, got.final)
+    if second_of(case) and len(got.second) != DISK_BYTES:
+        yield f"a second final disk of {len(got.second)} bytes"
+    elif second_of(case) and want.second:
+        names = ("image2", "v6.final2")
+        for line in disk_differences(folder, names, case.second_image, case.second, DISK_BYTES, want.second, got.second):
+            yield f"second: {line}"
 
 
-def disk_differences(case, folder, want, final):
-    found = reference("check", f"{folder}/v6.final")[1].decode()
+def disk_differences(folder, names, image, tree, end, want, final):
+    found = reference("check", f"{folder}/{names[1]}")[1].decode()
     if not found.startswith("ok "):
         yield f"the final disk has a fault: {found}"
         return
-    behind = slice(512 * case.tree.fsize, SWAP_AT)
-    if final[behind] != case.image.ljust(DISK_BYTES, b"\0")[behind] or final[512:516] != case.image[512:516]:
+    behind = slice(512 * tree.fsize, end)
+    if final[behind] != image.ljust(DISK_BYTES, b"\0")[behind] or final[512:516] != image[512:516]:
         yield "the final disk: its size, or what is behind the file system, has changed"
-    got = json.loads(reference("standfor", f"{folder}/image", f"{folder}/v6.final")[1])
+    got = json.loads(reference("standfor", *(f"{folder}/{name}" for name in names))[1])
     if got["block0"] != want["block0"]:
         yield "the boot block"
     want, got = want["store"], got["store"]
@@ -246,10 +270,10 @@ def print_counts(runs, differ, counts, told):
 
 # words
 
-def compare(command, runs, first):
+def compare(command, runs, first, kind=Case):
     counts, told, differ = collections.defaultdict(collections.Counter), collections.Counter(), 0
     for seed in range(first, first + runs):
-        case = Case(seed)
+        case = kind(seed)
         found, want = differences(command, case)
         differ += bool(found)
         for line in found[:8]:
@@ -259,40 +283,40 @@ def compare(command, runs, first):
     return bool(differ)
 
 
-def smallest(command, seed, folder):
+def smallest(command, seed, folder, kind=Case):
     """Leaves out more and more calls, first many and then single ones, as long as there is a difference."""
-    calls = Case(seed).plan.calls
-    if not differences(command, Case(seed))[0]:
+    calls = kind(seed).plan.calls
+    if not differences(command, kind(seed))[0]:
         sys.exit(f"seed {seed}: no difference")
     size = len(calls)
     while size:
         at = 0
         while at < len(calls):
             fewer = calls[:at] + calls[at + size :]
-            if differences(command, Case(seed, fewer))[0]:
+            if differences(command, kind(seed, fewer))[0]:
                 calls = fewer
             else:
                 at += size
         size //= 2
-    case = Case(seed, calls)
+    case = kind(seed, calls)
     case.write(folder)
     print(case.listing(), *differences(command, case)[0], sep="\n")
 
 
-def main(words):
+def main(words, kind=Case, doc=__doc__):
     if words and words[0] in ("compare", "alone", "smallest") and "ABSTRACT_UNIX" not in os.environ:
         sys.exit("ABSTRACT_UNIX: the folder of the reference")
     match words:
         case ["make", seed, folder]:
-            Case(int(seed)).write(folder)
+            kind(int(seed)).write(folder)
         case ["compare", command, runs, *first] if len(first) < 2:
-            return compare(shlex.split(command), int(runs), int(first[0]) if first else 0)
+            return compare(shlex.split(command), int(runs), int(first[0]) if first else 0, kind)
         case ["alone", runs, *first] if len(first) < 2:
-            return compare(None, int(runs), int(first[0]) if first else 0)
+            return compare(None, int(runs), int(first[0]) if first else 0, kind)
         case ["smallest", command, seed, folder]:
-            return smallest(shlex.split(command), int(seed), folder)
+            return smallest(shlex.split(command), int(seed), folder, kind)
         case _:
-            sys.exit(__doc__)
+            sys.exit(doc)
 
 
 if __name__ == "__main__":

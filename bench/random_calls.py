@@ -259,6 +259,9 @@ class Chooser:
                  self.names_one, lambda: self.moves(READ), lambda: self.moves(WRITE), lambda: Call(SYNC), self.closes)
         return [self.rng.choice(kinds)() for _ in range(self.rng.randrange(1, 4))]
 
+    def first(self):
+        return self.refuses_first() if self.odd(0.3) else self.sequence()
+
     def sequence(self):
         kinds = ((self.one, 12), (self.uses_file, 8), (self.makes_hole, 3), (self.unlinks_open, 3), (self.goes_to, 2),
                  (self.makes_directory, 3), (self.gives_again, 1), (self.writes_console, 1), (self.reaches_limit, 1),
@@ -277,7 +280,7 @@ class Chooser:
         return self.rng.choice(kinds)
 
 
-def random_plan(rng, tree):
+def random_plan(rng, tree, chooser_of=Chooser):
     """The plan of a program over this disk, with as many calls as there is room for."""
     in_file = rng.random() < 0.25
     plan = Plan(
@@ -291,10 +294,10 @@ def random_plan(rng, tree):
         ending=None,
         exits=rng.random() < 0.8,
     )
-    chooser = Chooser(rng, tree, plan)
+    chooser = chooser_of(rng, tree, plan)
     if rng.random() < 0.15:
         plan = plan._replace(ending=chooser.ending())
-    more = chooser.refuses_first() if rng.random() < 0.3 else chooser.sequence()
+    more = chooser.first()
     while len(assembled(plan._replace(calls=plan.calls + more))) <= plan.total - 48:
         plan = plan._replace(calls=plan.calls + more)
         more = chooser.sequence()

@@ -10,7 +10,7 @@ import struct
 from random_disk import CONSOLE_NAMES
 
 CALLS = {3: "read", 4: "write", 5: "open", 6: "close", 8: "creat", 9: "link", 10: "unlink", 12: "chdir", 14: "mknod",
-         15: "chmod", 16: "chown", 18: "stat", 19: "seek", 28: "fstat", 36: "sync", 41: "dup"}
+         15: "chmod", 16: "chown", 18: "stat", 19: "seek", 21: "mount", 22: "umount", 28: "fstat", 36: "sync", 41: "dup"}
 MOST_BYTES, STACK, TOP = 1792, 64256, 65536
 TRAP, EXIT = 0o104400, 1
 MARK = 0o52400
