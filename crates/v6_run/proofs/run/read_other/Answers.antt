@@ -1,4 +1,4 @@
-use Rattle.std.proofs.Common.{◌≡◌, Some, None, sym, ◌∙◌, ap}
+use Rattle.std.proofs.Common.{sym, ◌∙◌, ap}
 use Rattle.std.specs.Option.{option_map}
 use Rattle.v6_run.specs.Words.{SecondFiles, second_files_value, second_image, run_words_value}
 use Rattle.v6_run.specs.Steps.{StopsSecond}
