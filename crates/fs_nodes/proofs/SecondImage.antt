@@ -1,5 +1,5 @@
 -- The blocks of a second disk's image without a fault are a whole disk. Its file system may go to the end of the disk.
-use Rattle.std.proofs.Common.{◌≡◌, ◌<◌, ◌≤◌, ℕ, Bool, true, false, List, [], ◌∷◌, length, nat_lt, None, refl, arith}
+use Rattle.std.proofs.Common.{◌≡◌, ◌≤◌, ℕ, Bool, true, false, List, [], ◌∷◌, length, nat_lt, None, refl, arith}
 use Rattle.std.proofs.lemmas.Bool.{ltb-false}
 use Rattle.buf_cache.specs.Blocks.{block_at, blocks_of}
 use Rattle.fs_codec.specs.Disk.{disk_of, head}

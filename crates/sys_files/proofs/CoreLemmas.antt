@@ -50,7 +50,8 @@ pub record OverWith (P : Handed → Type 0) (d : Did) : Type 0 where
   pub over : IsOver d.answer
 
 module _ (P : Handed → Type 0)
-    (keeps : (h : Handed) (inodes : Inodes) → counts inodes.store ≡ counts h.inodes.store → P h → P (with_inodes h inodes)) where
+    (keeps : (h : Handed) (inodes : Inodes) → counts inodes.store ≡ counts h.inodes.store → P h
+    → P (with_inodes h inodes)) where
   checks : {A : Type 0} (h : Handed) (test : Result A Errno) (next : A → Did) → P h → ((a : A) → OverWith P (next a))
       → OverWith P (check h test next)
   checks h (Ok a) next p goes = goes a
@@ -87,7 +88,8 @@ module _ (P : Handed → Type 0)
   over_file now h ino p =
       checks h (must EACCES (is_plain (node_at h ino).mode)) _ p (λ plain.
       checks h (access h.marks ino (node_at h ino) (user_of h.u) Write) _ p (λ may.
-      parts now (with_no_blocks h ino now) ino (keeps h (with_no_blocks h ino now).inodes (truncated_counts h.inodes ino now) p)))
+      parts now (with_no_blocks h ino now) ino
+      (keeps h (with_no_blocks h ino now).inodes (truncated_counts h.inodes ino now) p)))
 
   new_file : (now : ℕ) (h : Handed) (dir offset : ℕ) (name : List ℕ) → P h → OverWith P (writes_new now h dir offset name)
   new_file now h dir offset name p =
@@ -107,7 +109,8 @@ module _ (P : Handed → Type 0)
     where
       by : (b : Bool) → OverWith P (cond b (writes_named now h) (fails h EPERM))
       by true =
-          named h (make_in h.inodes h.mounts h.marks (user_of h.u) h.u.dir core_name) (by_made (writes_over now) (writes_new now))
+          named h (make_in h.inodes h.mounts h.marks (user_of h.u) h.u.dir core_name)
+          (by_made (writes_over now) (writes_new now))
           (making_counts h.inodes _) p
           (λ l answer q. made_so now l answer q)
       by false = record { state = p; over = tt }
@@ -126,7 +129,8 @@ module _ (h after : Handed) (now : ℕ) (name : List ℕ) (same : name ≡ core_
     named_is : (r : Result Made Errno) → r ≡ (make_in h.inodes h.mounts h.marks (user_of h.u) h.u.dir name).answer
         → writes_named now h ≡ check after r (by_made (writes_over now) (writes_new now) after)
     named_is r answer =
-        ap (λ b. then_named h (make_in h.inodes h.mounts h.marks (user_of h.u) h.u.dir b) (by_made (writes_over now) (writes_new now)))
+        ap (λ b. then_named h (make_in h.inodes h.mounts h.marks (user_of h.u) h.u.dir b)
+        (by_made (writes_over now) (writes_new now)))
         (sym same)
         ∙ sym (λ i. check (parts i) (answer i) (by_made (writes_over now) (writes_new now) (parts i)))
 
@@ -184,7 +188,8 @@ pub core_kept : (old new : Handed) (now : ℕ) → IsSound old → new ≡ (core
     → IsKept old new
 core_kept old new now sound state references same_counts =
     let same : SameTables old (core_file old now).state =
-    (core_keeps (SameTables old) (λ h inodes count_is k. record { files = k.files; pipes = k.pipes; u = k.u; mounts = k.mounts }) old now
+    (core_keeps (SameTables old)
+    (λ h inodes count_is k. record { files = k.files; pipes = k.pipes; u = k.u; mounts = k.mounts }) old now
     (record { files = refl; pipes = refl; u = refl; mounts = refl })).state in
     kept_references old new sound (ap (λ (h : Handed). h.files) state ∙ same.files)
     (ap (λ (h : Handed). h.pipes) state ∙ same.pipes)

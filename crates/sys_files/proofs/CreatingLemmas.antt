@@ -119,24 +119,30 @@ module _ (old mid last : Handed) (a b c d : FileSystem) (ino : ℕ) (takes : One
 
 -- what creat comes to, by the parts after the search for the name
 module _ (h after : Handed) (name mode now : ℕ)
-    (parts : after ≡ with_inodes h (make_in h.inodes h.mounts h.marks (user_of h.u) h.u.dir (name_at h.image name)).inodes) where
-  made_is : (r : Result Made Errno) → r ≡ (make_in h.inodes h.mounts h.marks (user_of h.u) h.u.dir (name_at h.image name)).answer
+    (parts : after ≡ with_inodes h (make_in h.inodes h.mounts h.marks (user_of h.u) h.u.dir
+    (name_at h.image name)).inodes) where
+  made_is : (r : Result Made Errno) → r ≡ (make_in h.inodes h.mounts h.marks (user_of h.u) h.u.dir
+      (name_at h.image name)).answer
       → creat_file h name mode now ≡ check after r (by_made (opens_again now) (makes_file mode now) after)
   made_is r answer = sym (λ i. check (parts i) (answer i) (by_made (opens_again now) (makes_file mode now) (parts i)))
 
-  pub creat_refused : (e : Errno) → Err e ≡ (make_in h.inodes h.mounts h.marks (user_of h.u) h.u.dir (name_at h.image name)).answer
+  pub creat_refused : (e : Errno) → Err e ≡ (make_in h.inodes h.mounts h.marks (user_of h.u) h.u.dir
+      (name_at h.image name)).answer
       → creat_file h name mode now ≡ did_with after (Fail e)
   creat_refused e answer = made_is (Err e) answer
 
   module _ (m : Made) (a : Answer) (end : Handed) (last : Inodes)
       (answer : Ok m ≡ (make_in h.inodes h.mounts h.marks (user_of h.u) h.u.dir (name_at h.image name)).answer) where
-    pub creat_found : (ino : ℕ) → m ≡ made.Found ino → unnamed (opens_again now after ino) ≡ did_with end a → last ≡ put_back end.inodes ino
+    pub creat_found : (ino : ℕ) → m ≡ made.Found ino → unnamed (opens_again now after ino) ≡ did_with end a
+        → last ≡ put_back end.inodes ino
         → unnamed (creat_file h name mode now) ≡ did_with (with_inodes end last) a
     creat_found ino is did back =
-        ap unnamed (made_is (Ok m) answer ∙ ap (by_made (opens_again now) (makes_file mode now) after) is) ∙ until_answered end ino (opens_again now after ino) a last did back
+        ap unnamed (made_is (Ok m) answer ∙ ap (by_made (opens_again now) (makes_file mode now) after) is)
+        ∙ until_answered end ino (opens_again now after ino) a last did back
 
     pub creat_new : (dir offset : ℕ) (entry : List ℕ) → m ≡ made.Room dir offset entry
         → unnamed (makes_file mode now after dir offset entry) ≡ did_with end a → last ≡ put_back end.inodes dir
         → unnamed (creat_file h name mode now) ≡ did_with (with_inodes end last) a
     creat_new dir offset entry is did back =
-        ap unnamed (made_is (Ok m) answer ∙ ap (by_made (opens_again now) (makes_file mode now) after) is) ∙ until_answered end dir (makes_file mode now after dir offset entry) a last did back
+        ap unnamed (made_is (Ok m) answer ∙ ap (by_made (opens_again now) (makes_file mode now) after) is)
+        ∙ until_answered end dir (makes_file mode now after dir offset entry) a last did back

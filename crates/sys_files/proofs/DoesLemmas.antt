@@ -44,7 +44,8 @@ does_as {old} {new} {result} {t} {row} is kept =
     subst P (sym is) (record { answer = refl; state = refl; items = took_none t; kept = kept })
 
 -- the same, whatever it names
-pub does_unnamed : {old new : Handed} {result : Answer} {t : Taken} {row : Did} → unnamed row ≡ did_with new result → IsKept old new → Does old new result t t row
+pub does_unnamed : {old new : Handed} {result : Answer} {t : Taken} {row : Did} → unnamed row ≡ did_with new result
+    → IsKept old new → Does old new result t t row
 does_unnamed {old} {new} {result} {t} {row} is kept = record {
   answer = sym (ap (λ (x : Did). x.answer) is);
   state = sym (ap (λ (x : Did). x.state) is);
@@ -86,4 +87,5 @@ pub does_part : (f now : Files) (u : UArea) (row : Row) (image : Image) (r : Res
     → result ≡ (did_of (handed now u row image) r).answer → Does (handed f u row image) (handed now u row image) result t t d
 does_part f now u row image r {result} {t} {d} sound same table pipes mounts did answer =
     does_unnamed (did ∙ told_whole (handed now u row image) r ∙ ap (did_with (handed now u row image)) (sym answer))
-    (kept_references (handed f u row image) (handed now u row image) sound table pipes refl refl mounts same.references same.counts)
+    (kept_references (handed f u row image) (handed now u row image) sound table pipes refl refl mounts same.references
+    same.counts)

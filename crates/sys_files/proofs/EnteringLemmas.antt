@@ -127,7 +127,8 @@ making_none n (Ok a) e err =
     referring_none n (can_refer n (named_by_made a)) a e (referring n (named_by_made a) a) refl err
 making_none n (Err x) e err = refl
 
-module _ (fs new : FileSystem) (mounts : MountTable) (are : AreMounts mounts fs.store) (marks : List Bool) (user : User) (dir : ℕ)
+module _ (fs new : FileSystem) (mounts : MountTable) (are : AreMounts mounts fs.store) (marks : List Bool) (user : User)
+    (dir : ℕ)
     (bytes : List ℕ) (r : Result Made Errno) (form : IsFileSystem fs) (referred : 0 < slice_index fs.references dir)
     (answer : r ≡ (make_in (inodes_of fs) mounts marks user dir bytes).answer)
     (inodes : inodes_of new ≡ (make_in (inodes_of fs) mounts marks user dir bytes).inodes) (blocks : new.blocks ≡ fs.blocks)
@@ -136,13 +137,15 @@ module _ (fs new : FileSystem) (mounts : MountTable) (are : AreMounts mounts fs.
         → Makes (inodes_of fs) m (then_do (way fs.store mounts user dir bytes) (to_make fs.store mounts marks))
         (make_in (inodes_of fs) mounts marks user dir bytes).inodes
     made_is m ok =
-        making_ok (inodes_of fs) (then_do (way fs.store mounts user dir bytes) (to_make fs.store mounts marks)) m (sym answer ∙ ok)
+        making_ok (inodes_of fs) (then_do (way fs.store mounts user dir bytes) (to_make fs.store mounts marks)) m
+        (sym answer ∙ ok)
 
     made_one : (m : Made) → r ≡ Ok m → OneReferenceMore fs (named_by_made m) new
     made_one m ok =
         let is = made_is m ok in
         takes_one fs form new (named_by_made m)
-        (made_used_at fs.store mounts (crosses_of fs.store mounts are form.second_root) marks user dir bytes m (start_used fs form dir bytes referred) is.made) (inodes ∙ is.inodes)
+        (made_used_at fs.store mounts (crosses_of fs.store mounts are form.second_root) marks user dir bytes m
+        (start_used fs form dir bytes referred) is.made) (inodes ∙ is.inodes)
         (rest_same fs.blocks new.blocks blocks)
 
     pub made_takes : IfOk r (λ m. OneReferenceMore fs (named_by_made m) new)
@@ -166,7 +169,8 @@ module _ (fs new : FileSystem) (mounts : MountTable) (are : AreMounts mounts fs.
 
     pub made_none : IfErr r (λ e. SameReferences fs new)
     made_none = if_err r (SameReferences fs new) (λ e err.
-        let same = inodes ∙ making_none (inodes_of fs) (then_do (way fs.store mounts user dir bytes) (to_make fs.store mounts marks)) e
+        let same = inodes ∙ making_none (inodes_of fs)
+        (then_do (way fs.store mounts user dir bytes) (to_make fs.store mounts marks)) e
         (sym answer ∙ err) in
         record {
           references = λ i. ap (λ (n : Inodes). slice_index n.references i) same;
@@ -197,7 +201,8 @@ disk_has fs form mounts are dir referred other =
     disk_there mounts fs.store dir are (omega (arith, low, long)) other
 
 -- An inode that was made on it is of the same disk as the directory.
-pub same_disk : (mounts : MountTable) (store : Stores) (dev dir ino : ℕ) → AreMounts mounts store → dev ≡ (split_of mounts dir).0
+pub same_disk : (mounts : MountTable) (store : Stores) (dev dir ino : ℕ) → AreMounts mounts store
+    → dev ≡ (split_of mounts dir).0
     → IsOnDisk (counts store) dev ino → (split_of mounts ino).0 ≡ (split_of mounts dir).0
 same_disk mounts store dev dir ino are is on = disk_is mounts store ino are ∙ on ∙ is
 
@@ -257,7 +262,8 @@ module _ (fs new : FileSystem) (form : IsFileSystem fs) (dev mode uid gid time :
     referenced = subst (λ (l : List ℕ). 0 < slice_index l dir) (sym made.references) at.referenced;
     directory = λ node there_is.
         at.directory node
-        (sym (node_drawn fs.store dev (next_draw fs dev) dir) ∙ ap (λ (s : Stores). node_numbered s dir) (sym made.store) ∙ there_is);
+        (sym (node_drawn fs.store dev (next_draw fs dev) dir) ∙ ap (λ (s : Stores). node_numbered s dir) (sym made.store)
+        ∙ there_is);
     begins = at.begins;
     small = at.small;
   }

@@ -70,7 +70,8 @@ gives_first a b c d dir ino more kept is blocks =
     }
 
 -- The references of a name that is found, and of one that is not.
-pub found_takes : (fs new : FileSystem) (mounts : MountTable) (user : User) (dir : ℕ) (bytes : List ℕ) (ino : ℕ) → IsFileSystem fs
+pub found_takes : (fs new : FileSystem) (mounts : MountTable) (user : User) (dir : ℕ) (bytes : List ℕ) (ino : ℕ)
+    → IsFileSystem fs
     → AreMounts mounts fs.store → 0 < slice_index fs.references dir
     → Ok ino ≡ (find_in (inodes_of fs) mounts user dir bytes).answer
     → inodes_of new ≡ (find_in (inodes_of fs) mounts user dir bytes).inodes → new.blocks ≡ fs.blocks

@@ -15,12 +15,16 @@ still_mounts m n old new is same are = subst (λ (x : MountTable). AreMounts x n
 -- Nothing has changed that counts numbers and references.
 pub kept_references : (old new : Handed) → IsSound old → new.files ≡ old.files → new.pipes ≡ old.pipes
     → new.u.files ≡ old.u.files → new.u.dir ≡ old.u.dir → new.mounts ≡ old.mounts
-    → ((i : ℕ) → slice_index new.inodes.references i ≡ slice_index old.inodes.references i) → counts new.inodes.store ≡ counts old.inodes.store
+    → ((i : ℕ) → slice_index new.inodes.references i ≡ slice_index old.inodes.references i)
+    → counts new.inodes.store ≡ counts old.inodes.store
     → IsKept old new
 kept_references old new sound files pipes numbers dir mounts references same = record {
   is_open = rw (files, numbers) sound.is_open;
   numbers = λ entry. rw (files, numbers) refl;
-  references = λ i. let owes : owed new i ≡ owed old i = rw (files, dir, mounts) refl in let is = references i in omega (arith, owes, is);
+  references = λ i.
+      let owes : owed new i ≡ owed old i = rw (files, dir, mounts) refl in
+      let is = references i in
+      omega (arith, owes, is);
   counts = same;
   mounts = still_mounts old.mounts new.mounts old.inodes.store new.inodes.store mounts same sound.mounts;
   pipes = rw (files, pipes) sound.pipes;

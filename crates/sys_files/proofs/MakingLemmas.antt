@@ -61,7 +61,8 @@ module _ (h : Handed) (dir offset : ℕ) (name : List ℕ) (mode now : ℕ) (nex
 
 -- A new name is looked for: the search is refused, there is an inode of this name, or there is room for it.
 module _ (h after : Handed) (name : ℕ) (next : Handed → ℕ → ℕ → List ℕ → Did)
-    (parts : after ≡ with_inodes h (make_in h.inodes h.mounts h.marks (user_of h.u) h.u.dir (name_at h.image name)).inodes) where
+    (parts : after ≡ with_inodes h (make_in h.inodes h.mounts h.marks (user_of h.u) h.u.dir
+    (name_at h.image name)).inodes) where
   abbrev either : Handed → Made → Did
   either = by_made (λ h ino. fails h EEXIST) next
 

@@ -105,7 +105,8 @@ can_parts h device dir is =
 abbrev covers_by : ℕ → Handed → Bool → Did
 covers_by dir h t = cond t (names dir (is_done (with_covered h (Some dir)))) (until_end dir (fails h EBUSY))
 
-pub covers_not : (h : Handed) (device dir : ℕ) → can_cover h device dir ≡ false → covers device h dir ≡ until_end dir (fails h EBUSY)
+pub covers_not : (h : Handed) (device dir : ℕ) → can_cover h device dir ≡ false
+    → covers device h dir ≡ until_end dir (fails h EBUSY)
 covers_not h device dir is = ap (covers_by dir h) is
 
 pub covers_it : (h : Handed) (device dir : ℕ) → can_cover h device dir ≡ true
@@ -159,7 +160,8 @@ pub unmounts_at : (after rest : Handed) (special : ℕ) (d : Result ℕ Errno) �
 unmounts_at after rest special d left named = sym (λ i. unnamed (check (left i) (named i) (unmounts (left i))))
 
 -- What a part keeps, by what its row keeps.
-pub kept_as_told : (old end : Handed) (row : Did) (r : Result (Unit {0}) Errno) → unnamed row ≡ did_of end r → IsKept old row.state
+pub kept_as_told : (old end : Handed) (row : Did) (r : Result (Unit {0}) Errno) → unnamed row ≡ did_of end r
+    → IsKept old row.state
     → IsKept old end
 kept_as_told old end row r did kept =
     let P : Handed → Type 0 = IsKept old in
@@ -250,7 +252,8 @@ module _ (old : Handed) (sound : IsSound old) where
 
   pub mount_kept : (special name : ℕ) → CanFind old special
       → ((node : ℕ) → (find_in old.inodes old.mounts (user_of old.u) old.u.dir (name_at old.image special)).answer ≡ Ok node
-      → CanFind (with_inodes old (find_in old.inodes old.mounts (user_of old.u) old.u.dir (name_at old.image special)).inodes) name)
+      → CanFind (with_inodes old (find_in old.inodes old.mounts (user_of old.u) old.u.dir (name_at old.image special)).inodes)
+      name)
       → IsKept old (mount_on old special name).state
   mount_kept special name can again =
       let found = find_in old.inodes old.mounts (user_of old.u) old.u.dir (name_at old.image special) in
@@ -259,7 +262,8 @@ module _ (old : Handed) (sound : IsSound old) where
       (kept_named old old [] found (λ now node. until_end node (mounts_found name now node))
       (λ e err. found_not old old special [] e (kept_begins old sound) err)
       (λ node ok. kept_lets_go old (mounts_found name after node).state node [] sound
-      (mounts_kept name after node (node ∷ []) (found_kept old old special [] node (kept_begins old sound) can ok) (again node ok))))
+      (mounts_kept name after node (node ∷ []) (found_kept old old special [] node (kept_begins old sound) can ok)
+      (again node ok))))
 
   uncovers_kept : (now : Handed) (o : Option ℕ) → now.mounts.covered ≡ o → IsKeptBut old now []
       → IsKeptBut old (uncovers now o).state []
@@ -297,7 +301,8 @@ module _ (old : Handed) (sound : IsSound old) where
   -- A second name can be found too.
   pub can_find_again : (fs : FileSystem) (special node name : ℕ) → CanFind old special
       → (find_in old.inodes old.mounts (user_of old.u) old.u.dir (name_at old.image special)).answer ≡ Ok node
-      → inodes_of fs ≡ (find_in old.inodes old.mounts (user_of old.u) old.u.dir (name_at old.image special)).inodes → IsFileSystem fs
+      → inodes_of fs ≡ (find_in old.inodes old.mounts (user_of old.u) old.u.dir (name_at old.image special)).inodes
+      → IsFileSystem fs
       → CanFind (with_inodes old
       (find_in old.inodes old.mounts (user_of old.u) old.u.dir (name_at old.image special)).inodes) name
   can_find_again fs special node name can ok same form =

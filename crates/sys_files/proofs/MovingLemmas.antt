@@ -58,7 +58,8 @@ node_by None used = absurd (cc)
 node_by (Some node) used = refl
 
 -- the node of a number that is used
-pub node_there : (store : Stores) (ino : ℕ) → IsSome (node_numbered store ino) → node_numbered store ino ≡ Some (node_in store ino)
+pub node_there : (store : Stores) (ino : ℕ) → IsSome (node_numbered store ino)
+    → node_numbered store ino ≡ Some (node_in store ino)
 node_there store ino used = node_by (node_numbered store ino) used
 
 -- the inode and the open file, by what was moved

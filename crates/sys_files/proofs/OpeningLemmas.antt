@@ -167,11 +167,14 @@ open_kept h name mode sound can = kept_ends h _ (kept_finds h h name [] (λ h in
 pub open_quiet : (h : Handed) (name mode : ℕ) → (open_file h name mode).items ≡ []
 open_quiet h name mode =
     let now : Handed = with_inodes h (find_in h.inodes h.mounts (user_of h.u) h.u.dir (name_at h.image name)).inodes in
-    check_quiet now (find_in h.inodes h.mounts (user_of h.u) h.u.dir (name_at h.image name)).answer (λ ino. until_end ino (opens_named now ino mode)) (λ ino. named_quiet now ino mode)
+    check_quiet now (find_in h.inodes h.mounts (user_of h.u) h.u.dir (name_at h.image name)).answer
+    (λ ino. until_end ino (opens_named now ino mode)) (λ ino. named_quiet now ino mode)
 
 -- A search leaves room for one reference more to what it finds.
-pub few_found : (n new : Inodes) (mounts : MountTable) (user : User) (dir : ℕ) (bytes : List ℕ) (ino : ℕ) → slice_index n.references ino ≤ 65500
-    → (find_in n mounts user dir bytes).answer ≡ Ok ino → new ≡ (find_in n mounts user dir bytes).inodes → slice_index new.references ino < 65535
+pub few_found : (n new : Inodes) (mounts : MountTable) (user : User) (dir : ℕ) (bytes : List ℕ) (ino : ℕ)
+    → slice_index n.references ino ≤ 65500
+    → (find_in n mounts user dir bytes).answer ≡ Ok ino → new ≡ (find_in n mounts user dir bytes).inodes
+    → slice_index new.references ino < 65535
 few_found n new mounts user dir bytes ino few found is =
     let after : new ≡ with_reference n ino = is ∙ found_more n mounts user dir bytes ino found in
     let more : slice_index new.references ino ≤ slice_index n.references ino + 1 = subst (λ (m : Inodes). slice_index m.references ino ≤ slice_index n.references ino + 1) (sym after) (at_most n.references ino) in

@@ -163,7 +163,8 @@ put_counts store ino n (Some node) = put_if (n == 1) store ino node
 
 -- as many where a reference of the parts goes
 pub let_go_counts : (now : Handed) (ino : ℕ) → counts (let_go now ino).inodes.store ≡ counts now.inodes.store
-let_go_counts now ino = put_counts now.inodes.store ino (slice_index now.inodes.references ino) (node_numbered now.inodes.store ino)
+let_go_counts now ino = put_counts now.inodes.store ino (slice_index now.inodes.references ino)
+    (node_numbered now.inodes.store ino)
 
 -- A reference that was taken goes.
 pub kept_lets_go : (old now : Handed) (ino : ℕ) (taken : List ℕ) → IsSound old → IsKeptBut old now (ino ∷ taken)
@@ -230,7 +231,8 @@ found_not old h name taken e k err =
 
 pub found_kept : (old h : Handed) (name : ℕ) (taken : List ℕ) (ino : ℕ) → IsKeptBut old h taken → CanFind h name
     → (find_in h.inodes h.mounts (user_of h.u) h.u.dir (name_at h.image name)).answer ≡ Ok ino
-    → IsKeptBut old (with_inodes h (find_in h.inodes h.mounts (user_of h.u) h.u.dir (name_at h.image name)).inodes) (ino ∷ taken)
+    → IsKeptBut old (with_inodes h (find_in h.inodes h.mounts (user_of h.u) h.u.dir (name_at h.image name)).inodes)
+    (ino ∷ taken)
 found_kept old h name taken ino k can ok =
     let more = found_more h.inodes h.mounts (user_of h.u) h.u.dir (name_at h.image name) ino ok in
     let Q : Inodes → Type 0 = λ n. 0 < slice_index n.references ino in

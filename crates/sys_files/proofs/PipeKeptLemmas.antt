@@ -81,7 +81,8 @@ module _ (old : Handed) (sound : IsSound old) (pending : ℕ) (words : List ℕ)
       read_ends (IsKept old) after (record {
         same = kept_with_pipe old after r.pipe sound refl refl refl refl refl refl left;
         waits = λ pending words. kept_with_pipe old
-            (record after { u = record after.u { pending = pending; call = words } }) r.pipe sound refl refl refl refl refl refl left;
+            (record after { u = record after.u { pending = pending; call = words } }) r.pipe sound refl refl refl refl refl refl
+            left;
         signalled = kept_with_pipe old
             (record after { row = posted after.row SIGPIPE }) r.pipe sound refl refl refl refl refl refl left;
       }) (pipe_at begun entry).ino entry at count r.answer

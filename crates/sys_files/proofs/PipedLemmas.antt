@@ -71,10 +71,12 @@ pub record LeavesFew (number : ℕ) (nodes : Disks ℕ) (most : ℕ) (w : PipeWr
   pub leaves : LeavesPipe number nodes w.store w.pipe
   pub few : left_of w.answer ≤ most
 
-few_ends : (w : Writing) (answer : Piped) → left_of answer ≤ w.left → LeavesFew w.pipe.ino (counts w.store) w.left (ends_as w answer)
+few_ends : (w : Writing) (answer : Piped) → left_of answer ≤ w.left → LeavesFew w.pipe.ino (counts w.store) w.left
+    (ends_as w answer)
 few_ends w answer few = record { leaves = record { ino = refl; counts = refl }; few = few }
 
-few_more : (w : Writing) (ino : ℕ) (all : Disks ℕ) (left : ℕ) (e : Option Errno) (on : PipeWrite) → w.pipe.ino ≡ ino → counts w.store ≡ all
+few_more : (w : Writing) (ino : ℕ) (all : Disks ℕ) (left : ℕ) (e : Option Errno) (on : PipeWrite) → w.pipe.ino ≡ ino
+    → counts w.store ≡ all
     → w.left ≤ left
     → LeavesFew ino all w.left on → LeavesFew ino all left (unless_error w e on)
 few_more w ino all left None on same nodes less rest =
@@ -101,7 +103,8 @@ few_tests c w on rest = by (w.left == 0) (nat_lt c.ends 2) (nat_le PIPSIZ (size_
   by true alone full = few_ends w (Done c.count) (omega arith)
   by false true full = few_ends w Broken (omega arith)
   by false false true = record { leaves = record { ino = refl; counts = refl }; few = omega arith }
-  by false false false = few_more next w.pipe.ino (counts w.store) w.left (append_of c w).error on refl (appended_counts c w) (omega arith) rest
+  by false false false = few_more next w.pipe.ino (counts w.store) w.left (append_of c w).error on refl (appended_counts c w)
+      (omega arith) rest
 
 few_rounds : (more : ℕ) (c : WriteCall) (w : Writing) → LeavesFew w.pipe.ino (counts w.store) w.left (rounds more c w)
 few_rounds zero c w = few_ends w (Done c.count) (omega arith)

@@ -98,7 +98,8 @@ removing_err n (Ok a) x low err =
     both_err n (can_refer n a.0) (can_refer (with_reference n a.0) a.2) a x (referring_both n a) (low a refl) refl err
 removing_err n (Err y) x low err = record { references = λ i. refl; counts = refl }
 
-module _ (fs new : FileSystem) (mounts : MountTable) (are : AreMounts mounts fs.store) (marks : List Bool) (user : User) (dir : ℕ)
+module _ (fs new : FileSystem) (mounts : MountTable) (are : AreMounts mounts fs.store) (marks : List Bool) (user : User)
+    (dir : ℕ)
     (bytes : List ℕ) (r : Result Entry Errno)
     (form : IsFileSystem fs) (referred : 0 < slice_index fs.references dir)
     (answer : r ≡ (remove_in (inodes_of fs) mounts marks user dir bytes).answer)
@@ -106,12 +107,14 @@ module _ (fs new : FileSystem) (mounts : MountTable) (are : AreMounts mounts fs.
     (blocks : SameRest fs new) where
   entry_used : (e : Entry) → then_do (way fs.store mounts user dir bytes) (to_remove fs.store mounts marks) ≡ Ok e
       → IsSome (node_numbered fs.store e.0) × IsSome (node_numbered fs.store e.2)
-  entry_used e is = removed_used_at fs.store mounts (crosses_of fs.store mounts are form.second_root) marks user dir bytes e (start_used fs form dir bytes referred) is
+  entry_used e is = removed_used_at fs.store mounts (crosses_of fs.store mounts are form.second_root) marks user dir bytes e
+      (start_used fs form dir bytes referred) is
 
   removed_is : (e : Entry) → r ≡ Ok e
       → Removes (inodes_of fs) e (then_do (way fs.store mounts user dir bytes) (to_remove fs.store mounts marks))
       (remove_in (inodes_of fs) mounts marks user dir bytes).inodes
-  removed_is e ok = removing_ok (inodes_of fs) (then_do (way fs.store mounts user dir bytes) (to_remove fs.store mounts marks)) e
+  removed_is e ok = removing_ok (inodes_of fs) (then_do (way fs.store mounts user dir bytes) (to_remove fs.store mounts marks))
+      e
       (sym answer ∙ ok)
 
   removed_both : (e : Entry) → r ≡ Ok e → TwoReferencesMore fs e.0 e.2 new

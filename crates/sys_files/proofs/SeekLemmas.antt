@@ -40,7 +40,8 @@ kept_of_pipe : (h : Handed) (entry offset mode : ℕ) (pipe : Bool) → IsSound 
 kept_of_pipe h entry offset mode true sound = kept_same h h sound refl refl refl refl refl refl refl
 kept_of_pipe h entry offset mode false sound =
     kept_moved h (seen_from h entry offset mode) entry
-    (sought (file_of h entry) (node_at h (file_of h entry).ino) offset (seek_mode mode)) sound refl refl refl refl refl refl refl
+    (sought (file_of h entry) (node_at h (file_of h entry).ino) offset (seek_mode mode)) sound refl refl refl refl refl refl
+    refl
 
 kept_of_entry : (h : Handed) (offset mode : ℕ) (found : Result ℕ Errno) → IsSound h → IsKept h (of_entry h offset mode found).state
 kept_of_entry h offset mode (Ok entry) sound = kept_of_pipe h entry offset mode (file_of h entry).kind.pipe sound

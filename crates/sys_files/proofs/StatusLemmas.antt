@@ -87,7 +87,8 @@ stored_same h None taken old k = k
 pub stat_kept : (h : Handed) (name at : ℕ) → IsSound h → CanFind h name → IsKept h (stat_file h name at).state
 stat_kept h name at sound can =
     kept_ends h _ (kept_finds h h name [] (λ h ino. tells_status h ino at) sound (kept_begins h sound) can (λ now ino k.
-    stored_same now (store_bytes now.image at (status_bytes (disk_of now ino) (number_of now ino) (node_at now ino))) (ino ∷ []) h k))
+    stored_same now (store_bytes now.image at (status_bytes (disk_of now ino) (number_of now ino) (node_at now ino)))
+    (ino ∷ []) h k))
 
 pub stat_open_kept : (h : Handed) (at : ℕ) → IsSound h → IsKept h (stat_open h at).state
 stat_open_kept h at sound =

@@ -189,7 +189,8 @@ resumed_took : (h : Handed) (l : ℕ) (r : Reading) (entry at count : ℕ) (took
     → IsKept h (takes_line (with_line_read (without_pending h) l r) l entry at count took).state
 resumed_took h l r entry at count (Done n) sound = kept_same h _ sound refl refl refl refl refl refl refl
 resumed_took h l r entry at count Wait sound =
-    kept_waits h (with_line_read (without_pending h) l r) l entry at count (kept_same h _ sound refl refl refl refl refl refl refl)
+    kept_waits h (with_line_read (without_pending h) l r) l entry at count
+    (kept_same h _ sound refl refl refl refl refl refl refl)
     (kept_same h _ sound refl refl refl refl refl refl refl)
 resumed_took h l r entry at count Fault sound = kept_same h _ sound refl refl refl refl refl refl refl
 

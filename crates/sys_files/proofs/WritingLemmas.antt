@@ -22,7 +22,8 @@ use Rattle.pipe_ends.proofs.QueueWrites.{bytes_long}
 use Rattle.sys_files.proofs.LoadedLemmas.{loaded_part}
 
 -- a node that is there
-pub node_there : (store : Stores) (ino : ℕ) → IsSome (node_numbered store ino) → node_numbered store ino ≡ Some (node_in store ino)
+pub node_there : (store : Stores) (ino : ℕ) → IsSome (node_numbered store ino)
+    → node_numbered store ino ≡ Some (node_in store ino)
 node_there store ino some = by (node_numbered store ino) some
   where
     by : (o : Option Node) → IsSome o → o ≡ Some (unwrap_or o no_node)

@@ -259,8 +259,8 @@ pub fn chown_to<S: Space, T: Trace>(
     done(u)
 }
 
-/// 36, sync(II): writes to the disks what has changed, and each super-block with the time where that has. The blocks of each disk
-/// stand for its file system then. R0 stays.
+/// 36, sync(II): writes to the disks what has changed, and each super-block with the time where that has. The blocks of each
+/// disk stand for its file system then. R0 stays.
 #[tactic(auto, using(v6_base::proofs::Took::takes))]
 pub fn sync_all<S: Space, T: Trace>(
     f: &mut Files,

@@ -55,7 +55,8 @@ keeps_file w v s ino list same =
     keeps_check w out (arguments (image_of v.texts p) list) _ same (λ args.
     keeps_header w (with_moved v ino head) ino args head same)))
 
-pub tests_processes : (mounts : MountTable) (w : World) (s name list : ℕ) → (tests mounts w s name list).world.processes ≡ w.processes
+pub tests_processes : (mounts : MountTable) (w : World) (s name list : ℕ) → (tests mounts w s name list).world.processes
+    ≡ w.processes
 tests_processes mounts w s name list =
     let p : Process = process_of w s in
     let found : Finding ℕ = find_in w.inodes mounts (user_of p) p.u.dir (name_at (image_of w.texts p) name) in
@@ -120,7 +121,8 @@ found_refers n (Ok i) ino is = by (can_refer n i) is
     by true same = let here : i ≡ ino = cc same in ap (λ j. more n.references j) here
     by false same = absurd (cc same)
 
-pub tests_refer : (mounts : MountTable) (w : World) (s name list : ℕ) (program : Program) → (tests mounts w s name list).answer ≡ Ok program
+pub tests_refer : (mounts : MountTable) (w : World) (s name list : ℕ) (program : Program) → (tests mounts w s name list).answer
+    ≡ Ok program
     → (tests mounts w s name list).world.inodes.references ≡ more w.inodes.references program.ino
 tests_refer mounts w s name list =
     let p : Process = process_of w s in

@@ -125,21 +125,42 @@ fn tree_on_both(v: Volume, w: Volume) -> Option<Tree>
     Some(tree)
 }
 
+/// The tree on the images of two disks without a fault.
+fn both_on(alloc: Global, image: &[u8], second: &[u8]) -> Result<Option<Tree>, AllocError>
+    requires root { image_fault image.now ≡ None }
+    requires second { fault_within DISK_BLOCKS second.now ≡ None }
+    ensures quiet { IfOk result (λ opened. IfSome opened (λ tree. (i : ℕ) → slice_index tree.nodes.references i ≡ 0)) }
+    ensures mounts { IfOk result (λ opened. IfSome opened (λ tree. AreMounts tree.mounts tree.nodes.store)) }
+    ensures there { IfOk result (λ opened. IfSome opened (λ tree. IsSome tree.nodes.store.second)) }
+{
+    let v = volume_on(alloc, image)?;
+    let w = second_on(alloc, second)?;
+    Ok(tree_on_both(v, w))
+}
+
+/// The same where the second image has no fault.
+fn open_second(alloc: Global, image: &[u8], second: &[u8]) -> Result<Option<Tree>, AllocError>
+    requires { image_fault image.now ≡ None }
+    ensures quiet { IfOk result (λ opened. IfSome opened (λ tree. (i : ℕ) → slice_index tree.nodes.references i ≡ 0)) }
+    ensures mounts { IfOk result (λ opened. IfSome opened (λ tree. AreMounts tree.mounts tree.nodes.store)) }
+    ensures there { IfOk result (λ opened. IfSome opened (λ tree. IsSome tree.nodes.store.second)) }
+{
+    match accept_second(second) {
+        Ok(()) => both_on(alloc, image, second),
+        Err(_) => Ok(None),
+    }
+}
+
 /// The tree on the images of two disks, where they have no fault.
 pub fn open_both(alloc: Global, image: &[u8], second: &[u8]) -> Result<Option<Tree>, AllocError>
     ensures quiet { IfOk result (λ opened. IfSome opened (λ tree. (i : ℕ) → slice_index tree.nodes.references i ≡ 0)) }
     ensures mounts { IfOk result (λ opened. IfSome opened (λ tree. AreMounts tree.mounts tree.nodes.store)) }
     ensures there { IfOk result (λ opened. IfSome opened (λ tree. IsSome tree.nodes.store.second)) }
 {
-    if accept(image).is_err() {
-        return Ok(None);
+    match accept(image) {
+        Ok(()) => open_second(alloc, image, second),
+        Err(_) => Ok(None),
     }
-    if accept_second(second).is_err() {
-        return Ok(None);
-    }
-    let v = volume_on(alloc, image)?;
-    let w = second_on(alloc, second)?;
-    Ok(tree_on_both(v, w))
 }
 
 /// Refers to an inode, where it is used. No inode is then referred to more than once more.

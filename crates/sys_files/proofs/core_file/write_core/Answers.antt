@@ -24,7 +24,8 @@ returns-then-u-clause-whole g c = λ row.
     let h : Handed = handed c.args.f.now c.args.u.now row image in
     let after : Handed = handed c.write_named.new.f c.args.u.now row image in
     c.is_ok.ensures.value ∙ told_whole after c.write_named.result
-    ∙ ap (λ (d : Did). is_written d.answer) (sym (ap unnamed (core_goes h c.args.now c.if-u.true) ∙ c.write_named.ensures.did row))
+    ∙ ap (λ (d : Did). is_written d.answer) (sym (ap unnamed (core_goes h c.args.now c.if-u.true)
+    ∙ c.write_named.ensures.did row))
 
 pub returns-then-u-clause-state : goal.returns-then-u-clause-state
 returns-then-u-clause-state g c = λ row.

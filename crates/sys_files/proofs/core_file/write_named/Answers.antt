@@ -18,7 +18,11 @@ returns-in_err-ino-clause-did g c = λ row.
     let after : Handed = handed (record c.args.f.now { tree = c.find_to_make.new.tree }) c.args.u.now row image in
     let is : Err c.in_err-ino.field-0.0 ≡ c.from_residual.result = search rules in
     not_named h after c.args.now (name_at (text_alone c.core_name.result.bytes) 0) c.core_name.ensures
-    (λ i. record h { inodes = c.find_to_make.ensures.inodes i; marks = c.find_to_make.ensures.marks i; mounts = c.find_to_make.ensures.mounts i })
+    (λ i. record h {
+      inodes = c.find_to_make.ensures.inodes i;
+      marks = c.find_to_make.ensures.marks i;
+      mounts = c.find_to_make.ensures.mounts i;
+    })
     c.in_err-ino.field-0.0 c.in_err-ino.ensures.answer
     ∙ ap (did_of after) is
 
@@ -28,13 +32,19 @@ returns-in-Found-clause-did g c = λ row.
     let h : Handed = handed c.args.f.now c.args.u.now row image in
     let after : Handed = handed (record c.args.f.now { tree = c.find_to_make.new.tree }) c.args.u.now row image in
     named_over h after c.args.now (name_at (text_alone c.core_name.result.bytes) 0) c.core_name.ensures
-    (λ i. record h { inodes = c.find_to_make.ensures.inodes i; marks = c.find_to_make.ensures.marks i; mounts = c.find_to_make.ensures.mounts i })
+    (λ i. record h {
+      inodes = c.find_to_make.ensures.inodes i;
+      marks = c.find_to_make.ensures.marks i;
+      mounts = c.find_to_make.ensures.mounts i;
+    })
     c.in_ok-ino.field-0 c.in-Found.ino (handed c.write_over-result.new.f c.args.u.now row image) c.write_over-result.result
-    (inodes_of c.let_go.new.nodes) c.in_ok-ino.ensures.answer c.in-Found.is (c.write_over-result.ensures.did row) c.let_go.ensures.inodes
+    (inodes_of c.let_go.new.nodes) c.in_ok-ino.ensures.answer c.in-Found.is (c.write_over-result.ensures.did row)
+    c.let_go.ensures.inodes
 
 pub write_new-result-requires-clause-mounts : goal.write_new-result-requires-clause-mounts
 write_new-result-requires-clause-mounts g c =
-    still_mounts c.args.f.now.tree.mounts c.find_to_make.new.tree.mounts c.args.f.now.tree.nodes.store c.find_to_make.new.tree.nodes.store
+    still_mounts c.args.f.now.tree.mounts c.find_to_make.new.tree.mounts c.args.f.now.tree.nodes.store
+    c.find_to_make.new.tree.nodes.store
     c.find_to_make.ensures.mounts (ap counts c.find_to_make.ensures.same) c.requires.mounts
 
 pub returns-in-Found-clause-kept : goal.returns-in-Found-clause-kept
@@ -49,7 +59,11 @@ returns-in-Room-clause-did g c = λ row.
     let h : Handed = handed c.args.f.now c.args.u.now row image in
     let after : Handed = handed (record c.args.f.now { tree = c.find_to_make.new.tree }) c.args.u.now row image in
     named_new h after c.args.now (name_at (text_alone c.core_name.result.bytes) 0) c.core_name.ensures
-    (λ i. record h { inodes = c.find_to_make.ensures.inodes i; marks = c.find_to_make.ensures.marks i; mounts = c.find_to_make.ensures.mounts i })
+    (λ i. record h {
+      inodes = c.find_to_make.ensures.inodes i;
+      marks = c.find_to_make.ensures.marks i;
+      mounts = c.find_to_make.ensures.mounts i;
+    })
     c.in_ok-ino.field-0 c.in-Room.dir c.in-Room.offset c.in-Room.name (handed c.write_new-result.new.f c.args.u.now row image)
     c.write_new-result.result (inodes_of c.let_go-in-Room.new.nodes) c.in_ok-ino.ensures.answer c.in-Room.is
     (c.write_new-result.ensures.did row) c.let_go-in-Room.ensures.inodes

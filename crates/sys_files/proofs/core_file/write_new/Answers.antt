@@ -17,7 +17,8 @@ make_inode-requires-clause-there g c = λ other.
 
 pub enter_core-result-requires-clause-disk : goal.enter_core-result-requires-clause-disk
 enter_core-result-requires-clause-disk g c =
-    same_disk c.args.f.now.tree.mounts c.args.f.now.tree.nodes.store c.disk_of-dev.result c.args.room.dir c.in_ok-ino.ino c.requires.mounts
+    same_disk c.args.f.now.tree.mounts c.args.f.now.tree.nodes.store c.disk_of-dev.result c.args.room.dir c.in_ok-ino.ino
+    c.requires.mounts
     c.disk_of-dev.ensures.disk c.in_ok-ino.ensures.disk
 
 pub returns-in_err-ino-clause-did : goal.returns-in_err-ino-clause-did
@@ -38,7 +39,8 @@ returns-clause-did g c = λ row.
     c.in_ok-ino.ino _ _ (handed c.enter_core-result.new.f c.args.u.now row image) c.enter_core-result.result
     c.in_ok-ino.ensures.answer c.make_inode.ensures.inodes
     (unnamed_told (handed c.enter_core-result.new.f c.args.u.now row image)
-    (enters_new (handed (record c.args.f.now { tree = record c.args.f.now.tree { nodes = c.make_inode.new.nodes } }) c.args.u.now row image)
+    (enters_new (handed (record c.args.f.now { tree = record c.args.f.now.tree { nodes = c.make_inode.new.nodes } })
+    c.args.u.now row image)
     c.args.room.dir c.args.room.offset c.args.room.name c.in_ok-ino.ino c.args.now (writes_parts c.args.now))
     c.enter_core-result.result (c.enter_core-result.ensures.did row)) c.let_go.ensures.inodes
 

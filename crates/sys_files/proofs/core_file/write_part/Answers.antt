@@ -17,5 +17,6 @@ returns-clause-kept g c =
     λ node. write_file (get_from (g.S.Space.image c.args.space.now) c.args.at) node (room_at old.store c.args.ino)
     (tt {0}) c.args.offset c.args.count c.args.now in
     changed_keeps old c.write_at.new.self c.args.ino (λ node. with_node old.store c.args.ino (m node).node (m node).room)
-    (c.see.ensures.used c.args.ino c.requires.referenced) (λ node is. (c.write_at.ensures.moved node is).store) (λ node. counts_set old.store c.args.ino (m node).room (m node).node)
+    (c.see.ensures.used c.args.ino c.requires.referenced) (λ node is. (c.write_at.ensures.moved node is).store)
+    (λ node. counts_set old.store c.args.ino (m node).room (m node).node)
     c.write_at.ensures.references c.write_at.ensures.rest

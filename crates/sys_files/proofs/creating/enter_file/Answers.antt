@@ -14,7 +14,8 @@ returns-in-Ok-clause-kept c = λ image.
 
 pub open_to_write-requires-clause-mounts : goal.open_to_write-requires-clause-mounts
 open_to_write-requires-clause-mounts c =
-    still_mounts c.args.f.now.tree.mounts c.enter_new.new.f.tree.mounts c.args.f.now.tree.nodes.store c.enter_new.new.f.tree.nodes.store
+    still_mounts c.args.f.now.tree.mounts c.enter_new.new.f.tree.mounts c.args.f.now.tree.nodes.store
+    c.enter_new.new.f.tree.nodes.store
     c.in-Ok.ensures.mounts c.in-Ok.ensures.kept.counts c.requires.mounts
 
 pub returns-in-Ok-clause-blocks : goal.returns-in-Ok-clause-blocks

@@ -17,7 +17,8 @@ make_inode-requires-clause-there c = λ other.
 
 pub enter_file-answer-requires-clause-disk : goal.enter_file-answer-requires-clause-disk
 enter_file-answer-requires-clause-disk c =
-    same_disk c.args.f.now.tree.mounts c.args.f.now.tree.nodes.store c.disk_of-dev.result c.args.room.dir c.in-Ok.ino c.requires.mounts
+    same_disk c.args.f.now.tree.mounts c.args.f.now.tree.nodes.store c.disk_of-dev.result c.args.room.dir c.in-Ok.ino
+    c.requires.mounts
     c.disk_of-dev.ensures.disk c.in-Ok.ensures.disk
 
 pub enter_file-answer-requires-clause-mounts : goal.enter_file-answer-requires-clause-mounts
@@ -37,7 +38,8 @@ returns-clause-did c = λ image.
     (bit_and c.args.mode 0o6777) c.args.now opens_for_writing c.user_of.result c.user_of.ensures c.disk_of-dev.result
     c.disk_of-dev.ensures.disk c.in-Ok.ino (inodes_of c.make_inode.new.nodes) (inodes_of c.let_go.new.nodes)
     (handed c.enter_file-answer.new.f c.enter_file-answer.new.u c.enter_file-answer.new.row image) c.enter_file-answer.result
-    c.in-Ok.ensures.answer c.make_inode.ensures.inodes (ap unnamed (c.enter_file-answer.ensures.did image)) c.let_go.ensures.inodes
+    c.in-Ok.ensures.answer c.make_inode.ensures.inodes (ap unnamed (c.enter_file-answer.ensures.did image))
+    c.let_go.ensures.inodes
 
 pub returns-clause-kept : goal.returns-clause-kept
 returns-clause-kept c = λ image.

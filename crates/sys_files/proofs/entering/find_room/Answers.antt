@@ -18,9 +18,14 @@ returns-in_err-ino-clause-did g c = λ row next.
     let after : Handed = handed (record c.args.f.now { tree = c.find_to_make.new.tree }) c.args.u.now row image in
     let is : Err c.in_err-ino.field-0.0 ≡ c.from_residual.result = search rules in
     name_refused h after c.args.name next
-    (λ i. record h { inodes = c.find_to_make.ensures.inodes i; marks = c.find_to_make.ensures.marks i; mounts = c.find_to_make.ensures.mounts i })
+    (λ i. record h {
+      inodes = c.find_to_make.ensures.inodes i;
+      marks = c.find_to_make.ensures.marks i;
+      mounts = c.find_to_make.ensures.mounts i;
+    })
     c.in_err-ino.field-0.0 c.in_err-ino.ensures.answer
-    ∙ ap (λ (r : Result Room Errno). unnamed (check after r (λ room. until_end room.dir (next after room.dir room.offset room.name)))) is
+    ∙ ap (λ (r : Result Room Errno). unnamed
+    (check after r (λ room. until_end room.dir (next after room.dir room.offset room.name)))) is
 
 pub returns-in-Found-clause-did : goal.returns-in-Found-clause-did
 returns-in-Found-clause-did g c = λ row next.
@@ -28,8 +33,13 @@ returns-in-Found-clause-did g c = λ row next.
     let h : Handed = handed c.args.f.now c.args.u.now row image in
     let after : Handed = handed (record c.args.f.now { tree = c.find_to_make.new.tree }) c.args.u.now row image in
     name_taken h after c.args.name next
-    (λ i. record h { inodes = c.find_to_make.ensures.inodes i; marks = c.find_to_make.ensures.marks i; mounts = c.find_to_make.ensures.mounts i })
-    c.in_ok-ino.field-0 c.in_ok-ino.ensures.answer c.in-Found.ino (inodes_of c.let_go.new.nodes) c.in-Found.is c.let_go.ensures.inodes
+    (λ i. record h {
+      inodes = c.find_to_make.ensures.inodes i;
+      marks = c.find_to_make.ensures.marks i;
+      mounts = c.find_to_make.ensures.mounts i;
+    })
+    c.in_ok-ino.field-0 c.in_ok-ino.ensures.answer c.in-Found.ino (inodes_of c.let_go.new.nodes) c.in-Found.is
+    c.let_go.ensures.inodes
 
 pub returns-in-Room-clause-did : goal.returns-in-Room-clause-did
 returns-in-Room-clause-did g c = λ row next.
@@ -37,7 +47,11 @@ returns-in-Room-clause-did g c = λ row next.
     let h : Handed = handed c.args.f.now c.args.u.now row image in
     let after : Handed = handed (record c.args.f.now { tree = c.find_to_make.new.tree }) c.args.u.now row image in
     name_free h after c.args.name next
-    (λ i. record h { inodes = c.find_to_make.ensures.inodes i; marks = c.find_to_make.ensures.marks i; mounts = c.find_to_make.ensures.mounts i })
+    (λ i. record h {
+      inodes = c.find_to_make.ensures.inodes i;
+      marks = c.find_to_make.ensures.marks i;
+      mounts = c.find_to_make.ensures.mounts i;
+    })
     c.in_ok-ino.field-0 c.in_ok-ino.ensures.answer c.in-Room.dir c.in-Room.offset c.in-Room.name c.in-Room.is
 
 pub returns-in-Found-clause-none : goal.returns-in-Found-clause-none

@@ -7,13 +7,15 @@ use Rattle.sys_files.proofs.entering.find_to_make.Goals as goal
 
 pub returns-clause-made : goal.returns-clause-made
 returns-clause-made g c =
-    made_has c.args.tree.now.nodes c.find_to_make.new.self.nodes c.args.tree.now.mounts c.requires.mounts c.args.tree.now.marks c.user_of.result c.args.u.now.dir c.at.result
+    made_has c.args.tree.now.nodes c.find_to_make.new.self.nodes c.args.tree.now.mounts c.requires.mounts c.args.tree.now.marks
+    c.user_of.result c.args.u.now.dir c.at.result
     c.find_to_make.result c.see.ensures c.requires.directory c.find_to_make.ensures.answer c.find_to_make.ensures.inodes
     c.find_to_make.ensures.blocks
 
 pub returns-clause-found : goal.returns-clause-found
 returns-clause-found g c =
-    made_takes c.args.tree.now.nodes c.find_to_make.new.self.nodes c.args.tree.now.mounts c.requires.mounts c.args.tree.now.marks c.user_of.result c.args.u.now.dir c.at.result
+    made_takes c.args.tree.now.nodes c.find_to_make.new.self.nodes c.args.tree.now.mounts c.requires.mounts
+    c.args.tree.now.marks c.user_of.result c.args.u.now.dir c.at.result
     c.find_to_make.result c.see.ensures c.requires.directory c.find_to_make.ensures.answer c.find_to_make.ensures.inodes
     c.find_to_make.ensures.blocks
 
@@ -26,6 +28,7 @@ returns-clause-same g c =
 
 pub returns-clause-none : goal.returns-clause-none
 returns-clause-none g c =
-    made_none c.args.tree.now.nodes c.find_to_make.new.self.nodes c.args.tree.now.mounts c.requires.mounts c.args.tree.now.marks c.user_of.result c.args.u.now.dir c.at.result
+    made_none c.args.tree.now.nodes c.find_to_make.new.self.nodes c.args.tree.now.mounts c.requires.mounts c.args.tree.now.marks
+    c.user_of.result c.args.u.now.dir c.at.result
     c.find_to_make.result c.see.ensures c.requires.directory c.find_to_make.ensures.answer c.find_to_make.ensures.inodes
     c.find_to_make.ensures.blocks

@@ -8,5 +8,6 @@ returns-clause-kept c =
     let old = c.args.nodes.now in
     changed_keeps old c.set_links.new.self c.args.ino
     (λ node. with_fields old.store c.args.ino (record node { nlink = c.args.nlink; modtime = c.args.now }))
-    (c.see.ensures.used c.args.ino c.requires.referenced) c.set_links.ensures.store (λ node. fields_counts old.store c.args.ino (record node { nlink = c.args.nlink; modtime = c.args.now }))
+    (c.see.ensures.used c.args.ino c.requires.referenced) c.set_links.ensures.store
+    (λ node. fields_counts old.store c.args.ino (record node { nlink = c.args.nlink; modtime = c.args.now }))
     c.set_links.ensures.references c.set_links.ensures.rest

@@ -17,7 +17,8 @@ overflow_add-nlink c =
     ≡ (node_in c.args.f.now.tree.nodes.store c.args.ino).nlink =
     ap (λ (m : Inodes). (node_in m.store c.args.ino).nlink) c.enter.ensures.inodes
     ∙ entry_written-links n c.args.room.dir c.args.room.offset
-    (entry_bytes (record { ino = (split_of c.args.f.now.tree.mounts c.args.ino).1; name = c.args.room.name })) c.args.now c.args.ino in
+    (entry_bytes (record { ino = (split_of c.args.f.now.tree.mounts c.args.ino).1; name = c.args.room.name })) c.args.now
+    c.args.ino in
     omega (arith, c.links_of-nlink.ensures, few, same)
 
 pub returns-then-not-is_one_disk-clause-did : goal.returns-then-not-is_one_disk-clause-did

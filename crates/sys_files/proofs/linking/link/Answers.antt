@@ -19,7 +19,11 @@ returns-in_err-ino-clause-did g c = λ row.
     let is : Err c.in_err-ino.field-0.0 ≡ c.from_residual.result = search rules in
     ap unnamed (not_searched h after (find_in h.inodes h.mounts (user_of h.u) h.u.dir (name_at h.image c.args.name))
     (λ now ino. until_end ino (links_to c.args.new c.args.now now ino))
-    (λ i. record h { inodes = c.find_name.ensures.inodes i; marks = c.find_name.ensures.marks i; mounts = c.find_name.ensures.mounts i })
+    (λ i. record h {
+      inodes = c.find_name.ensures.inodes i;
+      marks = c.find_name.ensures.marks i;
+      mounts = c.find_name.ensures.mounts i;
+    })
     c.in_err-ino.field-0.0 c.in_err-ino.ensures.found)
     ∙ ap (did_of after) is
 
@@ -30,7 +34,11 @@ returns-clause-did g c = λ row.
     (g.S.Space.image c.args.space.now) in
     ap unnamed (searched h after (find_in h.inodes h.mounts (user_of h.u) h.u.dir (name_at h.image c.args.name))
     (λ now ino. until_end ino (links_to c.args.new c.args.now now ino))
-    (λ i. record h { inodes = c.find_name.ensures.inodes i; marks = c.find_name.ensures.marks i; mounts = c.find_name.ensures.mounts i })
+    (λ i. record h {
+      inodes = c.find_name.ensures.inodes i;
+      marks = c.find_name.ensures.marks i;
+      mounts = c.find_name.ensures.mounts i;
+    })
     c.in_ok-ino.ino c.in_ok-ino.ensures.found)
     ∙ until (handed c.link_to-result.new.f c.args.u.now row (g.S.Space.image c.args.space.now)) c.in_ok-ino.ino
     (links_to c.args.new c.args.now after c.in_ok-ino.ino) c.link_to-result.result (inodes_of c.let_go.new.nodes)
@@ -38,19 +46,22 @@ returns-clause-did g c = λ row.
 
 pub link_to-result-requires-clause-mounts : goal.link_to-result-requires-clause-mounts
 link_to-result-requires-clause-mounts g c =
-    still_mounts c.args.f.now.tree.mounts c.find_name.new.tree.mounts c.args.f.now.tree.nodes.store c.find_name.new.tree.nodes.store
+    still_mounts c.args.f.now.tree.mounts c.find_name.new.tree.mounts c.args.f.now.tree.nodes.store
+    c.find_name.new.tree.nodes.store
     c.find_name.ensures.mounts (ap counts c.find_name.ensures.store) c.requires.mounts
 
 pub returns-in_err-ino-clause-kept : goal.returns-in_err-ino-clause-kept
 returns-in_err-ino-clause-kept g c =
-    found_keeps c.args.f.now.tree.nodes c.find_name.new.tree.nodes c.args.f.now.tree.mounts (user_of c.args.u.now) c.args.u.now.dir
+    found_keeps c.args.f.now.tree.nodes c.find_name.new.tree.nodes c.args.f.now.tree.mounts (user_of c.args.u.now)
+    c.args.u.now.dir
     (name_at (g.S.Space.image c.args.space.now) c.args.name) c.in_err-ino.field-0.0
     c.in_err-ino.ensures.found c.find_name.ensures.inodes c.find_name.ensures.blocks
 
 pub link_to-result-requires-clause-few : goal.link_to-result-requires-clause-few
 link_to-result-requires-clause-few g c =
     still_few c.args.f.now.tree.nodes c.find_name.new.tree.nodes c.in_ok-ino.ino
-    (found_takes c.args.f.now.tree.nodes c.find_name.new.tree.nodes c.args.f.now.tree.mounts (user_of c.args.u.now) c.args.u.now.dir
+    (found_takes c.args.f.now.tree.nodes c.find_name.new.tree.nodes c.args.f.now.tree.mounts (user_of c.args.u.now)
+    c.args.u.now.dir
     (name_at (g.S.Space.image c.args.space.now) c.args.name) c.in_ok-ino.ino
     c.find_name.ensures.form c.requires.mounts c.requires.directory c.in_ok-ino.ensures.found c.find_name.ensures.inodes
     c.find_name.ensures.blocks) c.requires.few
@@ -59,7 +70,8 @@ pub returns-clause-kept : goal.returns-clause-kept
 returns-clause-kept g c =
     takes_keeps_gives c.args.f.now.tree.nodes c.find_name.new.tree.nodes c.link_to-result.new.f.tree.nodes
     c.let_go.new.nodes c.in_ok-ino.ino
-    (found_takes c.args.f.now.tree.nodes c.find_name.new.tree.nodes c.args.f.now.tree.mounts (user_of c.args.u.now) c.args.u.now.dir
+    (found_takes c.args.f.now.tree.nodes c.find_name.new.tree.nodes c.args.f.now.tree.mounts (user_of c.args.u.now)
+    c.args.u.now.dir
     (name_at (g.S.Space.image c.args.space.now) c.args.name) c.in_ok-ino.ino
     c.find_name.ensures.form c.requires.mounts c.requires.directory c.in_ok-ino.ensures.found c.find_name.ensures.inodes
     c.find_name.ensures.blocks)

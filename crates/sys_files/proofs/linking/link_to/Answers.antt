@@ -10,7 +10,8 @@ use Rattle.sys_files.proofs.linking.link_to.Goals as goal
 
 pub returns-then-links_of-ge-MOST_LINKS-clause-did : goal.returns-then-links_of-ge-MOST_LINKS-clause-did
 returns-then-links_of-ge-MOST_LINKS-clause-did g c = λ row.
-    ap unnamed (link_full (handed c.args.f.now c.args.u.now row (g.S.Space.image c.args.space.now)) c.args.name c.args.now c.args.ino
+    ap unnamed (link_full (handed c.args.f.now c.args.u.now row (g.S.Space.image c.args.space.now)) c.args.name c.args.now
+    c.args.ino
     (omega (arith, c.links_of.ensures, c.if-links_of-ge-MOST_LINKS.true)))
 
 pub returns-then-not-may_link-clause-did : goal.returns-then-not-may_link-clause-did

@@ -22,7 +22,8 @@ returns-in_err-empty-clause-did c = λ row image.
     unlink_unwritten (handed c.args.f.now c.args.u.now row image) c.args.dir c.args.offset c.args.ino c.args.now
     c.in_err-empty.field-0.0 _
     (sym (c.may_link.ensures row image) ∙ c.if-not-may_link.false)
-    (sym (c.is_covered.ensures c.args.u.now row image) ∙ c.if-is_covered.false) c.in_err-empty.ensures.answer c.empty.ensures.inodes
+    (sym (c.is_covered.ensures c.args.u.now row image) ∙ c.if-is_covered.false) c.in_err-empty.ensures.answer
+    c.empty.ensures.inodes
     ∙ ap (λ marks. did_of (handed (record c.args.f.now {
       tree = record c.empty.new.tree { marks = marks; mounts = c.args.f.now.tree.mounts };
     }) c.args.u.now row image) (Err c.in_err-empty.field-0.0)) (sym c.empty.ensures.marks)
@@ -35,7 +36,8 @@ returns-clause-did c = λ row image.
     unlink_written (handed c.args.f.now c.args.u.now row image) c.args.dir c.args.offset c.args.ino c.args.now
     c.in_ok-empty.field-0 _ _ c.links_of-nlink.result c.saturating_sub.result
     (sym (c.may_link.ensures row image) ∙ c.if-not-may_link.false)
-    (sym (c.is_covered.ensures c.args.u.now row image) ∙ c.if-is_covered.false) c.in_ok-empty.ensures.answer c.empty.ensures.inodes
+    (sym (c.is_covered.ensures c.args.u.now row image) ∙ c.if-is_covered.false) c.in_ok-empty.ensures.answer
+    c.empty.ensures.inodes
     c.links_of-nlink.ensures c.saturating_sub.ensures c.set_links.ensures.inodes
     ∙ ap (λ marks. is_done (handed (record c.args.f.now {
       tree = record { nodes = c.set_links.new.nodes; marks = marks; mounts = c.args.f.now.tree.mounts };

@@ -17,7 +17,8 @@ returns-then-u-ne0-clause-did g c = λ row.
 
 pub make_any-result-requires-clause-mounts : goal.make_any-result-requires-clause-mounts
 make_any-result-requires-clause-mounts g c =
-    still_mounts c.args.f.now.tree.mounts c.find_room.new.f.tree.mounts c.args.f.now.tree.nodes.store c.find_room.new.f.tree.nodes.store
+    still_mounts c.args.f.now.tree.mounts c.find_room.new.f.tree.mounts c.args.f.now.tree.nodes.store
+    c.find_room.new.f.tree.nodes.store
     c.find_room.ensures.mounts (ap counts c.in_ok-room.ensures.same) c.requires.mounts
 
 pub returns-in_err-room-clause-did : goal.returns-in_err-room-clause-did

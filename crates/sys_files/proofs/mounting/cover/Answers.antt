@@ -28,7 +28,9 @@ cover-requires c = c.requires.there (c.can_cover.ensures.other c.if-not-can_cove
 pub returns-clause-did : goal.returns-clause-did
 returns-clause-did c = λ u row image.
     let h : Handed = handed c.args.f.now u row image in
-    let yes : can_cover h c.args.device c.args.dir ≡ true = sym (c.can_cover.ensures.can u row image) ∙ c.if-not-can_cover.false in
+    let yes : can_cover h c.args.device c.args.dir ≡ true = sym (c.can_cover.ensures.can u row image)
+    ∙ c.if-not-can_cover.false in
     ap unnamed (covers_it h c.args.device c.args.dir yes)
-    ∙ ap (λ (m : MountTable). is_done (record h { mounts = m })) (sym (covered_now c.args.f.now.tree.mounts c.cover.new.self c.args.dir
+    ∙ ap (λ (m : MountTable). is_done (record h { mounts = m }))
+    (sym (covered_now c.args.f.now.tree.mounts c.cover.new.self c.args.dir
     c.cover.result c.cover.ensures (can_parts h c.args.device c.args.dir yes).free))

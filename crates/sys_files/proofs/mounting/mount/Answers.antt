@@ -34,7 +34,11 @@ returns-in_err-node-clause-did g c = λ row.
     let is : Err c.in_err-node.field-0.0 ≡ c.from_residual.result = search rules in
     ap unnamed (not_searched h after (find_in h.inodes h.mounts (user_of h.u) h.u.dir (name_at h.image c.args.special))
     (λ now node. until_end node (mounts_found c.args.name now node))
-    (λ i. record h { inodes = c.find_name.ensures.inodes i; marks = c.find_name.ensures.marks i; mounts = c.find_name.ensures.mounts i })
+    (λ i. record h {
+      inodes = c.find_name.ensures.inodes i;
+      marks = c.find_name.ensures.marks i;
+      mounts = c.find_name.ensures.mounts i;
+    })
     c.in_err-node.field-0.0 c.in_err-node.ensures.found)
     ∙ ap (did_of after) is
 
@@ -45,7 +49,8 @@ returns-in_err-node-clause-kept g c = λ row.
     c.args.u.now.dir (name_at image c.args.special) c.in_err-node.field-0.0 c.in_err-node.ensures.found
     c.find_name.ensures.inodes c.find_name.ensures.blocks in
     kept_references (handed c.args.f.now c.args.u.now row image)
-    (handed (record c.args.f.now { tree = c.find_name.new.tree }) c.args.u.now row image) (c.requires.sound row) refl refl refl refl
+    (handed (record c.args.f.now { tree = c.find_name.new.tree }) c.args.u.now row image) (c.requires.sound row) refl refl refl
+    refl
     c.find_name.ensures.mounts same.references same.counts
 
 pub returns-in_err-node-clause-rest : goal.returns-in_err-node-clause-rest
@@ -57,7 +62,8 @@ mount_found-result-requires-clause-directory g c =
     let more = (found_takes c.args.f.now.tree.nodes c.find_name.new.tree.nodes c.args.f.now.tree.mounts (user_of c.args.u.now)
     c.args.u.now.dir (name_at (g.S.Space.image c.args.space.now) c.args.special) c.in_ok-node.node c.find_name.ensures.form
     (c.requires.sound any_row).mounts
-    (directory_referred (handed c.args.f.now c.args.u.now any_row (g.S.Space.image c.args.space.now)) (c.requires.sound any_row))
+    (directory_referred (handed c.args.f.now c.args.u.now any_row (g.S.Space.image c.args.space.now))
+    (c.requires.sound any_row))
     c.in_ok-node.ensures.found c.find_name.ensures.inodes c.find_name.ensures.blocks).references
     c.args.u.now.dir in
     let some = directory_referred (handed c.args.f.now c.args.u.now any_row (g.S.Space.image c.args.space.now))
@@ -70,12 +76,14 @@ mount_found-result-requires-clause-few g c =
     (found_takes c.args.f.now.tree.nodes c.find_name.new.tree.nodes c.args.f.now.tree.mounts (user_of c.args.u.now)
     c.args.u.now.dir (name_at (g.S.Space.image c.args.space.now) c.args.special) c.in_ok-node.node c.find_name.ensures.form
     (c.requires.sound any_row).mounts
-    (directory_referred (handed c.args.f.now c.args.u.now any_row (g.S.Space.image c.args.space.now)) (c.requires.sound any_row))
+    (directory_referred (handed c.args.f.now c.args.u.now any_row (g.S.Space.image c.args.space.now))
+    (c.requires.sound any_row))
     c.in_ok-node.ensures.found c.find_name.ensures.inodes c.find_name.ensures.blocks) (c.requires.sound any_row).few
 
 pub mount_found-result-requires-clause-mounts : goal.mount_found-result-requires-clause-mounts
 mount_found-result-requires-clause-mounts g c =
-    still_mounts c.args.f.now.tree.mounts c.find_name.new.tree.mounts c.args.f.now.tree.nodes.store c.find_name.new.tree.nodes.store
+    still_mounts c.args.f.now.tree.mounts c.find_name.new.tree.mounts c.args.f.now.tree.nodes.store
+    c.find_name.new.tree.nodes.store
     c.find_name.ensures.mounts (ap counts c.find_name.ensures.store) (c.requires.sound any_row).mounts
 
 pub let_go-requires : goal.let_go-requires
@@ -92,7 +100,11 @@ returns-clause-did g c = λ row.
     let end : Handed = handed c.mount_found-result.new.f c.args.u.now row image in
     ap unnamed (searched h after (find_in h.inodes h.mounts (user_of h.u) h.u.dir (name_at h.image c.args.special))
     (λ now node. until_end node (mounts_found c.args.name now node))
-    (λ i. record h { inodes = c.find_name.ensures.inodes i; marks = c.find_name.ensures.marks i; mounts = c.find_name.ensures.mounts i })
+    (λ i. record h {
+      inodes = c.find_name.ensures.inodes i;
+      marks = c.find_name.ensures.marks i;
+      mounts = c.find_name.ensures.mounts i;
+    })
     c.in_ok-node.node c.in_ok-node.ensures.found)
     ∙ until end c.in_ok-node.node (mounts_found c.args.name after c.in_ok-node.node) c.mount_found-result.result
     (inodes_of c.let_go.new.nodes) (c.mount_found-result.ensures.did row) c.let_go.ensures.inodes
@@ -108,11 +120,16 @@ returns-clause-kept g c = λ row.
     ≡ did_of (with_inodes end (inodes_of c.let_go.new.nodes)) c.mount_found-result.result =
     ap unnamed (searched h after (find_in h.inodes h.mounts (user_of h.u) h.u.dir (name_at h.image c.args.special))
     (λ now node. until_end node (mounts_found c.args.name now node))
-    (λ i. record h { inodes = c.find_name.ensures.inodes i; marks = c.find_name.ensures.marks i; mounts = c.find_name.ensures.mounts i })
+    (λ i. record h {
+      inodes = c.find_name.ensures.inodes i;
+      marks = c.find_name.ensures.marks i;
+      mounts = c.find_name.ensures.mounts i;
+    })
     c.in_ok-node.node c.in_ok-node.ensures.found)
     ∙ until end c.in_ok-node.node (mounts_found c.args.name after c.in_ok-node.node) c.mount_found-result.result
     (inodes_of c.let_go.new.nodes) (c.mount_found-result.ensures.did row) c.let_go.ensures.inodes in
-    kept_as_told h (with_inodes end (inodes_of c.let_go.new.nodes)) (mount_on h c.args.special c.args.name) c.mount_found-result.result did
+    kept_as_told h (with_inodes end (inodes_of c.let_go.new.nodes)) (mount_on h c.args.special c.args.name)
+    c.mount_found-result.result did
     (mount_kept h (c.requires.sound row) c.args.special c.args.name can
     (λ node ok. can_find_again h (c.requires.sound row) c.find_name.new.tree.nodes c.args.special node c.args.name can ok
     c.find_name.ensures.inodes c.mount_found-result.ensures.form))

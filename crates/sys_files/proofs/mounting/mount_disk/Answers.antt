@@ -19,7 +19,11 @@ returns-in_err-dir-clause-did g c = λ row.
     let is : Err c.in_err-dir.field-0.0 ≡ c.from_residual.result = search rules in
     ap unnamed (not_searched h after (find_in h.inodes h.mounts (user_of h.u) h.u.dir (name_at h.image c.args.name))
     (covers c.args.device)
-    (λ i. record h { inodes = c.find_name.ensures.inodes i; marks = c.find_name.ensures.marks i; mounts = c.find_name.ensures.mounts i })
+    (λ i. record h {
+      inodes = c.find_name.ensures.inodes i;
+      marks = c.find_name.ensures.marks i;
+      mounts = c.find_name.ensures.mounts i;
+    })
     c.in_err-dir.field-0.0 c.in_err-dir.ensures.found)
     ∙ ap (did_of after) is
 
@@ -44,7 +48,11 @@ returns-clause-did g c = λ row.
     let after : Handed = handed (record c.args.f.now { tree = c.find_name.new.tree }) c.args.u.now row image in
     ap unnamed (searched h after (find_in h.inodes h.mounts (user_of h.u) h.u.dir (name_at h.image c.args.name))
     (covers c.args.device)
-    (λ i. record h { inodes = c.find_name.ensures.inodes i; marks = c.find_name.ensures.marks i; mounts = c.find_name.ensures.mounts i })
+    (λ i. record h {
+      inodes = c.find_name.ensures.inodes i;
+      marks = c.find_name.ensures.marks i;
+      mounts = c.find_name.ensures.mounts i;
+    })
     c.in_ok-dir.dir c.in_ok-dir.ensures.found)
     ∙ c.cover.ensures.did c.args.u.now row image
 

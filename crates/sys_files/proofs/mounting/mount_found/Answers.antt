@@ -13,7 +13,8 @@ returns-in_err-device-clause-did g c = λ row.
     let image = g.S.Space.image c.args.space.now in
     let h : Handed = handed c.args.f.now c.args.u.now row image in
     let is : Err c.in_err-device.field-0.0 ≡ c.from_residual.result = search rules in
-    ap (λ (d : Result ℕ Errno). unnamed (check h d (mounts_disk c.args.name h))) (sym (c.in_err-device.ensures c.args.u.now row image))
+    ap (λ (d : Result ℕ Errno). unnamed (check h d (mounts_disk c.args.name h)))
+    (sym (c.in_err-device.ensures c.args.u.now row image))
     ∙ ap (did_of h) is
 
 pub mount_disk-requires-clause-there : goal.mount_disk-requires-clause-there
@@ -26,5 +27,6 @@ pub returns-clause-did : goal.returns-clause-did
 returns-clause-did g c = λ row.
     let image = g.S.Space.image c.args.space.now in
     let h : Handed = handed c.args.f.now c.args.u.now row image in
-    ap (λ (d : Result ℕ Errno). unnamed (check h d (mounts_disk c.args.name h))) (sym (c.in_ok-device.ensures c.args.u.now row image))
+    ap (λ (d : Result ℕ Errno). unnamed (check h d (mounts_disk c.args.name h)))
+    (sym (c.in_ok-device.ensures c.args.u.now row image))
     ∙ c.mount_disk.ensures.did row

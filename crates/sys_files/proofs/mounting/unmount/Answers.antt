@@ -33,7 +33,11 @@ returns-in_err-node-clause-did g c = λ row.
     let is : Err c.in_err-node.field-0.0 ≡ c.from_residual.result = search rules in
     ap unnamed (not_searched h after (find_in h.inodes h.mounts (user_of h.u) h.u.dir (name_at h.image c.args.special))
     unmounts_named
-    (λ i. record h { inodes = c.find_name.ensures.inodes i; marks = c.find_name.ensures.marks i; mounts = c.find_name.ensures.mounts i })
+    (λ i. record h {
+      inodes = c.find_name.ensures.inodes i;
+      marks = c.find_name.ensures.marks i;
+      mounts = c.find_name.ensures.mounts i;
+    })
     c.in_err-node.field-0.0 c.in_err-node.ensures.found)
     ∙ ap (did_of after) is
 
@@ -44,7 +48,8 @@ returns-in_err-node-clause-kept g c = λ row.
     c.args.u.now.dir (name_at image c.args.special) c.in_err-node.field-0.0 c.in_err-node.ensures.found
     c.find_name.ensures.inodes c.find_name.ensures.blocks in
     kept_references (handed c.args.f.now c.args.u.now row image)
-    (handed (record c.args.f.now { tree = c.find_name.new.tree }) c.args.u.now row image) (c.requires.sound row) refl refl refl refl
+    (handed (record c.args.f.now { tree = c.find_name.new.tree }) c.args.u.now row image) (c.requires.sound row) refl refl refl
+    refl
     c.find_name.ensures.mounts same.references same.counts
 
 pub returns-in_err-node-clause-rest : goal.returns-in_err-node-clause-rest
@@ -58,10 +63,16 @@ returns-in_err-device-clause-did g c = λ row.
     let after : Handed = handed (record c.args.f.now { tree = c.find_name.new.tree }) c.args.u.now row image in
     let rest : Handed = handed c.leave_special.new.f c.args.u.now row image in
     let is : Err c.in_err-device.field-0.0 ≡ c.from_residual.result = search rules in
-    ap unnamed (searched h after (find_in h.inodes h.mounts (user_of h.u) h.u.dir (name_at h.image c.args.special)) unmounts_named
-    (λ i. record h { inodes = c.find_name.ensures.inodes i; marks = c.find_name.ensures.marks i; mounts = c.find_name.ensures.mounts i })
+    ap unnamed (searched h after (find_in h.inodes h.mounts (user_of h.u) h.u.dir (name_at h.image c.args.special))
+    unmounts_named
+    (λ i. record h {
+      inodes = c.find_name.ensures.inodes i;
+      marks = c.find_name.ensures.marks i;
+      mounts = c.find_name.ensures.mounts i;
+    })
     c.in_ok-node.node c.in_ok-node.ensures.found)
-    ∙ unmounts_at after rest c.in_ok-node.node (Err c.in_err-device.field-0.0) (c.leave_special.ensures.state c.args.u.now row image)
+    ∙ unmounts_at after rest c.in_ok-node.node (Err c.in_err-device.field-0.0)
+    (c.leave_special.ensures.state c.args.u.now row image)
     (c.in_err-device.ensures.disk c.args.u.now row image)
     ∙ ap (did_of rest) is
 
@@ -72,10 +83,16 @@ returns-in_err-device-clause-kept g c = λ row.
     let after : Handed = handed (record c.args.f.now { tree = c.find_name.new.tree }) c.args.u.now row image in
     let rest : Handed = handed c.leave_special.new.f c.args.u.now row image in
     let did : unnamed (umount_off h c.args.special) ≡ did_of rest (Err c.in_err-device.field-0.0) =
-    ap unnamed (searched h after (find_in h.inodes h.mounts (user_of h.u) h.u.dir (name_at h.image c.args.special)) unmounts_named
-    (λ i. record h { inodes = c.find_name.ensures.inodes i; marks = c.find_name.ensures.marks i; mounts = c.find_name.ensures.mounts i })
+    ap unnamed (searched h after (find_in h.inodes h.mounts (user_of h.u) h.u.dir (name_at h.image c.args.special))
+    unmounts_named
+    (λ i. record h {
+      inodes = c.find_name.ensures.inodes i;
+      marks = c.find_name.ensures.marks i;
+      mounts = c.find_name.ensures.mounts i;
+    })
     c.in_ok-node.node c.in_ok-node.ensures.found)
-    ∙ unmounts_at after rest c.in_ok-node.node (Err c.in_err-device.field-0.0) (c.leave_special.ensures.state c.args.u.now row image)
+    ∙ unmounts_at after rest c.in_ok-node.node (Err c.in_err-device.field-0.0)
+    (c.leave_special.ensures.state c.args.u.now row image)
     (c.in_err-device.ensures.disk c.args.u.now row image) in
     kept_as_told h rest (umount_off h c.args.special) (Err c.in_err-device.field-0.0) did
     (umount_kept h (c.requires.sound row) c.args.special
@@ -112,8 +129,13 @@ returns-clause-did g c = λ row.
     let h : Handed = handed c.args.f.now c.args.u.now row image in
     let after : Handed = handed (record c.args.f.now { tree = c.find_name.new.tree }) c.args.u.now row image in
     let rest : Handed = handed c.leave_special.new.f c.args.u.now row image in
-    ap unnamed (searched h after (find_in h.inodes h.mounts (user_of h.u) h.u.dir (name_at h.image c.args.special)) unmounts_named
-    (λ i. record h { inodes = c.find_name.ensures.inodes i; marks = c.find_name.ensures.marks i; mounts = c.find_name.ensures.mounts i })
+    ap unnamed (searched h after (find_in h.inodes h.mounts (user_of h.u) h.u.dir (name_at h.image c.args.special))
+    unmounts_named
+    (λ i. record h {
+      inodes = c.find_name.ensures.inodes i;
+      marks = c.find_name.ensures.marks i;
+      mounts = c.find_name.ensures.mounts i;
+    })
     c.in_ok-node.node c.in_ok-node.ensures.found)
     ∙ unmounts_at after rest c.in_ok-node.node (Ok c.in_ok-device.device) (c.leave_special.ensures.state c.args.u.now row image)
     (c.in_ok-device.ensures.disk c.args.u.now row image)
@@ -127,8 +149,13 @@ returns-clause-kept g c = λ row.
     let rest : Handed = handed c.leave_special.new.f c.args.u.now row image in
     let end : Handed = handed c.unmount_disk.new.f c.args.u.now row image in
     let did : unnamed (umount_off h c.args.special) ≡ did_of end c.unmount_disk.result =
-    ap unnamed (searched h after (find_in h.inodes h.mounts (user_of h.u) h.u.dir (name_at h.image c.args.special)) unmounts_named
-    (λ i. record h { inodes = c.find_name.ensures.inodes i; marks = c.find_name.ensures.marks i; mounts = c.find_name.ensures.mounts i })
+    ap unnamed (searched h after (find_in h.inodes h.mounts (user_of h.u) h.u.dir (name_at h.image c.args.special))
+    unmounts_named
+    (λ i. record h {
+      inodes = c.find_name.ensures.inodes i;
+      marks = c.find_name.ensures.marks i;
+      mounts = c.find_name.ensures.mounts i;
+    })
     c.in_ok-node.node c.in_ok-node.ensures.found)
     ∙ unmounts_at after rest c.in_ok-node.node (Ok c.in_ok-device.device) (c.leave_special.ensures.state c.args.u.now row image)
     (c.in_ok-device.ensures.disk c.args.u.now row image)
@@ -139,5 +166,6 @@ returns-clause-kept g c = λ row.
 
 pub returns-clause-rest : goal.returns-clause-rest
 returns-clause-rest g c =
-    rest_after c.args.f.now.tree.nodes c.find_name.new.tree.nodes c.leave_special.new.f.tree.nodes c.unmount_disk.new.f.tree.nodes
+    rest_after c.args.f.now.tree.nodes c.find_name.new.tree.nodes c.leave_special.new.f.tree.nodes
+    c.unmount_disk.new.f.tree.nodes
     c.find_name.ensures.blocks c.leave_special.ensures.rest c.unmount_disk.ensures.rest

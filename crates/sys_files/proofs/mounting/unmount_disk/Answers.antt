@@ -10,7 +10,8 @@ use Rattle.sys_files.proofs.mounting.unmount_disk.Goals as goal
 
 pub returns-then-is_unmounted-clause-did : goal.returns-then-is_unmounted-clause-did
 returns-then-is_unmounted-clause-did c = λ u row image.
-    ap unnamed (not_mounted (handed c.args.f.now u row image) c.args.device (sym c.is_unmounted.ensures ∙ c.if-is_unmounted.true))
+    ap unnamed (not_mounted (handed c.args.f.now u row image) c.args.device (sym c.is_unmounted.ensures
+    ∙ c.if-is_unmounted.true))
 
 pub returns-then-is_in_use-clause-did : goal.returns-then-is_in_use-clause-did
 returns-then-is_in_use-clause-did c = λ u row image.

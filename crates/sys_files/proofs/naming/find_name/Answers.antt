@@ -11,7 +11,8 @@ use Rattle.sys_files.proofs.naming.find_name.Goals as goal
 searched : (n : Inodes) (r : Result ℕ Errno) → (finding n r).inodes.store ≡ n.store
 searched n (Ok ino) = by (can_refer n ino) where
   by : (t : Bool)
-      → (cond {A = Finding ℕ} t (record { answer = Ok ino; inodes = with_reference n ino }) (refused n ENFILE)).inodes.store ≡ n.store
+      → (cond {A = Finding ℕ} t (record { answer = Ok ino; inodes = with_reference n ino }) (refused n ENFILE)).inodes.store
+      ≡ n.store
   by true = refl
   by false = refl
 searched n (Err e) = refl
@@ -25,10 +26,12 @@ returns-clause-store g c =
 
 pub returns-clause-node : goal.returns-clause-node
 returns-clause-node g c =
-    ends_at_node c.args.tree.now.nodes c.find.new.self.nodes c.args.tree.now.mounts c.user_of.result c.args.u.now.dir c.at.result
+    ends_at_node c.args.tree.now.nodes c.find.new.self.nodes c.args.tree.now.mounts c.user_of.result c.args.u.now.dir
+    c.at.result
     c.find.result c.see.ensures c.requires.mounts c.requires.directory c.find.ensures.answer c.find.ensures.inodes
 
 pub returns-clause-referred : goal.returns-clause-referred
 returns-clause-referred g c =
-    ends_referred c.args.tree.now.nodes c.find.new.self.nodes c.args.tree.now.mounts c.user_of.result c.args.u.now.dir c.at.result
+    ends_referred c.args.tree.now.nodes c.find.new.self.nodes c.args.tree.now.mounts c.user_of.result c.args.u.now.dir
+    c.at.result
     c.find.result c.see.ensures c.requires.mounts c.requires.directory c.find.ensures.answer c.find.ensures.inodes

@@ -14,7 +14,8 @@ returns-in-Err-clause-does g c =
 
 pub open_named-answer-requires-clause-few : goal.open_named-answer-requires-clause-few
 open_named-answer-requires-clause-few g c =
-    few_found (inodes_of c.args.f.now.tree.nodes) (inodes_of c.find_name.new.tree.nodes) c.args.f.now.tree.mounts (user_of c.args.u.now) c.args.u.now.dir (name_at (g.S.Space.image c.args.space.now) (slice_index c.args.args 0)) c.in-Ok.ino
+    few_found (inodes_of c.args.f.now.tree.nodes) (inodes_of c.find_name.new.tree.nodes) c.args.f.now.tree.mounts
+    (user_of c.args.u.now) c.args.u.now.dir (name_at (g.S.Space.image c.args.space.now) (slice_index c.args.args 0)) c.in-Ok.ino
     (c.requires.sound.few c.in-Ok.ino) (sym c.find_name.ensures.found ∙ c.in-Ok.is) c.find_name.ensures.inodes
 
 pub returns-clause-does : goal.returns-clause-does

@@ -31,13 +31,15 @@ returns-clause-did c row image =
     ap unnamed (named h (new_in h.inodes 0 IALLOC (record { uid = 0; gid = 0 }) c.args.now) c.in-Ok.ino
     (inodes_of c.make_inode.new.nodes) (λ now ino. until_end ino (opens_ends now ino)) c.in-Ok.ensures.answer
     c.make_inode.ensures.inodes)
-    ∙ until_answered (handed c.open_ends-answer.new.f c.open_ends-answer.new.u row image) c.in-Ok.ino (opens_ends now c.in-Ok.ino)
+    ∙ until_answered (handed c.open_ends-answer.new.f c.open_ends-answer.new.u row image) c.in-Ok.ino
+    (opens_ends now c.in-Ok.ino)
     c.open_ends-answer.result (inodes_of c.let_go.new.nodes) (ap unnamed (c.open_ends-answer.ensures.did row image))
     c.let_go.ensures.inodes
 
 pub returns-clause-blocks : goal.returns-clause-blocks
 returns-clause-blocks c =
-    rest_then c.args.f.now.tree.nodes.blocks c.make_inode.new.nodes.blocks c.let_go.new.nodes.blocks c.in-Ok.ensures.found.blocks
+    rest_then c.args.f.now.tree.nodes.blocks c.make_inode.new.nodes.blocks c.let_go.new.nodes.blocks
+    c.in-Ok.ensures.found.blocks
     (rest_from c.make_inode.new.nodes c.open_ends-answer.new.f.tree.nodes c.let_go.new.nodes c.open_ends-answer.ensures.blocks
     c.let_go.ensures.rest)
 

@@ -39,7 +39,12 @@ left g c = record (before g c) {
 }
 
 abbrev did : (g : Over) → After-end_read g → Did
-did g c = record { answer = c.end_read.result; state = left g c; items = woken_by_read c.pipe_at-old.result c.read-piped.new.p; named = [] }
+did g c = record {
+  answer = c.end_read.result;
+  state = left g c;
+  items = woken_by_read c.pipe_at-old.result c.read-piped.new.p;
+  named = [];
+}
 
 comes : (g : Over) (c : After-end_read g)
     → reads_pipe (before g c) c.args.transfer.entry c.args.transfer.at c.args.transfer.count c.args.now ≡ did g c

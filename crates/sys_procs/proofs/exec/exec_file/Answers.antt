@@ -52,7 +52,8 @@ module _ (mounts : MountTable) (p q : Procs) (fs gs : FileSystem) (s name list :
 
 pub load-requires-clause-few : goal.load-requires-clause-few
 load-requires-clause-few g c =
-    few c.args.tree.now.mounts c.args.p.now c.test_program.new.p c.args.tree.now.nodes c.test_program.new.tree.nodes c.args.s (get_or c.args.args 0 0)
+    few c.args.tree.now.mounts c.args.p.now c.test_program.new.p c.args.tree.now.nodes c.test_program.new.tree.nodes c.args.s
+    (get_or c.args.args 0 0)
     (get_or c.args.args 1 0)
     c.in-Ok.program c.requires.calls c.test_program.ensures.state c.in-Ok.ensures.answer c.in-Ok.ensures.tested.referenced
 
@@ -60,7 +61,8 @@ pub load-requires-clause-referred : goal.load-requires-clause-referred
 load-requires-clause-referred g c =
     subst (λ (p : Procs). (i : ℕ) → count_by (is_text_of i) (texts_in p.images.kept) + (if i == c.in-Ok.program.ino then 1 else 0)
     ≤ slice_index c.test_program.new.tree.nodes.references i) (sym c.test_program.ensures.procs)
-    (referred c.args.tree.now.mounts c.args.p.now c.test_program.new.p c.args.tree.now.nodes c.test_program.new.tree.nodes c.args.s
+    (referred c.args.tree.now.mounts c.args.p.now c.test_program.new.p c.args.tree.now.nodes c.test_program.new.tree.nodes
+    c.args.s
     (get_or c.args.args 0 0)
     (get_or c.args.args 1 0) c.in-Ok.program c.requires.calls c.test_program.ensures.state c.in-Ok.ensures.answer
     c.in-Ok.ensures.tested.referenced)
@@ -73,7 +75,8 @@ returns-in-Ok-clause-does g c =
     (g.T.Trace.taken c.args.trace.now) (g.T.Trace.taken c.load.new.trace) x in
     done_as
     (ap (λ (v : World). loads v c.args.s c.in-Ok.program) c.test_program.ensures.state
-    ∙ loaded c.args.tree.now.mounts w c.args.s (get_or c.args.args 0 0) (get_or c.args.args 1 0) c.in-Ok.program c.in-Ok.ensures.answer)
+    ∙ loaded c.args.tree.now.mounts w c.args.s (get_or c.args.args 0 0) (get_or c.args.args 1 0) c.in-Ok.program
+    c.in-Ok.ensures.answer)
     (subst (λ (q : Procs). P q (loads (handed c.test_program.new.p c.test_program.new.tree.nodes) c.args.s c.in-Ok.program))
     c.test_program.ensures.procs c.load.ensures.does)
 
@@ -82,5 +85,6 @@ pub returns-in-Err-clause-does : goal.returns-in-Err-clause-does
 returns-in-Err-clause-does g c =
     let w : World = handed c.args.p.now c.args.tree.now.nodes in
     done_none _ (Fail c.in-Err.e)
-    (refused c.args.tree.now.mounts w c.args.s (get_or c.args.args 0 0) (get_or c.args.args 1 0) c.in-Err.e c.in-Err.ensures.answer)
+    (refused c.args.tree.now.mounts w c.args.s (get_or c.args.args 0 0) (get_or c.args.args 1 0) c.in-Err.e
+    c.in-Err.ensures.answer)
     refl c.test_program.ensures.state (ap (λ (p : Procs). board p) c.test_program.ensures.procs)

@@ -27,7 +27,8 @@ image c =
 -- a search of the name for a process with such an area and such a memory
 abbrev search_in : goal.After-find_name → UArea → Image → Finding ℕ
 search_in c u m =
-    find_in (inodes_of c.args.tree.now.nodes) c.args.tree.now.mounts (record { uid = u.uid; gid = u.gid }) u.dir (name_at m c.args.name)
+    find_in (inodes_of c.args.tree.now.nodes) c.args.tree.now.mounts (record { uid = u.uid; gid = u.gid }) u.dir
+    (name_at m c.args.name)
 
 pub returns-clause-answer : goal.returns-clause-answer
 returns-clause-answer c = c.find_name.ensures.answer ∙ (λ i. (search_in c (area c i) (image c i)).answer)

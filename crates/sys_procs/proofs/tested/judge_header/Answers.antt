@@ -48,7 +48,7 @@ returns-in_err-plan-clause-answer c =
     λ i. (c.if-read-ne-HEADER_SIZE.false i == 16) && magic i in
     let busy : ℕ → Bool → Bool = λ n none. not (h.magic == 0o407) && not (h.text_size == 0) && nat_lt 1 n && none in
     let free : is_busy_in texts references ino h ≡ false =
-    sym (λ i. busy (c.refs.ensures.count i) ((ap is_none c.entry_clicks-there.ensures.clicks ∙ no_entry texts ino) i))
+    sym (λ i. busy (c.refs.ensures i) ((ap is_none c.entry_clicks-there.ensures.clicks ∙ no_entry texts ino) i))
     ∙ (sym c.is_busy.ensures ∙ c.if-is_busy.false) in
     let given = err_from_is_err_and c.from_residual.result c.from_residual.ensures.1 in
     given.1 ∙ (ap (λ (f : Errno). Err f) given.2

@@ -14,14 +14,16 @@ returns-in_err-ino-clause-answer c =
     given.1
     ∙ (ap (λ e. Err e) given.2
     ∙ ap (λ (t : Tested). t.answer)
-    (program_tested c.args.tree.now.mounts c.args.p.now c.args.tree.now.nodes c.args.s c.args.name c.args.list (Err c.in_err-ino.field-0.0) _
+    (program_tested c.args.tree.now.mounts c.args.p.now c.args.tree.now.nodes c.args.s c.args.name c.args.list
+    (Err c.in_err-ino.field-0.0) _
     c.in_err-ino.ensures.answer c.find_program.ensures.inodes))
 
 pub returns-in_err-ino-clause-state : goal.returns-in_err-ino-clause-state
 returns-in_err-ino-clause-state c =
     ap (λ (p : Procs). handed p c.find_program.new.tree.nodes) c.find_program.ensures.procs
     ∙ ap (λ (t : Tested). t.world)
-    (program_tested c.args.tree.now.mounts c.args.p.now c.args.tree.now.nodes c.args.s c.args.name c.args.list (Err c.in_err-ino.field-0.0) _
+    (program_tested c.args.tree.now.mounts c.args.p.now c.args.tree.now.nodes c.args.s c.args.name c.args.list
+    (Err c.in_err-ino.field-0.0) _
     c.in_err-ino.ensures.answer c.find_program.ensures.inodes)
 
 pub test_file-requires-clause-alive : goal.test_file-requires-clause-alive
