@@ -78,17 +78,15 @@ fn second_fault_line(fault: ImageFault) -> Line
                 " blocks is too long",
             )
         }
-        ImageFault::FreeCount(block) => numbered(
-            "second image: free count in block ",
+        ImageFault::FreeCount(block) => numbered("second image: free count in block ", block, ""),
+        ImageFault::FreeOutside(block) => numbered("second image: free block ", block, " outside"),
+        ImageFault::NodeOutside(inode, block) => twice_numbered(
+            "second image: inode ",
+            inode,
+            " has block ",
             block,
-            "",
+            " outside",
         ),
-        ImageFault::FreeOutside(block) => {
-            numbered("second image: free block ", block, " outside")
-        }
-        ImageFault::NodeOutside(inode, block) => {
-            twice_numbered("second image: inode ", inode, " has block ", block, " outside")
-        }
         ImageFault::BlockTwice(block) => numbered("second image: block ", block, " twice"),
         ImageFault::NoRoot => plain("second image: no root"),
     }
