@@ -298,15 +298,15 @@ module _ (fs : FileSystem) (core count : ℕ) (referred : (ino : ℕ) → slice_
     nobody_out = ap (λ t. candidate t) slots ∙ nobody_out fs.store.stamp;
   }
 
-  pub first_kernel : w.slots.left ≤ w.slots.due → w.slots.set_at ≡ 0 → 3000000001 < w.slots.due → IsKernel stage.New w
-  first_kernel within unset far = record {
+  pub first_kernel : w.slots.left ≤ w.slots.due → w.slots.set_at ≡ 0 → 3000000001 < w.slots.due → w.slots.due ≤ w.slots.wake → IsKernel stage.New w
+  first_kernel within unset far low = record {
     new = λ e. first_new;
     stopped = λ e. absurd (cc e);
     finished = λ e. absurd (cc e);
     running = λ s e. absurd (cc e);
     resting = λ e. absurd (cc e);
     counted = λ goes. counted_first w.slots (unix_of w) within (ap (λ (t : Timing). t.disk) timing) (ap (λ (t : Timing). t.pace) timing) unset
-        (let none : passed_in w.slots ≡ 0 = ap (λ (t : Timing). t.passed) timing in omega (arith, none, far))
+        (let none : passed_in w.slots ≡ 0 = ap (λ (t : Timing). t.passed) timing in omega (arith, none, far)) low refl
         (λ s p is. nobody_waits s p (ap (λ (l : List (Option Process)). get_or l s None) (sym processes_are) ∙ is));
   }
 

@@ -72,7 +72,7 @@ module _ (w : World) (word : ℕ) where
       idle = was.idle;
       calls = was.calls;
     };
-    counted = λ goes. counted_same w.slots (unix_of w) (unix_of switched) refl refl (kernel.counted goes);
+    counted = λ goes. counted_same w.slots (unix_of w) (unix_of switched) refl refl refl (kernel.counted goes);
   }
 
   pub switched_system : system_at switched ≡ (event_of (Switch word) (system_at w)).next
@@ -85,7 +85,7 @@ module _ (w : World) (count : ℕ) (most : count ≤ 999999999) where
 
   pub set_kernel : (at : Stage) → IsKernel at w → IsKernel at set
   set_kernel at kernel = kernel_slots w (record w.slots { disk = count }) at
-      (λ goes. counted_set w.slots count (unix_of w) (unix_of set) most refl refl (kernel.counted goes)) kernel
+      (λ goes. counted_set w.slots count (unix_of w) (unix_of set) most refl refl refl (kernel.counted goes)) kernel
 
   pub set_system : system_at set ≡ (event_of (Disk count) (system_at w)).next
   set_system = refl

@@ -105,7 +105,7 @@ module _ (w : World) (x : ImagesState) (s : ℕ) (alive : IsAlive w.procs s) (im
       let p : Process = process_of (unix_of w) s in
       let q : Process = record p { «data» = image.data; stack = image.stack } in
       subst (λ (u : Unix). IsCounted now.slots u) (sym (memory_unix w x s alive image))
-      (counted_waits w.slots (unix_of w) (with_process (unix_of w) s q) refl
+      (counted_waits w.slots (unix_of w) (with_process (unix_of w) s q) refl refl
       (all_waited_put (unix_of w).processes s (Some q) (subst (λ o. WaitedIn o (Some q)) (sym (alive_slot w s alive)) (like_waited p q refl refl refl refl)))
       counted)
 

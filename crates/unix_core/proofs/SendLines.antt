@@ -1,7 +1,6 @@
 -- The lines send with the end of a slot, or their pace is set: the slots up to the next that is due, and the world then.
 use Rattle.std.proofs.Common.{◌≡◌, ◌≢◌, ◌∙◌, ◌<◌, ◌≤◌, ◌+◌, ◌-◌, ◌*◌, ◌/◌, ◌%◌, ◌==◌, ◌&&◌, not, cond, ℕ, Bool, true, false, List, [], map, None, refl, sym, ap, subst, arith}
-use Rattle.std.proofs.Math.Nat.{zero-mod}
-use Rattle.std.proofs.lemmas.Bool.{ne_eqb, eqb-true, eqb-false}
+use Rattle.std.proofs.lemmas.Bool.{ne_eqb}
 use Rattle.std.proofs.lemmas.Nat.{div-add-mod', mod-mul-add}
 use Rattle.v6_base.specs.Trace.{Took, Taken, entries_of}
 use Rattle.v6_base.proofs.Took.{took_nothing}
@@ -17,9 +16,9 @@ use Rattle.abstract_unix.specs.Outside.{turned_to, paced_of}
 use Rattle.unix_core.specs.declared.world.World.{World}
 use Rattle.unix_core.specs.declared.slots.Slots.{Slots}
 use Rattle.unix_core.specs.Passing.{all_woken}
-use Rattle.unix_core.specs.Slots.{passed_in, timing_in, NoneSend, IsCounted, sent_after, with_sent}
+use Rattle.unix_core.specs.Slots.{passed_in, timing_in, NoneSend, IsTimed, sent_after, with_sent}
 use Rattle.unix_core.specs.Parts.{unix_of, board_in, system_at, IsGood}
-use Rattle.unix_core.proofs.CountLemmas.{counted_paced}
+use Rattle.unix_core.proofs.CountLemmas.{timed_paced}
 use Rattle.unix_core.proofs.EachLine.{lines_wake, told_unix, told_board, told_good, told_running}
 use Rattle.unix_core.proofs.LoggedLemmas.{logged_shown}
 use Rattle.unix_core.proofs.SlotWorlds.{with_slots, good_slots}
@@ -39,11 +38,11 @@ before_next m p r w due = omega arith
 later_not : (m p r : ℕ) → p < m → r + (m - p) ≡ 0 → ⊥
 later_not m p r later zero = omega (arith, later, zero)
 
-pub next_is : (due p w v b c : ℕ) → due ≤ p + (w - b) → v ≡ w → b ≡ c → due ≤ p + (v - c)
+next_is : (due p w v b c : ℕ) → due ≤ p + (w - b) → v ≡ w → b ≡ c → due ≤ p + (v - c)
 next_is due p w v b c = omega arith
 
 -- with a pace: up to the next that is a multiple of it
-pub none_send : (slots : Slots) (p : ℕ) → slots.set_at ≤ p → slots.due ≤ p + (slots.pace - (p - slots.set_at) % slots.pace) → NoneSend p slots
+none_send : (slots : Slots) (p : ℕ) → slots.set_at ≤ p → slots.due ≤ p + (slots.pace - (p - slots.set_at) % slots.pace) → NoneSend p slots
 none_send slots p set ends m later sooner =
     let x : ℕ = p - slots.set_at in
     let r : ℕ = x % slots.pace in
@@ -54,15 +53,18 @@ none_send slots p set ends m later sooner =
     ap (λ n. not (slots.pace == 0) && (n == 0)) at
     ∙ ap (λ b. not (slots.pace == 0) && b) (ne_eqb (r + (m - p)) 0 (later_not m p r later)) ∙ and_none (not (slots.pace == 0))
 
+-- where the next of them is due
+pub none_until : (old new : Slots) (behind : ℕ) → old.set_at ≤ passed_in old → behind ≡ (passed_in old - old.set_at) % old.pace
+    → new.due ≤ passed_in old + (old.pace - behind) → passed_in new ≡ passed_in old → new.pace ≡ old.pace → new.set_at ≡ old.set_at
+    → NoneSend (passed_in new) new
+none_until old new behind before back ends passed pace set =
+    none_send new (passed_in new) (omega (arith, before, passed, set))
+    (next_is new.due (passed_in new) old.pace new.pace behind ((passed_in new - new.set_at) % new.pace) (omega (arith, ends, passed)) pace
+    (back ∙ (λ i. (sym passed i - sym set i) % sym pace i)))
+
 -- and without one no line sends
 pub unpaced_none : (slots : Slots) (p : ℕ) → slots.pace ≡ 0 → NoneSend p slots
 unpaced_none slots p none m later sooner = ap (λ n. not (n == 0) && ((m - slots.set_at) % n == 0)) none
-
--- where the pace has just been set
-pub paced_none : (slots : Slots) (p : ℕ) → slots.set_at ≡ p → slots.due ≤ p + slots.pace → NoneSend p slots
-paced_none slots p set ends =
-    let here : (p - slots.set_at) % slots.pace ≡ 0 = (let e : p - slots.set_at ≡ 0 = omega (arith, set) in ap (λ n. n % slots.pace) e ∙ zero-mod slots.pace) in
-    none_send slots p (omega (arith, set)) (omega (arith, ends, here))
 
 -- Whether the lines send with the end of a slot.
 pub sends_now : (t : Timing) → t.pace ≢ 0 → t.since % t.pace ≡ 0 → is_sending t ≡ true
@@ -137,7 +139,7 @@ pub turned_keys : (on : Bool) (t : Terminal) → (turned_to on t).keys ≡ false
 turned_keys true t = refl
 turned_keys false t = refl
 
-module _ (w : World) (good : IsGood w) (counted : IsCounted w.slots (unix_of w)) (n : ℕ) (few : n ≤ 999999999) (slots : Slots)
+module _ (w : World) (good : IsGood w) (timed : IsTimed w.slots (unix_of w)) (n : ℕ) (few : n ≤ 999999999) (slots : Slots)
     (timing : timing_in slots ≡ record (timing_in w.slots) { pace = n; since = 0 }) (lines : List Terminal)
     (lines_are : lines ≡ (each_line (turned_to (not (n == 0))) w.files.lines).lines) (t : Table)
     (is : t ≡ all_woken w.procs.table (entries_of (each_line (turned_to (not (n == 0))) w.files.lines).items)) where
@@ -173,18 +175,7 @@ module _ (w : World) (good : IsGood w) (counted : IsCounted w.slots (unix_of w))
   pub pace_took : (a b : Taken) → Took a told.items b → Took a (paced_of (system_at w) n).log.items b
   pace_took a b took = subst (λ (l : Logged Unix). Took a l.items b) (sym quiet) took
 
-  pub pace_counted : slots.left ≤ slots.due → slots.due ≤ w.slots.due → passed_in slots < slots.due → slots.set_at ≤ passed_in slots
-      → (n ≢ 0 → slots.due ≤ passed_in w.slots + n) → IsCounted slots (unix_of turned)
-  pace_counted within sooner later set ends =
-      let passed : passed_in slots ≡ passed_in w.slots = ap (λ (x : Timing). x.passed) timing in
-      let pace : slots.pace ≡ n = ap (λ (x : Timing). x.pace) timing in
-      let since : passed_in slots - slots.set_at ≡ 0 = ap (λ (x : Timing). x.since) timing in
-      let at : slots.set_at ≡ passed_in slots = omega (arith, set, since) in
-      counted_paced w.slots slots n (unix_of w) (unix_of turned) few refl refl passed within sooner later timing set
-      (by (n == 0) refl passed pace at) counted
-    where
-      by : (b : Bool) → (n == 0) ≡ b → passed_in slots ≡ passed_in w.slots → slots.pace ≡ n → slots.set_at ≡ passed_in slots → NoneSend (passed_in slots) slots
-      by true none passed pace at = unpaced_none slots (passed_in slots) (let e = eqb-true n 0 none in omega (arith, pace, e))
-      by false some passed pace at =
-          let most = ends (eqb-false n 0 some) in
-          paced_none slots (passed_in slots) at (omega (arith, most, passed, pace))
+  pub pace_timed : slots.left ≡ w.slots.left → slots.due ≡ w.slots.due → slots.wake ≡ w.slots.wake → slots.set_at ≡ passed_in w.slots
+      → IsTimed slots (unix_of turned)
+  pace_timed left due wake set =
+      timed_paced w.slots slots n (unix_of w) (unix_of turned) few refl (ap (λ (x : Timing). x.passed) timing) left due wake set timing timed

@@ -254,8 +254,8 @@ module _ (w : World) (left : w.slots.left ≡ 0) (before : IsCounted (one_before
     (still : IsStill h (one_before w)) where
   due_unix : unix_of w ≡ with_slot (unix_of (one_before w))
   due_unix =
-      let within = before.within in
-      let set = before.set in
+      let within = before.timed.within in
+      let set = before.timed.set in
       let e : w.slots.due - w.slots.left ≡ w.slots.due - 1 + 1 = omega (arith, left, within) in
       let f : w.slots.due - w.slots.left - w.slots.set_at ≡ w.slots.due - 1 - w.slots.set_at + 1 = omega (arith, left, within, set) in
       λ i. record (unix_of w) { timing = record { passed = e i; disk = w.slots.disk; pace = w.slots.pace; since = f i } }

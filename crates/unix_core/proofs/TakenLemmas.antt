@@ -55,7 +55,7 @@ module _ (at : Stage) (w : World) (f : Fixed) (is : at ≡ stage.Running f) (ker
       let p : Process = process_of (unix_of w) f.slot in
       let q : Process = with_machine p (instr (machine_of (unix_of w).texts p)).machine in
       subst (λ (u : Unix). IsCounted w.slots u) (sym (step_done _ refl).unix)
-      (counted_waits w.slots (unix_of w) (with_process (unix_of w) f.slot q) refl
+      (counted_waits w.slots (unix_of w) (with_process (unix_of w) f.slot q) refl refl
       (all_waited_put (unix_of w).processes f.slot (Some q)
       (subst (λ o. WaitedIn o (Some q)) (sym (slot_is w f.slot run.user.ready)) (like_waited p q refl refl refl refl)))
       (kernel.counted (ap (λ t. goes_on (phase_of t)) is)))

@@ -89,12 +89,13 @@ module _ (w : World) (s : ℕ) (ready : IsReady w s) (end : ℕ) (is : end ≡ d
       no_file_call (inr (inr four)) = absurd (omega (arith, four))
 
 -- how the slots are counted then
-pub has_waited : (waits : Bool) (old new : Slots) (end : ℕ) → CanWait old → end ≡ passed_in old + 1 + old.disk → new.due ≤ end
-    → new.due ≤ old.due → passed_in old < new.due → passed_in new ≡ passed_in old → new.left ≤ new.due → new.disk ≡ old.disk
+pub has_waited : (waits : Bool) (old new : Slots) (end : ℕ) → CanWait old → end ≡ passed_in old + 1 + old.disk → new.wake ≤ end
+    → new.wake ≤ old.wake → new.due ≤ new.wake → passed_in old < new.due → passed_in new ≡ passed_in old → new.left ≤ new.due → new.disk ≡ old.disk
     → new.pace ≡ old.pace → new.set_at ≡ old.set_at → HasWaited waits old new
-has_waited waits old new end can is ends sooner ahead passed within disk pace set = record {
+has_waited waits old new end can is ends sooner low ahead passed within disk pace set = record {
   timing = λ i. record { passed = passed i; disk = disk i; pace = pace i; since = passed i - set i };
   within = within;
+  low = low;
   sooner = sooner;
   ahead = ahead;
   ends = λ some. omega (arith, ends, is);
@@ -105,6 +106,7 @@ pub waited_any : (waits : Bool) (old mid new : Slots) → mid ≡ old → HasWai
 waited_any waits old mid new same w = subst (λ (x : Slots). HasWaited waits x new) same (record {
   timing = w.timing;
   within = w.within;
+  low = w.low;
   sooner = w.sooner;
   ahead = w.ahead;
   ends = λ some. w.ends refl;

@@ -6,7 +6,8 @@ use Rattle.v6_base.specs.declared.entry.Entry.TheVariants as entry
 use Rattle.abstract_unix.specs.Unix.{Timing, Unix}
 use Rattle.abstract_unix.specs.Turn.{disk_end_of, disk_lines, waits_until, is_sending}
 use Rattle.abstract_unix.specs.Whole.{AreDue, NoGraveWaits}
-use Rattle.tty_line.specs.Said.{sends}
+use Rattle.std.specs.List.{list_any}
+use Rattle.tty_line.specs.Said.{sends, holds}
 use Rattle.lines_eight.specs.Told.{AllTold, each_line}
 use Rattle.u_area.specs.declared.layout.TheConstants.{NOTHING_PENDING, DISK_WAIT}
 use Rattle.u_area.specs.declared.area.UArea.{UArea}
@@ -27,30 +28,38 @@ timing_in slots = record { passed = passed_in slots; disk = slots.disk; pace = s
 abbrev pub NoneSend : ℕ → Slots → Type 0
 NoneSend n slots = (m : ℕ) → n < m → m < slots.due → is_sending (record (timing_in slots) { since = m - slots.set_at }) ≡ false
 
--- What is so of the count between two events.
-pub record IsCounted (slots : Slots) (u : Unix) : Type 0 where
+-- What is so of the count when a turn has ended, before it is seen whether bytes wait.
+pub record IsTimed (slots : Slots) (u : Unix) : Type 0 where
   pub within : slots.left ≤ slots.due
   pub disk : slots.disk ≤ 999999999
   pub pace : slots.pace ≤ 999999999
   pub set : slots.set_at ≤ passed_in slots
-  pub sends : NoneSend (passed_in slots) slots
-  pub due : AreDue slots.due u
+  pub next : passed_in slots < slots.due
+  pub low : slots.due ≤ slots.wake
+  pub due : AreDue slots.wake u
   pub graves : NoGraveWaits u
+
+-- What is so of it between two events: where bytes wait, no line sends before the slot that is due.
+pub record IsCounted (slots : Slots) (u : Unix) : Type 0 where
+  pub timed : IsTimed slots u
+  pub sends : list_any holds u.lines ≡ true → NoneSend (passed_in slots) slots
 
 -- A wait for the disk can begin: the number of the slot that ends it is below 2^32.
 pub record CanWait (slots : Slots) : Type 0 where
   pub within : slots.left ≤ slots.due
   pub ahead : passed_in slots < slots.due
+  pub low : slots.due ≤ slots.wake
   pub disk : slots.disk ≤ 999999999
   pub fresh : passed_in slots ≤ 3000000000
 
--- A turn leaves the count as it was, but that a wait for the disk that begins in it ends with the slot that is due, or later.
+-- A turn leaves the count as it was, but that a wait for the disk that begins in it ends with the slot of the next wake, or later.
 pub record HasWaited (waits : Bool) (old new : Slots) : Type 0 where
   pub timing : timing_in new ≡ timing_in old
   pub within : new.left ≤ new.due
-  pub sooner : new.due ≤ old.due
+  pub low : new.due ≤ new.wake
+  pub sooner : new.wake ≤ old.wake
   pub ahead : passed_in old < new.due
-  pub ends : waits ≡ true → new.due ≤ passed_in old + 1 + old.disk
+  pub ends : waits ≡ true → new.wake ≤ passed_in old + 1 + old.disk
   pub set : new.set_at ≡ old.set_at
 
 -- the processes of the parts

@@ -11,14 +11,14 @@ ghost use Rattle.abstract_unix.specs.Unix.{Unix, System, Started, process_of};
 ghost use Rattle.abstract_unix.specs.Endings.{is_early};
 ghost use Rattle.abstract_unix.specs.Turn.{Happened, after_slot, turned, ticked_by, turned_by, ending_of, turn, turn_of, settled, settled_after, pass_of};
 ghost use Rattle.abstract_unix.specs.Outside.{calls, calls_show, charged, mode_of, tick_entry, timed_area, is_user_mode, tick_of, with_key, key_lines, typed_of, hangup_of, paced_of};
-ghost use Rattle.unix_core.specs.Slots.{IsCounted};
+ghost use Rattle.unix_core.specs.Slots.{IsTimed, IsCounted};
 ghost use Rattle.unix_core.specs.Parts.{unix_of, board_in, system_at, turn_at, turn_end, phase_of, slot_in, one_before, is_over, IsGood, IsReady, IsUser, IsRunning, IsCovered, IsKernel, IsKnown, IsStill, HasCome, HasStepped, Takes, delivers_where};
 
 use crate::delivery::{deliver_after, deliver_due};
 use crate::files::see_procs;
 use crate::process::{come_to, resume};
 use crate::settling::{end_turn, settle, wake};
-use crate::slots::{count, reach, set_pace};
+use crate::slots::{count, count_turn, reach, renew, set_pace};
 use crate::world::World;
 use abstract_unix::{Ending, Turned};
 use image_keep::Fixed;
@@ -227,6 +227,23 @@ impl Machine {
         self.refresh();
     }
 
+    /// Settles, after an event with which bytes may have come to wait.
+    #[inline(always)]
+    fn settle_anew<T: Trace>(&mut self, trace: &mut T)
+        requires good { IsGood self.old.world }
+        requires timed { IsTimed self.old.world.slots (unix_of self.old.world) }
+        ensures kernel { IsKernel self.new.stage self.new.world }
+        ensures started { phase_of self.new.stage ≡ Started }
+        ensures system { system_at self.new.world ≡ record (system_at self.old.world) { board = (settled (board_in self.old.world)).board } }
+        ensures files { self.new.world.files ≡ self.old.world.files }
+        ensures blocks { self.new.world.files.tree.nodes.blocks ≡ self.old.world.files.tree.nodes.blocks }
+        ensures items { Took (T.taken trace.old) (settled (board_in self.old.world)).items (T.taken trace.new) }
+        ensures frame { T.leads_to trace.old trace.new }
+    {
+        renew(&mut self.world);
+        self.settle(trace);
+    }
+
     /// Counts a slot in which nothing was logged, and which answers this: an instruction was just done, or nobody ran. Where
     /// somebody is woken with its end, the kernel settles.
     #[inline(always)]
@@ -365,7 +382,7 @@ impl Machine {
         requires user { 0 < s }
         requires slot { s < 50 }
         requires runs { is_over ending ≡ false → ending ≢ Ending.Ended → self.old.world.procs.table.running ≡ Some s }
-        requires counted { is_over ending ≡ false → IsCounted self.old.world.slots (unix_of self.old.world) }
+        requires timed { is_over ending ≡ false → IsTimed self.old.world.slots (unix_of self.old.world) }
         requires fresh { is_over ending ≡ false → (unix_of self.old.world).timing.passed ≤ 3000000000 }
         ensures answer { result ≡ turned (turn_end self.old.world s ending) }
         ensures takes { Takes (turn_end self.old.world s ending) self.new.stage self.new.world }
@@ -376,7 +393,7 @@ impl Machine {
         match turned(ending) {
             Turned::Ran => {
                 end_turn(&mut self.world.procs.table, s, ending, trace);
-                count(&mut self.world, trace);
+                count_turn(&mut self.world, trace);
                 self.settle(trace);
                 Turned::Ran
             }
@@ -549,7 +566,7 @@ impl Machine {
                 Err(kind)
             }
             _ => {
-                self.settle(trace);
+                self.settle_anew(trace);
                 Ok(())
             }
         }
@@ -576,9 +593,9 @@ impl Machine {
     /// the byte.
     fn take_key<T: Trace>(&mut self, l: u8, byte: u8, trace: &mut T)
         requires good { IsGood self.old.world }
-        requires counted { IsCounted self.old.world.slots (unix_of self.old.world) }
+        requires timed { IsTimed self.old.world.slots (unix_of self.old.world) }
         ensures good { IsGood self.new.world }
-        ensures counted { IsCounted self.new.world.slots (unix_of self.new.world) }
+        ensures timed { IsTimed self.new.world.slots (unix_of self.new.world) }
         ensures unix { unix_of self.new.world ≡ (typed_of (system_at self.old.world) l byte).unix }
         ensures board { board_in self.new.world ≡ (typed_of (system_at self.old.world) l byte).log.board }
         ensures tree { self.new.world.files.tree ≡ self.old.world.files.tree }
@@ -606,16 +623,16 @@ impl Machine {
         ensures frame { T.leads_to trace.old trace.new }
     {
         self.take_key(l, byte, trace);
-        self.settle(trace);
+        self.settle_anew(trace);
     }
 
     /// A line hangs up: those whose terminal it is have a signal, and it is flushed; who waits for it is woken. One that isn't
     /// there or isn't open ignores it.
     fn hang_up<T: Trace>(&mut self, l: u8, trace: &mut T)
         requires good { IsGood self.old.world }
-        requires counted { IsCounted self.old.world.slots (unix_of self.old.world) }
+        requires timed { IsTimed self.old.world.slots (unix_of self.old.world) }
         ensures good { IsGood self.new.world }
-        ensures counted { IsCounted self.new.world.slots (unix_of self.new.world) }
+        ensures timed { IsTimed self.new.world.slots (unix_of self.new.world) }
         ensures unix { unix_of self.new.world ≡ (hangup_of (system_at self.old.world) l).unix }
         ensures board { board_in self.new.world ≡ (hangup_of (system_at self.old.world) l).log.board }
         ensures tree { self.new.world.files.tree ≡ self.old.world.files.tree }
@@ -647,7 +664,7 @@ impl Machine {
         ensures frame { T.leads_to trace.old trace.new }
     {
         self.hang_up(l, trace);
-        self.settle(trace);
+        self.settle_anew(trace);
     }
 
     /// Sets after how many slots the lines send, counted from now on. The kernel settles where somebody is woken.

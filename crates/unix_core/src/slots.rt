@@ -1,6 +1,6 @@
 //! The slots that have been taken, who waits for the disk up to one of them, and with which of them the lines send: `iowait`
 //! and `iodone` in Lions' Commentary, `bio.c`; `ttstart` and `ttrstrt` there, `tty.c`.
-ghost use Rattle.std.specs.Prelude.{◌≡◌, ◌≢◌, ◌<◌, ◌≤◌, ◌+◌, ◌-◌, ◌*◌, ◌%◌, ◌==◌, ◌||◌, ℕ, true, false, not, length, map, min, None, slice_index, slice_index_or};
+ghost use Rattle.std.specs.Prelude.{◌≡◌, ◌≢◌, ◌<◌, ◌≤◌, ◌+◌, ◌-◌, ◌*◌, ◌%◌, ◌==◌, ◌||◌, ℕ, [], true, false, not, length, map, None, slice_index, slice_index_or};
 ghost use Rattle.v6_base.specs.Trace.{Took, entries_of};
 ghost use Rattle.tty_line.specs.Said.{sends};
 ghost use Rattle.lines_eight.specs.Told.{each_line};
@@ -21,7 +21,7 @@ ghost use Rattle.sys_procs.specs.Handed.{AreProcs};
 ghost use Rattle.sys_procs.specs.Signals.{is_meant};
 ghost use Rattle.unix_core.specs.Parts.{unix_of, board_in, system_at, one_before, IsGood, IsReady, HasCome};
 ghost use Rattle.unix_core.specs.Passing.{all_woken};
-ghost use Rattle.unix_core.specs.Slots.{passed_in, timing_in, NoneSend, CanWait, IsCounted, HasWaited, rested_area, processes_of, woken_with, AreDueFrom, NoneInGraves, sent_after, with_sent, slot_items, slot_wakes};
+ghost use Rattle.unix_core.specs.Slots.{passed_in, timing_in, NoneSend, CanWait, IsTimed, IsCounted, HasWaited, rested_area, processes_of, woken_with, AreDueFrom, NoneInGraves, sent_after, with_sent, slot_items, slot_wakes};
 ghost use Rattle.unix_core.specs.declared.slots.TheConstants.{NEVER};
 
 use crate::settling::wake;
@@ -50,9 +50,11 @@ pub(crate) struct Slots {
     pub(crate) set_at: u32,
     /// So many slots are left up to the one that is due, with that one.
     pub(crate) left: u32,
-    /// The number of the slot that is due, the first of a run being 1: before it no wait for the disk ends, and no line sends.
-    /// `NEVER` is none.
+    /// The number of the slot that is due, the first of a run being 1: before it no wait for the disk ends, and no byte that
+    /// waits goes out. `NEVER` is none.
     pub(crate) due: u32,
+    /// The number of the slot with which the next wait for the disk ends, or of one before it. `NEVER` is none.
+    pub(crate) wake: u32,
 }
 
 impl Slots {
@@ -64,6 +66,7 @@ impl Slots {
         ensures passed { passed_in result ≡ 0 }
         ensures within { result.left ≤ result.due }
         ensures due { 3000000001 < result.due }
+        ensures low { result.due ≤ result.wake }
     {
         Slots {
             disk: 0,
@@ -71,6 +74,7 @@ impl Slots {
             set_at: 0,
             left: NEVER,
             due: NEVER,
+            wake: NEVER,
         }
     }
 
@@ -93,14 +97,36 @@ impl Slots {
         self.passed() + 1 + self.disk
     }
 
-    /// Something is due with the slot of this number.
-    fn add(&mut self, end: u32)
+    /// Something is due when so many slots more have been taken, if nothing is before.
+    fn add(&mut self, more: u32)
         requires within { self.old.left ≤ self.old.due }
-        requires ahead { passed_in self.old < end }
-        requires before { passed_in self.old < self.old.due }
-        ensures due { self.new.due ≡ min end self.old.due }
-        ensures ends { self.new.due ≤ end }
+        requires some { 0 < more }
+        requires before { 0 < self.old.left }
+        ensures ends { self.new.due ≤ passed_in self.old + more }
         ensures sooner { self.new.due ≤ self.old.due }
+        ensures later { passed_in self.old < self.new.due }
+        ensures passed { passed_in self.new ≡ passed_in self.old }
+        ensures within { self.new.left ≤ self.new.due }
+        ensures wake { self.new.wake ≡ self.old.wake }
+        ensures disk { self.new.disk ≡ self.old.disk }
+        ensures pace { self.new.pace ≡ self.old.pace }
+        ensures set { self.new.set_at ≡ self.old.set_at }
+    {
+        if more < self.left {
+            self.due -= self.left - more;
+            self.left = more;
+        }
+    }
+
+    /// A wait for the disk ends with the slot of this number.
+    fn add_wait(&mut self, end: u32)
+        requires within { self.old.left ≤ self.old.due }
+        requires low { self.old.due ≤ self.old.wake }
+        requires ahead { passed_in self.old < end }
+        requires before { 0 < self.old.left }
+        ensures ends { self.new.wake ≤ end }
+        ensures sooner { self.new.wake ≤ self.old.wake }
+        ensures low { self.new.due ≤ self.new.wake }
         ensures later { passed_in self.old < self.new.due }
         ensures passed { passed_in self.new ≡ passed_in self.old }
         ensures within { self.new.left ≤ self.new.due }
@@ -108,30 +134,24 @@ impl Slots {
         ensures pace { self.new.pace ≡ self.old.pace }
         ensures set { self.new.set_at ≡ self.old.set_at }
     {
-        if end < self.due {
-            self.left -= self.due - end;
-            self.due = end;
+        let more = end - self.passed();
+        self.add(more);
+        if end < self.wake {
+            self.wake = end;
         }
     }
 
     /// Sets after how many slots the lines send, counted from now on.
-    pub(crate) fn set_pace(&mut self, n: u32)
+    fn set_pace(&mut self, n: u32)
         requires within { self.old.left ≤ self.old.due }
-        requires fresh { passed_in self.old ≤ 3000000001 }
-        requires before { passed_in self.old < self.old.due }
-        requires few { n ≤ 999999999 }
         ensures timing { timing_in self.new ≡ record (timing_in self.old) { pace = n; since = 0 } }
-        ensures within { self.new.left ≤ self.new.due }
-        ensures sooner { self.new.due ≤ self.old.due }
-        ensures later { passed_in self.new < self.new.due }
-        ensures sends { n ≢ 0 → self.new.due ≤ passed_in self.old + n }
-        ensures set { self.new.set_at ≤ passed_in self.new }
+        ensures left { self.new.left ≡ self.old.left }
+        ensures due { self.new.due ≡ self.old.due }
+        ensures wake { self.new.wake ≡ self.old.wake }
+        ensures set { self.new.set_at ≡ passed_in self.old }
     {
         self.pace = n;
         self.set_at = self.passed();
-        if n != 0 {
-            self.add(self.set_at + n);
-        }
     }
 
     /// How many slots the last send lies back, when the slot of this number has been taken.
@@ -142,6 +162,25 @@ impl Slots {
         ensures few { result < self.now.pace }
     {
         (passed - self.set_at) % self.pace
+    }
+
+    /// The next slot with which the lines send is due, if nothing is before.
+    fn add_send(&mut self)
+        requires within { self.old.left ≤ self.old.due }
+        requires before { 0 < self.old.left }
+        requires set { self.old.set_at ≤ passed_in self.old }
+        requires paced { self.old.pace ≢ 0 }
+        ensures timing { timing_in self.new ≡ timing_in self.old }
+        ensures wake { self.new.wake ≡ self.old.wake }
+        ensures set { self.new.set_at ≡ self.old.set_at }
+        ensures within { self.new.left ≤ self.new.due }
+        ensures sooner { self.new.due ≤ self.old.due }
+        ensures later { passed_in self.old < self.new.due }
+        ensures sends { NoneSend (passed_in self.new) self.new }
+    {
+        let passed = self.passed();
+        let behind = self.behind(passed);
+        self.add(self.pace - behind);
     }
 }
 
@@ -172,7 +211,7 @@ pub(crate) fn wait_for_disk(world: &mut World, s: Slot) -> Ending
     let end = world.slots.wait_end();
     let u = waiting(world.procs.images.area(s), end);
     world.procs.images.set_area(s, &u);
-    world.slots.add(end);
+    world.slots.add_wait(end);
     Ending::Slept {
         pri: PRIBIO,
         chan: Chan::Disk(s),
@@ -309,6 +348,36 @@ fn wake_disks<T: Trace>(procs: &mut Procs, passed: u32, trace: &mut T) -> Woken
     woken
 }
 
+/// The same where a wait may end with the slot of this number: that of number `wake` has come. Where it hasn't nobody is looked
+/// at.
+fn wake_due<T: Trace>(procs: &mut Procs, passed: u32, wake: u32, trace: &mut T) -> Woken
+    requires agree { AreProcs procs.old }
+    requires graves { NoneInGraves (processes_of procs.old) }
+    requires fresh { passed < NEVER }
+    requires none { passed < wake → woken_with passed (processes_of procs.old) ≡ [] }
+    requires due { passed < wake → AreDueFrom wake passed (processes_of procs.old) }
+    ensures agree { AreProcs procs.new }
+    ensures others { procs.new ≡ record procs.old { table = procs.new.table } }
+    ensures same { result.any ≡ false → procs.new ≡ procs.old }
+    ensures running { procs.new.table.running ≡ procs.old.table.running }
+    ensures clock { clock_of procs.new.table ≡ clock_of procs.old.table }
+    ensures board { board_of procs.new.table procs.new.images.kept ≡ (logged {W = Unix}
+        (board_of procs.old.table procs.old.images.kept) (map Show (woken_with passed (processes_of procs.old)))).board }
+    ensures any { result.any ≡ not (length (woken_with passed (processes_of procs.old)) == 0) }
+    ensures next { passed < result.next }
+    ensures due { AreDueFrom result.next passed (processes_of procs.old) }
+    ensures items { Took (T.taken trace.old) (woken_with passed (processes_of procs.old)) (T.taken trace.new) }
+    ensures frame { T.leads_to trace.old trace.new }
+{
+    if passed < wake {
+        return Woken {
+            any: false,
+            next: wake,
+        };
+    }
+    wake_disks(procs, passed, trace)
+}
+
 /// Whether one of the two is so.
 fn either(a: bool, b: bool) -> bool
     ensures { result ≡ (a || b) }
@@ -358,12 +427,41 @@ fn turn_lines<T: Trace>(lines: &mut Lines, on: bool, table: &mut Table, trace: &
     any
 }
 
+/// Where bytes wait to go out, the next slot with which the lines send is due. Where the lines have a pace.
+#[cold]
+#[inline(never)]
+fn renew_paced(world: &mut World)
+    requires timed { IsTimed world.old.slots (unix_of world.old) }
+    requires paced { world.old.slots.pace ≢ 0 }
+    ensures timing { timing_in world.new.slots ≡ timing_in world.old.slots }
+    ensures counted { IsCounted world.new.slots (unix_of world.old) }
+    ensures others { world.new ≡ record world.old { slots = world.new.slots } }
+{
+    if world.files.lines.holds() {
+        world.slots.add_send();
+    }
+}
+
+/// Where bytes wait to go out, the next slot with which the lines send is due. It follows each change of a line with which
+/// bytes may come to wait.
+#[inline(always)]
+pub(crate) fn renew(world: &mut World)
+    requires timed { IsTimed world.old.slots (unix_of world.old) }
+    ensures unix { unix_of world.new ≡ unix_of world.old }
+    ensures good { IsGood world.old → IsGood world.new }
+    ensures counted { IsCounted world.new.slots (unix_of world.new) }
+    ensures others { world.new ≡ record world.old { slots = world.new.slots } }
+{
+    if world.slots.pace != 0 {
+        renew_paced(world);
+    }
+}
+
 /// Sets after how many slots the lines send, counted from now on: 0 is none. Where bytes waited then they go out, and who waits
 /// for room is woken. Tells whether anybody is.
 pub(crate) fn set_pace<T: Trace>(world: &mut World, n: u32, trace: &mut T) -> bool
     requires good { IsGood world.old }
     requires counted { IsCounted world.old.slots (unix_of world.old) }
-    requires fresh { passed_in world.old.slots ≤ 3000000001 }
     requires few { n ≤ 999999999 }
     ensures unix { unix_of world.new ≡ (paced_of (system_at world.old) n).unix }
     ensures board { board_in world.new ≡ (paced_of (system_at world.old) n).log.board }
@@ -382,12 +480,14 @@ pub(crate) fn set_pace<T: Trace>(world: &mut World, n: u32, trace: &mut T) -> bo
     ensures frame { T.leads_to trace.old trace.new }
 {
     world.slots.set_pace(n);
-    turn_lines(
+    let any = turn_lines(
         &mut world.files.lines,
         n != 0,
         &mut world.procs.table,
         trace,
-    )
+    );
+    renew(world);
+    any
 }
 
 /// The lines send with the end of the slot of this number, where it is one of those with which they do. Tells whether anybody
@@ -395,27 +495,16 @@ pub(crate) fn set_pace<T: Trace>(world: &mut World, n: u32, trace: &mut T) -> bo
 fn send_after<T: Trace>(world: &mut World, passed: u32, trace: &mut T) -> bool
     requires good { IsGood world.old }
     requires passed { passed_in world.old.slots ≡ passed }
-    requires within { world.old.slots.left ≤ world.old.slots.due }
-    requires before { passed < world.old.slots.due }
-    requires fresh { passed ≤ 3000000001 }
-    requires pace { world.old.slots.pace ≤ 999999999 }
     requires set { world.old.slots.set_at ≤ passed }
     ensures unix { unix_of world.new ≡ with_sent (unix_of world.old) }
     ensures board { board_in world.new
         ≡ (logged {W = Unix} (board_in world.old) (map Show (sent_after (unix_of world.old)).items)).board }
     ensures any { result ≡ (sent_after (unix_of world.old)).wakes }
     ensures good { IsGood world.new }
-    ensures timing { timing_in world.new.slots ≡ timing_in world.old.slots }
-    ensures within { world.new.slots.left ≤ world.new.slots.due }
-    ensures sooner { world.new.slots.due ≤ world.old.slots.due }
-    ensures later { passed < world.new.slots.due }
-    ensures set { world.new.slots.set_at ≡ world.old.slots.set_at }
-    ensures sends { NoneSend passed world.new.slots }
     ensures running { world.new.procs.table.running ≡ world.old.procs.table.running }
     ensures others { world.new ≡ record world.old {
       files = record world.old.files { lines = world.new.files.lines };
       procs = record world.old.procs { table = world.new.procs.table };
-      slots = world.new.slots;
     } }
     ensures same { result ≡ false → world.new.procs ≡ world.old.procs }
     ensures items { Took (T.taken trace.old) (sent_after (unix_of world.old)).items (T.taken trace.new) }
@@ -425,8 +514,6 @@ fn send_after<T: Trace>(world: &mut World, passed: u32, trace: &mut T) -> bool
         return false;
     }
     let behind = world.slots.behind(passed);
-    let next = passed + (world.slots.pace - behind);
-    world.slots.add(next);
     if behind != 0 {
         return false;
     }
@@ -460,10 +547,12 @@ pub(crate) fn reach<T: Trace>(world: &mut World, trace: &mut T) -> bool
     ensures frame { T.leads_to trace.old trace.new }
 {
     let passed = world.slots.due;
-    let woken = wake_disks(&mut world.procs, passed, trace);
+    let woken = wake_due(&mut world.procs, passed, world.slots.wake, trace);
     world.slots.due = woken.next;
     world.slots.left = woken.next - passed;
+    world.slots.wake = woken.next;
     let sent = send_after(world, passed, trace);
+    renew(world);
     either(woken.any, sent)
 }
 
@@ -494,4 +583,29 @@ pub(crate) fn count<T: Trace>(world: &mut World, trace: &mut T) -> bool
         return reach(world, trace);
     }
     false
+}
+
+/// Counts the slot of a turn, with which bytes may have come to wait.
+#[inline(always)]
+pub(crate) fn count_turn<T: Trace>(world: &mut World, trace: &mut T) -> bool
+    requires good { IsGood world.old }
+    requires timed { IsTimed world.old.slots (unix_of world.old) }
+    requires fresh { (unix_of world.old).timing.passed ≤ 3000000000 }
+    ensures unix { unix_of world.new ≡ with_sent (with_slot (unix_of world.old)) }
+    ensures board { board_in world.new
+        ≡ (logged {W = Unix} (board_in world.old) (map Show (slot_items (with_slot (unix_of world.old))))).board }
+    ensures any { result ≡ slot_wakes (with_slot (unix_of world.old)) }
+    ensures good { IsGood world.new }
+    ensures counted { IsCounted world.new.slots (unix_of world.new) }
+    ensures running { world.new.procs.table.running ≡ world.old.procs.table.running }
+    ensures others { world.new ≡ record world.old {
+      files = record world.old.files { lines = world.new.files.lines };
+      procs = world.new.procs;
+      slots = world.new.slots;
+    } }
+    ensures items { Took (T.taken trace.old) (slot_items (with_slot (unix_of world.old))) (T.taken trace.new) }
+    ensures frame { T.leads_to trace.old trace.new }
+{
+    renew(world);
+    count(world, trace)
 }

@@ -1,4 +1,4 @@
-use Rattle.std.proofs.Common.{◌≡◌, ◌∙◌, ◌-◌, ℕ, ap}
+use Rattle.std.proofs.Common.{◌≡◌, ◌∙◌, ◌-◌, ℕ, ap, arith}
 use Rattle.abstract_unix.specs.Calls.{waiting_area}
 use Rattle.image_keep.specs.Kept.{with_area, area_of, image_of}
 use Rattle.image_keep.specs.State.{ImagesState}
@@ -34,35 +34,44 @@ set_area-requires-clause-sizes c =
     waiting_sizes c.wait_end-end.result c.area.result c.waiting-u.result (image_of c.args.world.now.procs.images.kept c.args.s) c.waiting-u.ensures
     c.area.ensures.sizes
 
-pub add-requires-clause-within : goal.add-requires-clause-within
-add-requires-clause-within c = c.requires.waits.within
+pub add_wait-requires-clause-within : goal.add_wait-requires-clause-within
+add_wait-requires-clause-within c = c.requires.waits.within
+
+pub add_wait-requires-clause-low : goal.add_wait-requires-clause-low
+add_wait-requires-clause-low c = c.requires.waits.low
+
+pub add_wait-requires-clause-ahead : goal.add_wait-requires-clause-ahead
+add_wait-requires-clause-ahead c = let end = c.wait_end-end.ensures in omega (arith, end)
+
+pub add_wait-requires-clause-before : goal.add_wait-requires-clause-before
+add_wait-requires-clause-before c = let ahead = c.requires.waits.ahead in let within = c.requires.waits.within in omega (arith, ahead, within)
 
 pub returns-clause-unix : goal.returns-clause-unix
 returns-clause-unix c =
     let w : World = c.args.world.now in
-    let e = c.add.ensures in
+    let e = c.add_wait.ensures in
     wait_unix w c.args.s c.requires.ready c.wait_end-end.result c.wait_end-end.ensures c.set_area.new.self
-    (waits_so w c.args.s c.wait_end-end.result c.area.result c.waiting-u.result c.set_area.new.self c.set_area.ensures c.waiting-u.ensures c.area.ensures.u) c.add.new.self
+    (waits_so w c.args.s c.wait_end-end.result c.area.result c.waiting-u.result c.set_area.new.self c.set_area.ensures c.waiting-u.ensures c.area.ensures.u) c.add_wait.new.self
     (λ i. record { passed = e.passed i; disk = e.disk i; pace = e.pace i; since = e.passed i - e.set i })
 
 pub returns-clause-board : goal.returns-clause-board
 returns-clause-board c =
     let w : World = c.args.world.now in
-    let e = c.add.ensures in
+    let e = c.add_wait.ensures in
     wait_board w c.args.s c.requires.ready c.wait_end-end.result c.wait_end-end.ensures c.set_area.new.self
-    (waits_so w c.args.s c.wait_end-end.result c.area.result c.waiting-u.result c.set_area.new.self c.set_area.ensures c.waiting-u.ensures c.area.ensures.u) c.add.new.self
+    (waits_so w c.args.s c.wait_end-end.result c.area.result c.waiting-u.result c.set_area.new.self c.set_area.ensures c.waiting-u.ensures c.area.ensures.u) c.add_wait.new.self
     (λ i. record { passed = e.passed i; disk = e.disk i; pace = e.pace i; since = e.passed i - e.set i })
 
 pub returns-clause-ready : goal.returns-clause-ready
 returns-clause-ready c =
     let w : World = c.args.world.now in
-    let e = c.add.ensures in
+    let e = c.add_wait.ensures in
     wait_ready w c.args.s c.requires.ready c.wait_end-end.result c.wait_end-end.ensures c.set_area.new.self
-    (waits_so w c.args.s c.wait_end-end.result c.area.result c.waiting-u.result c.set_area.new.self c.set_area.ensures c.waiting-u.ensures c.area.ensures.u) c.add.new.self
+    (waits_so w c.args.s c.wait_end-end.result c.area.result c.waiting-u.result c.set_area.new.self c.set_area.ensures c.waiting-u.ensures c.area.ensures.u) c.add_wait.new.self
     (λ i. record { passed = e.passed i; disk = e.disk i; pace = e.pace i; since = e.passed i - e.set i })
 
 pub returns-clause-slots : goal.returns-clause-slots
 returns-clause-slots c =
-    let e = c.add.ensures in
-    has_waited _ c.args.world.now.slots c.add.new.self c.wait_end-end.result c.requires.waits c.wait_end-end.ensures e.ends e.sooner e.later e.passed
+    let e = c.add_wait.ensures in
+    has_waited _ c.args.world.now.slots c.add_wait.new.self c.wait_end-end.result c.requires.waits c.wait_end-end.ensures e.ends e.sooner e.low e.later e.passed
     e.within e.disk e.pace e.set

@@ -58,4 +58,4 @@ invariant_of-result c =
       disk = c.new-6.ensures.disk i;
       pace = c.new-6.ensures.pace i;
       since = c.new-6.ensures.passed i - c.new-6.ensures.set i;
-    }) c.new-6.ensures.within c.new-6.ensures.set c.new-6.ensures.due
+    }) c.new-6.ensures.within c.new-6.ensures.set c.new-6.ensures.due c.new-6.ensures.low

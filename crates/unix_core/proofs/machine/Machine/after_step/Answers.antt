@@ -10,8 +10,8 @@ use Rattle.abstract_unix.specs.Turn.{comes_to, begins_turn, turn, turn_of, turne
 use Rattle.unix_core.specs.Parts.{unix_of, board_in, slot_in, HasCome, HasStepped, Takes, IsRunning}
 use Rattle.unix_core.proofs.TurnLemmas.{turn_is, turn_takes, turn_items, stepped_come, stepped_items}
 use Rattle.unix_core.proofs.TrapLemmas.{step_user}
-use Rattle.unix_core.proofs.CountLemmas.{counted_waits_can}
-use Rattle.unix_core.proofs.TurnCounts.{first_goes, comes_counted}
+use Rattle.unix_core.proofs.CountLemmas.{timed_waits_can}
+use Rattle.unix_core.proofs.TurnCounts.{first_goes, comes_timed}
 use Rattle.unix_core.proofs.WorldLemmas.{slot_is}
 use Rattle.unix_core.proofs.machine.Machine.after_step.Goals as goal
 
@@ -22,7 +22,7 @@ come_to-ending-requires g c =
       fixed = run.fixed;
       ready = run.user.ready;
       user = run.user.user;
-      waits = counted_waits_can c.args.self.now.world.slots (unix_of c.args.self.now.world) refl c.requires.fresh c.requires.counted;
+      waits = timed_waits_can c.args.self.now.world.slots (unix_of c.args.self.now.world) refl c.requires.fresh c.requires.counted.timed;
     }
 
 pub deliver_after-ending-requires-clause-user : goal.deliver_after-ending-requires-clause-user
@@ -39,15 +39,15 @@ deliver_after-ending-requires-clause-above g c = (c.requires.user c.in-Running.f
 pub end-requires-clause-user : goal.end-requires-clause-user
 end-requires-clause-user g c = (c.requires.user c.in-Running.fixed c.in-Running.is).user.ready.user
 
-pub end-requires-clause-counted : goal.end-requires-clause-counted
-end-requires-clause-counted g c goes =
+pub end-requires-clause-timed : goal.end-requires-clause-timed
+end-requires-clause-timed g c goes =
     let w : World = c.args.self.now.world in
     let s = c.in-Running.fixed.slot in
     let o = c.args.self.now.came in
     let run = c.requires.user c.in-Running.fixed c.in-Running.is in
     let first = c.come_to-ending in
     let last = c.deliver_after-ending in
-    comes_counted w s run.user.ready c.requires.counted o run.user.user first.new.world.slots
+    comes_timed w s run.user.ready c.requires.counted.timed o run.user.user first.new.world.slots
     (first.ensures.slots (first_goes first.result last.result last.ensures.stopped goes))
     last.result last.new.world (last.ensures.come (board_in w) (comes_to (unix_of w) s o) first.ensures.come) last.ensures.slots goes
 

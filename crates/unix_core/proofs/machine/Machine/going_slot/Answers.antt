@@ -6,7 +6,7 @@ use Rattle.unix_core.specs.declared.world.World.{World}
 use Rattle.unix_core.specs.declared.slots.Slots.{Slots}
 use Rattle.unix_core.specs.Slots.{passed_in}
 use Rattle.unix_core.specs.Parts.{system_at, phase_of, goes_on, Takes}
-use Rattle.unix_core.proofs.TurnCounts.{goes_counted}
+use Rattle.unix_core.proofs.TurnCounts.{goes_timed}
 use Rattle.unix_core.proofs.PutLemmas.{good_alive}
 use Rattle.unix_core.proofs.TurnLemmas.{turn_is, turn_takes, turn_items}
 use Rattle.unix_core.proofs.TurnSteps.{user_slot}
@@ -17,12 +17,12 @@ end-requires-clause-slot g c =
     let m = c.args.self.now in
     (good_alive m.world c.args.s (c.requires.kernel.resting c.requires.resting).good c.requires.runs c.requires.user).below
 
-pub end-requires-clause-counted : goal.end-requires-clause-counted
-end-requires-clause-counted g c goes =
+pub end-requires-clause-timed : goal.end-requires-clause-timed
+end-requires-clause-timed g c goes =
     let w : World = c.args.self.now.world in
     let paused = c.requires.kernel.resting c.requires.resting in
-    goes_counted w c.args.s (record { good = paused.good; runs = c.requires.runs; user = c.requires.user })
-    (c.requires.kernel.counted (ap (λ t. goes_on (phase_of t)) c.requires.resting)) (paused.calls c.args.s c.requires.runs c.requires.user)
+    goes_timed w c.args.s (record { good = paused.good; runs = c.requires.runs; user = c.requires.user })
+    (c.requires.kernel.counted (ap (λ t. goes_on (phase_of t)) c.requires.resting)).timed (paused.calls c.args.s c.requires.runs c.requires.user)
     c.go_on-ending.result c.go_on-ending.new.self.world c.go_on-ending.ensures.come c.go_on-ending.ensures.slots goes
 
 pub end-requires-clause-fresh : goal.end-requires-clause-fresh

@@ -2,11 +2,11 @@ use Rattle.std.proofs.Common.{◌∙◌, true, refl, sym, ap, subst, arith}
 use Rattle.v6_base.proofs.Took.{took_nothing}
 use Rattle.sig_core.specs.declared.numbers.TheConstants.{SIGHUP}
 use Rattle.unix_core.specs.declared.world.World.{World}
-use Rattle.unix_core.specs.Slots.{IsCounted}
+use Rattle.unix_core.specs.Slots.{IsTimed}
 use Rattle.unix_core.specs.Parts.{unix_of, system_at}
 use Rattle.abstract_unix.specs.Turn.{Happened}
-use Rattle.unix_core.proofs.CountLemmas.{counted_same}
-use Rattle.unix_core.proofs.TurnCounts.{line_counted}
+use Rattle.unix_core.proofs.CountLemmas.{timed_same}
+use Rattle.unix_core.proofs.TurnCounts.{line_timed}
 use Rattle.unix_core.proofs.TableLemmas.{with_table}
 use Rattle.unix_core.proofs.KeyLemmas.{key_good, key_unix, key_board}
 use Rattle.unix_core.proofs.TypedLemmas.{with_lines, lines_good, both_good, both_unix, both_board, both_took}
@@ -56,13 +56,13 @@ returns-clause-good g c =
     c.keys_of.result c.show_of.result true c.wake.new.table c.wake.ensures.table c.wake.ensures.good (c.wake.ensures.board c.signal_line.new.p.images.kept)
     c.flush-show.result c.wake-2.new.table c.wake-2.ensures.table c.wake-2.ensures.good (c.wake-2.ensures.board c.signal_line.new.p.images.kept)
 
-pub returns-clause-counted : goal.returns-clause-counted
-returns-clause-counted g c =
+pub returns-clause-timed : goal.returns-clause-timed
+returns-clause-timed g c =
     let w : World = c.args.self.now.world in
     let sent : World = record w { procs = c.signal_line.new.p } in
-    counted_same w.slots (unix_of sent) (unix_of (with_table (with_lines sent c.flush-show.new.self) c.wake-2.new.table)) refl refl
-    (subst (IsCounted w.slots) (sym (key_unix w c.requires.good c.signal_line.new.p c.args.l SIGHUP c.signal_line.ensures.agree c.signal_line.ensures.state c.signal_line.ensures.board))
-    (line_counted w.slots c.args.l SIGHUP (unix_of w) c.requires.counted))
+    timed_same w.slots (unix_of sent) (unix_of (with_table (with_lines sent c.flush-show.new.self) c.wake-2.new.table)) refl refl
+    (subst (IsTimed w.slots) (sym (key_unix w c.requires.good c.signal_line.new.p c.args.l SIGHUP c.signal_line.ensures.agree c.signal_line.ensures.state c.signal_line.ensures.board))
+    (line_timed w.slots c.args.l SIGHUP (unix_of w) c.requires.timed))
 
 pub returns-clause-unix : goal.returns-clause-unix
 returns-clause-unix g c =

@@ -7,7 +7,7 @@ use Rattle.unix_core.specs.declared.world.World.{World}
 use Rattle.unix_core.specs.Slots.{IsCounted}
 use Rattle.unix_core.specs.Parts.{unix_of, one_before, goes_on, IsKernel}
 use Rattle.unix_core.proofs.BootKernelLemmas.{kernel_good}
-use Rattle.unix_core.proofs.SlotWorlds.{with_slots, kernel_slots, kernel_lines}
+use Rattle.unix_core.proofs.SlotWorlds.{with_slots, kernel_lines}
 use Rattle.unix_core.proofs.SlotEnds.{woken_takes, woken_took, quiet_takes, quiet_took}
 use Rattle.unix_core.proofs.TypedLemmas.{with_lines}
 use Rattle.unix_core.proofs.machine.Machine.reach.Goals as goal
@@ -52,9 +52,8 @@ returns-clause-takes g c h still =
     c.reach.ensures.others ∙ ap (λ (p : Procs). record w { files = record w.files { lines = v.files.lines }; procs = p; slots = v.slots }) same in
     let kernel : IsKernel m.stage v =
     subst (IsKernel m.stage) (sym there)
-    (kernel_slots (with_lines (one_before w) v.files.lines) v.slots m.stage
-    (λ goes. subst (λ (x : World). IsCounted v.slots (unix_of x)) there c.reach.ensures.counted)
-    (kernel_lines (one_before w) v.files.lines m.stage c.requires.kernel)) in
+    (kernel_lines (one_before w) v.files.lines v.slots m.stage
+    (λ goes. subst (λ (x : World). IsCounted v.slots (unix_of x)) there c.reach.ensures.counted) c.requires.kernel) in
     quiet_takes w c.requires.left (c.requires.kernel.counted (ap goes_on c.requires.started)) h still v c.reach.ensures.unix c.reach.ensures.board
     (sym c.if-reach.false ∙ c.reach.ensures.any) (ap board_by same) m.stage kernel c.requires.started
 

@@ -11,7 +11,7 @@ use Rattle.unix_core.specs.Parts.{unix_of, system_at, goes_on, IsKernel}
 use Rattle.abstract_unix.specs.Outside.{paced_of}
 use Rattle.unix_core.proofs.BootKernelLemmas.{kernel_good}
 use Rattle.unix_core.proofs.EventLemmas.{event_takes, event_items, stays_takes, stays_items}
-use Rattle.unix_core.proofs.SlotWorlds.{with_slots, kernel_slots, kernel_lines}
+use Rattle.unix_core.proofs.SlotWorlds.{with_slots, kernel_lines}
 use Rattle.unix_core.proofs.TypedLemmas.{with_lines}
 use Rattle.unix_core.proofs.machine.Machine.set_pace.Goals as goal
 
@@ -52,9 +52,8 @@ returns-else-set_pace-clause-takes g c =
     c.set_pace.ensures.others ∙ ap (λ (p : Procs). record w { files = record w.files { lines = v.files.lines }; procs = p; slots = v.slots }) same in
     let kernel : IsKernel m.stage v =
     subst (IsKernel m.stage) (sym there)
-    (kernel_slots (with_lines w v.files.lines) v.slots m.stage
-    (λ goes. subst (λ (x : World). IsCounted v.slots (unix_of x)) there c.set_pace.ensures.counted)
-    (kernel_lines w v.files.lines m.stage c.requires.kernel)) in
+    (kernel_lines w v.files.lines v.slots m.stage
+    (λ goes. subst (λ (x : World). IsCounted v.slots (unix_of x)) there c.set_pace.ensures.counted) c.requires.kernel) in
     stays_takes (paced_of (system_at c.args.self.now.world) c.args.n) refl (sym c.set_pace.ensures.settles ∙ c.if-set_pace.false) c.set_pace.new.world c.set_pace.ensures.unix c.set_pace.ensures.board
     m.stage kernel c.requires.started
 

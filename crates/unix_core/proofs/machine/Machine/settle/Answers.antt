@@ -23,7 +23,7 @@ refresh-requires-clause-good g c =
 pub refresh-requires-clause-counted : goal.refresh-requires-clause-counted
 refresh-requires-clause-counted g c =
     let w : World = c.args.self.now.world in
-    counted_same w.slots (unix_of w) (unix_of (with_table w c.settle.new.table)) refl refl c.requires.counted
+    counted_same w.slots (unix_of w) (unix_of (with_table w c.settle.new.table)) refl refl refl c.requires.counted
 
 pub refresh-requires-clause-settled : goal.refresh-requires-clause-settled
 refresh-requires-clause-settled g c =

@@ -3,11 +3,11 @@ use Rattle.sys_files.specs.declared.files.Files.{Files}
 use Rattle.v6_base.proofs.Took.{took_nothing}
 use Rattle.unix_core.specs.declared.world.World.{World}
 use Rattle.unix_core.specs.declared.slots.Slots.{Slots}
-use Rattle.unix_core.specs.Slots.{IsCounted}
+use Rattle.unix_core.specs.Slots.{IsTimed}
 use Rattle.unix_core.specs.Parts.{unix_of, system_at}
 use Rattle.abstract_unix.specs.Turn.{Happened}
-use Rattle.unix_core.proofs.CountLemmas.{counted_same}
-use Rattle.unix_core.proofs.TurnCounts.{key_counted}
+use Rattle.unix_core.proofs.CountLemmas.{timed_same}
+use Rattle.unix_core.proofs.TurnCounts.{key_timed}
 use Rattle.unix_core.proofs.TableLemmas.{with_table}
 use Rattle.unix_core.proofs.TypedLemmas.{with_lines, lines_good, both_good, both_stop, both_unix, both_board, both_took, typed_unix, typed_board, typed_took, typed_nowhere}
 use Rattle.unix_core.proofs.machine.Machine.take_key.Goals as goal
@@ -42,16 +42,16 @@ returns-clause-good g c =
     (c.wake.ensures.board sent.world.procs.images.kept) c.calls_show.result c.wake-2.new.table c.wake-2.ensures.table c.wake-2.ensures.good
     (c.wake-2.ensures.board sent.world.procs.images.kept)
 
-pub returns-clause-counted : goal.returns-clause-counted
-returns-clause-counted g c =
+pub returns-clause-timed : goal.returns-clause-timed
+returns-clause-timed g c =
     let w : World = c.args.self.now.world in
     let sent = c.send_key.new.self in
     let typed_ : World = with_lines w c.typed-keyed.new.self in
-    counted_same sent.world.slots (unix_of sent.world) (unix_of (with_table sent.world c.wake-2.new.table)) refl refl
-    (subst (λ (x : Slots). IsCounted x (unix_of sent.world)) (sym c.send_key.ensures.slots)
-    (subst (IsCounted w.slots) (sym c.send_key.ensures.unix)
-    (key_counted w.slots c.args.l (unix_of typed_) c.typed-keyed.result
-    (counted_same w.slots (unix_of w) (unix_of typed_) refl refl c.requires.counted))))
+    timed_same sent.world.slots (unix_of sent.world) (unix_of (with_table sent.world c.wake-2.new.table)) refl refl
+    (subst (λ (x : Slots). IsTimed x (unix_of sent.world)) (sym c.send_key.ensures.slots)
+    (subst (IsTimed w.slots) (sym c.send_key.ensures.unix)
+    (key_timed w.slots c.args.l (unix_of typed_) c.typed-keyed.result
+    (timed_same w.slots (unix_of w) (unix_of typed_) refl refl c.requires.timed))))
 
 pub returns-clause-unix : goal.returns-clause-unix
 returns-clause-unix g c =

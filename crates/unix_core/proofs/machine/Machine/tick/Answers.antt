@@ -5,10 +5,10 @@ use Rattle.fs_laws.specs.Rest.{SameAround}
 use Rattle.unix_core.specs.declared.world.World.{World}
 use Rattle.abstract_unix.specs.Unix.{System}
 use Rattle.unix_core.specs.declared.slots.Slots.{Slots}
-use Rattle.unix_core.specs.Slots.{IsCounted}
+use Rattle.unix_core.specs.Slots.{IsTimed}
 use Rattle.unix_core.specs.Parts.{unix_of, system_at, goes_on, is_over}
-use Rattle.unix_core.proofs.CountLemmas.{counted_same}
-use Rattle.unix_core.proofs.TurnCounts.{charged_counted, delivered_counted}
+use Rattle.unix_core.proofs.CountLemmas.{timed_same}
+use Rattle.unix_core.proofs.TurnCounts.{charged_timed, delivered_timed}
 use Rattle.unix_core.proofs.WaitLemmas.{taken_unix}
 use Rattle.unix_core.proofs.BootKernelLemmas.{kernel_good}
 use Rattle.unix_core.proofs.GoodLemmas.{runs_low}
@@ -53,8 +53,8 @@ deliver-requires-clause-user g c =
     c.is_as_trap.ensures.second c.is_as_trap.ensures.within) in
     ticked.user
 
-pub settle-requires-clause-counted : goal.settle-requires-clause-counted
-settle-requires-clause-counted g c =
+pub settle_anew-requires-clause-timed : goal.settle_anew-requires-clause-timed
+settle_anew-requires-clause-timed g c =
     let w : World = c.args.self.now.world in
     let n = c.charge.new.self in
     let second = c.tick_ageing-second in
@@ -68,14 +68,14 @@ settle-requires-clause-counted g c =
     c.is_as_trap.result (second_trap c.mode-mode.result n.world.procs.table second.result c.is_as_trap.result second.ensures.told
     c.is_as_trap.ensures.second c.is_as_trap.ensures.within) in
     let on : is_over c.deliver.result ≡ false = search rules in
-    let counted : IsCounted n.world.slots (unix_of n.world) =
-    subst (λ (x : Slots). IsCounted x (unix_of n.world)) (sym c.charge.ensures.slots)
-    (subst (IsCounted w.slots) (sym c.charge.ensures.unix)
-    (charged_counted w.slots (unix_of w) c.mode-mode.result w.procs.table.running (c.requires.kernel.counted (ap goes_on c.requires.started)))) in
-    subst (λ (x : Slots). IsCounted x (unix_of c.deliver.new.self.world)) (sym c.deliver.ensures.slots)
-    (subst (IsCounted n.world.slots) (sym (taken_unix _ _ c.deliver.result c.deliver.new.self.world c.deliver.ensures.come on))
-    (delivered_counted n.world.slots c.is_as_trap.result (unix_of then_) c.wake.new.table.running ticked.user
-    (counted_same n.world.slots (unix_of n.world) (unix_of then_) refl refl counted)))
+    let timed : IsTimed n.world.slots (unix_of n.world) =
+    subst (λ (x : Slots). IsTimed x (unix_of n.world)) (sym c.charge.ensures.slots)
+    (subst (IsTimed w.slots) (sym c.charge.ensures.unix)
+    (charged_timed w.slots (unix_of w) c.mode-mode.result w.procs.table.running (c.requires.kernel.counted (ap goes_on c.requires.started)).timed)) in
+    subst (λ (x : Slots). IsTimed x (unix_of c.deliver.new.self.world)) (sym c.deliver.ensures.slots)
+    (subst (IsTimed n.world.slots) (sym (taken_unix _ _ c.deliver.result c.deliver.new.self.world c.deliver.ensures.come on))
+    (delivered_timed n.world.slots c.is_as_trap.result (unix_of then_) c.wake.new.table.running ticked.user
+    (timed_same n.world.slots (unix_of n.world) (unix_of then_) refl refl timed)))
 
 pub returns-in-Panic : goal.returns-in-Panic
 returns-in-Panic g c =
@@ -138,10 +138,10 @@ returns-in_default g c =
     let goes = not_stopped m ticked.stop c.deliver.result last come on in
     record {
       answer = ticked_goes m ticked.stop c.deliver.result last come goes;
-      takes = ticked_takes m ticked.stop c.deliver.result last come goes _ _ c.settle.ensures.kernel c.settle.ensures.started c.settle.ensures.system;
-      rest = subst (λ b. SameAround b c.settle.new.self.world.files.tree.nodes.blocks) c.charge.ensures.blocks
-          (subst (λ b. SameAround n.world.files.tree.nodes.blocks b) (sym c.settle.ensures.blocks) c.deliver.ensures.rest);
-      items = ticked_items m ticked.stop c.deliver.result last come goes _ _ _ _ shown (ticked.shows _ _ c.deliver.ensures.items) c.settle.ensures.items;
+      takes = ticked_takes m ticked.stop c.deliver.result last come goes _ _ c.settle_anew.ensures.kernel c.settle_anew.ensures.started c.settle_anew.ensures.system;
+      rest = subst (λ b. SameAround b c.settle_anew.new.self.world.files.tree.nodes.blocks) c.charge.ensures.blocks
+          (subst (λ b. SameAround n.world.files.tree.nodes.blocks b) (sym c.settle_anew.ensures.blocks) c.deliver.ensures.rest);
+      items = ticked_items m ticked.stop c.deliver.result last come goes _ _ _ _ shown (ticked.shows _ _ c.deliver.ensures.items) c.settle_anew.ensures.items;
       frame = g.met.T.Trace.goes_on _ _ _ c.entry.ensures.frame
-          (g.met.T.Trace.goes_on _ _ _ c.wake.ensures.frame (g.met.T.Trace.goes_on _ _ _ c.deliver.ensures.frame c.settle.ensures.frame));
+          (g.met.T.Trace.goes_on _ _ _ c.wake.ensures.frame (g.met.T.Trace.goes_on _ _ _ c.deliver.ensures.frame c.settle_anew.ensures.frame));
     }

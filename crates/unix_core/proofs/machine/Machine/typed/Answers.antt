@@ -12,24 +12,24 @@ use Rattle.unix_core.proofs.machine.Machine.typed.Goals as goal
 pub take_key-requires-clause-good : goal.take_key-requires-clause-good
 take_key-requires-clause-good g c = let m = c.args.self.now in kernel_good m.stage m.world c.requires.started c.requires.kernel
 
-pub take_key-requires-clause-counted : goal.take_key-requires-clause-counted
-take_key-requires-clause-counted g c = c.requires.kernel.counted (ap goes_on c.requires.started)
+pub take_key-requires-clause-timed : goal.take_key-requires-clause-timed
+take_key-requires-clause-timed g c = (c.requires.kernel.counted (ap goes_on c.requires.started)).timed
 
 pub returns-clause-takes : goal.returns-clause-takes
 returns-clause-takes g c =
     event_takes (typed_of (system_at c.args.self.now.world) c.args.l c.args.byte) refl refl c.take_key.new.self.world c.take_key.ensures.unix c.take_key.ensures.board
-    _ _ c.settle.ensures.kernel c.settle.ensures.started c.settle.ensures.system
+    _ _ c.settle_anew.ensures.kernel c.settle_anew.ensures.started c.settle_anew.ensures.system
 
 pub returns-clause-rest : goal.returns-clause-rest
 returns-clause-rest g c =
     let nodes : FileSystem = c.args.self.now.world.files.tree.nodes in
-    subst (λ (x : FileSystem). SameRest nodes x) (ap (λ (t : Tree). t.nodes) (sym c.take_key.ensures.tree) ∙ ap (λ (f : Files). f.tree.nodes) (sym c.settle.ensures.files))
+    subst (λ (x : FileSystem). SameRest nodes x) (ap (λ (t : Tree). t.nodes) (sym c.take_key.ensures.tree) ∙ ap (λ (f : Files). f.tree.nodes) (sym c.settle_anew.ensures.files))
     (rest_stays nodes.blocks)
 
 pub returns-clause-items : goal.returns-clause-items
 returns-clause-items g c =
     event_items (typed_of (system_at c.args.self.now.world) c.args.l c.args.byte) refl refl c.take_key.new.self.world c.take_key.ensures.unix c.take_key.ensures.board
-    _ _ _ c.take_key.ensures.items c.settle.ensures.items
+    _ _ _ c.take_key.ensures.items c.settle_anew.ensures.items
 
 pub returns-clause-frame : goal.returns-clause-frame
-returns-clause-frame g c = g.met.T.Trace.goes_on _ _ _ c.take_key.ensures.frame c.settle.ensures.frame
+returns-clause-frame g c = g.met.T.Trace.goes_on _ _ _ c.take_key.ensures.frame c.settle_anew.ensures.frame
