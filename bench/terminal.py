@@ -8,9 +8,10 @@ a number of such writes and for twice that number under callgrind; printed is th
 number of bytes, for bytes that are shown and for 004, which isn't; and the same under `run8`, on line 0 and on line 7. The first
 count less the second is what showing costs. Behind each stands the most that it may be.
 
-Under `pace 1` a byte goes out after each slot. The process sleeps in its write but for one slot in 21, when it is woken and goes
-on. Printed is such a slot, less one in which nobody runs and nothing waits: a byte with its part of a wake, of a choice, and of a
-write that goes on; and the same on line 7.
+Under `pace 1` a byte goes out after each slot. A process that writes few bytes, and computes until they are out, isn't woken for
+them: printed is what each byte more costs there. One that writes many sleeps in its write but for one slot in 21, when it is woken
+and goes on: printed is such a slot, less one in which nobody runs and nothing waits, which is a byte with its part of a wake, of a
+choice, and of a write that goes on.
 """
 import os
 import re
@@ -31,6 +32,12 @@ READ = [0o104403, 40, 1, *LOOP[3:]]
 SLOTS_BEFORE, SLOTS_OF_WRITE = 2, 3
 DEVICE = 1024 + 32 * 4 + 8  # of /dev/tty8, which is inode 5
 PACED = "run 3\npace 1\n"
+# over and over: write so many bytes from 40, fewer than those at which somebody is woken; CLR R0; and count R2 down from 25
+FEW, FEW_SLOTS, FEW_ROUNDS = (1, 29), 54, 500
+
+
+def few_written(number):
+    return [0o104404, 40, number, 0o005000, 0o012702, 25, 0o005302, 0o001376, 0o000767]
 
 
 def disk_that_writes(byte, line=0, loop=LOOP):
@@ -72,6 +79,13 @@ def paced(program, line, command):
     return slots[0] - slots[1]
 
 
+def paced_few(program, line, command):
+    """A round with more bytes, less one with fewer."""
+    disks = [disk_that_writes(b"A", line, few_written(n)) for n in FEW]
+    rounds = [cost(program, disk, PACED, FEW_SLOTS * FEW_ROUNDS, FEW_ROUNDS, command) for disk in disks]
+    return (rounds[1] - rounds[0]) / (FEW[1] - FEW[0])
+
+
 def main():
     if len(sys.argv) != 2 or not os.access(sys.argv[1], os.X_OK):
         sys.exit(__doc__)
@@ -80,8 +94,9 @@ def main():
     row("a byte that isn't", shown(program, bytes([4])))
     row("a byte that is shown on line 0, under `run8`", shown(program, b"A", 0, "run8"), "80")
     row("a byte that is shown on line 7", shown(program, b"A", 7, "run8"), "80")
-    row("a byte that goes out under `pace 1`", paced(program, 0, "run"), "200")
-    row("the same on line 7", paced(program, 7, "run8"), "200")
+    row("a byte that goes out under `pace 1`", paced_few(program, 0, "run"), "200")
+    row("the same on line 7", paced_few(program, 7, "run8"), "200")
+    row("a byte that goes out with its part of a wake", paced(program, 0, "run"))
 
 
 if __name__ == "__main__":

@@ -232,8 +232,30 @@ module _ (w : World) (left : w.slots.left ≡ 0) (good : IsGood (one_before w)) 
   pub reach_passed : passed_in anew ≡ w.slots.due
   reach_passed = omega (arith, late)
 
-  pub reach_set : w.slots.set_at ≤ w.slots.due
+  reach_set : w.slots.set_at ≤ w.slots.due
   reach_set = let set = counted.timed.set in omega (arith, set)
+
+  pub reach_timed : AreDueFrom next w.slots.due (processes_of w.procs) → IsTimed anew (unix_of reached)
+  reach_timed due =
+      let timed = counted.timed in
+      let passed : passed_in anew ≡ w.slots.due = reach_passed in
+      let were : w.slots.set_at ≤ w.slots.due = reach_set in
+      subst (IsTimed anew) (sym reach_unix) (record {
+        within = omega arith;
+        disk = timed.disk;
+        pace = timed.pace;
+        set = omega (arith, were, passed);
+        next = omega (arith, passed, late);
+        low = omega arith;
+        due = record {
+          next = omega (arith, late, left);
+          each = λ s q is waits. elim (due s q is waits) [
+            | inl low ↦ inl (omega (arith, low, left))
+            | inr high ↦ inr high
+          ];
+        };
+        graves = timed.graves;
+      })
 
   -- Then the lines have sent, where they do.
   module _ (v : World) (sent : unix_of v ≡ with_sent (unix_of reached)) where
@@ -261,28 +283,6 @@ module _ (w : World) (left : w.slots.left ≡ 0) (good : IsGood (one_before w)) 
     sent_took a b c first second =
         took_more a b c (disk_lines (unix_of w)) (sent_after (unix_of w)).items (subst (λ lines. Took a lines b) lines_are first)
         (subst (λ (u : Unix). Took b (sent_after u).items c) reach_unix second)
-
-    pub sent_timed : v.slots ≡ anew → AreDueFrom next w.slots.due (processes_of w.procs) → IsTimed v.slots (unix_of v)
-    sent_timed same due =
-        let timed = counted.timed in
-        let passed : passed_in anew ≡ w.slots.due = reach_passed in
-        let were : w.slots.set_at ≤ w.slots.due = reach_set in
-        subst (λ (x : Slots). IsTimed x (unix_of v)) (sym same) (subst (IsTimed anew) (sym sent_unix) (record {
-          within = omega arith;
-          disk = timed.disk;
-          pace = timed.pace;
-          set = omega (arith, were, passed);
-          next = omega (arith, passed, late);
-          low = omega arith;
-          due = record {
-            next = omega (arith, late, left);
-            each = λ s q is waits. elim (due s q is waits) [
-              | inl low ↦ inl (omega (arith, low, left))
-              | inr high ↦ inr high
-            ];
-          };
-          graves = timed.graves;
-        }))
 
 -- where nobody was woken, nothing but the lines and the slots has changed
 pub none_woken : (a b : Bool) → (a || b) ≡ false → (a ≡ false) × (b ≡ false)

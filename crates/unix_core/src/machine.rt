@@ -234,7 +234,8 @@ impl Machine {
         requires timed { IsTimed self.old.world.slots (unix_of self.old.world) }
         ensures kernel { IsKernel self.new.stage self.new.world }
         ensures started { phase_of self.new.stage ≡ Started }
-        ensures system { system_at self.new.world ≡ record (system_at self.old.world) { board = (settled (board_in self.old.world)).board } }
+        ensures system { system_at self.new.world
+            ≡ record (system_at self.old.world) { board = (settled (board_in self.old.world)).board } }
         ensures files { self.new.world.files ≡ self.old.world.files }
         ensures blocks { self.new.world.files.tree.nodes.blocks ≡ self.old.world.files.tree.nodes.blocks }
         ensures items { Took (T.taken trace.old) (settled (board_in self.old.world)).items (T.taken trace.new) }

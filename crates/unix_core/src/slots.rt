@@ -164,12 +164,13 @@ impl Slots {
         (passed - self.set_at) % self.pace
     }
 
-    /// The next slot with which the lines send is due, if nothing is before.
-    fn add_send(&mut self)
+    /// The next slot with which the lines send is due, if nothing is before. So many slots the last send lies back.
+    fn add_send(&mut self, behind: u32)
         requires within { self.old.left ≤ self.old.due }
         requires before { 0 < self.old.left }
         requires set { self.old.set_at ≤ passed_in self.old }
-        requires paced { self.old.pace ≢ 0 }
+        requires behind { behind ≡ (passed_in self.old - self.old.set_at) % self.old.pace }
+        requires few { behind < self.old.pace }
         ensures timing { timing_in self.new ≡ timing_in self.old }
         ensures wake { self.new.wake ≡ self.old.wake }
         ensures set { self.new.set_at ≡ self.old.set_at }
@@ -178,8 +179,6 @@ impl Slots {
         ensures later { passed_in self.old < self.new.due }
         ensures sends { NoneSend (passed_in self.new) self.new }
     {
-        let passed = self.passed();
-        let behind = self.behind(passed);
         self.add(self.pace - behind);
     }
 }
@@ -318,6 +317,8 @@ impl Woken {
 
 /// Wakes those who wait for the disk up to the end of the slot of this number, the lowest first, and finds the next with which
 /// a wait ends.
+#[cold]
+#[inline(never)]
 fn wake_disks<T: Trace>(procs: &mut Procs, passed: u32, trace: &mut T) -> Woken
     requires agree { AreProcs procs.old }
     requires graves { NoneInGraves (processes_of procs.old) }
@@ -387,6 +388,7 @@ fn either(a: bool, b: bool) -> bool
 
 /// The lines send, the lowest first, and after each who waits for room on it is woken, where that is called for. Tells whether
 /// anybody is.
+#[inline(always)]
 fn send_lines<T: Trace>(lines: &mut Lines, table: &mut Table, trace: &mut T) -> bool
     requires table { IsTable table.old }
     ensures lines { lines.new ≡ (each_line sends lines.old).lines }
@@ -427,19 +429,36 @@ fn turn_lines<T: Trace>(lines: &mut Lines, on: bool, table: &mut Table, trace: &
     any
 }
 
-/// Where bytes wait to go out, the next slot with which the lines send is due. Where the lines have a pace.
+/// Where bytes wait to go out, the next slot with which the lines send is due. So many slots the last send lies back.
+#[inline(always)]
+fn renew_by(world: &mut World, behind: u32)
+    requires timed { IsTimed world.old.slots (unix_of world.old) }
+    requires behind { behind ≡ (passed_in world.old.slots - world.old.slots.set_at) % world.old.slots.pace }
+    requires few { behind < world.old.slots.pace }
+    ensures unix { unix_of world.new ≡ unix_of world.old }
+    ensures good { IsGood world.old → IsGood world.new }
+    ensures counted { IsCounted world.new.slots (unix_of world.new) }
+    ensures others { world.new ≡ record world.old { slots = world.new.slots } }
+{
+    if world.files.lines.holds() {
+        world.slots.add_send(behind);
+    }
+}
+
+/// The same, where it isn't known how far the last send lies back. The lines have a pace.
 #[cold]
 #[inline(never)]
 fn renew_paced(world: &mut World)
     requires timed { IsTimed world.old.slots (unix_of world.old) }
     requires paced { world.old.slots.pace ≢ 0 }
-    ensures timing { timing_in world.new.slots ≡ timing_in world.old.slots }
-    ensures counted { IsCounted world.new.slots (unix_of world.old) }
+    ensures unix { unix_of world.new ≡ unix_of world.old }
+    ensures good { IsGood world.old → IsGood world.new }
+    ensures counted { IsCounted world.new.slots (unix_of world.new) }
     ensures others { world.new ≡ record world.old { slots = world.new.slots } }
 {
-    if world.files.lines.holds() {
-        world.slots.add_send();
-    }
+    let passed = world.slots.passed();
+    let behind = world.slots.behind(passed);
+    renew_by(world, behind);
 }
 
 /// Where bytes wait to go out, the next slot with which the lines send is due. It follows each change of a line with which
@@ -490,12 +509,12 @@ pub(crate) fn set_pace<T: Trace>(world: &mut World, n: u32, trace: &mut T) -> bo
     any
 }
 
-/// The lines send with the end of the slot of this number, where it is one of those with which they do. Tells whether anybody
-/// is woken.
-fn send_after<T: Trace>(world: &mut World, passed: u32, trace: &mut T) -> bool
+/// The lines send where no slot has been taken since they were to. Tells whether anybody is woken.
+#[inline(always)]
+fn send_at<T: Trace>(world: &mut World, behind: u32, trace: &mut T) -> bool
     requires good { IsGood world.old }
-    requires passed { passed_in world.old.slots ≡ passed }
-    requires set { world.old.slots.set_at ≤ passed }
+    requires paced { world.old.slots.pace ≢ 0 }
+    requires behind { behind ≡ (passed_in world.old.slots - world.old.slots.set_at) % world.old.slots.pace }
     ensures unix { unix_of world.new ≡ with_sent (unix_of world.old) }
     ensures board { board_in world.new
         ≡ (logged {W = Unix} (board_in world.old) (map Show (sent_after (unix_of world.old)).items)).board }
@@ -510,20 +529,47 @@ fn send_after<T: Trace>(world: &mut World, passed: u32, trace: &mut T) -> bool
     ensures items { Took (T.taken trace.old) (sent_after (unix_of world.old)).items (T.taken trace.new) }
     ensures frame { T.leads_to trace.old trace.new }
 {
-    if world.slots.pace == 0 {
-        return false;
-    }
-    let behind = world.slots.behind(passed);
     if behind != 0 {
         return false;
     }
     send_lines(&mut world.files.lines, &mut world.procs.table, trace)
 }
 
+/// The lines send with the end of the slot of this number, where it is one of those with which they do, and where bytes wait
+/// then the next of those is due. Tells whether anybody is woken.
+#[inline(always)]
+fn send_after<T: Trace>(world: &mut World, passed: u32, trace: &mut T) -> bool
+    requires good { IsGood world.old }
+    requires timed { IsTimed world.old.slots (unix_of world.old) }
+    requires passed { passed_in world.old.slots ≡ passed }
+    ensures unix { unix_of world.new ≡ with_sent (unix_of world.old) }
+    ensures board { board_in world.new
+        ≡ (logged {W = Unix} (board_in world.old) (map Show (sent_after (unix_of world.old)).items)).board }
+    ensures any { result ≡ (sent_after (unix_of world.old)).wakes }
+    ensures good { IsGood world.new }
+    ensures counted { IsCounted world.new.slots (unix_of world.new) }
+    ensures running { world.new.procs.table.running ≡ world.old.procs.table.running }
+    ensures others { world.new ≡ record world.old {
+      files = record world.old.files { lines = world.new.files.lines };
+      procs = record world.old.procs { table = world.new.procs.table };
+      slots = world.new.slots;
+    } }
+    ensures same { result ≡ false → world.new.procs ≡ world.old.procs }
+    ensures items { Took (T.taken trace.old) (sent_after (unix_of world.old)).items (T.taken trace.new) }
+    ensures frame { T.leads_to trace.old trace.new }
+{
+    if world.slots.pace == 0 {
+        return false;
+    }
+    let behind = world.slots.behind(passed);
+    let any = send_at(world, behind, trace);
+    renew_by(world, behind);
+    any
+}
+
 /// The slot that was due has been taken: who has waited for the disk up to its end is woken, and where the lines send with its
 /// end they do. Tells whether anybody is woken.
-#[cold]
-#[inline(never)]
+#[inline(always)]
 pub(crate) fn reach<T: Trace>(world: &mut World, trace: &mut T) -> bool
     requires left { world.old.slots.left ≡ 0 }
     requires good { IsGood (one_before world.old) }
@@ -552,8 +598,35 @@ pub(crate) fn reach<T: Trace>(world: &mut World, trace: &mut T) -> bool
     world.slots.left = woken.next - passed;
     world.slots.wake = woken.next;
     let sent = send_after(world, passed, trace);
-    renew(world);
     either(woken.any, sent)
+}
+
+/// The same out of line, behind the slot of a turn.
+#[cold]
+#[inline(never)]
+fn reach_apart<T: Trace>(world: &mut World, trace: &mut T) -> bool
+    requires left { world.old.slots.left ≡ 0 }
+    requires good { IsGood (one_before world.old) }
+    requires counted { IsCounted (one_before world.old).slots (unix_of (one_before world.old)) }
+    requires fresh { world.old.slots.due ≤ 3000000001 }
+    ensures unix { unix_of world.new ≡ with_sent (unix_of world.old) }
+    ensures board { board_in world.new
+        ≡ (logged {W = Unix} (board_in world.old) (map Show (slot_items (unix_of world.old)))).board }
+    ensures any { result ≡ slot_wakes (unix_of world.old) }
+    ensures good { IsGood world.new }
+    ensures counted { IsCounted world.new.slots (unix_of world.new) }
+    ensures running { world.new.procs.table.running ≡ world.old.procs.table.running }
+    ensures tree { world.new.files.tree ≡ world.old.files.tree }
+    ensures others { world.new ≡ record world.old {
+      files = record world.old.files { lines = world.new.files.lines };
+      procs = world.new.procs;
+      slots = world.new.slots;
+    } }
+    ensures same { result ≡ false → world.new.procs ≡ world.old.procs }
+    ensures items { Took (T.taken trace.old) (slot_items (unix_of world.old)) (T.taken trace.new) }
+    ensures frame { T.leads_to trace.old trace.new }
+{
+    reach(world, trace)
 }
 
 /// Counts a slot that has been taken, wakes who has waited for the disk up to its end, and lets the lines send where they do
@@ -580,7 +653,7 @@ pub(crate) fn count<T: Trace>(world: &mut World, trace: &mut T) -> bool
 {
     world.slots.left -= 1;
     if world.slots.left == 0 {
-        return reach(world, trace);
+        return reach_apart(world, trace);
     }
     false
 }

@@ -13,35 +13,35 @@ use Rattle.unix_core.proofs.slots.count.Goals as goal
 pub overflow_sub-world : goal.overflow_sub-world
 overflow_sub-world g c = let some = some_left c.args.world.now c.requires.counted in omega (arith, some)
 
-pub reach-requires-clause-good : goal.reach-requires-clause-good
-reach-requires-clause-good g c =
+pub reach_apart-requires-clause-good : goal.reach_apart-requires-clause-good
+reach_apart-requires-clause-good g c =
     let w : World = c.args.world.now in
     subst IsGood (sym (before_is w c.requires.counted c.if-world-eq0.true)) c.requires.good
 
-pub reach-requires-clause-counted : goal.reach-requires-clause-counted
-reach-requires-clause-counted g c =
+pub reach_apart-requires-clause-counted : goal.reach_apart-requires-clause-counted
+reach_apart-requires-clause-counted g c =
     let w : World = c.args.world.now in
     subst (λ (x : World). IsCounted x.slots (unix_of x)) (sym (before_is w c.requires.counted c.if-world-eq0.true)) c.requires.counted
 
-pub reach-requires-clause-fresh : goal.reach-requires-clause-fresh
-reach-requires-clause-fresh g c = due_fresh c.args.world.now c.requires.counted c.if-world-eq0.true c.requires.fresh
+pub reach_apart-requires-clause-fresh : goal.reach_apart-requires-clause-fresh
+reach_apart-requires-clause-fresh g c = due_fresh c.args.world.now c.requires.counted c.if-world-eq0.true c.requires.fresh
 
 pub returns-then-world-eq0-clause-unix : goal.returns-then-world-eq0-clause-unix
-returns-then-world-eq0-clause-unix g c = c.reach.ensures.unix ∙ ap with_sent (less_unix c.args.world.now c.requires.counted)
+returns-then-world-eq0-clause-unix g c = c.reach_apart.ensures.unix ∙ ap with_sent (less_unix c.args.world.now c.requires.counted)
 
 pub returns-then-world-eq0-clause-board : goal.returns-then-world-eq0-clause-board
 returns-then-world-eq0-clause-board g c =
     let w : World = c.args.world.now in
-    c.reach.ensures.board ∙ ap (λ (u : Unix). (logged {W = Unix} (board_in w) (map Show (slot_items u))).board) (less_unix w c.requires.counted)
+    c.reach_apart.ensures.board ∙ ap (λ (u : Unix). (logged {W = Unix} (board_in w) (map Show (slot_items u))).board) (less_unix w c.requires.counted)
 
 pub returns-then-world-eq0-clause-any : goal.returns-then-world-eq0-clause-any
 returns-then-world-eq0-clause-any g c =
-    c.reach.ensures.any ∙ ap slot_wakes (less_unix c.args.world.now c.requires.counted)
+    c.reach_apart.ensures.any ∙ ap slot_wakes (less_unix c.args.world.now c.requires.counted)
 
 pub returns-then-world-eq0-clause-items : goal.returns-then-world-eq0-clause-items
 returns-then-world-eq0-clause-items g c =
-    subst (λ (u : Unix). Took (g.T.Trace.taken c.args.trace.now) (slot_items u) (g.T.Trace.taken c.reach.new.trace))
-    (less_unix c.args.world.now c.requires.counted) c.reach.ensures.items
+    subst (λ (u : Unix). Took (g.T.Trace.taken c.args.trace.now) (slot_items u) (g.T.Trace.taken c.reach_apart.new.trace))
+    (less_unix c.args.world.now c.requires.counted) c.reach_apart.ensures.items
 
 pub returns-clause-unix : goal.returns-clause-unix
 returns-clause-unix g c = less_sent c.args.world.now c.requires.counted c.if-world-eq0.false

@@ -1,22 +1,16 @@
 use Rattle.std.proofs.Common.{◌≡◌, ◌∙◌, sym, ap}
 use Rattle.sys_procs.specs.declared.procs.Procs.{Procs}
 use Rattle.unix_core.specs.declared.world.World.{World}
-use Rattle.unix_core.specs.declared.slots.Slots.{Slots}
-use Rattle.unix_core.specs.Parts.{board_in}
-use Rattle.unix_core.proofs.SlotWorlds.{none_woken_now, due_later, reach_good, reach_passed, reach_set, sent_unix, sent_board, sent_any, sent_took, sent_timed, none_woken}
+use Rattle.unix_core.proofs.SlotWorlds.{none_woken_now, due_later, reach_good, reach_passed, reach_timed, sent_unix, sent_board, sent_any, sent_took, none_woken}
 use Rattle.unix_core.proofs.slots.reach.Goals as goal
 
 -- what is as it was
-reach_others : (w v x : World) (p : Procs) (slots : Slots)
-    → v ≡ record (record w { procs = p; slots = slots }) { files = record w.files { lines = v.files.lines }; procs = record p { table = v.procs.table } }
-    → x ≡ record v { slots = x.slots }
-    → x ≡ record w { files = record w.files { lines = x.files.lines }; procs = x.procs; slots = x.slots }
-reach_others w v x p slots sent others =
-    let lines : v.files.lines ≡ x.files.lines = sym (ap (λ (y : World). y.files.lines) others) in
-    let procs : record p { table = v.procs.table } ≡ x.procs = sym (ap (λ (y : World). y.procs) sent) ∙ sym (ap (λ (y : World). y.procs) others) in
-    others
-    ∙ ap (λ (y : World). record y { slots = x.slots }) sent
-    ∙ (λ i. record w { files = record w.files { lines = lines i }; procs = procs i; slots = x.slots })
+reach_others : (w v : World) (p : Procs)
+    → v ≡ record w { files = record w.files { lines = v.files.lines }; procs = record p { table = v.procs.table }; slots = v.slots }
+    → v ≡ record w { files = record w.files { lines = v.files.lines }; procs = v.procs; slots = v.slots }
+reach_others w v p sent =
+    let procs : record p { table = v.procs.table } ≡ v.procs = sym (ap (λ (y : World). y.procs) sent) in
+    sent ∙ (λ i. record w { files = record w.files { lines = v.files.lines }; procs = procs i; slots = v.slots })
 
 pub wake_due-woken-requires-clause-agree : goal.wake_due-woken-requires-clause-agree
 wake_due-woken-requires-clause-agree g c = c.requires.good.agree
@@ -44,37 +38,25 @@ send_after-sent-requires-clause-passed g c =
     reach_passed w c.requires.left c.requires.good c.requires.counted c.wake_due-woken.new.procs e.others e.agree e.running e.clock
     c.wake_due-woken.result.next e.next
 
-pub send_after-sent-requires-clause-set : goal.send_after-sent-requires-clause-set
-send_after-sent-requires-clause-set g c =
+pub send_after-sent-requires-clause-timed : goal.send_after-sent-requires-clause-timed
+send_after-sent-requires-clause-timed g c =
     let w : World = c.args.world.now in
     let e = c.wake_due-woken.ensures in
-    reach_set w c.requires.left c.requires.good c.requires.counted c.wake_due-woken.new.procs e.others e.agree e.running e.clock
-    c.wake_due-woken.result.next e.next
-
-pub renew-requires : goal.renew-requires
-renew-requires g c =
-    let w : World = c.args.world.now in
-    let e = c.wake_due-woken.ensures in
-    record {
-      timed = sent_timed w c.requires.left c.requires.good c.requires.counted c.wake_due-woken.new.procs e.others e.agree e.running e.clock
-          c.wake_due-woken.result.next e.next c.send_after-sent.new.world c.send_after-sent.ensures.unix
-          (ap (λ (x : World). x.slots) c.send_after-sent.ensures.others) e.due;
-    }
+    reach_timed w c.requires.left c.requires.good c.requires.counted c.wake_due-woken.new.procs e.others e.agree e.running e.clock
+    c.wake_due-woken.result.next e.next e.due
 
 pub returns-clause-unix : goal.returns-clause-unix
 returns-clause-unix g c =
     let w : World = c.args.world.now in
     let e = c.wake_due-woken.ensures in
-    c.renew.ensures.unix
-    ∙ sent_unix w c.requires.left c.requires.good c.requires.counted c.wake_due-woken.new.procs e.others e.agree e.running e.clock
+    sent_unix w c.requires.left c.requires.good c.requires.counted c.wake_due-woken.new.procs e.others e.agree e.running e.clock
     c.wake_due-woken.result.next e.next c.send_after-sent.new.world c.send_after-sent.ensures.unix
 
 pub returns-clause-board : goal.returns-clause-board
 returns-clause-board g c =
     let w : World = c.args.world.now in
     let e = c.wake_due-woken.ensures in
-    ap board_in c.renew.ensures.others
-    ∙ sent_board w c.requires.left c.requires.good c.requires.counted c.wake_due-woken.new.procs e.others e.agree e.running e.clock
+    sent_board w c.requires.left c.requires.good c.requires.counted c.wake_due-woken.new.procs e.others e.agree e.running e.clock
     c.wake_due-woken.result.next e.next c.send_after-sent.new.world c.send_after-sent.ensures.unix e.board c.send_after-sent.ensures.board
 
 pub returns-clause-any : goal.returns-clause-any
@@ -86,25 +68,20 @@ returns-clause-any g c =
     c.wake_due-woken.result.next e.next c.send_after-sent.new.world c.send_after-sent.ensures.unix _ _ e.any
     c.send_after-sent.ensures.any
 
-pub returns-clause-good : goal.returns-clause-good
-returns-clause-good g c = c.renew.ensures.good c.send_after-sent.ensures.good
-
 pub returns-clause-running : goal.returns-clause-running
-returns-clause-running g c =
-    ap (λ (x : World). x.procs.table.running) c.renew.ensures.others ∙ c.send_after-sent.ensures.running ∙ c.wake_due-woken.ensures.running
+returns-clause-running g c = c.send_after-sent.ensures.running ∙ c.wake_due-woken.ensures.running
 
 pub returns-clause-tree : goal.returns-clause-tree
-returns-clause-tree g c =
-    ap (λ (x : World). x.files.tree) c.renew.ensures.others ∙ ap (λ (x : World). x.files.tree) c.send_after-sent.ensures.others
+returns-clause-tree g c = ap (λ (x : World). x.files.tree) c.send_after-sent.ensures.others
 
 pub returns-clause-others : goal.returns-clause-others
 returns-clause-others g c =
-    reach_others c.args.world.now c.send_after-sent.new.world c.renew.new.world c.wake_due-woken.new.procs _ c.send_after-sent.ensures.others c.renew.ensures.others
+    reach_others c.args.world.now c.send_after-sent.new.world c.wake_due-woken.new.procs c.send_after-sent.ensures.others
 
 pub returns-clause-same : goal.returns-clause-same
 returns-clause-same g c none =
     let both = none_woken c.wake_due-woken.result.any c.send_after-sent.result (sym c.either.ensures ∙ none) in
-    ap (λ (x : World). x.procs) c.renew.ensures.others ∙ c.send_after-sent.ensures.same both.1 ∙ c.wake_due-woken.ensures.same both.0
+    c.send_after-sent.ensures.same both.1 ∙ c.wake_due-woken.ensures.same both.0
 
 pub returns-clause-items : goal.returns-clause-items
 returns-clause-items g c =

@@ -1,5 +1,4 @@
-use Rattle.std.proofs.Common.{◌∙◌, ◌-◌, ◌%◌, ap}
-use Rattle.unix_core.specs.declared.slots.Slots.{Slots}
+use Rattle.std.proofs.Common.{◌-◌}
 use Rattle.unix_core.proofs.SendLines.{none_until}
 use Rattle.unix_core.proofs.slots.Slots.add_send.Goals as goal
 
@@ -9,7 +8,5 @@ returns-clause-timing c =
 
 pub returns-clause-sends : goal.returns-clause-sends
 returns-clause-sends c =
-    let old : Slots = c.args.self.now in
     let e = c.add.ensures in
-    none_until old c.add.new.self c.behind-behind.result c.requires.set
-    (c.behind-behind.ensures.behind ∙ ap (λ p. (p - old.set_at) % old.pace) c.passed-passed.ensures) e.ends e.passed e.pace e.set
+    none_until c.args.self.now c.add.new.self c.args.behind c.requires.set c.requires.behind e.ends e.passed e.pace e.set
