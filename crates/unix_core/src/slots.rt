@@ -509,32 +509,6 @@ pub(crate) fn set_pace<T: Trace>(world: &mut World, n: u32, trace: &mut T) -> bo
     any
 }
 
-/// The lines send where no slot has been taken since they were to. Tells whether anybody is woken.
-#[inline(always)]
-fn send_at<T: Trace>(world: &mut World, behind: u32, trace: &mut T) -> bool
-    requires good { IsGood world.old }
-    requires paced { world.old.slots.pace ≢ 0 }
-    requires behind { behind ≡ (passed_in world.old.slots - world.old.slots.set_at) % world.old.slots.pace }
-    ensures unix { unix_of world.new ≡ with_sent (unix_of world.old) }
-    ensures board { board_in world.new
-        ≡ (logged {W = Unix} (board_in world.old) (map Show (sent_after (unix_of world.old)).items)).board }
-    ensures any { result ≡ (sent_after (unix_of world.old)).wakes }
-    ensures good { IsGood world.new }
-    ensures running { world.new.procs.table.running ≡ world.old.procs.table.running }
-    ensures others { world.new ≡ record world.old {
-      files = record world.old.files { lines = world.new.files.lines };
-      procs = record world.old.procs { table = world.new.procs.table };
-    } }
-    ensures same { result ≡ false → world.new.procs ≡ world.old.procs }
-    ensures items { Took (T.taken trace.old) (sent_after (unix_of world.old)).items (T.taken trace.new) }
-    ensures frame { T.leads_to trace.old trace.new }
-{
-    if behind != 0 {
-        return false;
-    }
-    send_lines(&mut world.files.lines, &mut world.procs.table, trace)
-}
-
 /// The lines send with the end of the slot of this number, where it is one of those with which they do, and where bytes wait
 /// then the next of those is due. Tells whether anybody is woken.
 #[inline(always)]
@@ -562,8 +536,12 @@ fn send_after<T: Trace>(world: &mut World, passed: u32, trace: &mut T) -> bool
         return false;
     }
     let behind = world.slots.behind(passed);
-    let any = send_at(world, behind, trace);
-    renew_by(world, behind);
+    if behind != 0 {
+        renew_paced(world);
+        return false;
+    }
+    let any = send_lines(&mut world.files.lines, &mut world.procs.table, trace);
+    renew_by(world, 0);
     any
 }
 
