@@ -11,7 +11,7 @@ finish-requires g t c =
     let some = c.in-len1-up.len_at_least in
     let first = c.first-item.is in
     record {
-      is_open = first_at held _ _ some first true _ c.requires.is_open;
+      is_open = first_at held _ _ some first true (g.H.Host.outside c.args.host.now) c.requires.is_open;
       not_report = not_report held _ _ some first c.requires.there;
       there = first_there held _ _ some first c.requires.there;
     }
@@ -21,7 +21,7 @@ returns-then-is_err g t c =
     first_unshut c.args.outputs.now _ _ c.in-len1-up.len_at_least c.first-item.is _ _ c.finish.result (sym c.is_err.ensures.value ∙ c.if-is_err.true) c.finish.ensures
 
 pub finish_outputs-requires : goal.finish_outputs-requires
-finish_outputs-requires g t c =
+finish_outputs-requires g t c κs within =
     let held = c.args.outputs.now in
     let some = c.in-len1-up.len_at_least in
     let first = c.first-item.is in (
@@ -29,11 +29,11 @@ finish_outputs-requires g t c =
       record {
         apart = left_apart held _ _ some first c.requires.apart;
         there = left_there held _ _ some first c.requires.there;
-        is_open = left_at held _ _ some first true _ c.requires.is_open _ c.requires.apart c.finish.ensures.only;
+        is_open = left_at held _ _ some first true (g.H.Host.outside c.args.host.now) c.requires.is_open _ c.requires.apart c.finish.ensures.only;
       },
     )
 
-pub returns-in-len1-up : goal.returns-in-len1-up
-returns-in-len1-up g t c =
+pub returns-else-is_err : goal.returns-else-is_err
+returns-else-is_err g t c =
     left_shut c.args.outputs.now _ _ c.in-len1-up.len_at_least c.first-item.is _ _ _ c.finish.result _ c.requires.apart
     (sym c.is_err.ensures.value ∙ c.if-is_err.false) c.finish.ensures c.finish_outputs.ensures

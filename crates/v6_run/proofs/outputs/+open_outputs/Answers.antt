@@ -10,7 +10,7 @@ open_write-requires g t c =
     let held = c.args.outputs.now in
     let some = c.in-len1-up.len_at_least in
     let first = c.first-item.is in
-    record { closed = first_at held _ _ some first false _ c.requires.closed; there = first_there held _ _ some first c.requires.there }
+    record { closed = first_at held _ _ some first false (g.H.Host.outside c.args.host.now) c.requires.closed; there = first_there held _ _ some first c.requires.there }
 
 pub returns-then-is_err : goal.returns-then-is_err
 returns-then-is_err g t c =
@@ -18,7 +18,7 @@ returns-then-is_err g t c =
     (sym c.is_err.ensures.value ∙ c.if-is_err.true) c.open_write.ensures
 
 pub open_outputs-requires : goal.open_outputs-requires
-open_outputs-requires g t c =
+open_outputs-requires g t c κs within =
     let held = c.args.outputs.now in
     let some = c.in-len1-up.len_at_least in
     let first = c.first-item.is in (
@@ -26,11 +26,11 @@ open_outputs-requires g t c =
       record {
         apart = left_apart held _ _ some first c.requires.apart;
         there = left_there held _ _ some first c.requires.there;
-        closed = left_at held _ _ some first false _ c.requires.closed _ c.requires.apart c.open_write.ensures.only;
+        closed = left_at held _ _ some first false (g.H.Host.outside c.args.host.now) c.requires.closed _ c.requires.apart c.open_write.ensures.only;
       },
     )
 
-pub returns-in-len1-up : goal.returns-in-len1-up
-returns-in-len1-up g t c =
+pub returns-else-is_err : goal.returns-else-is_err
+returns-else-is_err g t c =
     left_opened c.args.outputs.now _ _ c.in-len1-up.len_at_least c.first-item.is _ _ _ _ c.open_write.result _ c.as_str.ensures.value c.requires.apart
     (sym c.is_err.ensures.value ∙ c.if-is_err.false) c.open_write.ensures c.open_outputs.ensures

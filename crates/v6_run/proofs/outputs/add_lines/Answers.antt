@@ -21,5 +21,5 @@ lines-preserved c =
 pub returns : goal.returns
 returns c =
     let files = c.args.files.now in
-    let all : c.lines.line ≡ lines_value files.lines = omega (arith, some_lines files.lines, c.count.ensures, c.lines-test.false, c.lines.auto.line-end) in
+    let all : c.lines.line ≡ lines_value files.lines = omega (arith, some_lines files.lines, c.count-line-end.ensures, c.lines-test.false, c.lines.auto.line-end) in
     c.lines.invariant.so_far ∙ ap (λ n. map output_value c.args.outputs.now.items ++ map (line_output files.term.now) (range_with_len 1 (n - 1))) all
