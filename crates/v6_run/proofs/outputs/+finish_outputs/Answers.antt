@@ -28,7 +28,7 @@ finish_outputs-requires g t c κs within =
     let apart = left_apart held _ _ some first c.requires.apart in
     let there = left_there held _ _ some first c.requires.there in
     let others = left_at held _ _ some first true (g.H.Host.outside c.args.host.now) c.requires.is_open _ c.requires.apart c.finish.ensures.only in
-    (omega (arith, fewer_left held some, c.decreases), (within.0, (apart, (there, others))))
+    (omega (arith, fewer_left held some, c.decreases), (within, (apart, (there, others))))
 
 pub returns-else-is_err : goal.returns-else-is_err
 returns-else-is_err g t c =

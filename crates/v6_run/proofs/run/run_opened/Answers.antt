@@ -1,4 +1,4 @@
-use Rattle.std.proofs.Common.{refl, sym, subst}
+use Rattle.std.proofs.Common.{true, false, refl, sym, subst}
 use Rattle.abstract_unix.specs.Runs.{started, course}
 use Rattle.v6_run.specs.Events.{events_of}
 use Rattle.v6_run.specs.Words.{disk_files_value}
@@ -20,7 +20,7 @@ open_outputs-requires-clause-there g c =
     let files = c.args.files.now in subst AreThere (sym c.requires.outputs) (ports_there files.lines files.term.now files.log.now files.final_disk.now)
 
 pub open_outputs-requires-clause-closed : goal.open_outputs-requires-clause-closed
-open_outputs-requires-clause-closed g c = files_at (disk_files_value c.args.files.now) _ c.requires.outputs _ _ c.requires.closed
+open_outputs-requires-clause-closed g c = files_at (disk_files_value c.args.files.now) _ c.requires.outputs false (g.H.Host.outside c.args.host.now) c.requires.closed
 
 pub returns-in_err-open_outputs-clause-only : goal.returns-in_err-open_outputs-clause-only
 returns-in_err-open_outputs-clause-only g c = only_opened (disk_files_value c.args.files.now) _ c.requires.outputs _ _ _ c.in_err-open_outputs.ensures
@@ -64,7 +64,9 @@ leave_disk-requires-clause-ended g c = phase_ended _ _ c.in_ok-ends.ensures.phas
 pub leave_disk-requires-clause-is_open : goal.leave_disk-requires-clause-is_open
 leave_disk-requires-clause-is_open g c =
     let files = disk_files_value c.args.files.now in
-    final_open files.lines _ _ (g.H.Host.outside c.play.new.host) (all_opened files _ c.requires.outputs _ _ c.in_ok-open_outputs.ensures) c.in_ok-ends.ensures.is_open
+    let b = g.H.Host.outside c.open_outputs.new.host in
+    let played = g.H.Host.outside c.play.new.host in
+    final_open files.lines b played played (all_opened files _ c.requires.outputs _ b c.in_ok-open_outputs.ensures) c.in_ok-ends.ensures.is_open
 
 pub returns-then-is_err-clause-only : goal.returns-then-is_err-clause-only
 returns-then-is_err-clause-only g c =
@@ -95,8 +97,11 @@ finish_outputs-requires-clause-there g c =
 pub finish_outputs-requires-clause-is_open : goal.finish_outputs-requires-clause-is_open
 finish_outputs-requires-clause-is_open g c =
     let files = disk_files_value c.args.files.now in
-    let opened = all_opened files _ c.requires.outputs _ _ c.in_ok-open_outputs.ensures in
-    files_at files _ c.requires.outputs _ _ (all_open files.lines _ _ _ opened c.in_ok-ends.ensures.is_open c.leave_disk.ensures.only c.leave_disk.ensures.is_open)
+    let b = g.H.Host.outside c.open_outputs.new.host in
+    let played = g.H.Host.outside c.play.new.host in
+    let written = g.H.Host.outside c.leave_disk.new.host in
+    let opened = all_opened files _ c.requires.outputs _ b c.in_ok-open_outputs.ensures in
+    files_at files _ c.requires.outputs true written (all_open files.lines b played written opened c.in_ok-ends.ensures.is_open c.leave_disk.ensures.only c.leave_disk.ensures.is_open)
 
 pub returns-in_err-finish_outputs-clause-only : goal.returns-in_err-finish_outputs-clause-only
 returns-in_err-finish_outputs-clause-only g c =
