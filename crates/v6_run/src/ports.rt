@@ -1,7 +1,8 @@
 //! What a run shows, written to the ports of a host.
-ghost use Rattle.std.specs.Prelude.{◌≡◌, ℕ, false, ◌++◌, ◌∷◌, [], ◌<◌, ◌≤◌, drop, length, IfSome};
+ghost use Rattle.std.specs.Prelude.{◌≡◌, ℕ, true, false, ◌++◌, ◌∷◌, [], ◌<◌, ◌≤◌, drop, length, IfSome, OnOk, OnErr, MatchResult};
 ghost use Rattle.v6_base.specs.LogLine.{entry_line};
-ghost use Rattle.v6_port.specs.Outside.{Out, IsOpen};
+ghost use Rattle.v6_port.specs.Outside.{Out, IsOpen, IsThere, OnlyAt, Tells, same};
+ghost use Rattle.v6_port.specs.Causes.{Calm, FaultAt};
 ghost use Rattle.v6_port.specs.declared.host.OutPort.TheVariants.{Log};
 ghost use Rattle.v6_run.specs.Opened.{line_port};
 ghost use Rattle.v6_run.specs.Ports.{is_silent, failed_port, counted, screened, HasCounted};
@@ -10,7 +11,7 @@ use crate::files::{write_byte, write_text};
 use arrayvec::ArrayVec;
 use log_text::{Line, put_line};
 use v6_base::{Entry, LINES, Trace};
-use v6_port::{Host, OutPort};
+use v6_port::{Failed, Host, OutPort};
 
 /// The port to which the bytes of a terminal line go.
 #[tactic(auto, using(crate::proofs::LinePorts::first_port, crate::proofs::LinePorts::other_port))]
@@ -181,6 +182,28 @@ fn keep_line(kept: &mut Kept, line: &Line, count: usize)
     *kept = Kept::Line(rest_of(line, count));
 }
 
+/// Writes a byte of a terminal line. The console is told apart from the other lines, so that a write to its port is put together
+/// for that port alone.
+#[inline(always)]
+fn write_on<H: Host>(host: &mut H, line: u8, byte: u8) -> Result<(), Failed>
+    requires is_open { IsOpen (H.outside host.old) (Out (line_port line)) }
+    requires there { IsThere (line_port line) }
+    ensures only { OnlyAt (same (Out (line_port line))) (H.outside host.old) (H.outside host.new) }
+    ensures is_open { IsOpen (H.outside host.new) (Out (line_port line)) }
+    ensures whole { OnOk result (Tells (H.outside host.old) → ((H.outside host.new).port (Out (line_port line))).bytes
+        ≡ ((H.outside host.old).port (Out (line_port line))).bytes ++ byte ∷ []) }
+    ensures stays { OnErr result (((H.outside host.new).port (Out (line_port line))).bytes
+        ≡ ((H.outside host.old).port (Out (line_port line))).bytes) }
+    ensures cause { MatchResult result (λ _. Calm (H.outside host.old) (H.outside host.new))
+        (λ _. FaultAt (Out (line_port line)) true (H.outside host.old) (H.outside host.new)) }
+{
+    if line == 0 {
+        write_byte(host, OutPort::Term, byte)
+    } else {
+        write_byte(host, OutPort::Line(line), byte)
+    }
+}
+
 impl<'a, H: Host> Ports<'a, H> {
     ghost use Rattle.std.specs.Prelude.{◌∷◌, []};
     ghost use Rattle.v6_base.specs.Trace.{Byte, Took, Appends};
@@ -220,7 +243,7 @@ impl<'a, H: Host> Ports<'a, H> {
         ensures same_reference { self.new.host.ghost_name ≡ self.old.host.ghost_name }
         ensures lines { self.new.lines ≡ self.old.lines }
     {
-        if write_byte(self.host, line_port(line), byte).is_err() {
+        if write_on(self.host, line, byte).is_err() {
             keep_byte(&mut self.kept, line, byte);
         }
     }
