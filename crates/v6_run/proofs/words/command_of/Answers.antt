@@ -1,0 +1,33 @@
+use Rattle.std.proofs.Common.{◌≡◌, ◌≢◌, List, [], ◌∷◌, length, String, None, refl, arith}
+use Rattle.std.specs.declared.alloc.Global.{Global}
+use Rattle.v6_run.specs.Words.{command_in}
+use Rattle.v6_run.proofs.words.command_of.Goals as goal
+use Rattle.v6_run.proofs.words.command_of.Goals.{in_default-via-then-words-lt2, in_default-via-else-words-lt2+else-words-lt3+else-words-lt4+then-words-lt5, in_default-via-else-words-lt2+else-words-lt3+else-words-lt4+else-words-lt5+else-words-lt6+then-words-lt7, in_default-via-else-words-lt2+else-words-lt3+else-words-lt4+else-words-lt5+else-words-lt6+else-words-lt7+else-words-lt8}
+
+-- So many words are no command's.
+no_command : (words : List (String Global)) → length words ≢ 2 → length words ≢ 3 → length words ≢ 5 → length words ≢ 7 → None ≡ command_in words
+no_command [] two three five seven = refl
+no_command (a ∷ []) two three five seven = refl
+no_command (a ∷ b ∷ []) two three five seven = absurd (two refl)
+no_command (a ∷ b ∷ c ∷ []) two three five seven = absurd (three refl)
+no_command (a ∷ b ∷ c ∷ d ∷ []) two three five seven = refl
+no_command (a ∷ b ∷ c ∷ d ∷ e ∷ []) two three five seven = absurd (five refl)
+no_command (a ∷ b ∷ c ∷ d ∷ e ∷ f ∷ []) two three five seven = refl
+no_command (a ∷ b ∷ c ∷ d ∷ e ∷ f ∷ g ∷ []) two three five seven = absurd (seven refl)
+no_command (a ∷ b ∷ c ∷ d ∷ e ∷ f ∷ g ∷ h ∷ more) two three five seven = refl
+
+pub returns-in_default : goal.returns-in_default
+returns-in_default c = elim c.in_default.branch [
+  | in_default-via-then-words-lt2 w ↦
+      let most = w.if-words-lt2-1.true in no_command c.args.words.now (omega (arith, most)) (omega (arith, most)) (omega (arith, most)) (omega (arith, most))
+  | in_default-via-else-words-lt2+else-words-lt3+else-words-lt4+then-words-lt5 w ↦
+      let least = w.if-words-lt4-1.false in
+      let most = w.if-words-lt5-1.true in
+      no_command c.args.words.now (omega (arith, least)) (omega (arith, least)) (omega (arith, most)) (omega (arith, most))
+  | in_default-via-else-words-lt2+else-words-lt3+else-words-lt4+else-words-lt5+else-words-lt6+then-words-lt7 w ↦
+      let least = w.if-words-lt6-1.false in
+      let most = w.if-words-lt7-1.true in
+      no_command c.args.words.now (omega (arith, least)) (omega (arith, least)) (omega (arith, least)) (omega (arith, most))
+  | in_default-via-else-words-lt2+else-words-lt3+else-words-lt4+else-words-lt5+else-words-lt6+else-words-lt7+else-words-lt8 w ↦
+      let least = w.if-words-lt8-1.false in no_command c.args.words.now (omega (arith, least)) (omega (arith, least)) (omega (arith, least)) (omega (arith, least))
+]
