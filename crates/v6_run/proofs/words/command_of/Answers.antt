@@ -1,4 +1,5 @@
-use Rattle.std.proofs.Common.{◌≡◌, ◌≢◌, List, [], ◌∷◌, length, String, None, refl, arith}
+use Rattle.std.proofs.Common.{◌≡◌, ◌≢◌, ◌<◌, ◌≤◌, List, [], ◌∷◌, length, String, None, refl, arith}
+use Rattle.std.proofs.lemmas.Bool.{ltb-true, ltb-false}
 use Rattle.std.specs.declared.alloc.Global.{Global}
 use Rattle.v6_run.specs.Words.{command_in}
 use Rattle.v6_run.proofs.words.command_of.Goals as goal
@@ -19,15 +20,15 @@ no_command (a ∷ b ∷ c ∷ d ∷ e ∷ f ∷ g ∷ h ∷ more) two three five
 pub returns-in_default : goal.returns-in_default
 returns-in_default c = elim c.in_default.branch [
   | in_default-via-then-words-lt2 w ↦
-      let most = w.if-words-lt2-1.true in no_command c.args.words.now (omega (arith, most)) (omega (arith, most)) (omega (arith, most)) (omega (arith, most))
+      let most : length c.args.words.now < 2 = ltb-true (length c.args.words.now) 2 w.if-words-lt2-1.true in no_command c.args.words.now (omega (arith, most)) (omega (arith, most)) (omega (arith, most)) (omega (arith, most))
   | in_default-via-else-words-lt2+else-words-lt3+else-words-lt4+then-words-lt5 w ↦
-      let least = w.if-words-lt4-1.false in
-      let most = w.if-words-lt5-1.true in
+      let least : 4 ≤ length c.args.words.now = ltb-false (length c.args.words.now) 4 w.if-words-lt4-1.false in
+      let most : length c.args.words.now < 5 = ltb-true (length c.args.words.now) 5 w.if-words-lt5-1.true in
       no_command c.args.words.now (omega (arith, least)) (omega (arith, least)) (omega (arith, most)) (omega (arith, most))
   | in_default-via-else-words-lt2+else-words-lt3+else-words-lt4+else-words-lt5+else-words-lt6+then-words-lt7 w ↦
-      let least = w.if-words-lt6-1.false in
-      let most = w.if-words-lt7-1.true in
+      let least : 6 ≤ length c.args.words.now = ltb-false (length c.args.words.now) 6 w.if-words-lt6-1.false in
+      let most : length c.args.words.now < 7 = ltb-true (length c.args.words.now) 7 w.if-words-lt7-1.true in
       no_command c.args.words.now (omega (arith, least)) (omega (arith, least)) (omega (arith, least)) (omega (arith, most))
   | in_default-via-else-words-lt2+else-words-lt3+else-words-lt4+else-words-lt5+else-words-lt6+else-words-lt7+else-words-lt8 w ↦
-      let least = w.if-words-lt8-1.false in no_command c.args.words.now (omega (arith, least)) (omega (arith, least)) (omega (arith, least)) (omega (arith, least))
+      let least : 8 ≤ length c.args.words.now = ltb-false (length c.args.words.now) 8 w.if-words-lt8-1.false in no_command c.args.words.now (omega (arith, least)) (omega (arith, least)) (omega (arith, least)) (omega (arith, least))
 ]
