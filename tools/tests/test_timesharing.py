@@ -5,7 +5,7 @@ import subprocess
 import sys
 import unittest
 
-from common import TOP, V6, Case, read, tool, v6
+from common import TOOLS, TOP, V6, Case, read, tool, v6
 
 disk_main = tool("disk").main
 EXAMPLE = os.path.join(TOP, "examples", "timesharing")
@@ -65,6 +65,19 @@ class Timesharing(Case):
         self.assertGreater(len(lines), 20)
         for line in set(lines) - {"CHESS", "nb", "a game on thursday?"}:
             self.assertIn(f"`{line}`", rows)
+
+    def test_picture(self):
+        """The page's commands draw the evening: a lane for each slot that is ever taken, and an axis of all slots of the script."""
+        commands = read(os.path.join(EXAMPLE, "README.md")).decode().split("```\n")[3]
+        for name, place in (("bin/v6", V6), ("examples/timesharing", EXAMPLE), ("tools/log.py", os.path.join(TOOLS, "log.py"))):
+            self.assertIn(name, commands)
+            commands = commands.replace(name, place)
+        path = f"{os.path.dirname(sys.executable)}:{os.environ['PATH']}"
+        done = subprocess.run(["sh", "-ec", commands], cwd=self.folder, env={**os.environ, "PATH": path}, capture_output=True)
+        self.assertEqual((done.returncode, done.stdout, done.stderr), (0, b"", b""))
+        drawn = read(self.path("evening.svg")).decode()
+        self.assertEqual([f">slot {slot}: " in drawn for slot in (0, 7, 8)], [True, True, False])
+        self.assertIn(">432000</text>", drawn)
 
     def test_build(self):
         image = self.path("image")
