@@ -623,6 +623,11 @@ class EightLines(Case):
             f"\nconsole: {one} was typed at one line of the terminal: another --script begins a new dialogue, and --replay plays "
             "this one\n"))
 
+    def test_waits(self):
+        """A line gets slots enough where programs wait for the disk, and bytes go out one by one."""
+        term = self.session("~:disk 100\n~:pace 200\n~1\nguest\nwho\n", "--lines")[1]
+        self.assertEqual(term, self.shown(f"\nlogin: \nlogin: guest\n{self.MOTD}who\nguest   tty1 19:28\n% "))
+
     def test_lines_that_are_not_there(self):
         for typed, line, more in (("~1", 1, ": --lines gives eight, 0 to 7"), ("~h 7", 7, ": --lines gives eight, 0 to 7"),
                                   ("~h 8", 8, "")):
