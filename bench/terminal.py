@@ -11,7 +11,7 @@ count less the second is what showing costs. Behind each stands the most that it
 Under `pace 1` a byte goes out after each slot. A process that writes few bytes, and computes until they are out, isn't woken for
 them: printed is what each byte more costs there. One that writes many sleeps in its write but for one slot in 21, when it is woken
 and goes on: printed is such a slot, less one in which nobody runs and nothing waits, which is a byte with its part of a wake, of a
-choice, and of a write that goes on; and the same on line 7, where each slot asks eight lines.
+choice, and of a write that goes on. On line 7 each such slot asks eight lines.
 """
 import os
 import re
@@ -79,9 +79,10 @@ def paced(program, line, command):
     return slots[0] - slots[1]
 
 
-def paced_few(program):
+def paced_few(program, line, command):
     """A round with more bytes, less one with fewer."""
-    rounds = [cost(program, disk_that_writes(b"A", 0, few_written(n)), PACED, FEW_SLOTS * FEW_ROUNDS, FEW_ROUNDS) for n in FEW]
+    disks = [disk_that_writes(b"A", line, few_written(n)) for n in FEW]
+    rounds = [cost(program, disk, PACED, FEW_SLOTS * FEW_ROUNDS, FEW_ROUNDS, command) for disk in disks]
     return (rounds[1] - rounds[0]) / (FEW[1] - FEW[0])
 
 
@@ -93,9 +94,9 @@ def main():
     row("a byte that isn't", shown(program, bytes([4])))
     row("a byte that is shown on line 0, under `run8`", shown(program, b"A", 0, "run8"), "80")
     row("a byte that is shown on line 7", shown(program, b"A", 7, "run8"), "80")
-    row("a byte that goes out under `pace 1`", paced_few(program), "200")
-    row("the same with its part of a wake", paced(program, 0, "run"))
-    row("that on line 7", paced(program, 7, "run8"))
+    row("a byte that goes out under `pace 1`", paced_few(program, 0, "run"), "200")
+    row("the same on line 7", paced_few(program, 7, "run8"))
+    row("a byte that goes out with its part of a wake", paced(program, 0, "run"))
 
 
 if __name__ == "__main__":

@@ -12,7 +12,7 @@ _v6() {
             case $word in -*) words='--as --blocks --damaged --help --inodes --mode --replace --short --table --time -l -r' ;; esac
         fi ;;
     v6-console | console.py)
-        case $word in -*) words='--clock --core --disk --help --replay --script --slots --v6 --version' ;; esac ;;
+        case $word in -*) words='--clock --core --disk --help --lines --replay --script --slots --v6 --version' ;; esac ;;
     v6-log | log.py)
         if [ "$COMP_CWORD" -eq 1 ]; then
             words='show draw diff ask audit'

@@ -15,8 +15,8 @@ import tempfile
 from dataclasses import dataclass
 
 sys.path.insert(0, os.path.dirname(os.path.abspath(__file__)))
-from dialogue import (END_OF_FILE, INTERRUPT, MANY, OVER, QUIT, RETURN, RUNS, SLEEPS, WAITS, Dialogue, DialogueError,
-                      Machine, Refused, keys, shown)
+from dialogue import (END_OF_FILE, INTERRUPT, LINES, MANY, OVER, QUIT, RETURN, RUNS, SLEEPS, WAITS, Dialogue, DialogueError,
+                      Machine, Refused, keys, line_of, shown)
 from files import place_of, read_bytes, replace, same_file, told, uninterrupted
 from processes import Processes, programs_of
 from program import CORE, TOP, V6, ProgramError, add_version
@@ -29,6 +29,8 @@ HELP = """~.      ends, and so does the end of a file that is read in the place 
 ~k KEYS types keys without a return: ~k abc^D is abc and 004
 ~:LINE  puts a line of a script: ~:clock 1000, ~:run 50000, ~:switch 000001
 ~~TEXT  types a line that begins with ~
+~N      shows line N of the terminal, 0 to 7, and types there from now on; --lines gives these lines
+~h N    hangs line N up; without N, the one that is shown
 ~l      lists the lines so far
 ~u N    takes the last N lines back; without N, the last one
 ~g N    goes to the state after line N, also forward to a line that was taken back
@@ -163,56 +165,101 @@ class Keyboard:
         if line.startswith(b"k ") and len(line) > 2:
             return Typed(keys(CONTROL.sub(lambda key: bytes([key[1][0] & 0o37 if key[1] != b"?" else INTERRUPT]), line[2:])))
         words = line.decode("ascii", "replace").split()
-        if words and words[0] in ORDERS and len(words) <= 1 + (words[0] in "ug"):
+        if words and words[0] in ORDERS and len(words) <= 1 + (words[0] in "ugh"):
             if words[1:] and not words[1].isdecimal():
                 raise ConsoleError(f"'{words[1]}': no number")
-            return Order(words[0], int(words[1]) if words[1:] else None)
+            numbers = [word for word in words if word.isdecimal()]
+            return Order(words[0], int(numbers[0]) if numbers else None)
         raise ConsoleError("no command of the console; ~? tells which there are")
 
 
 class Console:
-    """The dialogue, and how much of the terminal has been shown."""
+    """The dialogue, the line that is shown and typed at, and how much of each line has been shown."""
 
     def __init__(self, dialogue, keyboard):
-        self.dialogue, self.keyboard, self.shown, self.refused = dialogue, keyboard, 0, False
+        self.dialogue, self.keyboard, self.refused = dialogue, keyboard, False
+        self.line, self.shown, self.told = 0, [0] * LINES, set()
 
     def write(self, data):
         sys.stdout.buffer.write(data)
         sys.stdout.buffer.flush()
 
-    def show(self, term, typed=b""):
-        new = term[self.shown :]
-        self.write(without_echo(term[: self.shown], new, typed) if typed else new)
-        self.shown = len(term)
+    def show(self, terms, typed=b""):
+        """Shows what is new on the line, and tells a person which other lines have something new."""
+        term, old = terms[self.line], self.shown[self.line]
+        self.write(without_echo(term[:old], term[old:], typed) if typed else term[old:])
+        self.shown[self.line] = len(term)
+        more = {line for line, other in enumerate(terms) if len(other) > self.shown[line]}
+        if self.keyboard.person and more - self.told:
+            tell(f"new on {', '.join(f'line {line}' for line in sorted(more - self.told))}: ~N shows line N")
+            self.write(self.last())
+        self.told = more
+
+    def last(self):
+        """What the line shows at its end."""
+        return self.dialogue.played.terms()[self.line].rsplit(b"\n", 1)[-1]
 
     def prompt(self):
         """Shows the last line of the terminal again, to a person to whom something was told in between."""
-        self.shown = len(self.dialogue.played.term)
+        terms = self.dialogue.played.terms()
+        self.shown = [min(old, len(term)) for old, term in zip(self.shown, terms)]
+        self.shown[self.line] = len(terms[self.line])
+        self.told = {line for line in self.told if len(terms[line]) > self.shown[line]}
         if self.keyboard.person:
-            self.write(self.dialogue.played.term.rsplit(b"\n", 1)[-1])
+            self.write(self.last())
+
+    def typed(self, lines):
+        """Lines of a script that type at the line that is shown."""
+        if not self.dialogue.machine.eight or line_of(self.dialogue.lines()) == self.line:
+            return lines
+        return [b"line %d" % self.line, *lines]
 
     def add(self, line):
+        is_typed = any(one.startswith((b"type", b"byte")) for one in line.lines)
         try:
-            found = self.dialogue.add(line.lines)
+            found = self.dialogue.add(self.typed(line.lines) if is_typed else line.lines)
         except Refused as error:
-            self.show(error.term, line.echo)
+            self.show(error.terms, line.echo)
             raise
-        self.show(self.dialogue.played.term, line.echo)
+        self.show(self.dialogue.played.terms(), line.echo)
         return found
 
     def add_all(self, most):
         """Adds what waits in a file in as few runs as can be. Gives whether it was any."""
         batch = self.keyboard.batch()[:most]
+        if batch:
+            batch[0] = self.typed(batch[0])
         count = self.dialogue.add_all(batch) if len(batch) > 1 else 0
         del self.keyboard.waiting[:count]
         if count:
-            self.show(self.dialogue.played.term)
+            self.show(self.dialogue.played.terms())
         return count
 
     def order(self, order):
         found = ORDERS[order.letter](self, order.number)
-        self.prompt()
+        if order.letter in "?lugw":
+            self.prompt()
         return found
+
+    def go_to_line(self, line):
+        """Shows a line of the terminal: what is new there, and to a person at least its end."""
+        self.one_of_eight(line)
+        self.line = line
+        tell(f"line {line}")
+        terms = self.dialogue.played.terms()
+        if len(terms[line]) > self.shown[line]:
+            self.show(terms)
+        else:
+            self.prompt()
+
+    def hang_up(self, line):
+        line = self.line if line is None else line
+        self.one_of_eight(line)
+        return self.add(Typed([b"hangup %d" % line]))
+
+    def one_of_eight(self, line):
+        if line >= LINES or line and not self.dialogue.machine.eight:
+            raise ConsoleError(f"there is no line {line}" + (": --lines gives eight, 0 to 7" if line < LINES else ""))
 
     def help(self, _):
         tell("lines that begin with ~:\n" + HELP.rstrip())
@@ -239,11 +286,10 @@ class Console:
         count = len(self.dialogue.steps) - self.dialogue.first()
         if line > count:
             raise ConsoleError(f"there {'is' if count == 1 else 'are'} {lines(count)}")
-        before, old = self.dialogue.at, self.shown
+        before = self.dialogue.at
         found = self.dialogue.go_to(line + self.dialogue.first())
         if self.dialogue.at > before:
-            self.shown = old
-            self.show(self.dialogue.played.term)
+            self.show(self.dialogue.played.terms())
             self.write(b"\n" * self.keyboard.person)
         self.stands()
         return found
@@ -268,7 +314,8 @@ class Console:
              "waits for it")
 
 
-ORDERS = {"?": Console.help, "l": Console.list, "u": Console.back, "g": Console.go, "w": Console.who}
+ORDERS = {"?": Console.help, "l": Console.list, "u": Console.back, "g": Console.go, "w": Console.who, "h": Console.hang_up,
+          **{str(line): Console.go_to_line for line in range(LINES)}}
 
 
 def lines(count):
@@ -349,6 +396,7 @@ def options_of(words):
     parser.add_argument("--core", type=number, help=f"the size of core, in clicks ({CORE}, or that of the script)")
     parser.add_argument("--clock", type=number, default=0, help="a new dialogue has a tick after each N slots (0: none)")
     parser.add_argument("--slots", type=number, default=2000000, help="what a line is given at most (2000000)")
+    parser.add_argument("--lines", action="store_true", help="eight lines of the terminal, one shown at a time")
     parser.add_argument("--replay", action="store_true", help="play a script also where it was typed at another disk or core")
     add_version(parser)
     options = parser.parse_args(words)
@@ -423,8 +471,9 @@ def check_header(options, machine, found):
     """A script goes on only over the disk and the core that it was typed at."""
     if not found or options.replay or found[0] == machine.header:
         return
-    same = HEADER.fullmatch(machine.header)[1] == found[1]
-    what = "with another size of core" if same else f"at another disk than {options.image}"
+    mine = HEADER.fullmatch(machine.header)
+    what = (f"at another disk than {options.image}" if mine[1] != found[1] else
+            "with another size of core" if mine[2] != found[2] else "at one line of the terminal")
     raise ConsoleError(f"{options.script} was typed {what}: another --script begins a new dialogue, and --replay plays this "
                        "one")
 
@@ -435,7 +484,7 @@ def run(options, folder):
         make_copy()
     old, head = script.lines()
     core = options.core if options.core is not None else int(head[2]) if head else CORE
-    machine = Machine(options.v6, options.image, core, folder)
+    machine = Machine(options.v6, options.image, core, folder, options.lines or bool(head and head[3]))
     start = [b"clock %d" % options.clock] if options.clock else []
     console = Console(Dialogue(machine, options.slots, start), Keyboard(sys.stdin.buffer))
 
@@ -449,15 +498,19 @@ def run(options, folder):
     try:
         check_header(options, machine, head)
         found = console.dialogue.begin(old)
-        console.show(console.dialogue.played.term)
-        why = None if console.dialogue.played.term else why_silent(read_bytes(machine.image), console.dialogue.played.log)
+        if machine.eight and line_of(old):
+            console.line = line_of(old)
+            tell(f"line {console.line}")
+        console.show(console.dialogue.played.terms())
+        silent = not any(console.dialogue.played.terms())
+        why = why_silent(read_bytes(machine.image), console.dialogue.played.log) if silent else None
         if why:
             tell(why)
     except DialogueError as error:
         tell(error if head else LINE.sub(lambda line: f"{line[1]}{int(line[2]) - 1}", str(error), count=1))
         return 1
     save()
-    console.keyboard.prompt = lambda: console.dialogue.played.term.rsplit(b"\n", 1)[-1]
+    console.keyboard.prompt = console.last
     console.keyboard.edit([shown(step) for step in console.dialogue.steps[console.dialogue.first() :]])
     status = 0
     try:

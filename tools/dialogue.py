@@ -17,6 +17,7 @@ TYPE_BYTES = 290  # a longer line is typed byte by byte
 RETURN, END_OF_FILE, INTERRUPT, QUIT = 0o15, 0o4, 0o177, 0o34
 PASSES = b"; time passes until the next sleeper wakes"
 MANY = 1024  # lines that are tried in one run
+LINES = 8  # of a terminal, as run8 has them
 
 
 class DialogueError(Exception):
@@ -31,17 +32,21 @@ class Played:
     said: str
     term: bytes
     log: bytes
+    others: tuple = ()  # what the lines 1 to 7 of eight show
+
+    def terms(self):
+        return self.term, *self.others
 
 
 class Machine:
     """The program, an image and a core; it plays a script from the start. The image is read once, and the program gets a copy, so
     that each run of a dialogue has the same disk whatever becomes of the file meanwhile."""
 
-    def __init__(self, v6, image, core, folder):
-        self.v6, self.named, self.core, self.folder = v6, image, str(core), folder
+    def __init__(self, v6, image, core, folder, eight=False):
+        self.v6, self.named, self.core, self.folder, self.eight = v6, image, str(core), folder, eight
         data = read_bytes(image)
         self.digest = hashlib.sha256(data).hexdigest().encode()
-        self.header = b"; console: image sha256 %s core %d" % (self.digest, core)
+        self.header = b"; console: image sha256 %s core %d" % (self.digest, core) + b" lines" * eight
         self.image = self.path("image")
         with open(self.image, "wb") as file:
             file.write(data)
@@ -64,13 +69,18 @@ class Machine:
         with open(self.path("script"), "wb") as file:
             file.write(self.text(lines))
         outs = [self.path(name) for name in ("term", "log")]
-        for out in outs:
+        others = [f"{outs[0]}.{line}" for line in range(1, LINES) if self.eight]
+        for out in (*outs, *others):
             open(out, "wb").close()
-        status, said = call(self.v6, "run", self.image, self.core, self.path("script"), *outs, disk)
-        return Played(status, said, read_bytes(outs[0]), read_bytes(outs[1]))
+        word = "run8" if self.eight else "run"
+        status, said = call(self.v6, word, self.image, self.core, self.path("script"), *outs, disk)
+        return Played(status, said, *map(read_bytes, outs), tuple(map(read_bytes, others)))
 
     def memory(self, lines):
-        """The bytes of core and of the swap area where a script ends, or None of a program that doesn't tell them."""
+        """The bytes of core and of the swap area where a script ends, or None of a program that doesn't tell them; so of eight lines,
+        since `memory` has one."""
+        if self.eight:
+            return None
         with open(self.path("script"), "wb") as file:
             file.write(self.text(lines))
         status, _ = call(self.v6, "memory", self.image, self.core, self.path("script"), self.path("memory"))
@@ -104,6 +114,11 @@ def steps_of(lines):
     return steps
 
 
+def line_of(lines):
+    """The line of the terminal at which a script types at its end."""
+    return next((int(line[5:]) for line in reversed(lines) if re.fullmatch(rb"line [0-7]", line)), 0)
+
+
 def is_start(step):
     """Whether nothing is typed: what the machine does before the first key."""
     return not any(line.startswith((b"type", b"byte")) for line in step)
@@ -119,6 +134,10 @@ def shown(step):
             text += key_shown(int(line[5:], 8))
         elif line == PASSES:
             break
+        elif line.startswith(b"line "):
+            text += b"~" + line[5:] + b" "
+        elif line.startswith(b"hangup "):
+            text += b"~h " + line[7:]
         elif not line.startswith((b"run ", b";")):
             text += b"~:" + line
     if not text and is_start(step):
@@ -183,7 +202,7 @@ class Dialogue:
         """Plays lines, or tells why they can't be played."""
         played = self.machine.play(lines)
         if played.status:
-            raise Refused(reason(self.machine, played, [self.machine.header, *lines]), played.term)
+            raise Refused(reason(self.machine, played, [self.machine.header, *lines]), played)
         return played
 
     def add(self, more):
@@ -266,9 +285,9 @@ class Dialogue:
 class Refused(DialogueError):
     """A run that doesn't come to its end, and what it shows until then."""
 
-    def __init__(self, text, term):
+    def __init__(self, text, played):
         super().__init__(text)
-        self.term = term
+        self.term, self.terms = played.term, played.terms()
 
 
 def reason(machine, played, lines):

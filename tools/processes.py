@@ -32,6 +32,11 @@ def programs_of(disk):
     return {clicks: sorted(names) for clicks, names in found.items()}
 
 
+def is_keys(channel):
+    """Whether one who sleeps there waits for a key: on line 0, or on a further one."""
+    return channel.partition(b".")[0] == KEYS
+
+
 @dataclass
 class Process:
     number: int
@@ -57,6 +62,10 @@ class Processes:
     def sleepers(self, channel):
         return {slot for slot, one in self.slots.items() if one.does == channel.decode()}
 
+    def readers(self):
+        """Who waits for a key, on whichever line."""
+        return {slot for slot, one in self.slots.items() if is_keys(one.does.encode())}
+
     def choice(self, words):
         self.idle = words[0] == b"idle"
 
@@ -64,14 +73,14 @@ class Processes:
         slot = int(words[1])
         if slot in self.slots:
             self.slots[slot].does = words[3].decode()
-            if words[3] == KEYS:
+            if is_keys(words[3]):
                 self.woken.discard(slot)
 
     def wake(self, words):
         woken = self.sleepers(words[1])
         for slot in woken:
             self.slots[slot].does = "runs"
-        if words[1] == KEYS:
+        if is_keys(words[1]):
             self.answered.append(self.idle and bool(woken))
             self.woken |= woken
 
@@ -111,7 +120,7 @@ class Processes:
         self.slots.pop(int(words[1]), None)
 
     def state(self):
-        readers = self.sleepers(KEYS)
+        readers = self.readers()
         is_idle = self.idle and not any(one.does.startswith(BY_SLOTS) for one in self.slots.values())
         if readers:
             return WAITS if is_idle or self.woken <= readers else BUSY
@@ -124,7 +133,8 @@ class Processes:
         whose image and text are as large as its own: see programs_of."""
         lines = []
         for _, one in sorted(self.slots.items()):
-            does = DOES[one.does.partition(".")[0]]
+            channel, _, number = one.does.partition(".")
+            does = DOES[channel] + (f" on line {number}" if number and channel in ("keys", "show") else "")
             if commands and commands.get(one.number):
                 does += f": {commands[one.number]}"
             elif one.program in (programs or {}) and one.does != "ended":

@@ -64,7 +64,7 @@ def run(options):
         head = head_of(options.script)
         core = int(head[2]) if head else CORE
     if not options.replay:
-        check_head(options.script, options.image, core)
+        check_head(options.script, options.image, core, options.eight)
     for name in outputs.values():
         if name not in STREAMS:
             place_of(name)

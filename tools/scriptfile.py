@@ -7,7 +7,7 @@ from files import read_bytes
 
 MOST = 1048576  # bytes of a script
 COUNT = re.compile(rb"(clock|run) ([0-9]{1,9})")
-HEADER = re.compile(rb"; console: image sha256 ([0-9a-f]{64}) core ([0-9]{1,9})")  # the first line of one of the console
+HEADER = re.compile(rb"; console: image sha256 ([0-9a-f]{64}) core ([0-9]{1,9})( lines)?")  # the first line of one of the console
 OTHER = re.compile(rb"tick|type(?: [\x20-\x7e]*)?|byte [0-3][0-7]{2}|switch [01][0-7]{5}|(?:disk|pace) [0-9]{1,9}|"
                    rb"(?:line|hangup) [0-7]|(?:;.*)?", re.DOTALL)
 
@@ -49,15 +49,16 @@ def head_of(name):
         return HEADER.fullmatch(file.readline(200).rstrip(b"\n"))
 
 
-def check_head(name, image, core):
-    """Refuses a script of the console that was typed at another disk or core."""
+def check_head(name, image, core, eight=False):
+    """Refuses a script of the console that was typed at another disk or core, or at eight lines where there is one."""
     found = head_of(name)
     if not found or not os.path.isfile(image):
         return
     with open(image, "rb") as file:
         same = hashlib.sha256(file.read()).hexdigest().encode() == found[1]
-    if not same or int(found[2]) != core:
-        what = "with another size of core" if same else f"at another disk than {image}"
+    if not same or int(found[2]) != core or found[3] and not eight:
+        what = (f"at another disk than {image}" if not same else
+                "with another size of core" if int(found[2]) != core else "at eight lines")
         raise ScriptError(f"{name} was typed {what}: --replay plays it all the same")
 
 

@@ -152,6 +152,19 @@ class Parts(unittest.TestCase):
                          ["process 1 sleeps for a time", "process 4, a child of 1, runs",
                           "process 3, a child of 1, reads the terminal"])
 
+    def test_further_lines(self):
+        """Who waits for the keys of any line waits for a key; who was woken on one line has to read again."""
+        log = FORK + "go 2\nsleep 2 10 keys.1\ngo 1\nsleep 1 10 keys\nidle\n"
+        self.assertEqual(Processes((BOOT + log).encode()).state(), "waits")
+        self.assertEqual(Processes((BOOT + log).encode()).told(),
+                         ["process 1 reads the terminal", "process 2, a child of 1, reads the terminal on line 1"])
+        log += "wake keys.1\ngo 2\n"
+        self.assertEqual(Processes((BOOT + log).encode()).state(), "busy")
+        self.assertEqual(Processes((BOOT + log + "sleep 2 20 show.1\nidle\n").encode()).state(), "busy")
+        self.assertEqual(Processes((BOOT + log + "sleep 2 10 keys.1\nidle\n").encode()).state(), "waits")
+        self.assertEqual([dialogue.line_of(lines) for lines in ([], [b"line 3", b"type", b"run 1"], [b"line 3", b"line 0"])],
+                         [0, 3, 0])
+
     def test_keys(self):
         self.assertEqual(dialogue.keys(b"ls -l\r"), [b"type ls -l"])
         self.assertEqual(dialogue.keys(b"\r"), [b"type"])
@@ -209,6 +222,8 @@ class Parts(unittest.TestCase):
         self.assertEqual([len(step) for step in steps], [2, 2, 8, 2])
         self.assertEqual([dialogue.shown(step) for step in steps], ["~:clock 100", "a", "b^D", "~:tick"])
         self.assertEqual(sum(steps, []), lines)
+        self.assertEqual(dialogue.shown([b"line 2", b"type ls", b"run 5"]), "~2 ls")
+        self.assertEqual(dialogue.shown([b"hangup 2", b"run 5"]), "~h 2")
         self.assertEqual((dialogue.total(lines), dialogue.clock(lines), dialogue.clock(lines[:2])), (20081, False, True))
 
 
@@ -534,16 +549,108 @@ class Sessions(Case):
         self.assertEqual((done.returncode, done.stderr), (1, said))
 
 
+class EightLines(Case):
+    """The disk of examples/timesharing, with a getty on the lines 0, 1 and 2."""
+
+    IMAGE = os.path.join(TOP, "examples", "timesharing", "image")
+    MOTD = "The chess club meets on Thursday.\n% "
+
+    def session(self, typed, *words):
+        return self.ran(console.main, self.IMAGE, "--v6", V6, *words, typed=typed.encode())
+
+    def shown(self, text):
+        return text.replace("\n", "\r\n").encode()
+
+    def test_three_lines(self):
+        """Each shows what is new on it when one goes there, and the script tells on which line was typed."""
+        script = self.path("script")
+        status, term, said = self.session("guest\n~1\ndennis\nnb\nwho\n~0\nwho\n~1\n~2\n", "--lines", "--script", script)
+        self.assertEqual((status, said), (0, "\nconsole: line 1\n\nconsole: line 0\n\nconsole: line 1\n\nconsole: line 2\n"))
+        who = "who\ndennis  tty1 19:28\nguest   tty8 19:28\n% "
+        self.assertEqual(term, self.shown(f"\nlogin: guest\n{self.MOTD}\nlogin: dennis\nPassword: \n{self.MOTD}{who}{who}"
+                                          "\nlogin: "))
+        head, *lines = read(script).decode().splitlines()
+        self.assertTrue(head.endswith(" core 3968 lines"))
+        slots = ["run 10000"]
+        self.assertEqual(lines, slots + [line for one in (["type guest"], ["line 1", "type dennis"], ["type nb"], ["type who"],
+                                                          ["line 0", "type who"]) for line in one + slots])
+
+    def test_page(self):
+        """The command of docs/tools/console.md gives what stands under it."""
+        page = read(os.path.join(TOP, "docs", "tools", "console.md")).decode()
+        command, told = next(block for block in page.split("```\n")[1::2] if "--lines" in block).split("\n", 1)
+        path = f"{os.path.dirname(sys.executable)}:{os.environ['PATH']}"
+        done = subprocess.run(["sh", "-c", command], cwd=TOP, env={**os.environ, "PATH": path, "V6": V6}, stdout=subprocess.PIPE,
+                              stderr=subprocess.STDOUT)
+        shown = [line.rstrip() for line in done.stdout.decode().replace("\r\n", "\n").split("\n")]
+        self.assertEqual((done.returncode, "\n".join(shown)), (0, told.removesuffix("\n")))
+
+    def test_hanging_up(self):
+        """The shell of the line ends, and getty comes again: on the line that is named, or on the one that is shown."""
+        typed = "~2\nguest\n~0\nguest\n~h 2\nwho\n~2\n~h\n"
+        status, term, said = self.session(typed, "--lines", "--script", self.path("script"))
+        self.assertEqual((status, said), (0, "\nconsole: line 2\n\nconsole: line 0\n\nconsole: line 2\n"))
+        self.assertEqual(term, self.shown(f"\nlogin: \nlogin: guest\n{self.MOTD}guest\n{self.MOTD}who\nguest   tty8 19:28\n% "
+                                          "\nlogin: \nlogin: "))
+        self.assertEqual(read(self.path("script")).count(b"\nhangup 2\nrun 10000\n"), 2)
+
+    def test_taking_back(self):
+        """What other lines have shown since goes too, and lines are listed with the line that they were typed on."""
+        script = self.path("script")
+        said = self.session("guest\n~1\nguest\n~0\nwho\n~h 1\n~l\n~u 3\n~1\n~0\nwho\n~g 2\n~1\nguest\n~l\n",
+                            "--lines", "--script", script)[2]
+        told = [one for one in said.split("\n\nconsole: ") if "typed" in one or "after" in one]
+        self.assertEqual(told, ["4 lines, as they were typed\n    1  guest\n    2  ~1 guest\n    3  ~0 who\n    4  ~h 1",
+                                "after line 1: guest", "after line 2: who",
+                                "3 lines, as they were typed\n    1  guest\n    2  who\n    3  ~1 guest\n"])
+
+    def test_a_script_of_eight_lines(self):
+        """It goes on with eight lines, and on the line of its end; other tools refuse it, or play it with eight."""
+        script, term, final = (self.path(name) for name in ("script", "term", "final"))
+        self.session("~1\nguest\n", "--lines", "--script", script)
+        status, shown, said = self.session("who\n", "--script", script, "--disk", final)
+        self.assertEqual((status, said), (0, "\nconsole: line 1\n"))
+        self.assertEqual(shown, self.shown(f"\nlogin: guest\n{self.MOTD}who\nguest   tty1 19:28\n% "))
+        self.assertEqual(v6("check", final)[0], 0)
+        run = tool("run").main
+        status, said = self.call(run, "--v6", V6, self.IMAGE, script, "--term", term)[::2]
+        self.assertEqual((status, said), (3, f"run.py: {script} was typed at eight lines: --replay plays it all the same\n"))
+        self.assertEqual(self.call(run, "--v6", V6, "--eight", self.IMAGE, script, "--term", term), (0, "", ""))
+        self.assertEqual(read(term + ".1"), shown)
+        one = self.path("one")
+        self.session("guest\n", "--script", one)
+        self.assertEqual(self.session("", "--lines", "--script", one)[2], (
+            f"\nconsole: {one} was typed at one line of the terminal: another --script begins a new dialogue, and --replay plays "
+            "this one\n"))
+
+    def test_waits(self):
+        """A line gets slots enough where programs wait for the disk, and bytes go out one by one."""
+        term = self.session("~:disk 100\n~:pace 200\n~1\nguest\nwho\n", "--lines")[1]
+        self.assertEqual(term, self.shown(f"\nlogin: \nlogin: guest\n{self.MOTD}who\nguest   tty1 19:28\n% "))
+
+    def test_lines_that_are_not_there(self):
+        for typed, line, more in (("~1", 1, ": --lines gives eight, 0 to 7"), ("~h 7", 7, ": --lines gives eight, 0 to 7"),
+                                  ("~h 8", 8, "")):
+            self.assertEqual(self.session(typed + "\n"), (1, b"\r\nlogin: ", f"\nconsole: there is no line {line}{more}\n"))
+        self.assertIn("no command of the console", self.session("~8\n", "--lines")[2])
+        self.assertEqual(self.session("~h 5\n", "--lines"), (0, b"\r\nlogin: ", ""))  # nobody has opened it
+        self.assertEqual(self.session("guest\n~h\n")[1], self.shown(f"\nlogin: guest\n{self.MOTD}\nlogin: "))
+
+    def test_who(self):
+        said = self.session("~1\nguest\nsleep 60 &\n~w\n", "--lines")[2]
+        self.assertIn("process 3, a child of 1, reads the terminal on line 1 (/bin/sh)\n", said)
+
+
 class Terminals(Case):
     """A person at a terminal of the host: a pair of pseudo-terminals. A dumb one edits its lines by itself."""
 
-    TERM = "dumb"
+    TERM, WORDS = "dumb", ()
 
     def setUp(self):
         super().setUp()
         self.ours, theirs = pty.openpty()
         self.addCleanup(os.close, self.ours)
-        command = [sys.executable, os.path.join(TOOLS, "console.py"), self.image(), "--v6", V6]
+        command = [sys.executable, os.path.join(TOOLS, "console.py"), self.image(), "--v6", V6, *self.WORDS]
         self.console = subprocess.Popen(command, stdin=theirs, stdout=theirs, stderr=theirs, env={**os.environ, "TERM": self.TERM})
         os.close(theirs)
         self.addCleanup(self.console.wait)
@@ -579,6 +686,43 @@ class Terminals(Case):
         self.until(b"% ")
         os.write(self.ours, b"~l\n")
         self.assertIn(b"    1  a{b}\r\ntaken back:\r\n    2  a^Ib\r\n% ", self.until(b"a^Ib\r\n% "))
+        os.write(self.ours, b"~.\n")
+        self.assertEqual(self.console.wait(LONG), 0)
+
+
+class FurtherLines(Terminals):
+    """A person at eight lines, of which three ask for a name."""
+
+    WORDS = ("--lines",)
+
+    def image(self):
+        return EightLines.IMAGE
+
+    def test_the_end_of_a_file_on_a_line(self):
+        """What is new on other lines is told once, until one has been there."""
+        self.assertIn(b"console: new on line 1, line 2: ~N shows line N\r\nlogin: ", self.until(b"line N\r\nlogin: "))
+        os.write(self.ours, b"guest\n")
+        self.assertNotIn(b"new on", self.until(b"% "))
+        os.write(self.ours, b"~1\n")
+        self.assertIn(b"console: line 1\r\n", self.until(b"login: "))
+        os.write(self.ours, b"guest\n")
+        self.until(b"% ")
+        os.write(self.ours, b"echo hello >/dev/tty8\n")
+        self.until(b"console: new on line 0: ~N shows line N\r\n% ")
+        os.write(self.ours, b"~0\n")
+        self.until(b"hello\r\r\n")
+        os.write(self.ours, b"~1\n")
+        self.until(b"line 1\r\n% ")
+
+    def test_echo_and_prompt(self):
+        """A line is shown once; going to the line where one is shows its end again, and so does hanging up the line."""
+        self.until(b"line N\r\nlogin: ")
+        os.write(self.ours, b"guest\n")
+        self.assertEqual(self.until(b"% ").replace(b"\r", b""), b"guest\nThe chess club meets on Thursday.\n% ")
+        os.write(self.ours, b"~0\n")
+        self.assertEqual(self.until(b"% ").replace(b"\r", b""), b"~0\n\nconsole: line 0\n% ")
+        os.write(self.ours, b"~h\n")
+        self.assertEqual(self.until(b"login: ").replace(b"\r", b""), b"~h\n\nlogin: ")
         os.write(self.ours, b"~.\n")
         self.assertEqual(self.console.wait(LONG), 0)
 
