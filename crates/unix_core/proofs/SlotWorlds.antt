@@ -285,6 +285,14 @@ module _ (w : World) (left : w.slots.left ≡ 0) (good : IsGood (one_before w)) 
         took_more a b c (disk_lines (unix_of w)) (sent_after (unix_of w)).items (subst (λ lines. Took a lines b) lines_are first)
         (subst (λ (u : Unix). Took b (sent_after u).items c) reach_unix second)
 
+-- what is as it was then
+pub reach_others : (w v : World) (p : Procs)
+    → v ≡ record w { files = record w.files { lines = v.files.lines }; procs = record p { table = v.procs.table }; slots = v.slots }
+    → v ≡ record w { files = record w.files { lines = v.files.lines }; procs = v.procs; slots = v.slots }
+reach_others w v p sent =
+    let procs : record p { table = v.procs.table } ≡ v.procs = sym (ap (λ (y : World). y.procs) sent) in
+    sent ∙ (λ i. record w { files = record w.files { lines = v.files.lines }; procs = procs i; slots = v.slots })
+
 -- where nobody was woken, nothing but the lines and the slots has changed
 pub none_woken : (a b : Bool) → (a || b) ≡ false → (a ≡ false) × (b ≡ false)
 none_woken true b e = absurd (cc e)

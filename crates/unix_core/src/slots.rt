@@ -317,8 +317,6 @@ impl Woken {
 
 /// Wakes those who wait for the disk up to the end of the slot of this number, the lowest first, and finds the next with which
 /// a wait ends.
-#[cold]
-#[inline(never)]
 fn wake_disks<T: Trace>(procs: &mut Procs, passed: u32, trace: &mut T) -> Woken
     requires agree { AreProcs procs.old }
     requires graves { NoneInGraves (processes_of procs.old) }
@@ -347,36 +345,6 @@ fn wake_disks<T: Trace>(procs: &mut Procs, passed: u32, trace: &mut T) -> Woken
         woken = woken.with(end, passed);
     }
     woken
-}
-
-/// The same where a wait may end with the slot of this number: that of number `wake` has come. Where it hasn't nobody is looked
-/// at.
-fn wake_due<T: Trace>(procs: &mut Procs, passed: u32, wake: u32, trace: &mut T) -> Woken
-    requires agree { AreProcs procs.old }
-    requires graves { NoneInGraves (processes_of procs.old) }
-    requires fresh { passed < NEVER }
-    requires none { passed < wake → woken_with passed (processes_of procs.old) ≡ [] }
-    requires due { passed < wake → AreDueFrom wake passed (processes_of procs.old) }
-    ensures agree { AreProcs procs.new }
-    ensures others { procs.new ≡ record procs.old { table = procs.new.table } }
-    ensures same { result.any ≡ false → procs.new ≡ procs.old }
-    ensures running { procs.new.table.running ≡ procs.old.table.running }
-    ensures clock { clock_of procs.new.table ≡ clock_of procs.old.table }
-    ensures board { board_of procs.new.table procs.new.images.kept ≡ (logged {W = Unix}
-        (board_of procs.old.table procs.old.images.kept) (map Show (woken_with passed (processes_of procs.old)))).board }
-    ensures any { result.any ≡ not (length (woken_with passed (processes_of procs.old)) == 0) }
-    ensures next { passed < result.next }
-    ensures due { AreDueFrom result.next passed (processes_of procs.old) }
-    ensures items { Took (T.taken trace.old) (woken_with passed (processes_of procs.old)) (T.taken trace.new) }
-    ensures frame { T.leads_to trace.old trace.new }
-{
-    if passed < wake {
-        return Woken {
-            any: false,
-            next: wake,
-        };
-    }
-    wake_disks(procs, passed, trace)
 }
 
 /// Whether one of the two is so.
@@ -545,8 +513,43 @@ fn send_after<T: Trace>(world: &mut World, passed: u32, trace: &mut T) -> bool
     any
 }
 
+/// The slot that was due has been taken, and a wait for the disk may end with it: who has waited up to its end is woken, and where
+/// the lines send with its end they do. Tells whether anybody is woken.
+#[cold]
+#[inline(never)]
+fn reach_wake<T: Trace>(world: &mut World, trace: &mut T) -> bool
+    requires left { world.old.slots.left ≡ 0 }
+    requires good { IsGood (one_before world.old) }
+    requires counted { IsCounted (one_before world.old).slots (unix_of (one_before world.old)) }
+    requires fresh { world.old.slots.due ≤ 3000000001 }
+    ensures unix { unix_of world.new ≡ with_sent (unix_of world.old) }
+    ensures board { board_in world.new
+        ≡ (logged {W = Unix} (board_in world.old) (map Show (slot_items (unix_of world.old)))).board }
+    ensures any { result ≡ slot_wakes (unix_of world.old) }
+    ensures good { IsGood world.new }
+    ensures counted { IsCounted world.new.slots (unix_of world.new) }
+    ensures running { world.new.procs.table.running ≡ world.old.procs.table.running }
+    ensures tree { world.new.files.tree ≡ world.old.files.tree }
+    ensures others { world.new ≡ record world.old {
+      files = record world.old.files { lines = world.new.files.lines };
+      procs = world.new.procs;
+      slots = world.new.slots;
+    } }
+    ensures same { result ≡ false → world.new.procs ≡ world.old.procs }
+    ensures items { Took (T.taken trace.old) (slot_items (unix_of world.old)) (T.taken trace.new) }
+    ensures frame { T.leads_to trace.old trace.new }
+{
+    let passed = world.slots.due;
+    let woken = wake_disks(&mut world.procs, passed, trace);
+    world.slots.due = woken.next;
+    world.slots.left = woken.next - passed;
+    world.slots.wake = woken.next;
+    let sent = send_after(world, passed, trace);
+    either(woken.any, sent)
+}
+
 /// The slot that was due has been taken: who has waited for the disk up to its end is woken, and where the lines send with its
-/// end they do. Tells whether anybody is woken.
+/// end they do. Tells whether anybody is woken. Where no wait ends with it nobody is looked at.
 #[inline(always)]
 pub(crate) fn reach<T: Trace>(world: &mut World, trace: &mut T) -> bool
     requires left { world.old.slots.left ≡ 0 }
@@ -571,12 +574,13 @@ pub(crate) fn reach<T: Trace>(world: &mut World, trace: &mut T) -> bool
     ensures frame { T.leads_to trace.old trace.new }
 {
     let passed = world.slots.due;
-    let woken = wake_due(&mut world.procs, passed, world.slots.wake, trace);
-    world.slots.due = woken.next;
-    world.slots.left = woken.next - passed;
-    world.slots.wake = woken.next;
-    let sent = send_after(world, passed, trace);
-    either(woken.any, sent)
+    let wake = world.slots.wake;
+    if passed < wake {
+        world.slots.due = wake;
+        world.slots.left = wake - passed;
+        return send_after(world, passed, trace);
+    }
+    reach_wake(world, trace)
 }
 
 /// The same out of line, behind the slot of a turn.
