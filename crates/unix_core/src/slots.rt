@@ -164,7 +164,7 @@ impl Slots {
         (passed - self.set_at) % self.pace
     }
 
-    /// The next slot with which the lines send is due, if nothing is before. So many slots the last send lies back.
+    /// The next slot with which the lines send is due, if nothing is before. `behind` is how many slots the last send lies back.
     fn add_send(&mut self, behind: u32)
         requires within { self.old.left ≤ self.old.due }
         requires before { 0 < self.old.left }
@@ -397,7 +397,8 @@ fn turn_lines<T: Trace>(lines: &mut Lines, on: bool, table: &mut Table, trace: &
     any
 }
 
-/// Where bytes wait to go out, the next slot with which the lines send is due. So many slots the last send lies back.
+/// Where bytes wait to go out, the next slot with which the lines send is due. `behind` is how many slots the last send lies
+/// back.
 #[inline(always)]
 fn renew_by(world: &mut World, behind: u32)
     requires timed { IsTimed world.old.slots (unix_of world.old) }
@@ -513,8 +514,8 @@ fn send_after<T: Trace>(world: &mut World, passed: u32, trace: &mut T) -> bool
     any
 }
 
-/// The slot that was due has been taken, and a wait for the disk may end with it: who has waited up to its end is woken, and where
-/// the lines send with its end they do. Tells whether anybody is woken.
+/// The slot that was due has been taken, and a wait for the disk may end with it: who has waited up to its end is woken, and
+/// where the lines send with its end they do. Tells whether anybody is woken.
 #[cold]
 #[inline(never)]
 fn reach_wake<T: Trace>(world: &mut World, trace: &mut T) -> bool
