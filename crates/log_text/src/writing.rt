@@ -14,6 +14,20 @@ pub type Text = ArrayVec<u8, 80>;
 pub type Line = ArrayVec<u8, 81>;
 
 /// Adds the digits of a number, the highest first.
+fn add_long(line: &mut Line, number: u32)
+    requires { array_vec_len line.old + length (decimal number) ≤ 80 }
+    ensures { line.new.items ≡ line.old.items ++ decimal number }
+{
+    if number < 10 {
+        line.push(b'0' + number as u8);
+    } else {
+        add_long(line, number / 10);
+        line.push(b'0' + (number % 10) as u8);
+    }
+}
+
+/// The same. Most numbers have one digit, which is added without a call.
+#[inline(always)]
 fn add_digits(line: &mut Line, number: u32)
     requires { array_vec_len line.old + length (decimal number) ≤ 80 }
     ensures { line.new.items ≡ line.old.items ++ decimal number }
@@ -21,8 +35,7 @@ fn add_digits(line: &mut Line, number: u32)
     if number < 10 {
         line.push(b'0' + number as u8);
     } else {
-        add_digits(line, number / 10);
-        line.push(b'0' + (number % 10) as u8);
+        add_long(line, number);
     }
 }
 
@@ -291,6 +304,7 @@ fn panic(line: &mut Line, kind: PanicKind)
 }
 
 /// Puts the words of an entry, with a space between each two, into an empty line.
+#[inline(always)]
 fn put_words(line: &mut Line, entry: &Entry)
     requires { line.old.items ≡ [] }
     ensures items { line.new.items ≡ entry_line entry.now }
@@ -341,6 +355,7 @@ fn put_words(line: &mut Line, entry: &Entry)
 
 /// Puts the line of an entry, with its line feed, into an empty line: words with a space between each two, and decimal
 /// numbers.
+#[inline(always)]
 pub fn put_line(line: &mut Line, entry: &Entry)
     requires { line.old.items ≡ [] }
     ensures { line.new.items ≡ entry_line entry.now ++ 0o012 ∷ [] }

@@ -1,9 +1,9 @@
 use Rattle.std.proofs.Common.{◌∙◌, length, ap, arith, lit<, length-append}
 use Rattle.log_text.proofs.DigitLemmas.{one_digit, length-last_digit, digits_more}
-use Rattle.log_text.proofs.writing.+add_digits.Goals as goal
+use Rattle.log_text.proofs.writing.+add_long.Goals as goal
 
-pub add_digits-requires : goal.add_digits-requires
-add_digits-requires t c =
+pub add_long-requires : goal.add_long-requires
+add_long-requires t c =
     (omega arith, omega (arith, length-last_digit c.args.number c.if-number-lt10.false (omega arith)))
 
 pub push-requires : goal.push-requires
@@ -11,7 +11,7 @@ push-requires t c = (lit< tt, omega (arith, ap length (one_digit c.args.number c
 
 pub push-requires-else-number-lt10 : goal.push-requires-else-number-lt10
 push-requires-else-number-lt10 t c =
-    let front = simp length-append at (ap length c.add_digits.ensures) in
+    let front = simp length-append at (ap length c.add_long.ensures) in
     (lit< tt, omega (arith, front, length-last_digit c.args.number c.if-number-lt10.false (omega arith)))
 
 pub returns-then-number-lt10 : goal.returns-then-number-lt10
@@ -19,4 +19,4 @@ returns-then-number-lt10 t c = rw (one_digit c.args.number c.if-number-lt10.true
 
 pub returns-else-number-lt10 : goal.returns-else-number-lt10
 returns-else-number-lt10 t c =
-    c.push-else-number-lt10.ensures.items ∙ digits_more _ _ _ c.add_digits.ensures c.if-number-lt10.false (omega arith)
+    c.push-else-number-lt10.ensures.items ∙ digits_more _ _ _ c.add_long.ensures c.if-number-lt10.false (omega arith)
