@@ -597,12 +597,22 @@ class EightLines(Case):
     def test_taking_back(self):
         """What other lines have shown since goes too, and lines are listed with the line that they were typed on."""
         script = self.path("script")
-        said = self.session("guest\n~1\nguest\n~0\nwho\n~h 1\n~l\n~u 3\n~1\n~0\nwho\n~g 2\n~1\nguest\n~l\n",
-                            "--lines", "--script", script)[2]
+        typed = "guest\n~1\nguest\n~0\nwho\n~h 1\n~l\n~u 3\n~1\n~0\nwho\n~g 2\n~1\nguest\n~l\n"
+        _, term, said = self.session(typed, "--lines", "--script", script)
+        come = f"\nlogin: guest\n{self.MOTD}"
+        self.assertEqual(term, self.shown(f"{come}{come}who\nguest   tty1 19:28\nguest   tty8 19:28\n% "
+                                          f"who\nguest   tty8 19:28\n% guest\n{self.MOTD}"))
         told = [one for one in said.split("\n\nconsole: ") if "typed" in one or "after" in one]
         self.assertEqual(told, ["4 lines, as they were typed\n    1  guest\n    2  ~1 guest\n    3  ~0 who\n    4  ~h 1",
                                 "after line 1: guest", "after line 2: who",
                                 "3 lines, as they were typed\n    1  guest\n    2  who\n    3  ~1 guest\n"])
+
+    def test_new_after_taking_back(self):
+        """What comes to a line that showed more before it was taken back."""
+        term = self.session("guest\n~1\nguest\nwho\n~0\n~u 2\necho hello >/dev/tty1\n~1\n", "--lines")[1]
+        come = f"\nlogin: guest\n{self.MOTD}"
+        self.assertEqual(term, self.shown(f"{come}{come}who\nguest   tty1 19:28\nguest   tty8 19:28\n% echo hello >/dev/tty1\n% ")
+                         + b"hello\n")
 
     def test_a_script_of_eight_lines(self):
         """It goes on with eight lines, and on the line of its end; other tools refuse it, or play it with eight."""
@@ -638,6 +648,7 @@ class EightLines(Case):
 
     def test_who(self):
         said = self.session("~1\nguest\nsleep 60 &\n~w\n", "--lines")[2]
+        self.assertIn("process 2, a child of 1, reads the terminal (/etc/getty)\n", said)
         self.assertIn("process 3, a child of 1, reads the terminal on line 1 (/bin/sh)\n", said)
 
 
@@ -713,6 +724,11 @@ class FurtherLines(Terminals):
         self.until(b"hello\r\r\n")
         os.write(self.ours, b"~1\n")
         self.until(b"line 1\r\n% ")
+        for _ in range(2):  # told anew after it was taken back
+            os.write(self.ours, b"echo again >/dev/tty8\n")
+            self.until(b"console: new on line 0: ~N shows line N\r\n% ")
+            os.write(self.ours, b"~u\n")
+            self.until(b"after line 3: echo hello >/dev/tty8\r\n% ")
 
     def test_echo_and_prompt(self):
         """A line is shown once; going to the line where one is shows its end again, and so does hanging up the line."""
