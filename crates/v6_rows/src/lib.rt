@@ -22,6 +22,8 @@ mod generated;
 #[cfg(test)]
 mod inside;
 #[cfg(test)]
+mod lines;
+#[cfg(test)]
 mod log;
 #[cfg(test)]
 mod ports;
