@@ -19,6 +19,7 @@ use Rattle.open_files.specs.Files.{times}
 use Rattle.open_files.specs.declared.file.OpenFile.{OpenFile}
 use Rattle.u_area.specs.declared.layout.TheConstants.{NOTHING_PENDING}
 use Rattle.pipe_ends.specs.declared.ends.Pipe.{Pipe}
+use Rattle.mount_tab.specs.Mounted.{MountTable}
 use Rattle.fs_nodes.specs.Keys.{counts}
 use Rattle.sys_files.specs.Handed.{Handed}
 use Rattle.fs_nodes.specs.FileSystem.{IsFileSystem}
@@ -181,11 +182,13 @@ module _ (w1 now : World) (s : ℕ) (ready : IsReady w1 s) (status : ℕ) (agree
         let P : its.World → List (Option OpenFile) → List Pipe → Type 0 =
         λ v files pipes. Owes w1.files.tree.mounts.covered v.inodes.references files pipes v.texts (told_in v.processes) in
         let left : its.World = has_left w1 s ready status in
-        subst (P (handed now.procs now.files.tree.nodes) now.files.table) (sym rests.pipes)
-        (subst (λ files. P (handed now.procs now.files.tree.nodes) files w1.files.pipes) (sym table)
+        let x : its.World = handed now.procs now.files.tree.nodes in
+        subst (λ (m : MountTable). Owes m.covered x.inodes.references now.files.table now.files.pipes x.texts (told_in x.processes)) (sym rests.mounts)
+        (subst (P x now.files.table) (sym rests.pipes)
+        (subst (λ files. P x files w1.files.pipes) (sym table)
         (subst (λ v. P v w1.files.table w1.files.pipes) (sym gone_state)
         (subst (Owes w1.files.tree.mounts.covered left.inodes.references w1.files.table w1.files.pipes left.texts) (sym (told_gone w1 s ready status))
-        (gone_owes w1 s ready status form closed))))
+        (gone_owes w1 s ready status form closed)))))
 
     -- who waits in a pipe can go on
     waits : CanGoOn (unix_of now)

@@ -264,6 +264,8 @@ not_read file.Gtty other = refl
 not_read file.Sync other = refl
 not_read file.Dup other = refl
 not_read file.Pipe other = refl
+not_read file.Mount other = refl
+not_read file.Umount other = refl
 
 pub not_exec : (call : ProcessCall) (answer : Answer) → call ≢ process.Exec → loads_program call answer ≡ false
 not_exec process.Exec answer other = absurd (other refl)
