@@ -17,12 +17,13 @@ Each case comes from its number, the seed, and from nothing else. The kinds are
     command  words of commands, good and bad
     lines    programs over the lines of a terminal, mostly under `run8`
     slow     programs of the other benches, or over some lines of a terminal, under a slow disk and a paced terminal
+    two      programs over two disks under `run2`, of which one may be spoiled
 
 Without `--seed` cases are tried for so many hours (1), or `--count` of them, from `--first` on (by the clock where it isn't
 given). The program runs with limits of time and memory; every thousandth seed runs under valgrind too. A share of the other
-kinds runs under `run8` too, where programs find other lines under the console's name. Compared with the
-reference are the status, the report, the bytes of the terminals, the log line by line, what the final disk stands for, the bytes
-of the swap area, and for each third seed all that `memory` leaves. A refused command must leave its files as they were, and a
+kinds runs under `run8` too, where programs find other lines under the console's name. Compared with the reference are the
+status, the report, the bytes of the terminals, the log line by line, what each final disk stands for, the bytes of the swap
+area, and for each third seed all that `memory` leaves. A refused command must leave its files as they were, and a
 failed one fronts of what it would have written. Of a run that the reference can't follow, as one of very many slots, all that
 comes before its first slot is judged.
 
@@ -33,8 +34,8 @@ reference comes to; docs/rows.md has its language. `--seed` does this for one se
 `--check` tries COUNT spoiled images on `v6 check`, and as many spoiled scripts on `v6 run`, and judges the first fault that is
 named, and the counts of what is accepted.
 
-The reference is the Python module `abstract_unix`; the environment variable ABSTRACT_UNIX names the folder in which it is. Of
-its calls those of a later kernel are left out. It needs Linux, and valgrind for what runs under it.
+The reference is the Python module `abstract_unix`; the environment variable ABSTRACT_UNIX names the folder in which it is. It
+needs Linux, and valgrind for what runs under it.
 """
 import argparse
 import collections
@@ -71,7 +72,8 @@ def tell(case, found):
 
 
 def sizes(case):
-    return f"{len(case.image)} bytes of disk, {len(case.lines)} lines of the script"
+    second = f"{len(case.second)} of a second one, " if case.others() else ""
+    return f"{len(case.image)} bytes of disk, {second}{len(case.lines)} lines of the script"
 
 
 def listed(failed):

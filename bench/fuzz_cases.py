@@ -10,6 +10,7 @@ import file_calls
 import hostile
 import processes
 import spoil
+import two_disks
 from fuzz_hosts import random_host
 from random_disk import Tree
 from random_lines import over, random_lines
@@ -20,16 +21,18 @@ HI = f"{TOP}/examples/hi/image"
 INODE_7, HEADER, TEXT = 1216, 33792, 33808  # of /etc/init on the disk of examples/hi
 RUN = ("run", "image", "CORE", "script", "term", "log", "final")
 RUN8 = ("run8", *RUN[1:])
+RUN2 = ("run2", *RUN[1:], "image2", "final2")
 MEMORY = ("memory", "image", "CORE", "script", "final")
-KINDS = {"disk": 26, "words": 12, "hostile": 22, "script": 14, "host": 12, "command": 4, "odd": 10, "lines": 14, "slow": 14}
+KINDS = {"disk": 26, "words": 12, "hostile": 22, "script": 14, "host": 12, "command": 4, "odd": 10, "lines": 14, "slow": 14,
+         "two": 14}
 BENCH = (file_calls.Case, console.Case, processes.Case, processes.ExecCase, processes.PipeCase, processes.SignalCase)
 CORES = (64, 65, 100, 200, 600, 1200, 2048, 3967, 3968)
 
 
 @dataclass
 class Case:
-    """A command over an image, a size of core and a script, with what is told of it. `places` are those of the words of
-    programs, which a smaller case may lack; `host` says what else than a file stands under a name."""
+    """A command over an image, a size of core, a script and perhaps a second image, with what is told of it. `places` are those
+    of the words of programs, which a smaller case may lack; `host` says what else than a file stands under a name."""
 
     seed: int
     kind: str
@@ -41,6 +44,7 @@ class Case:
     places: list = field(default_factory=list)
     host: object = None
     sort: str = ""
+    second: bytes = None
 
     def script(self):
         return b"\n".join(self.lines) + (self.last_end if self.lines else b"")
@@ -48,6 +52,18 @@ class Case:
     def words(self):
         """The words of the command, in which the files are called so."""
         return [self.core if word == "CORE" else word for word in self.command]
+
+    def seconds(self):
+        """The name of the second image, where there is one."""
+        return () if self.second is None else ("image2",)
+
+    def files(self):
+        """What is read, by its name."""
+        return {"image": self.image, "script": self.script(), **dict.fromkeys(self.seconds(), self.second)}
+
+    def others(self):
+        """The second image, where the command has one."""
+        return (self.second,) if self.command[0] == "run2" else ()
 
     def with_(self, **changes):
         other = copy.copy(self)
@@ -172,16 +188,16 @@ def script(rng, seed):
 
 def host(rng, seed):
     """A case whose files are no plain files."""
-    case = hostile_program(rng, seed) if rng.random() < 0.4 else of_bench(rng, seed)
-    command = rng.choice((RUN, RUN, RUN8, MEMORY))
+    command = rng.choice((RUN, RUN, RUN8, RUN2, MEMORY))
+    case = of_two(seed) if command == RUN2 else hostile_program(rng, seed) if rng.random() < 0.4 else of_bench(rng, seed)
     return case.with_(command=command, host=random_host(rng, command))
 
 
 def command(rng, seed):
     """Words of all kinds, good and bad."""
-    case = Case(seed, "", read(HI), lines=[b"run 30"])
-    commands = (("check", "image"), ("make", str(rng.randrange(200)), "final"), ("demo", str(rng.randrange(3))), RUN, RUN8, MEMORY,
-                ("make", "CORE", "final"))
+    case = Case(seed, "", read(HI), lines=[b"run 30"], second=read(HI))
+    commands = (("check", "image"), ("make", str(rng.randrange(200)), "final"), ("demo", str(rng.randrange(3))), RUN, RUN8,
+                RUN2, MEMORY, ("make", "CORE", "final"))
     chosen = list(rng.choice(commands))
     cores = ("63", "64", "3968", "3969", "0064", "000001200", "0000001200", "1200 ", "", "-1", "+64", "12x", "999999999",
              "1e3", "64\n")
@@ -225,8 +241,29 @@ def slow(rng, seed):
     return case.with_(lines=slowed(rng, case.lines, there))
 
 
+def of_two(seed):
+    """The images, the core and the script of a case over two disks."""
+    case = two_disks.TwoDisks(seed)
+    lines, end = lines_of(case.script)
+    return Case(seed, "", case.image, str(case.core), lines, end, command=RUN2, sort="TwoDisks", second=case.second_image)
+
+
+def two(rng, seed):
+    """Programs over two disks under `run2`. A disk may be spoiled, or words of the program; disk and terminal may be slow."""
+    case, kind = of_two(seed), rng.random()
+    if kind < 0.15:
+        case = case.with_(second=spoil.spoiled_disk(rng, case.second, mild=rng.random() < 0.6))
+    elif kind < 0.25:
+        case = case.with_(image=spoil.spoiled_disk(rng, case.image, mild=rng.random() < 0.6))
+    elif kind < 0.35 and (places := program_places(case.image)):
+        case = case.with_(image=spoil.spoiled_words(rng, case.image, places))
+    elif kind < 0.4:
+        case = case.with_(second=rng.choice((case.image, read(HI))))
+    return case.with_(lines=slowed(rng, case.lines, [])) if rng.random() < 0.3 else case
+
+
 MAKERS = {"disk": disk, "words": words, "hostile": hostile_program, "script": script, "host": host, "command": command,
-          "odd": odd, "lines": lines, "slow": slow}
+          "odd": odd, "lines": lines, "slow": slow, "two": two}
 
 
 def case_of(seed, kind=None):

@@ -31,8 +31,8 @@ class Host:
 
 
 def random_host(rng, command):
-    inputs = [name for name in ("image", "script") if name in command]
-    outputs = [name for name in ("term", "log", "final") if name in command]
+    inputs = [name for name in ("image", "script", "image2") if name in command]
+    outputs = [name for name in ("term", "log", "final", "final2") if name in command]
     outputs += [f"term.{line}" for line in range(1, 8)] if command[0] == "run8" else []
     kind = rng.random()
     if kind < 0.3:

@@ -15,18 +15,21 @@ from file_calls import DISK_BYTES, SWAP_AT, first_difference, line_difference, n
 from fuzz_hosts import FAULT, SENTINEL, Host, Stand, input_bytes, write_faults
 
 USAGE = (b"usage: v6 run IMAGE CORE SCRIPT TERM LOG FINAL, run8 IMAGE CORE SCRIPT TERM LOG FINAL, "
-         b"memory IMAGE CORE SCRIPT FINAL, check IMAGE, make N FINAL, demo N, audit LOG\n")
+         b"run2 IMAGE CORE SCRIPT TERM LOG FINAL IMAGE2 FINAL2, memory IMAGE CORE SCRIPT FINAL, check IMAGE, "
+         b"make N FINAL, demo N, audit LOG\n")
 PANICS = {"swap": b"panic: out of swap space\n", "zombie": b"panic: out of swap\n", "text": b"panic: out of text\n"}
 OUTPUTS = ("term", "log", "final")
 LINES = tuple(f"term.{line}" for line in range(1, 8))  # what `run8` writes beside the console's
+FILES = OUTPUTS + LINES + ("final2",)
 DONE, USAGE_STATUS, READ_FAULT, WRITE_FAULT, CORE_SIZE, SCRIPT_FAULT, IMAGE_FAULT, PANIC = range(8)
+SECOND_FAULT, LAST_STATUS = 12, 13
+MOST_NODES, SECOND_BLOCKS = 65535, 4872  # of two disks, and of the file system of a second one
 MOST_SLOTS = 20_000  # that the reference follows
 MOST_EVENTS = 30_000
 SECONDS, BYTES, FILE_BYTES = 60, 2**28, 2**28  # of processor time, of memory, of a file, that the program may take
 REFERENCE_SECONDS = 60  # of processor time
 NOBODY = 65534
 VALGRIND = ("valgrind", "-q", "--error-exitcode=99")
-LATER_CALLS = (21, 22)  # mount and umount
 
 # what is counted in the logs of runs
 MET = (("waits for the disk", r"^sleep \d+ -50 disk"), ("waits for room on the console", r"^sleep \d+ 20 show$"),
@@ -48,11 +51,9 @@ class TooSlow(Exception):
 
 @functools.cache
 def modules():
-    """The modules of the reference, which is of a later kernel: the calls that this one hasn't are taken away."""
+    """The modules of the reference."""
     sys.path.insert(0, os.environ["ABSTRACT_UNIX"])
-    from abstract_unix import disk, generate, runs, script, unix
-    for number in LATER_CALLS:
-        unix.CALLS.pop(number, None)
+    from abstract_unix import disk, generate, runs, script
     return disk, generate, runs, script
 
 
@@ -84,8 +85,8 @@ def slots_of(events):
     return sum(event[1] for event in events if event[0] == "run")
 
 
-def refused(image, core, script):
-    """The status and the report of what is refused, or the events of the script."""
+def refused(image, core, script, others=()):
+    """The status and report of what is refused, or the events of the script. `others` has the second image, if there is one."""
     if not 64 <= core <= 3968:
         return Outcome(CORE_SIZE, b"core size\n", None), None
     if image is None:
@@ -93,31 +94,45 @@ def refused(image, core, script):
     fault = modules()[0].check(image)
     if fault:
         return Outcome(IMAGE_FAULT, fault.encode() + b"\n", None), None
+    for second in others:
+        if came := second_refused(image, second):
+            return came, None
     if script is None:
         return Outcome(READ_FAULT, b"read fault: script\n", None), None
     events, fault = events_of(script)
     return (Outcome(SCRIPT_FAULT, fault, None) if fault else None), events
 
 
+def second_refused(image, second):
+    """The same of a second image, beside one without a fault."""
+    disk = modules()[0]
+    if second is None:
+        return Outcome(READ_FAULT, b"read fault: second\n", None)
+    fault = disk.check(second, SECOND_BLOCKS, "second image")
+    count = 16 * sum(disk.Blocks(each).isize for each in (image, second)) if not fault else 0
+    fault = fault or count > MOST_NODES and f"second image: {count} nodes in all"
+    return Outcome(SECOND_FAULT, fault.encode() + b"\n", None) if fault else None
+
+
 def written(command):
     """The files that a command writes, in the order in which it opens them."""
-    outputs = [name for name in OUTPUTS if name in command]
+    outputs = [name for name in (*OUTPUTS, "final2") if name in command]
     return [*outputs[:1], *LINES, *outputs[1:]] if command[0] == "run8" and outputs[:1] == ["term"] else outputs
 
 
 def port_of(name):
     """What a report calls the port of a file."""
-    return name.replace("term.", "line")
+    return "second" if name == "final2" else name.replace("term.", "line")
 
 
-def reference_run(image, core, script, lines=1):
-    """What a run comes to by the reference, over so many lines."""
-    came, events = refused(image, core, script)
+def reference_run(image, core, script, lines=1, others=()):
+    """What a run comes to by the reference, over so many lines and perhaps a second image."""
+    came, events = refused(image, core, script, others)
     if came:
         return came
     if slots_of(events) > MOST_SLOTS or len(events) > MOST_EVENTS:
         raise TooSlow
-    run = in_time(lambda: modules()[2].Run(image, core, events, lines))
+    run = in_time(lambda: modules()[2].Run(image, core, events, lines, *others))
     return Outcome(PANIC if run.panic else DONE, PANICS.get(run.panic, b""), run)
 
 
@@ -174,13 +189,13 @@ class Program:
         """What the program comes to over the files of a case."""
         with tempfile.TemporaryDirectory() as folder:
             os.chmod(folder, 0o777)
-            stand = Stand(host, folder, {"image": case.image, "script": case.script()})
+            stand = Stand(host, folder, case.files())
             try:
                 status, report = self.call(words or case.words(), folder, host, under)
             finally:
                 stand.end()
-            files = {name: stand.bytes(name) for name in OUTPUTS + LINES}
-            hurt = [name for name in OUTPUTS + LINES if host.kinds.get(name) in FAULT and not stand.is_there_still(name)]
+            files = {name: stand.bytes(name) for name in FILES}
+            hurt = [name for name in FILES if host.kinds.get(name) in FAULT and not stand.is_there_still(name)]
             return Ran(status, report, files), hurt
 
 
@@ -189,7 +204,7 @@ class Program:
 
 def ended(status, report):
     """What is wrong with the way in which the program ended, whatever its answer."""
-    if status == "no end" or status < 0 or status > 8:
+    if status == "no end" or not 0 <= status <= LAST_STATUS:
         yield f"ended: status {status}, {report[:300]!r}"
     elif report.count(b"\n") > 1 or report and not report.endswith(b"\n"):
         yield f"ended: a report that is no line: {report[:300]!r}"
@@ -206,19 +221,20 @@ def nothing_written(ran):
             yield f"written: {len(data)} bytes of {name}, where the command is refused"
 
 
-def store_differences(image, want, final):
+def store_differences(image, want, final, is_second=False):
     """How a final disk differs from the store that the reference comes to. The order of the free inodes counts."""
     disk = modules()[0]
+    more, end = ((SECOND_BLOCKS,), DISK_BYTES) if is_second else ((), SWAP_AT)
     whole = image.ljust(DISK_BYTES, b"\0")
     if len(final) != DISK_BYTES:
         yield f"final: {len(final)} bytes"
         return
-    fault = disk.check(final)
+    fault = disk.check(final, *more)
     if fault:
         yield f"final: a fault: {fault}"
         return
     fsize = int.from_bytes(whole[514:516], "little")
-    if final[512 * fsize : SWAP_AT] != whole[512 * fsize : SWAP_AT] or final[:516] != whole[:516]:
+    if final[512 * fsize : end] != whole[512 * fsize : end] or final[:516] != whole[:516]:
         yield "final: its boot block, or what is behind the file system, has changed"
     got, want = (json.loads(json.dumps(store.dump())) for store in (disk.store_of(final), want))
     for key in ("count", "room", "spare", "stamp"):
@@ -252,6 +268,9 @@ def run_differences(case, ran, want):
     if log != text:
         yield "log: " + line_difference(text, log or b"")
     yield from store_differences(case.image, want.run.u.stores[0], final or b"")
+    for second in case.others():
+        found = store_differences(second, want.run.u.stores[1], ran.files["final2"] or b"", is_second=True)
+        yield from (f"second {said}" for said in found)
     _, _, swap, mask = want.run.memory()
     yield from masked("swap", (final or b"")[SWAP_AT:], swap, mask)
 
@@ -277,7 +296,7 @@ def memory_differences(program, case, want):
 def by_itself(program, case):
     """What can be said of a run that the reference doesn't follow: a command that comes to its outputs, of which one can't be
     opened, says so; and everything before that is judged."""
-    came, _ = refused(case.image, number(case.core), case.script())
+    came, _ = refused(case.image, number(case.core), case.script(), case.others())
     host = Host({"term": "missing"})
     ran, _ = program.over(case, host)
     yield from ended(ran.status, ran.report)
@@ -297,7 +316,8 @@ def count(case, run, counts):
         found = len(re.findall(text, log, re.MULTILINE))
         counts[name] += found
         counts[f"runs with {name}"] += found > 0
-    counts["runs under `run8`"] += case.command[0] == "run8"
+    for command in ("run8", "run2"):
+        counts[f"runs under `{command}`"] += case.command[0] == command
     for word in (b"disk", b"pace", b"line", b"hangup"):
         counts[f"scripts with {word.decode()}"] += any(line.startswith(word + b" ") for line in case.lines)
 
@@ -305,7 +325,8 @@ def count(case, run, counts):
 def run_case(program, case, counts):
     """A run whose files are plain."""
     try:
-        want = reference_run(case.image, number(case.core), case.script(), 8 if case.command[0] == "run8" else 1)
+        lines = 8 if case.command[0] == "run8" else 1
+        want = reference_run(case.image, number(case.core), case.script(), lines, case.others())
     except TooSlow:
         counts["not followed by the reference"] += 1
         yield from by_itself(program, case)
@@ -322,8 +343,8 @@ def run_case(program, case, counts):
 
 
 def contents(case):
-    """What a host's image and script hold."""
-    files = {"image": case.image, "script": case.script()}
+    """What a host's images and script hold."""
+    files = case.files()
     one, other = case.host.same or ("", "")
     if one in files and other in files:
         files[other] = files[one]
@@ -332,7 +353,7 @@ def contents(case):
 
 def plain_outputs(program, case, files):
     """What a command writes over plain files with these bytes."""
-    plain = case.with_(image=files["image"], lines=[files["script"]], last_end=b"", host=None)
+    plain = case.with_(image=files["image"], second=files.get("image2"), lines=[files["script"]], last_end=b"", host=None)
     return program.over(plain)[0]
 
 
@@ -340,7 +361,7 @@ def host_case(program, case, counts):
     """A run over a host that fails."""
     host, files = case.host, contents(case)
     outputs = written(case.command)
-    came, events = refused(files["image"], number(case.core), files["script"])
+    came, events = refused(files["image"], number(case.core), files["script"], [files[name] for name in case.seconds()])
     ran, hurt = program.over(case, host)
     counts["host: " + (", ".join(sorted(set(host.kinds.values()))) or ("same" if host.same else "limit"))] += 1
     yield from ended(ran.status, ran.report)
@@ -399,6 +420,8 @@ def command_case(program, case, counts):
     match words:
         case ["run" | "run8", image, core, script, *outputs] if len(outputs) == 3 and number(core) is not None:
             yield from named_case(case, ran, (image, core, script), outputs, 8 if words[0] == "run8" else 1)
+        case ["run2", image, core, script, *outputs, second, final2] if len(outputs) == 3 and number(core) is not None:
+            yield from named_case(case, ran, (image, core, script, second), [*outputs, final2])
         case ["memory", image, core, script, output] if number(core) is not None:
             yield from named_case(case, ran, (image, core, script), [output])
         case ["check", image]:
@@ -420,10 +443,12 @@ def command_case(program, case, counts):
 
 def named_case(case, ran, inputs, outputs, lines=1):
     """A run over files of any names, of which two are there, and of which some can't be."""
-    image, core, script = inputs
-    there = {"image": case.image, "script": case.script()}
-    came, _ = refused(there.get(image), int(core), there.get(script))
-    bad = [port for port, name in zip(OUTPUTS[-len(outputs) :], outputs) if not 0 < len(name) < 256]
+    image, core, script, *second = inputs
+    there = case.files()
+    others = [there.get(name) for name in second]
+    came, _ = refused(there.get(image), int(core), there.get(script), others)
+    named = {1: OUTPUTS[2:], 3: OUTPUTS, 4: (*OUTPUTS, "final2")}[len(outputs)]
+    bad = [port_of(file) for file, name in zip(named, outputs) if not 0 < len(name) < 256]
     if lines > 1 and bad != ["term"] and len(outputs[0]) > 253:  # the names of its lines have two letters more
         bad = ["line1"]
     if came:
@@ -432,8 +457,9 @@ def named_case(case, ran, inputs, outputs, lines=1):
     elif bad:
         yield from answered(ran, WRITE_FAULT, f"write fault: {bad[0]}\n".encode())
     else:
-        want = reference_run(there[image], int(core), there[script], lines)
-        yield from run_differences(case, ran, want) if tuple(outputs) == OUTPUTS else answered(ran, want.status, want.report)
+        want = reference_run(there[image], int(core), there[script], lines, others)
+        is_plain = tuple(outputs) == named and len(named) > 1 and second == list(case.seconds())
+        yield from run_differences(case, ran, want) if is_plain else answered(ran, want.status, want.report)
 
 
 def check_answer(image):

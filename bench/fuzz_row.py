@@ -15,7 +15,7 @@ from row import plain
 from rowfile import HEADER, INODE_7, RowError, Row, place
 
 PAGES = {"disk": "disk-image.md", "odd": "disk-image.md", "words": "calls.md", "hostile": "calls.md", "script": "scripts.md",
-         "host": "ports.md", "command": "commands.md", "lines": "terminal.md", "slow": "scripts.md"}
+         "host": "ports.md", "command": "commands.md", "lines": "terminal.md", "slow": "scripts.md", "two": "calls.md"}
 IN_LINE, GAP = 16, 3  # bytes of a disk in a line, and how far two that differ may be apart in it
 MOST_BYTES = 100_000  # of a disk that differ, in a row file
 
@@ -91,7 +91,12 @@ class Read(Row):
 
 
 def disk_lines(image, base):
-    lines = ([f"size {len(image)}"] if len(image) != len(base) else []) + program_lines(image)
+    return image_lines(image, base, program_lines(image))
+
+
+def image_lines(image, base, program=()):
+    """The size of an image, a program that it has, and where it is another than the example's with that program."""
+    lines = ([f"size {len(image)}"] if len(image) != len(base) else []) + list(program)
     there = Read("\n".join(lines)).image(base)
     found = list(pieces(image, there))
     return lines + (["disk", *found] if found else [])
@@ -103,18 +108,28 @@ def wanted_lines(case, found):
         status, report = check_answer(case.image)
         return ([f"status {status}"] if status else []) + [f"report {report.decode().rstrip()}"]
     is_eight = case.command[0] == "run8"
-    want = reference_run(case.image, number(case.core), case.script(), 8 if is_eight else 1)
+    want = reference_run(case.image, number(case.core), case.script(), 8 if is_eight else 1, case.others())
     lines = [f"status {want.status}"] if want.status else []
     lines += [f"report {want.report.decode().rstrip()}"] if want.report else []
-    if want.run is None or not is_eight and case.command[0] != "run":
-        return lines
+    if want.run is None or case.command[0] not in ("run", "run8", "run2"):
+        return lines + second_lines(case)
     log = "".join(f"{line}\n" for line in want.run.log).encode()
     shown = [(f"term {number}" if number else "term", bytes(line.shown)) for number, line in enumerate(want.run.u.lines)]
     lines += [text for name, data in shown if data for text in (name, *texts(data))]
     lines += ["log", *texts(log)]
-    store = want.run.u.stores[0]
-    left = [line for name in found for line in left_lines(store, re.match(r"final inode (\d+), ", name))]
-    return [*lines, *(["left", *dict.fromkeys(left)] if left else []), f"check ok {len(store.nodes)} nodes {store.room} free"]
+    lines += store_lines(want.run.u.stores[0], found, "")
+    return lines + second_lines(case) + (store_lines(want.run.u.stores[1], found, "second ") if case.others() else [])
+
+
+def store_lines(store, found, disk):
+    """What must be left on a disk: the inodes of which something was found, and the counts."""
+    left = [line for name in found for line in left_lines(store, re.match(rf"{disk}final inode (\d+), ", name))]
+    return [*(["left", *dict.fromkeys(left)] if left else []), f"check ok {len(store.nodes)} nodes {store.room} free"]
+
+
+def second_lines(case):
+    """The second image, where the command has one. What follows is of that disk."""
+    return [line for image in case.others() for line in ("second", *image_lines(image, read(HI)))]
 
 
 def left_lines(store, name):

@@ -23,7 +23,7 @@ def bench(*names):
 
 fuzz_cases, fuzz_hosts, fuzz_judge, fuzz_row, random_lines, random_script, spoil, spoiled_logs = bench(
     "fuzz_cases", "fuzz_hosts", "fuzz_judge", "fuzz_row", "random_lines", "random_script", "spoil", "spoiled_logs")
-RUN, RUN8 = fuzz_cases.RUN, fuzz_cases.RUN8
+RUN, RUN8, RUN2 = fuzz_cases.RUN, fuzz_cases.RUN8, fuzz_cases.RUN2
 
 
 def is_good(line):
@@ -83,6 +83,18 @@ class Cases(unittest.TestCase):
         self.assertEqual(commands, {RUN, RUN8})
         self.assertLessEqual({"", "Case", "ExecCase", "PipeCase", "SignalCase"}, sorts)
 
+    def test_the_kind_two(self):
+        """All are under `run2` with a second image, which is another disk than the first; a seed gives the same again."""
+        seconds = set()
+        for seed in range(MANY // 10):
+            case, again = (fuzz_cases.case_of(seed, "two") for _ in range(2))
+            self.assertEqual(vars(case), vars(again))
+            self.assertEqual((case.command, case.seconds(), case.others()), (RUN2, ("image2",), (case.second,)))
+            self.assertIn(b"rk1", case.image)
+            seconds.add(case.second)
+            self.assertEqual(case.with_(command=RUN).others(), ())
+        self.assertGreater(len(seconds), MANY // 20)
+
     def test_all_kinds(self):
         self.assertEqual(set(fuzz_cases.MAKERS), set(fuzz_cases.KINDS))
         self.assertEqual(set(fuzz_row.PAGES), set(fuzz_cases.KINDS))
@@ -98,13 +110,14 @@ class Cases(unittest.TestCase):
         self.assertEqual(alone.image, b"/dev/tty8\0")
 
     def test_hosts(self):
-        """Each file of a line may fail under `run8`, and none under `run`."""
+        """Each file of a line may fail under `run8`, those of the second disk under `run2`, and none of these under `run`."""
         def failing(command):
             hosts = [fuzz_hosts.random_host(random.Random(seed), command) for seed in range(MANY)]
             return {name for host in hosts for name in (*host.kinds, *host.same)}
 
         self.assertLessEqual(set(LINES), failing(RUN8))
-        self.assertFalse(set(LINES) & failing(RUN))
+        self.assertLessEqual({"image2", "final2"}, failing(RUN2))
+        self.assertFalse({*LINES, "image2", "final2"} & failing(RUN))
 
 
 class Judge(unittest.TestCase):
@@ -112,8 +125,10 @@ class Judge(unittest.TestCase):
         """They are opened in the order of the manual, and a report calls the port of a line otherwise than its file."""
         self.assertEqual(fuzz_judge.written(RUN), ["term", "log", "final"])
         self.assertEqual(fuzz_judge.written(RUN8), ["term", *LINES, "log", "final"])
+        self.assertEqual(fuzz_judge.written(RUN2), ["term", "log", "final", "final2"])
         self.assertEqual(fuzz_judge.written(fuzz_cases.MEMORY), ["final"])
-        for name, port in (("term", "term"), ("term.1", "line1"), ("term.7", "line7"), ("log", "log")):
+        for name, port in (("term", "term"), ("term.1", "line1"), ("term.7", "line7"), ("log", "log"), ("final", "final"),
+                           ("final2", "second")):
             self.assertEqual(fuzz_judge.port_of(name), port)
 
     def outcome(self, shown):
@@ -141,6 +156,20 @@ class Judge(unittest.TestCase):
             self.assertEqual(self.differ(shown, term=b"hi"), ["terminal 0", f"terminal {line}"])
             self.assertEqual(self.differ([b""], **{f"term.{line}": b""}), [f"terminal {line}"])
 
+    def test_a_second_image(self):
+        """Its faults come after the first image's and before the script's, and of both disks there may be 65,535 inodes."""
+        def check(image, most=4000, name="image"):
+            return f"{name}: bad" if image == b"bad" else f"{name}: long" if int(image) > most else None
+
+        disk = types.SimpleNamespace(check=check, Blocks=lambda image: types.SimpleNamespace(isize=int(image)))
+        cases = ((b"bad", [None], 6, b"image: bad\n"), (b"10", [None], 2, b"read fault: second\n"),
+                 (b"10", [b"bad"], 12, b"second image: bad\n"), (b"10", [b"4873"], 12, b"second image: long\n"),
+                 (b"96", [b"4000"], 12, b"second image: 65536 nodes in all\n"), (b"95", [b"4000"], 2, b"read fault: script\n"),
+                 (b"4001", [b"95"], 6, b"image: long\n"), (b"96", [], 2, b"read fault: script\n"))
+        with unittest.mock.patch.object(fuzz_judge, "modules", lambda: (disk,)):
+            for image, others, *wanted in cases:
+                self.assertEqual(fuzz_judge.refused(image, 64, None, others)[0][:2], tuple(wanted))
+
     def test_names_that_are_too_long(self):
         """A name of 254 letters can be opened, and with two more none can: that is the fault of line 1."""
         said = []
@@ -156,6 +185,9 @@ class Judge(unittest.TestCase):
                 list(fuzz_judge.named_case(fuzz_cases.Case(0, "command"), None, ("image", "1200", "script"),
                                            ["x" * letters, "log", "final2"], lines))
                 self.assertEqual(said.pop(), wanted)
+            list(fuzz_judge.named_case(fuzz_cases.Case(0, "command", second=b""), None, ("image", "1200", "script", "image2"),
+                                       ["term", "log", "other", "x" * 256]))
+            self.assertEqual(said.pop(), (3, b"write fault: second\n"))
 
 
 class Kept(Case):
