@@ -1,5 +1,5 @@
 use Rattle.fs_nodes.proofs.OtherDisk.{moved_there}
-use Rattle.fs_tree.proofs.entries.Tree.enter.Goals as goal
+use Rattle.fs_tree.proofs.tree.Tree.enter.Goals as goal
 
 pub returns-clause-other : goal.returns-clause-other
 returns-clause-other c =
