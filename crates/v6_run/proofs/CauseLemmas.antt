@@ -1,7 +1,8 @@
 -- Why a status is answered after several calls of a host.
-use Rattle.std.proofs.Common.{◌≡◌, ◌<◌, ℕ, Bool, true, false, ◌||◌, if◌then◌else◌, Option, Some, None, List, [], ◌∷◌, ◌++◌, refl, sym, ◌∙◌, ap, subst, lit<, arith}
+use Rattle.std.proofs.Common.{◌≡◌, ◌<◌, ℕ, Bool, true, false, ◌||◌, if◌then◌else◌, Option, Some, None, is_some, List, [], ◌∷◌, ◌++◌, refl, sym, ◌∙◌, ap, subst, lit<, arith}
 use Rattle.std.specs.Prelude.{◌==◌}
 use Rattle.std.proofs.lemmas.Bool.Decides.{nat_tests}
+use Rattle.std.proofs.Math.Bool.{and-false}
 use Rattle.v6_port.specs.declared.host.InPort.TheVariants as in_port
 use Rattle.v6_port.specs.declared.host.OutPort.{OutPort}
 use Rattle.v6_port.specs.declared.host.OutPort.TheVariants as out_port
@@ -135,7 +136,7 @@ module _ (words : RunWords) where
 
 -- Report has no name
 pub unwritten_report : (o : Outputs) → is_output o (Out out_port.Report) ≡ false
-unwritten_report (ToDisk files) = refl
+unwritten_report (ToDisk files) = and-false (is_some files.second)
 unwritten_report (ToMemory final) = refl
 
 pub named_report : (o : Outputs) (p : OutPort) → is_output o (Out p) ≡ true → is_report (Out p) ≡ false

@@ -14,6 +14,8 @@ use Rattle.v6_run.specs.declared.files.ReadError.{ReadError}
 use Rattle.v6_run.specs.declared.files.ReadError.TheVariants as reading
 use Rattle.v6_run.specs.declared.image.ImageError.{ImageError}
 use Rattle.v6_run.specs.declared.image.ImageError.TheVariants as image_error
+use Rattle.v6_run.specs.declared.image.SecondError.{SecondError}
+use Rattle.v6_run.specs.declared.image.SecondError.TheVariants as second_error
 use Rattle.script_text.specs.declared.script.ScriptFault.TheVariants as script_fault
 use Rattle.v6_run.specs.declared.run.RunError.TheVariants as run_error
 use Rattle.v6_run.specs.declared.make.MakeError.TheVariants as make_error
@@ -23,7 +25,7 @@ use Rattle.v6_run.specs.declared.report.Found.{Found}
 use Rattle.v6_run.specs.Words.{Outputs, Command, Run, Check, Make, Demo, Audit}
 use Rattle.v6_run.specs.Outputs.{is_output}
 use Rattle.v6_run.specs.Status.{fault_port, is_decided, has_written, is_closed}
-use Rattle.v6_run.specs.Errors.{read_status, image_status, command_status, end_of}
+use Rattle.v6_run.specs.Errors.{read_status, image_status, second_status, command_status, end_of}
 use Rattle.v6_run.specs.Fronts.{HoldsFront, HoldsSome, HoldsFrontOfSome}
 use Rattle.v6_run.specs.Report.{report, status_line, report_line, told_line, answer_line}
 use Rattle.v6_run.specs.Causes.{IsCaused, IsFaultOf, IsFaultless, HasCause, MissesUnknown}
@@ -110,6 +112,10 @@ module _ (done : List ℕ) where
   image_line (image_error.Unread e) = read_line in_port.Image e
   image_line (image_error.Faulty fault) = refl
 
+  second_line : (e : SecondError) → status_line (second_status e) ≡ report_line done (second_status e)
+  second_line (second_error.Unread e) = read_line in_port.Second e
+  second_line (second_error.Faulty fault) = refl
+
   write_line : (port : OutPort) → (WriteFault port ≡ WriteFault out_port.Report → ⊥) → status_line (WriteFault port) ≡ report_line done (WriteFault port)
   write_line out_port.Term unreported = refl
   write_line out_port.Log unreported = refl
@@ -122,6 +128,7 @@ module _ (done : List ℕ) where
   error_line error.Usage unreported = refl
   error_line error.CoreSize unreported = refl
   error_line (error.Run (run_error.Image e)) unreported = image_line e
+  error_line (error.Run (run_error.Second e)) unreported = second_line e
   error_line (error.Run (run_error.Script e)) unreported = read_line in_port.Script e
   error_line (error.Run (run_error.Refused script_fault.TooLong)) unreported = refl
   error_line (error.Run (run_error.Refused (script_fault.BadLine n))) unreported = refl

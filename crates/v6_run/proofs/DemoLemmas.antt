@@ -18,7 +18,7 @@ use Rattle.abstract_unix.specs.declared.ends.Ends.{Ends}
 use Rattle.abstract_unix.specs.declared.ends.Ends.TheVariants as ends
 use Rattle.abstract_unix.specs.Runs.{Course, system_of, boots, started, course, run_of}
 use Rattle.v6_run.specs.declared.status.Status.{Status}
-use Rattle.v6_run.specs.declared.status.Status.TheVariants.{Done, ReadFault, WriteFault, ScriptFault, ImageFault, Panic, NoMemory}
+use Rattle.v6_run.specs.declared.status.Status.TheVariants.{Done, ReadFault, WriteFault, ScriptFault, Panic, NoMemory}
 use Rattle.v6_run.specs.declared.image.ImageError.TheVariants as image
 use Rattle.v6_run.specs.declared.run.RunError.{RunError}
 use Rattle.v6_run.specs.declared.run.RunError.TheVariants as run
@@ -32,7 +32,7 @@ use Rattle.v6_run.specs.Opened.{AreGood, ports_passed}
 use Rattle.v6_run.specs.Report.{summary_line}
 use Rattle.v6_run.specs.Headline.{no_writing, Known, IsKnownAnd, status_at, fault_completion, lines_completion, run_completion, demo_completion, run_line, IsComplete, may_end, is_known}
 use Rattle.v6_run.specs.Answers.{Answers}
-use Rattle.v6_run.specs.Demo.{RefusesDisk, EndsCourse, StopsCourse}
+use Rattle.v6_run.specs.Demo.{EndsCourse, StopsCourse}
 use Rattle.v6_run.proofs.AnswerLemmas.{not_so, complete_unwritten}
 
 -- The script of the demo has no fault.

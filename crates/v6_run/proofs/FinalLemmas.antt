@@ -82,7 +82,7 @@ unfolding part
 whole_part xs n long = take_all n xs (omega (arith, long))
 
 -- The text of the blocks that stand for a system's store, with a swap area that holds what the system keeps, is a final disk.
-pub final_is : (old new : List (List ℕ)) (m : System) → (head (block_at old)).f_size ≤ SWAP_START → SameAround old new → IsDisk new → StandsFor DISK_BLOCKS (block_at new) m.unix.store
+pub final_is : (old new : List (List ℕ)) (m : System) → (head (block_at old)).f_size ≤ SWAP_START → SameAround old new → IsDisk new → StandsFor DISK_BLOCKS (block_at new) m.unix.store.root
     → (swap : List ℕ) → SwapHolds swap (kept_in m) → AreRangesApart (kept_in m) → IsFinal (block_at old) m (disk_text new ++ swap)
 final_is old new m low rest form stands swap holds apart =
     let whole : IsWhole (block_at new) = whole_is (block_at new) stands.sound in

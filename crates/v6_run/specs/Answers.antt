@@ -59,11 +59,11 @@ HasSecond image (Some name) second old = MatchOption second ⊥ (λ bytes. (seco
     × (Tells old → option_map (take IMAGE_LIMIT) (old.fixed.given name) ≡ Some bytes))
 
 -- all files have been read, the images have no fault, and so far nothing has been written
-pub record HasFiles (words : RunWords) (image : List ℕ) (second : Option (List ℕ)) (bytes : List ℕ) (old new : Outside) : Type 0 where
+pub record HasFiles (words : RunWords) (image : List ℕ) (other : Option (List ℕ)) (bytes : List ℕ) (old new : Outside) : Type 0 where
   pub only : OnlyAt (is_named (Run words)) old new
   pub none : (p : OutPort) → new.port (Out p) ≡ old.port (Out p)
   pub calm : Calm old new
   pub good : image_fault image ≡ None
-  pub second : HasSecond image (second_image words.outputs) second old
+  pub second : HasSecond image (second_image words.outputs) other old
   pub image_is : Tells old → option_map (take IMAGE_LIMIT) (old.fixed.given words.image) ≡ Some image
   pub script_is : Tells old → option_map (take SCRIPT_LIMIT) (old.fixed.given words.script) ≡ Some bytes

@@ -76,7 +76,9 @@ panic_line panic.Text = line_of (codes "panic: out of text")
 
 abbrev pub usage : List ℕ
 usage =
-    codes "usage: v6 run IMAGE CORE SCRIPT TERM LOG FINAL, run8 IMAGE CORE SCRIPT TERM LOG FINAL, run2 IMAGE CORE SCRIPT TERM LOG FINAL IMAGE2 FINAL2, memory IMAGE CORE SCRIPT FINAL, check IMAGE, make N FINAL, demo N, audit LOG"
+    codes "usage: v6 run IMAGE CORE SCRIPT TERM LOG FINAL, run8 IMAGE CORE SCRIPT TERM LOG FINAL, "
+    ++ codes "run2 IMAGE CORE SCRIPT TERM LOG FINAL IMAGE2 FINAL2, memory IMAGE CORE SCRIPT FINAL, "
+    ++ codes "check IMAGE, make N FINAL, demo N, audit LOG"
 
 -- the line of a status; a command that was done has none
 abbrev pub status_line : Status → List ℕ
