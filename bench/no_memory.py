@@ -24,14 +24,16 @@ from fuzz_cases import HI, TOP, read
 
 NO_MEMORY, DONE = 8, 0
 THERE = b"what was there before\n" * 500
-OUTPUTS = ("term", *(f"term.{line}" for line in range(1, 8)), "log", "final")
+OUTPUTS = ("term", *(f"term.{line}" for line in range(1, 8)), "log", "final", "final2")
 SCRIPT = b"clock 10\nrun 100\ntype abc\nrun 100\n"
 STEP, LEAST, MOST = 131072, 1 << 20, 16 << 20  # bytes of address spaces that are tried
-ANSWERS = {"core size": b"core size\n", "image fault": b"image: bad super-block\n", "script fault": b"script: line 1\n"}
+ANSWERS = {"core size": b"core size\n", "image fault": b"image: bad super-block\n", "script fault": b"script: line 1\n",
+           "second fault": b"second image: bad super-block\n"}
 COMMANDS = {
     "run": ("run", "image", "1200", "script", "term", "log", "final"),
     "run of a whole disk": ("run", "disk", "3968", "script", "term", "log", "final"),
     "run8": ("run8", "image", "1200", "script", "term", "log", "final"),
+    "run2": ("run2", "image", "1200", "script", "term", "log", "final", "disk", "final2"),
     "memory": ("memory", "image", "1200", "script", "final"),
     "check": ("check", "disk"),
     "make": ("make", "7", "final"),
@@ -40,6 +42,7 @@ COMMANDS = {
     "core size": ("run", "image", "63", "script", "term", "log", "final"),
     "image fault": ("run", "script", "1200", "script", "term", "log", "final"),
     "script fault": ("run", "image", "1200", "image", "term", "log", "final"),
+    "second fault": ("run2", "image", "1200", "image", "term", "log", "final", "script", "final2"),
 }
 LIBRARY = r"""
 #define _GNU_SOURCE

@@ -15,13 +15,21 @@ NOBODY = 65534
 SENTINEL = b"what was there before\n" * 300
 IMAGE = os.path.join(TOP, "examples", "hi", "image")
 RUN = ("run", "IMAGE", "1200", "SCRIPT", "TERM", "LOG", "FINAL")
+RUN2 = ("run2", *RUN[1:], "IMAGE2", "FINAL2")
 MEMORY = ("memory", "IMAGE", "1200", "SCRIPT", "FINAL")
 CHECK, MAKE = ("check", "IMAGE"), ("make", "3", "FINAL")
-COMMANDS = RUN, MEMORY, CHECK, MAKE
-INPUTS, OUTPUTS = ("IMAGE", "SCRIPT"), ("TERM", "LOG", "FINAL")
-USAGE, READ_FAULT, WRITE_FAULT, SCRIPT_FAULT, IMAGE_FAULT = 1, 2, 3, 5, 6
+COMMANDS = RUN, RUN2, MEMORY, CHECK, MAKE
+INPUTS, OUTPUTS = ("IMAGE", "IMAGE2", "SCRIPT"), ("TERM", "LOG", "FINAL", "FINAL2")
+USAGE, READ_FAULT, WRITE_FAULT, SCRIPT_FAULT, IMAGE_FAULT, SECOND_FAULT = 1, 2, 3, 5, 6, 12
+TOO_LONG = {"IMAGE": (IMAGE_FAULT, "image: too long\n"), "IMAGE2": (SECOND_FAULT, "second image: too long\n"),
+            "SCRIPT": (SCRIPT_FAULT, "script: too long\n")}
 DISK_BYTES, SWAP_BYTES = 2494464, 446464
-SIZES = {"FINAL": {"run": DISK_BYTES, "memory": 64 * 1200 + SWAP_BYTES, "make": 2048000}}
+SIZES = {"run": DISK_BYTES, "run2": DISK_BYTES, "memory": 64 * 1200 + SWAP_BYTES, "make": 2048000}
+
+
+def port_of(place):
+    """What a report calls the port of a file."""
+    return "second" if place.endswith("2") else place.lower()
 
 
 class Ports(Case):
@@ -34,6 +42,7 @@ class Ports(Case):
 
     def renew(self):
         shutil.copyfile(IMAGE, self.path("IMAGE"))
+        shutil.copyfile(IMAGE, self.path("IMAGE2"))
         write(self.path("SCRIPT"), b"run 20\n")
         for name in OUTPUTS:
             self.put(name, SENTINEL)
@@ -67,18 +76,18 @@ class Ports(Case):
 
     def read_fault(self, command, place, path, **more):
         """A fault of a file that is read: nothing else is touched."""
-        self.assertEqual(self.v6(self.named(command, place, path), **more), (READ_FAULT, f"read fault: {place.lower()}\n"))
+        self.assertEqual(self.v6(self.named(command, place, path), **more), (READ_FAULT, f"read fault: {port_of(place)}\n"))
         self.untouched(*OUTPUTS)
 
     def write_fault(self, command, place, path, **more):
         """A file that can't be opened for writing: what is opened before it has been emptied, what comes behind it is as it
         was."""
-        self.assertEqual(self.v6(self.named(command, place, path), **more), (WRITE_FAULT, f"write fault: {place.lower()}\n"))
+        self.assertEqual(self.v6(self.named(command, place, path), **more), (WRITE_FAULT, f"write fault: {port_of(place)}\n"))
         for name in OUTPUTS:
             is_before = name in command and command.index(name) < command.index(place)
             if name != path:
                 self.assertEqual(read(self.path(name)), b"" if is_before else SENTINEL)
-        self.assertEqual(read(self.path("IMAGE")), read(IMAGE))
+        self.assertEqual((read(self.path("IMAGE")), read(self.path("IMAGE2"))), (read(IMAGE), read(IMAGE)))
 
     def test_all_is_well(self):
         """The files as they are made are good, so that each fault comes from the one that isn't."""
@@ -86,9 +95,13 @@ class Ports(Case):
             status, report = self.v6(command)
             self.assertEqual((status, report), (0, "ok 7 nodes 0 free\n" if command == CHECK else ""))
             if command != CHECK:
-                self.assertEqual(len(read(self.path("FINAL"))), SIZES["FINAL"][command[0]])
-            if command == RUN:
+                self.assertEqual(len(read(self.path("FINAL"))), SIZES[command[0]])
+            if command in (RUN, RUN2):
                 self.assertEqual(self.bytes("TERM")["TERM"], b"HI\r\n")
+            if command == RUN2:
+                self.assertEqual(read(self.path("FINAL2")), read(IMAGE).ljust(DISK_BYTES, b"\0"))
+            else:
+                self.untouched("FINAL2")
 
     def test_missing(self):
         for command, place in self.places(INPUTS):
@@ -150,16 +163,16 @@ class Ports(Case):
     def test_full_device(self):
         """/dev/full takes no byte; read, it has no end. What a run writes on other ports is a front of what it would have."""
         for command, place in self.places(INPUTS):
-            status = IMAGE_FAULT if place == "IMAGE" else SCRIPT_FAULT
-            self.assertEqual(self.v6(self.named(command, place, "/dev/full")), (status, f"{place.lower()}: too long\n"))
+            self.assertEqual(self.v6(self.named(command, place, "/dev/full")), TOO_LONG[place])
             self.untouched(*OUTPUTS)
         whole = {}
-        for command in (RUN, MEMORY, MAKE):
+        for command in (RUN, RUN2, MEMORY, MAKE):
             self.v6(command)
             whole[command] = self.bytes(*OUTPUTS)
             self.renew()
         for command, place in self.places(OUTPUTS):
-            self.assertEqual(self.v6(self.named(command, place, "/dev/full")), (WRITE_FAULT, f"write fault: {place.lower()}\n"))
+            wanted = WRITE_FAULT, f"write fault: {port_of(place)}\n"
+            self.assertEqual(self.v6(self.named(command, place, "/dev/full")), wanted)
             for name in OUTPUTS:
                 if name in command and name != place:
                     self.assertTrue(whole[command][name].startswith(read(self.path(name))), name)
@@ -184,8 +197,7 @@ class Ports(Case):
         """An image is read to one byte more than a disk has, and a script to one more than it may have."""
         for command, place in self.places(INPUTS):
             thread = self.pipe(self.endless)
-            status = IMAGE_FAULT if place == "IMAGE" else SCRIPT_FAULT
-            self.assertEqual(self.v6(self.named(command, place, "pipe")), (status, f"{place.lower()}: too long\n"))
+            self.assertEqual(self.v6(self.named(command, place, "pipe")), TOO_LONG[place])
             thread.join()
             os.remove(self.path("pipe"))
             self.untouched(*OUTPUTS)
@@ -209,13 +221,13 @@ class Ports(Case):
 
     def test_pipe_that_closes(self):
         """Nobody reads on: the fault is the port's, and the program doesn't die of it."""
-        for command, place in self.places(("FINAL",)):
+        for command, place in self.places(("FINAL", "FINAL2")):
             def take():
                 with open(self.path("pipe"), "rb", buffering=0) as file:
                     file.read(100)
 
             thread = self.pipe(take)
-            self.assertEqual(self.v6(self.named(command, place, "pipe")), (WRITE_FAULT, "write fault: final\n"))
+            self.assertEqual(self.v6(self.named(command, place, "pipe")), (WRITE_FAULT, f"write fault: {port_of(place)}\n"))
             thread.join()
             os.remove(self.path("pipe"))
 
@@ -232,21 +244,26 @@ class Ports(Case):
             self.assertEqual(read(self.path(place)), whole[:10000])
 
     def test_one_file_is_read_twice(self):
-        for command in (RUN, MEMORY):
+        for command in (RUN, RUN2, MEMORY):
             self.assertEqual(self.v6(self.named(command, "SCRIPT", "IMAGE")), (SCRIPT_FAULT, "script: line 1\n"))
             self.untouched(*OUTPUTS)
             self.assertEqual(self.v6(self.named(command, "IMAGE", "SCRIPT")), (IMAGE_FAULT, "image: bad super-block\n"))
             self.untouched(*OUTPUTS)
+        wanted = SECOND_FAULT, "second image: bad super-block\n"
+        self.assertEqual(self.v6(self.named(RUN2, "IMAGE2", "SCRIPT")), wanted)
+        self.untouched(*OUTPUTS)
+        self.assertEqual(self.v6(self.named(RUN2, "IMAGE2", "IMAGE")), (0, ""))
+        self.assertEqual(read(self.path("FINAL2")), read(IMAGE).ljust(DISK_BYTES, b"\0"))
 
     def test_one_file_is_read_and_written(self):
         """All that is read is read before anything is opened for writing: each output may be an input, by any of its names."""
-        for command in (RUN, MEMORY):
+        for command in (RUN, RUN2, MEMORY):
             self.renew()
             self.v6(command)
             outputs = [name for name in OUTPUTS if name in command]
             whole = self.bytes(*outputs)
             for place in outputs:
-                for source in INPUTS:
+                for source in (name for name in INPUTS if name in command):
                     for link in (None, os.link, os.symlink):
                         self.renew()
                         if link:
@@ -258,11 +275,11 @@ class Ports(Case):
 
     def test_one_file_is_written_twice(self):
         """Nothing is said of its bytes; the run is done, and its other files are whole."""
-        self.v6(RUN)
+        self.v6(RUN2)
         whole = self.bytes(*OUTPUTS)
-        for one, other in (("TERM", "LOG"), ("LOG", "FINAL"), ("TERM", "FINAL")):
+        for one, other in (("TERM", "LOG"), ("LOG", "FINAL"), ("TERM", "FINAL"), ("FINAL", "FINAL2"), ("LOG", "FINAL2")):
             self.renew()
-            self.assertEqual(self.v6(self.named(RUN, other, one)), (0, ""))
+            self.assertEqual(self.v6(self.named(RUN2, other, one)), (0, ""))
             for name in set(OUTPUTS) - {one, other}:
                 self.assertEqual(read(self.path(name)), whole[name])
             self.untouched(other)
@@ -288,6 +305,7 @@ class Ports(Case):
                     self.assertEqual(read(self.path(name)), SENTINEL if line and number > line else b"")
             if line:
                 self.untouched("LOG", "FINAL")
+            self.untouched("FINAL2")
 
     def test_report(self):
         """Standard output that takes nothing is a fault of `check` and `demo` alone, and leaves a status that isn't done."""
