@@ -3,7 +3,7 @@
 _v6() {
     local word=${COMP_WORDS[COMP_CWORD]} words= rows
     case ${COMP_WORDS[0]##*/} in
-    v6) [ "$COMP_CWORD" -eq 1 ] && words='run run8 memory check make demo audit' ;;
+    v6) [ "$COMP_CWORD" -eq 1 ] && words='run run8 run2 memory check make demo audit' ;;
     v6-disk | disk.py)
         if [ "$COMP_CWORD" -eq 1 ]; then
             words='list cat get put new grow mkdir rm mv ln chmod chown check repair'
@@ -12,7 +12,7 @@ _v6() {
             case $word in -*) words='--as --blocks --damaged --help --inodes --mode --replace --short --table --time -l -r' ;; esac
         fi ;;
     v6-console | console.py)
-        case $word in -*) words='--clock --core --disk --help --lines --replay --script --slots --v6 --version' ;; esac ;;
+        case $word in -*) words='--clock --core --disk --help --lines --replay --script --second --second-disk --side --slots --v6 --version' ;; esac ;;
     v6-log | log.py)
         if [ "$COMP_CWORD" -eq 1 ]; then
             words='show draw diff ask audit'
@@ -25,7 +25,7 @@ _v6() {
         case $word in -*) words='--disk --help --log --marks --moments --output --replay --script --symbols --term --title --v6 --version -o' ;; esac ;;
     v6-as | as.py) case $word in -*) words='--disassemble --help --version -g -l -n -o -s' ;; esac ;;
     v6-cc | cc.py) case $word in -*) words='--compiler --gcc --help --version -D -I -S -g -n -o -s' ;; esac ;;
-    v6-run | run.py) case $word in -*) words='--core --disk --eight --help --log --replay --term --v6 --version' ;; esac ;;
+    v6-run | run.py) case $word in -*) words='--core --disk --eight --help --log --replay --second --second-disk --term --v6 --version' ;; esac ;;
     v6-trace | trace.py) case $word in -*) words='--from --help --process --replay --to --v6 --version' ;; esac ;;
     v6-try | try.py) case $word in -*) words='--back --binary --core --disk --file --final --folder --help --slots --v6 --version --with -t' ;; esac ;;
     row.py)

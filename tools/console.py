@@ -10,11 +10,13 @@ import errno
 import itertools
 import os
 import re
+import shutil
 import sys
 import tempfile
 from dataclasses import dataclass
 
 sys.path.insert(0, os.path.dirname(os.path.abspath(__file__)))
+from columns import frame
 from dialogue import (END_OF_FILE, INTERRUPT, LINES, MANY, OVER, QUIT, RETURN, RUNS, SLEEPS, WAITS, Dialogue, DialogueError,
                       Machine, Refused, keys, line_of, shown)
 from files import place_of, read_bytes, replace, same_file, told, uninterrupted
@@ -30,6 +32,7 @@ HELP = """~.      ends, and so does the end of a file that is read in the place 
 ~:LINE  puts a line of a script: ~:clock 1000, ~:run 50000, ~:switch 000001
 ~~TEXT  types a line that begins with ~
 ~N      shows line N of the terminal, 0 to 7, and types there from now on; --lines gives these lines
+~a      shows all lines on which something was shown, side by side
 ~h N    hangs line N up; without N, the one that is shown
 ~l      lists the lines so far
 ~u N    takes the last N lines back; without N, the last one
@@ -42,6 +45,8 @@ COPY = "my.image"  # of the shell's disk, where no IMAGE is named
 ENDS = signal.SIGTERM, signal.SIGHUP
 LINE = re.compile(r"^(script: (?:too many slots at )?line )([0-9]+)")  # of a script that has a head, which a file needn't have
 CONTROL = re.compile(rb"\^([?-~])")  # a control character, as it is typed in ~k
+TWO_FILES = (("script", "disk"), ("script", "image"), ("script", "second"), ("script", "second_disk"), ("disk", "second"),
+             ("disk", "second_disk"), ("second_disk", "image"))
 LONGEST = 254  # of a line that is tried with others in one run: more than 255 keys don't wait
 
 
@@ -69,6 +74,11 @@ class Quit(KeyboardInterrupt):
     """A person has pressed the key that quits, control-\\."""
 
 
+def can_be_drawn():
+    """Whether the host's terminal can move about what it shows."""
+    return sys.stdout.isatty() and os.environ.get("TERM", "dumb") != "dumb"
+
+
 def quit_key(*_):
     raise Quit
 
@@ -93,7 +103,7 @@ class Keyboard:
 
     def edit(self, lines):
         """Has a person's lines edited by readline, with those that were typed before as its history, where the terminal can."""
-        if self.person and sys.stdout.isatty() and os.environ.get("TERM", "dumb") != "dumb":
+        if self.person and can_be_drawn():
             try:
                 import readline
             except ImportError:
@@ -176,8 +186,8 @@ class Keyboard:
 class Console:
     """The dialogue, the line that is shown and typed at, and how much of each line has been shown."""
 
-    def __init__(self, dialogue, keyboard):
-        self.dialogue, self.keyboard, self.refused = dialogue, keyboard, False
+    def __init__(self, dialogue, keyboard, side=False):
+        self.dialogue, self.keyboard, self.side, self.refused = dialogue, keyboard, side, False
         self.line, self.shown, self.told = 0, [0] * LINES, set()
 
     def write(self, data):
@@ -185,7 +195,11 @@ class Console:
         sys.stdout.buffer.flush()
 
     def show(self, terms, typed=b""):
-        """Shows what is new on the line, and tells a person which other lines have something new."""
+        """Shows what is new on the line, and tells a person which other lines have something new; or shows all lines side by side."""
+        if self.side:
+            self.shown = [len(term) for term in terms]
+            self.draw(terms)
+            return
         term, old = terms[self.line], self.shown[self.line]
         self.write(without_echo(term[:old], term[old:], typed) if typed else term[old:])
         self.shown[self.line] = len(term)
@@ -194,6 +208,19 @@ class Console:
             tell(f"new on {', '.join(f'line {line}' for line in sorted(more - self.told))}: ~N shows line N")
             self.write(self.last())
         self.told = more
+
+    def frame(self, terms, less):
+        """The lines on which something was shown, and the one where one types, side by side in what the host's terminal has."""
+        size = shutil.get_terminal_size()
+        shown = [line for line, term in enumerate(terms) if term or line == self.line]
+        return "\n".join(frame(terms, shown, self.line, size.columns, size.lines - less))
+
+    def draw(self, terms):
+        """Clears the host's terminal, shows the lines side by side, and below them the end of that where one types."""
+        self.write(b"\x1b[H\x1b[2J" + self.frame(terms, 2).encode() + b"\n\n" + terms[self.line].rsplit(b"\n", 1)[-1])
+
+    def all(self, _):
+        tell("all lines\n" + self.frame(self.dialogue.played.terms(), 3))
 
     def last(self):
         """What the line shows at its end."""
@@ -237,7 +264,7 @@ class Console:
 
     def order(self, order):
         found = ORDERS[order.letter](self, order.number)
-        if order.letter in "?lugw":
+        if order.letter in "?lugwa":
             self.prompt()
         return found
 
@@ -245,8 +272,11 @@ class Console:
         """Shows a line of the terminal: what is new there, and to a person at least its end."""
         self.one_of_eight(line)
         self.line = line
-        tell(f"line {line}")
         terms = self.dialogue.played.terms()
+        if self.side:
+            self.draw(terms)
+            return
+        tell(f"line {line}")
         if len(terms[line]) > self.shown[line]:
             self.show(terms)
         else:
@@ -277,6 +307,8 @@ class Console:
             most = self.dialogue.at - self.dialogue.first()
             raise ConsoleError(f"{lines(most)} can be taken back" + (f": ~u {most}, or ~g 0" if most else ""))
         found = self.dialogue.go_to(at)
+        if self.side:
+            self.draw(self.dialogue.played.terms())
         self.stands()
         return found
 
@@ -297,7 +329,7 @@ class Console:
     def who(self, _):
         machine, lines = self.dialogue.machine, self.dialogue.lines()
         commands = commands_of(machine.memory(lines), int(machine.core), self.dialogue.played.log)
-        tell("\n".join(Processes(self.dialogue.played.log).told(programs_of(machine.disk(lines)), commands)))
+        tell("\n".join(Processes(self.dialogue.played.log).told(programs_of_all(machine.disks(lines)), commands)))
 
     def stands(self):
         """Tells after which line one is."""
@@ -314,12 +346,21 @@ class Console:
              "waits for it")
 
 
-ORDERS = {"?": Console.help, "l": Console.list, "u": Console.back, "g": Console.go, "w": Console.who, "h": Console.hang_up,
+ORDERS = {"?": Console.help, "l": Console.list, "u": Console.back, "g": Console.go, "w": Console.who, "h": Console.hang_up, "a": Console.all,
           **{str(line): Console.go_to_line for line in range(LINES)}}
 
 
 def lines(count):
     return f"{count} line{'' if count == 1 else 's'}"
+
+
+def programs_of_all(disks):
+    """The programs of a disk, and of a second one, where there is one."""
+    found = programs_of(disks[0])
+    for disk in disks[1:]:
+        for clicks, names in programs_of(disk).items():
+            found[clicks] = found.get(clicks, []) + [f"{name} of the second disk" for name in names]
+    return found
 
 
 def commands_of(data, core, log):
@@ -397,6 +438,9 @@ def options_of(words):
     parser.add_argument("--clock", type=number, default=0, help="a new dialogue has a tick after each N slots (0: none)")
     parser.add_argument("--slots", type=number, default=2000000, help="what a line is given at most (2000000)")
     parser.add_argument("--lines", action="store_true", help="eight lines of the terminal, one shown at a time")
+    parser.add_argument("--side", action="store_true", help="shows these side by side")
+    parser.add_argument("--second", metavar="IMAGE2", help="a second disk, which isn't changed either")
+    parser.add_argument("--second-disk", metavar="FILE", help="where the second disk goes that the dialogue leaves")
     parser.add_argument("--replay", action="store_true", help="play a script also where it was typed at another disk or core")
     add_version(parser)
     options = parser.parse_args(words)
@@ -404,9 +448,16 @@ def options_of(words):
         parser.error("--slots: at least 1")
     options.is_copy = options.image is None
     options.image = options.image or COPY
-    for one, other in (("script", "disk"), ("script", "image")):
+    if options.side and not options.lines:
+        parser.error("--side: there is one line without --lines")
+    if options.lines and options.second:
+        parser.error("--lines and --second: a machine has eight lines, or a second disk")
+    if options.second_disk and not options.second:
+        parser.error("--second-disk: there is none without --second")
+    for one, other in TWO_FILES:
         if same_file(getattr(options, one), getattr(options, other)):
-            parser.error(f"{'--' * (one != 'image')}{one} and {'--' * (other != 'image')}{other} are the same file")
+            names = [f"{'--' * (name != 'image')}{name.replace('_', '-')}" for name in (one, other)]
+            parser.error(f"{names[0]} and {names[1]} are the same file")
     return options
 
 
@@ -473,28 +524,36 @@ def check_header(options, machine, found):
         return
     mine = HEADER.fullmatch(machine.header)
     what = (f"at another disk than {options.image}" if mine[1] != found[1] else
-            "with another size of core" if mine[2] != found[2] else "at one line of the terminal")
+            "with another size of core" if mine[2] != found[2] else
+            "at one line of the terminal" if mine[3] and not found[4] else
+            "at eight lines of the terminal" if found[3] else
+            "beside a second disk, which --second names" if found[4] and not mine[4] else
+            f"beside another second disk than {options.second}" if found[4] else "without a second disk")
     raise ConsoleError(f"{options.script} was typed {what}: another --script begins a new dialogue, and --replay plays this "
                        "one")
 
 
 def run(options, folder):
+    keyboard = Keyboard(sys.stdin.buffer)
+    if options.side and not (keyboard.person and can_be_drawn()):
+        raise ConsoleError("--side wants a person at a terminal that can be cleared; ~a shows all lines once")
     script = Script(options.script)
     if options.is_copy:
         make_copy()
     old, head = script.lines()
     core = options.core if options.core is not None else int(head[2]) if head else CORE
-    machine = Machine(options.v6, options.image, core, folder, options.lines or bool(head and head[3]))
+    eight = options.lines or bool(head and head[3] and not options.second)
+    machine = Machine(options.v6, options.image, core, folder, eight, options.second)
     start = [b"clock %d" % options.clock] if options.clock else []
-    console = Console(Dialogue(machine, options.slots, start), Keyboard(sys.stdin.buffer))
+    console = Console(Dialogue(machine, options.slots, start), keyboard, options.side)
 
     def save():
         script.save(console.dialogue.script())
         if console.dialogue.at < len(console.dialogue.steps):
             script.keep(machine.text([line for step in console.dialogue.steps for line in step]))
 
-    if options.disk:
-        place_of(options.disk)  # what can't be written is told before anything is typed
+    for name in filter(None, (options.disk, options.second_disk)):
+        place_of(name)  # what can't be written is told before anything is typed
     try:
         check_header(options, machine, head)
         found = console.dialogue.begin(old)
@@ -503,7 +562,7 @@ def run(options, folder):
             tell(f"line {console.line}")
         console.show(console.dialogue.played.terms())
         silent = not any(console.dialogue.played.terms())
-        why = why_silent(read_bytes(machine.image), console.dialogue.played.log) if silent else None
+        why = why_silent(read_bytes(machine.images[0].copy), console.dialogue.played.log) if silent else None
         if why:
             tell(why)
     except DialogueError as error:
@@ -518,22 +577,29 @@ def run(options, folder):
     except Ended as error:  # what has been typed is kept, as at the end
         status = 128 + error.args[0]
         save()
-    is_kept = not options.disk or put_disk(options, machine, console.dialogue.lines())
+    is_kept = put_disks(options, machine, console.dialogue.lines())
     return status or int(console.refused and not console.keyboard.person or script.moved or not is_kept)
 
 
-def put_disk(options, machine, lines):
-    """Writes the disk that is left. It doesn't take the place of an image that another program has changed since it was read: what
+def put_disks(options, machine, lines):
+    """Writes the disks that are left, as far as they are asked for. Gives whether each is where it was."""
+    asked = options.disk, options.second_disk
+    disks = machine.disks(lines) if any(asked) else []
+    return all([put_disk(name, image, disk) for name, image, disk in zip(asked, machine.images, disks) if name])
+
+
+def put_disk(name, image, disk):
+    """Writes a disk that is left. It doesn't take the place of an image that another program has changed since it was read: what
     that has done would be lost. Gives whether the disk is where it was asked for."""
-    disk, place = machine.disk(lines), options.disk
-    if machine.has_changed():
-        told = f"{options.image} isn't any more what it was when the dialogue began: another program has changed it"
-        if same_file(options.disk, options.image):
-            place = beside(options.disk)
+    place = name
+    if image.has_changed():
+        told = f"{image.named} isn't any more what it was when the dialogue began: another program has changed it"
+        if same_file(name, image.named):
+            place = beside(name)
             told += f". It is left so, and the disk of this dialogue goes to {place}"
         tell(told)
     replace(place, disk)
-    return place == options.disk
+    return place == name
 
 
 def beside(name):
@@ -550,7 +616,7 @@ def main(words):
     try:
         with tempfile.TemporaryDirectory() as folder:
             return run(options, folder)
-    except ProgramError as error:
+    except (ProgramError, ConsoleError) as error:
         tell(error)
     except BrokenPipeError:
         sys.stderr.close()

@@ -38,17 +38,15 @@ class Played:
         return self.term, *self.others
 
 
-class Machine:
-    """The program, an image and a core; it plays a script from the start. The image is read once, and the program gets a copy, so
-    that each run of a dialogue has the same disk whatever becomes of the file meanwhile."""
+class Disk:
+    """A disk of a machine. Its image is read once, and the program gets a copy, so that each run of a dialogue has the same disk
+    whatever becomes of the file meanwhile."""
 
-    def __init__(self, v6, image, core, folder, eight=False):
-        self.v6, self.named, self.core, self.folder, self.eight = v6, image, str(core), folder, eight
-        data = read_bytes(image)
+    def __init__(self, named, copy):
+        self.named, self.copy = named, copy
+        data = read_bytes(named)
         self.digest = hashlib.sha256(data).hexdigest().encode()
-        self.header = b"; console: image sha256 %s core %d" % (self.digest, core) + b" lines" * eight
-        self.image = self.path("image")
-        with open(self.image, "wb") as file:
+        with open(copy, "wb") as file:
             file.write(data)
 
     def has_changed(self):
@@ -58,38 +56,54 @@ class Machine:
         except OSError:
             return True
 
+
+class Machine:
+    """The program, an image and a core, and eight lines of a terminal or a second image; it plays a script from the start."""
+
+    def __init__(self, v6, image, core, folder, eight=False, second=None):
+        self.v6, self.core, self.folder, self.eight = v6, str(core), folder, eight
+        self.images = [Disk(name, self.path(f"image{number}")) for number, name in enumerate([image, *[second] * bool(second)])]
+        self.header = b"; console: image sha256 %s core %d" % (self.images[0].digest, core) + b" lines" * eight
+        self.header += b"".join(b" second sha256 %s" % disk.digest for disk in self.images[1:])
+
     def path(self, name):
         return os.path.join(self.folder, name)
 
     def text(self, lines):
         return b"".join(line + b"\n" for line in (self.header, *lines))
 
-    def play(self, lines, disk=os.devnull):
-        """Plays a script; the disk that it leaves goes to a file where one is named."""
+    def play(self, lines, *disks):
+        """Plays a script; the disks that it leaves go to files where these are named."""
         with open(self.path("script"), "wb") as file:
             file.write(self.text(lines))
         outs = [self.path(name) for name in ("term", "log")]
         others = [f"{outs[0]}.{line}" for line in range(1, LINES) if self.eight]
         for out in (*outs, *others):
             open(out, "wb").close()
-        word = "run8" if self.eight else "run"
-        status, said = call(self.v6, word, self.image, self.core, self.path("script"), *outs, disk)
+        word = "run8" if self.eight else "run" if len(self.images) == 1 else "run2"
+        final, *finals = disks or [os.devnull] * len(self.images)
+        more = [name for disk, place in zip(self.images[1:], finals) for name in (disk.copy, place)]
+        status, said = call(self.v6, word, self.images[0].copy, self.core, self.path("script"), *outs, final, *more)
         return Played(status, said, *map(read_bytes, outs), tuple(map(read_bytes, others)))
 
     def memory(self, lines):
-        """The bytes of core and of the swap area where a script ends, or None of a program that doesn't tell them; so of eight lines,
-        since `memory` has one."""
-        if self.eight:
+        """The bytes of core and of the swap area where a script ends, or None of a program that doesn't tell them; so of eight lines
+        and of two disks, since `memory` has one of each."""
+        if self.eight or self.images[1:]:
             return None
         with open(self.path("script"), "wb") as file:
             file.write(self.text(lines))
-        status, _ = call(self.v6, "memory", self.image, self.core, self.path("script"), self.path("memory"))
+        status, _ = call(self.v6, "memory", self.images[0].copy, self.core, self.path("script"), self.path("memory"))
         return None if status else read_bytes(self.path("memory"))
 
+    def disks(self, lines):
+        """The bytes of each disk that a script leaves, which was played before."""
+        places = [self.path(f"disk{number}") for number in range(len(self.images))]
+        self.play(lines, *places)
+        return [read_bytes(place) for place in places]
+
     def disk(self, lines):
-        """The bytes of the disk that a script leaves, which was played before."""
-        self.play(lines, self.path("disk"))
-        return read_bytes(self.path("disk"))
+        return self.disks(lines)[0]
 
 
 def keys(data):

@@ -18,8 +18,10 @@ from scriptfile import ScriptError, add_replay, check_head, head_of, with_line
 from silent import why_silent
 
 OUTPUTS = ("term", "log", "disk")
+SECOND = "second disk"  # what `v6 run2` writes beside these
 LINES = tuple(f"term.{line}" for line in range(1, 8))  # what `v6 run8` writes beside the console's file
 SHOWN = ("term", *LINES)
+ONE_FILE = ({"image", "disk"}, {"second", SECOND}, {"image", "second"})  # which may be
 
 
 def options_of(words):
@@ -32,6 +34,8 @@ def options_of(words):
                         help="with eight terminal lines, of which seven are shown in FILE.1 to FILE.7 beside the FILE of --term")
     parser.add_argument("--log", metavar="FILE", help="where the log goes")
     parser.add_argument("--disk", metavar="FILE", help="where the disk goes that the run leaves; it may be the image")
+    parser.add_argument("--second", metavar="IMAGE2", help="with a second disk, which mount(II) puts on a directory")
+    parser.add_argument("--second-disk", metavar="FILE", help="where the second disk goes that the run leaves; it may be IMAGE2")
     parser.add_argument("--core", type=int, help=f"the size of core, in clicks ({CORE}, or that of a script of the console)")
     add_replay(parser)
     parser.add_argument("--v6", metavar="COMMAND", default=V6, help="the program (bin/v6)")
@@ -39,9 +43,13 @@ def options_of(words):
     options = parser.parse_args(words)
     if options.eight and options.term in STREAMS:
         parser.error("--eight needs the FILE of --term, beside which the other lines have theirs")
-    named = {"image": options.image, "script": options.script, **outputs_of(options)}
+    if options.eight and options.second:
+        parser.error("--eight and --second: a machine has eight lines, or a second disk")
+    if options.second_disk and not options.second:
+        parser.error("--second-disk: there is none without --second")
+    named = {"image": options.image, "second": options.second, "script": options.script, **outputs_of(options)}
     for (one, first), (other, second) in itertools.combinations(named.items(), 2):
-        if (same_file(first, second) or first in STREAMS and second in STREAMS) and {one, other} != {"image", "disk"}:
+        if (same_file(first, second) or first in STREAMS and second in STREAMS) and {one, other} not in ONE_FILE:
             parser.error(f"{one} and {other} are the same file")
     return options
 
@@ -50,6 +58,8 @@ def outputs_of(options):
     """The files that are asked for, by what they get: those of the lines have the name of the console's, with the number of the
     line behind it."""
     outputs = {name: getattr(options, name) for name in OUTPUTS if getattr(options, name)}
+    if options.second_disk:
+        outputs[SECOND] = options.second_disk
     if options.eight:
         outputs.update({line: options.term + line.removeprefix("term") for line in LINES})
     return outputs
@@ -64,20 +74,22 @@ def run(options):
         head = head_of(options.script)
         core = int(head[2]) if head else CORE
     if not options.replay:
-        check_head(options.script, options.image, core, options.eight)
+        check_head(options.script, options.image, core, options.eight, options.second)
     for name in outputs.values():
         if name not in STREAMS:
             place_of(name)
     with tempfile.TemporaryDirectory() as folder:
-        made = {name: os.path.join(folder, name) for name in (*OUTPUTS, *LINES)}
+        made = {name: os.path.join(folder, name) for name in (*OUTPUTS, *LINES, SECOND)}
         words = [options.image, str(core), options.script, *(made[name] for name in OUTPUTS)]
-        status, said = call(options.v6, "run8" if options.eight else "run", *words)
+        second = [options.second, made[SECOND]] if options.second else []
+        status, said = call(options.v6, "run8" if options.eight else "run2" if second else "run", *words, *second)
         for name, target in outputs.items():
-            if os.path.exists(made[name]) and (name != "disk" or not status):
+            if os.path.exists(made[name]) and (name not in ("disk", SECOND) or not status):
                 put_out(target, read_bytes(made[name]))
         if status:
             script = read_bytes(options.script) if os.path.isfile(options.script) else b""
-            said = named(with_line(said, script), {"image": options.image, "script": options.script}, core)
+            files = {"image": options.image, "second": options.second, "script": options.script}
+            said = named(with_line(said, script), files, core)
             print(f"run.py: {said}", file=sys.stderr)
         elif os.path.isfile(options.image) and not any(os.path.getsize(made[name]) for name in outputs if name in SHOWN):
             why = why_silent(read_bytes(options.image), read_bytes(made["log"]))

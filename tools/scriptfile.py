@@ -7,7 +7,8 @@ from files import read_bytes
 
 MOST = 1048576  # bytes of a script
 COUNT = re.compile(rb"(clock|run) ([0-9]{1,9})")
-HEADER = re.compile(rb"; console: image sha256 ([0-9a-f]{64}) core ([0-9]{1,9})( lines)?")  # the first line of one of the console
+# the first line of a script of the console
+HEADER = re.compile(rb"; console: image sha256 ([0-9a-f]{64}) core ([0-9]{1,9})(?:( lines)| second sha256 ([0-9a-f]{64}))?")
 OTHER = re.compile(rb"tick|type(?: [\x20-\x7e]*)?|byte [0-3][0-7]{2}|switch [01][0-7]{5}|(?:disk|pace) [0-9]{1,9}|"
                    rb"(?:line|hangup) [0-7]|(?:;.*)?", re.DOTALL)
 
@@ -49,16 +50,23 @@ def head_of(name):
         return HEADER.fullmatch(file.readline(200).rstrip(b"\n"))
 
 
-def check_head(name, image, core, eight=False):
-    """Refuses a script of the console that was typed at another disk or core, or at eight lines where there is one."""
+def digest_of(name):
+    """The sha256 of a file, as heads have it. What isn't a file has none."""
+    return hashlib.sha256(read_bytes(name)).hexdigest().encode() if os.path.isfile(name) else None
+
+
+def check_head(name, image, core, eight=False, second=None):
+    """Refuses a script of the console that was typed at another disk or core, at eight lines where there is one, or beside a second
+    disk where there is another one, or none."""
     found = head_of(name)
     if not found or not os.path.isfile(image):
         return
-    with open(image, "rb") as file:
-        same = hashlib.sha256(file.read()).hexdigest().encode() == found[1]
-    if not same or int(found[2]) != core or found[3] and not eight:
-        what = (f"at another disk than {image}" if not same else
-                "with another size of core" if int(found[2]) != core else "at eight lines")
+    what = (f"at another disk than {image}" if digest_of(image) != found[1] else
+            "with another size of core" if int(found[2]) != core else
+            "at eight lines" if found[3] and not eight else
+            "beside a second disk" if found[4] and not second else
+            f"beside another second disk than {second}" if found[4] and digest_of(second) not in (None, found[4]) else None)
+    if what:
         raise ScriptError(f"{name} was typed {what}: --replay plays it all the same")
 
 
