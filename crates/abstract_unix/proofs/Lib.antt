@@ -31,6 +31,7 @@ pub mod Moved
 pub mod Mild
 pub mod CallLemmas
 pub mod PendingRows
+pub mod OtherRows
 pub mod GoingOnLemmas
 pub mod WaitingRows
 pub mod GoingOnSteps

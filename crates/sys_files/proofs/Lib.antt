@@ -39,6 +39,7 @@ pub mod PipeKeptLemmas
 pub mod NodeCounts
 pub mod WalkSteps
 pub mod Walks
+pub mod OtherWalks
 pub mod Counting
 pub mod Steady
 pub mod CoreLemmas
