@@ -20,7 +20,8 @@ moves_area file.Dup = true
 moves_area file.Pipe = true
 moves_area call = false
 
--- the calls that may change the files of both disks: `sync` writes each, and a pipe is a new node of the first, wherever its process is
+-- the calls that may change the files of both disks: `sync` writes each, and a pipe is a new node of the first, wherever its
+-- process is
 abbrev pub is_of_both : FileCall → Bool
 is_of_both file.Sync = true
 is_of_both file.Pipe = true

@@ -194,8 +194,8 @@ fn on_processes(count: u8, call: ProcessCall) -> Sysent
     entry(count, SystemCall::OnProcesses(call))
 }
 
-/// Does a call on files. But for sync(II) and pipe(II), it leaves a disk alone with which it has nothing to do: where all that it names,
-/// the open files of its process and its directory are on the other one.
+/// Does a call on files. But for sync(II) and pipe(II), it leaves a disk alone with which it has nothing to do: where
+/// all that it names, the open files of its process and its directory are on the other one.
 #[tactic(auto, using(crate::proofs::OtherRows::row_leaves_other))]
 pub fn do_file_call<S: Space, T: Trace>(
     call: FileCall,

@@ -112,8 +112,8 @@ owns_all h = record { file = λ entry named. tt; pipe = λ entry is named. tt; d
 
 -- What has to be shown of the words of which the rows are made, of a fact of the parts and of a fact of what a row of the process
 -- of a slot does. A write shows so many bytes at most as it has to write; the inodes of pipes that are open are known,
--- and so are the numbers of the lines that there are; the
--- numbers and the directory of the process change in calls that may move them; an inode that a call refers to for itself is its own.
+-- and so are the numbers of the lines that there are; the numbers and the directory of the process change in calls that may move
+-- them; an inode that a call refers to for itself, or names, is its own where that is used.
 pub record Walks (P : Handed → Type 0) (Q : Did → Type 0) (Few Known Line Here : ℕ → Type 0) (Moves Both : Type 0) (slot : ℕ) : Type 0 where
   pub refused : (h : Handed) (e : Errno) → P h → Q (fails h e)
   pub done : (h : Handed) (a b : ℕ) → P h → Q (record { answer = Ret a b; state = h; items = []; named = [] })
