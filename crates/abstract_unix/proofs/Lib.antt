@@ -32,6 +32,7 @@ pub mod Mild
 pub mod CallLemmas
 pub mod PendingRows
 pub mod OtherRows
+pub mod OtherProcs
 pub mod GoingOnLemmas
 pub mod WaitingRows
 pub mod GoingOnSteps

@@ -18,10 +18,10 @@ use Rattle.abstract_unix.proofs.FileRows.{is_of_both, walk_row}
 use Rattle.abstract_unix.proofs.PendingRows.{Pends, can_resume}
 
 -- a change of the one disk leaves the other one's store
-on_root : (old new : Stores) (key : ℕ) → device_of old key ≡ 0 → OnItsDisk old new key → new.second ≡ old.second
+pub on_root : (old new : Stores) (key : ℕ) → device_of old key ≡ 0 → OnItsDisk old new key → new.second ≡ old.second
 on_root old new key on only = only.second on
 
-on_second : (old new : Stores) (key : ℕ) → device_of old key ≡ 1 → OnItsDisk old new key → new.root ≡ old.root
+pub on_second : (old new : Stores) (key : ℕ) → device_of old key ≡ 1 → OnItsDisk old new key → new.root ≡ old.root
 on_second old new key on only = only.root on
 
 module _ {X : Type 0} (pick : Stores → X) (dev : ℕ)
