@@ -1,5 +1,5 @@
 -- A call on processes leaves the store of a disk alone, where all that it has to do with is on the other one.
-use Rattle.std.specs.Prelude.{◌≡◌, ℕ, List, [], ◌∷◌, Option, Some, Result, Ok, Err}
+use Rattle.std.specs.Prelude.{◌≡◌, ℕ, List, [], ◌∷◌, Some, Result, Ok, Err}
 use Rattle.std.specs.List.{All}
 use Rattle.v6_base.specs.declared.errno.Errno.{Errno}
 use Rattle.fs_nodes.specs.Keys.{device_of}
