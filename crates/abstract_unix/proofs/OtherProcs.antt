@@ -32,6 +32,7 @@ use Rattle.sys_procs.specs.Comes.{Comes, does, logs}
 use Rattle.sys_procs.specs.Tests.{must, user_of, node_at}
 use Rattle.sys_procs.specs.Frame.{named_by, exec_named, KeepsTo, LeavesOther}
 use Rattle.sys_procs.specs.Break.{break_at}
+use Rattle.sys_procs.specs.Exit.{leaves, dies, end_proc}
 use Rattle.sys_procs.specs.Signals.{is_reached, meant_in, kill_to}
 use Rattle.sys_procs.specs.TextTable.{Text, text_of, entry_of}
 use Rattle.sys_procs.specs.Texts.{goes, remaining, without_text, leaves_text, is_sticky, shares_text, makes_text, xalloc_by, xfree}
@@ -253,6 +254,30 @@ module _ {X : Type 0} (pick : Stores → X) (dev : ℕ)
         by : (r : Result Program Errno) → ((p : Program) → r ≡ Ok p → On p.ino) → IsFar (exec.done_by t.world s r).state
         by (Ok program) here = loads_far t.world program its (here program refl) tested.far
         by (Err e) here = tested.far
+
+    -- the end of a process
+    pub end_far : (status : ℕ) → On (process_of base s).u.dir → ((k : ℕ) → (process_of base s).text ≡ Some k → On (text_of base.texts k).ino)
+        → pick (end_proc base s status).state.inodes.store ≡ pick base.inodes.store
+    unfolding end_proc
+    end_far status here text = (by (process_of base s).text refl).same
+      where
+        dir : ℕ
+        dir = (process_of base s).u.dir
+
+        left : World
+        left = leaves base s status
+
+        still : IsFar left
+        still = far_key base left dir here (put_back_counts base.inodes dir)
+            (put_there base.inodes.store dir (slice_index base.inodes.references dir) (node_numbered base.inodes.store dir))
+            (record { same = refl; counts = refl })
+
+        by : (o : Option ℕ) → (process_of base s).text ≡ o → IsFar (xfree left s o (λ now. dies now s)).state
+        by None is = record { same = still.same; counts = still.counts }
+        by (Some entry) is =
+            let gone : IsFar (leaves_text left s entry (is_sticky left entry)) =
+            left_far left entry (is_sticky left entry) (text entry is) still in
+            record { same = gone.same; counts = gone.counts }
 
 -- each row
 row_far : {X : Type 0} (pick : Stores → X) (dev : ℕ)

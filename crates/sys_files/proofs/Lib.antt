@@ -41,6 +41,7 @@ pub mod WalkSteps
 pub mod Walks
 pub mod OtherWalks
 pub mod Counting
+pub mod OtherCloses
 pub mod Steady
 pub mod CoreLemmas
 pub mod PipeMovingLemmas

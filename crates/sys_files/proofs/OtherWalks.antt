@@ -22,10 +22,10 @@ use Rattle.sys_files.proofs.WalkSteps.{Touches, Owns}
 use Rattle.sys_files.proofs.Walks.{Walks}
 
 -- Stores of which the same is read off as of others, with as many nodes on each disk, and so many of the root's in the table.
-pub record IsApart {X : Type 0} (pick : Stores → X) (base now : Stores) (first : ℕ) : Type 0 where
+pub record IsApart {X : Type 0} (pick : Stores → X) (base now : Stores) (low : ℕ) : Type 0 where
   pub same : pick now ≡ pick base
   pub counts : counts now ≡ counts base
-  pub first : first ≡ base.root.count
+  pub first : low ≡ base.root.count
 
 -- the keys of a disk
 abbrev pub IsOn : ℕ → Stores → ℕ → Type 0
