@@ -1,5 +1,5 @@
 -- Who keeps to a disk and ends leaves the other one alone: all its numbers let their files go, one after another.
-use Rattle.std.proofs.Common.{◌≡◌, ◌≢◌, ◌∙◌, ◌<◌, ◌≤◌, ◌+◌, ◌-◌, ◌==◌, ◌++◌, ℕ, Bool, true, false, cond, List, [], length, Option, Some, None, IsSome, unwrap_or, slice_index, slice_set, refl, sym, ap, subst, inl, inr, arith}
+use Rattle.std.proofs.Common.{◌≡◌, ◌≢◌, ◌∙◌, ◌<◌, ◌≤◌, ◌+◌, ◌-◌, ◌==◌, ◌++◌, ℕ, Bool, true, false, cond, List, [], Option, Some, None, IsSome, unwrap_or, slice_index, refl, sym, ap, subst, inl, inr, arith}
 use Rattle.std.specs.List.{All}
 use Rattle.std.proofs.lemmas.Bool.{cases_eq, eq-eqb, false≢true}
 use Rattle.std.proofs.lemmas.List.{get_or-set_same, get_or-set_other}
@@ -79,7 +79,7 @@ module _ (Here : ℕ → Type 0) (h : Handed) (fd : ℕ) (some : 0 < slice_index
 
       own_still : entry_of h.u.files n ≡ entry → Here (unwrap_or (file_at files entry) no_file).ino
       own_still same =
-          let used : IsSome (left (told_by h fd)) = subst IsSome here (subst (λ i. IsSome (file_at files i)) (same_entry ∙ same) is_some) in
+          let used : IsSome (left (told_by h fd)) = subst (λ (o : Option OpenFile). IsSome o) here (subst (λ i. IsSome (file_at files i)) (same_entry ∙ same) is_some) in
           subst (λ (o : Option OpenFile). Here (unwrap_or o no_file).ino) (sym here)
           (subst Here (sym (left_ino (file_of h entry) used)) (own fd some))
 
@@ -117,7 +117,7 @@ module _ {X : Type 0} (pick : Stores → X) (dev : ℕ)
   where
     record Leaves (c : Closing) : Type 0 where
       apart : IsApart pick h.inodes.store c.state.inodes.store c.state.mounts.first
-      counted : IsCounted h c.state
+      kept : IsCounted h c.state
       own : AllOwn (IsOn dev h.inodes.store) c.state.files c.state.u.files
       dir : c.state.u.dir ≡ h.u.dir
 
@@ -127,11 +127,11 @@ module _ {X : Type 0} (pick : Stores → X) (dev : ℕ)
         let did : Did = record { answer = Ret 0 0; state = (closes c.state fd).state; items = (closes c.state fd).items; named = [] } in
         let leaves : All (IsOn dev h.inodes.store) [] → IsApart pick h.inodes.store did.state.inodes.store did.state.mounts.first =
         walk_closes (other_walks pick dev h.inodes.store law 0) c.state fd 0 0 some (k.own fd some) tt k.apart in
-        let now : IsCounted h did.state = walk_closes (counted_walks h 0) c.state fd 0 0 some tt tt k.counted in
+        let now : IsCounted h did.state = walk_closes (counted_walks h 0) c.state fd 0 0 some tt tt k.kept in
         record {
           apart = leaves (All-nil (IsOn dev h.inodes.store));
-          counted = now;
-          own = closed_own (IsOn dev h.inodes.store) c.state fd some k.counted.is_open k.own now.is_open;
+          kept = now;
+          own = closed_own (IsOn dev h.inodes.store) c.state fd some k.kept.is_open k.own now.is_open;
           dir = ap (λ (u : UArea). u.dir) (released_area (dropped c.state fd) (told_by c.state fd)) ∙ k.dir;
         }
 
@@ -153,13 +153,13 @@ module _ {X : Type 0} (pick : Stores → X) (dev : ℕ)
             (eq-eqb (slice_index h.u.files fd) (entry + 1) (omega (arith, some)))
 
         by : (o : Option OpenFile) → file_at h.files entry ≡ o → IsOn dev h.inodes.store (unwrap_or o no_file).ino
-        by None is = absurd (false≢true (subst IsSome is (sound.is_open fd some)))
+        by None is = absurd (false≢true (subst (λ (o : Option OpenFile). IsSome o) is (sound.is_open fd some)))
         by (Some file) is = keeps.files entry file (omega (arith, named)) is
 
     all_leave : Leaves (close_all h)
     all_leave = closes_all Leaves next h (record {
       apart = record { same = refl; counts = refl; first = sound.mounts.first };
-      counted = counted_same h.files h.u.files sound.is_open few;
+      kept = counted_same h.files h.u.files sound.is_open few;
       own = first_own;
       dir = refl;
     })
