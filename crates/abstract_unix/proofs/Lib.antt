@@ -31,6 +31,8 @@ pub mod Moved
 pub mod Mild
 pub mod CallLemmas
 pub mod PendingRows
+pub mod OtherRows
+pub mod OtherProcs
 pub mod GoingOnLemmas
 pub mod WaitingRows
 pub mod GoingOnSteps

@@ -17,7 +17,7 @@ use Rattle.sys_files.specs.Moving.{resumes}
 use Rattle.abstract_unix.specs.declared.calls.FileCall.{FileCall}
 use Rattle.abstract_unix.specs.Calls.{file_row}
 use Rattle.abstract_unix.proofs.FileRows.{walk_row}
-use Rattle.sys_files.proofs.Walks.{Walks, IsCalling, IsAwaiting, CanResume, walk_closes, walk_resume, closes_all}
+use Rattle.sys_files.proofs.Walks.{Walks, IsCalling, IsAwaiting, CanResume, owns_all, walk_closes, walk_resume, closes_all}
 use Rattle.sys_files.proofs.CoreLemmas.{core_keeps}
 
 pub never_in_call : {P : Type 0} (n : ℕ) → n ≡ NOTHING_PENDING → IsFileCall n → P
@@ -81,12 +81,12 @@ file_called h pending entry count left on calling = by (file_at h.files entry) r
 
 -- Each row of a call on files leaves it so, of a process that waits for nothing.
 pending_walks : (slot : ℕ)
-    → Walks (λ h. h.u.pending ≡ NOTHING_PENDING) Holds (λ count. Unit {0}) (λ ino. Unit {0}) (λ line. Unit {0}) (Unit {0}) slot
+    → Walks (λ h. h.u.pending ≡ NOTHING_PENDING) Holds (λ count. Unit {0}) (λ ino. Unit {0}) (λ line. Unit {0}) (λ key. Unit {0}) (Unit {0}) (Unit {0}) slot
 pending_walks slot = record {
   refused = λ h e free. holds_free (fails h e) free;
   done = λ h a b free. holds_free (record { answer = Ret a b; state = h; items = []; named = [] }) free;
-  lets_go = λ ino d holds. record { pends = holds.pends; user = holds.user };
-  named = λ names d holds. record { pends = holds.pends; user = holds.user };
+  lets_go = λ ino d when. let holds = when tt in record { pends = holds.pends; user = holds.user };
+  named = λ ino d when. let holds = when tt in record { pends = holds.pends; user = holds.user };
   waits = λ h l entry at count calling line free. record {
     pends = λ waits. record { end = file_called h LINE_READ entry count 0 (inl refl) calling; left = calling.few };
     user = λ awake. absurd (cc awake);
@@ -102,7 +102,8 @@ pending_walks slot = record {
   tells = λ entries d few all none holds. record { pends = holds.pends; user = holds.user };
   lets_out = λ h l front back d few first second free none holds. record { pends = holds.pends; user = holds.user };
   showing = λ l line bytes count d long few holds. record { pends = holds.pends; user = holds.user };
-  inodes = λ h inodes same free. free;
+  inodes = λ h inodes same touches free. free;
+  made = λ h dir mode user now here free. free;
   opened = λ h ino kind fd entry plain number none moves free. free;
   ends = λ h ino fd entry next_fd next_entry above within number none next_number next_none moves free. free;
   given = λ h fd next named number moves free. free;
@@ -123,7 +124,7 @@ pending_walks slot = record {
 -- A call on files of a process in user mode.
 row_holds : (call : FileCall) (h : Handed) (slot : ℕ) (args : List ℕ) (now : ℕ) → h.u.pending ≡ NOTHING_PENDING
     → Holds (file_row call h slot args now)
-row_holds call h slot args now free = walk_row (pending_walks slot) call h args now tt (λ moves. tt) free
+row_holds call h slot args now free = walk_row (pending_walks slot) call h args now tt (λ moves. tt) (λ both. tt) (owns_all h) free
 
 pub row_pends : (call : FileCall) (h : Handed) (slot : ℕ) (args : List ℕ) (now : ℕ) → h.u.pending ≡ NOTHING_PENDING
     → Pends (file_row call h slot args now).state
@@ -147,7 +148,7 @@ can_resume h on pends =
     }
 
 resume_holds : (h : Handed) (slot now : ℕ) → is_on_files h.u.pending ≡ true → Pends h → Holds (resumes h slot now)
-resume_holds h slot now on pends = walk_resume (pending_walks slot) h now (can_resume h on pends) refl
+resume_holds h slot now on pends = walk_resume (pending_walks slot) h now (can_resume h on pends) (owns_all h) refl
 
 pub resume_pends : (h : Handed) (slot now : ℕ) → is_on_files h.u.pending ≡ true → Pends h → Pends (resumes h slot now).state
 resume_pends h slot now on pends = (resume_holds h slot now on pends).pends
@@ -161,7 +162,7 @@ resume_user h slot now on pends awake = (resume_holds h slot now on pends).user 
 pub close_user : (h : Handed) → h.u.pending ≡ NOTHING_PENDING → (close_all h).state.u.pending ≡ NOTHING_PENDING
 close_user h free =
     closes_all (λ c. c.state.u.pending ≡ NOTHING_PENDING)
-    (λ c fd named is. (walk_closes (pending_walks 0) c.state fd 0 0 named tt is).user refl) h free
+    (λ c fd named is. (walk_closes (pending_walks 0) c.state fd 0 0 named tt tt is).user refl) h free
 
 pub core_user : (h : Handed) (now : ℕ) → h.u.pending ≡ NOTHING_PENDING → (core_file h now).state.u.pending ≡ NOTHING_PENDING
 core_user h now free = (core_keeps (λ l. l.u.pending ≡ NOTHING_PENDING) (λ l inodes same is. is) h now free).state

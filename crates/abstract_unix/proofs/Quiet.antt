@@ -22,15 +22,16 @@ use Rattle.lines_eight.specs.Told.{keys_of, show_of}
 use Rattle.pick_rules.specs.Fits.{IsSleep}
 use Rattle.pick_rules.specs.Ranges.{IsInode, IsLine, IsChannel}
 use Rattle.sig_core.specs.declared.numbers.TheConstants.{SIGPIPE}
-use Rattle.sys_files.specs.Handed.{Handed, line_at, with_inodes, let_go}
+use Rattle.sys_files.specs.Handed.{Handed, disk_of, line_at, with_inodes, let_go}
 use Rattle.sys_files.specs.Did.{Did}
+use Rattle.sys_files.specs.Making.{new_in}
 use Rattle.sys_files.specs.Descriptors.{Closing, dropped, closes, close_all}
 use Rattle.sys_files.specs.Moving.{without_pending, resumes}
 use Rattle.sys_files.proofs.Bounds.{IsOfFiles, IsLineOf}
 use Rattle.fs_nodes.specs.Keys.{counts, key_count}
 use Rattle.fs_nodes.proofs.CountLaws.{keys_counted}
-use Rattle.sys_files.proofs.NodeCounts.{put_back_counts}
-use Rattle.sys_files.proofs.Walks.{IsOfPipe, CanResume, Walks, walk_closes, walk_resume, closes_all}
+use Rattle.sys_files.proofs.NodeCounts.{put_back_counts, new_counts}
+use Rattle.sys_files.proofs.Walks.{IsOfPipe, CanResume, Walks, owns_all, walk_closes, walk_resume, closes_all}
 use Rattle.std.proofs.lemmas.List.Elements.{All-head, All-tail}
 use Rattle.sys_files.specs.Piping.{words_of}
 use Rattle.abstract_unix.specs.Calls.{bytes_from, in_order}
@@ -218,16 +219,16 @@ waits_for_show old new l same which range = record {
     on false other = range (eqb-false l 0 other)
 
 -- Each row of a call on files is calm.
-pub calm_walks : (old : UArea) (s : ℕ) → Walks (InCalm old) (Calm old s) (λ count. Unit {0}) IsInode IsLine (Unit {0}) s
+pub calm_walks : (old : UArea) (s : ℕ) → Walks (InCalm old) (Calm old s) (λ count. Unit {0}) IsInode IsLine (λ key. Unit {0}) (Unit {0}) (Unit {0}) s
 calm_walks old s = record {
   refused = λ h e p. record { quiet = tt; ends = p.same; numbers = p.numbers };
   done = λ h a b p. record { quiet = tt; ends = p.same; numbers = p.numbers };
-  lets_go = λ ino d c. record {
+  lets_go = λ ino d when. let c = when tt in record {
     quiet = c.quiet;
     ends = c.ends;
     numbers = other_inodes d.state (let_go d.state ino).inodes (put_back_counts d.state.inodes ino) c.numbers;
   };
-  named = λ names d c. record { quiet = c.quiet; ends = c.ends; numbers = c.numbers };
+  named = λ ino d when. let c = when tt in record { quiet = c.quiet; ends = c.ends; numbers = c.numbers };
   waits = λ h l entry at count calling line p. record {
     quiet = tt;
     ends = waits_for_keys old (record h.u { pending = LINE_READ; call = entry ∷ at ∷ count ∷ 0 ∷ 0 ∷ 0 ∷ 0 ∷ 0 ∷ [] }) l (same_size p) refl line;
@@ -251,7 +252,12 @@ calm_walks old s = record {
     numbers = c.numbers;
   };
   showing = λ l line bytes count d long few c. record { quiet = quiet_sent s l (shows line bytes); ends = c.ends; numbers = c.numbers };
-  inodes = λ h inodes same p. record { same = p.same; numbers = other_inodes h inodes same p.numbers };
+  inodes = λ h inodes same touches p. record { same = p.same; numbers = other_inodes h inodes same p.numbers };
+  made = λ h dir mode user now here p. record {
+    same = p.same;
+    numbers = other_inodes h (new_in h.inodes (disk_of h dir) mode user now).inodes
+        (new_counts h.inodes (disk_of h dir) mode user now) p.numbers;
+  };
   opened = λ h ino kind fd entry plain number free moves p. record {
     same = same_call_in p;
     numbers = record { count = p.numbers.count; pipes = pipes_opened h.files h.pipes entry ino kind plain p.numbers.pipes; eight = p.numbers.eight };
@@ -311,7 +317,7 @@ calm_walks old s = record {
 pub resume_calm : (h : Handed) (s now : ℕ) → CanResume (λ count. Unit {0}) h → HasNumbers h
     → Calm (without_pending h).u s (resumes h s now)
 resume_calm h s now has numbers =
-    walk_resume (calm_walks (without_pending h).u s) h now has
+    walk_resume (calm_walks (without_pending h).u s) h now has (owns_all h)
     (record { same = same_call (without_pending h).u; numbers = record { count = numbers.count; pipes = numbers.pipes; eight = numbers.eight } })
 
 -- Numbers let their files go.
@@ -323,7 +329,7 @@ closes_calm : (old : UArea) (s : ℕ) (h : Handed) (fd : ℕ) → 0 < slice_inde
     → CalmClosing old s (closes h fd)
 closes_calm old s h fd named p =
     let c : Calm old s (record { answer = Ret 0 0; state = (closes h fd).state; items = (closes h fd).items; named = [] }) =
-    walk_closes (calm_walks old s) h fd 0 0 named tt p in
+    walk_closes (calm_walks old s) h fd 0 0 named tt tt p in
     record { quiet = c.quiet; calm = record { same = c.ends; numbers = c.numbers } }
 
 -- all numbers of a process, one after another

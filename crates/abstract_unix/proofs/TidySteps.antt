@@ -33,7 +33,7 @@ use Rattle.sys_files.specs.Moving.{without_pending, resumes}
 use Rattle.sys_files.specs.Sound.{numbers_of}
 use Rattle.sys_files.proofs.CoreLemmas.{OverWith, core_keeps}
 use Rattle.sys_files.proofs.Counting.{IsCounted, counted_walks, close_all_counted}
-use Rattle.sys_files.proofs.Walks.{walk_resume}
+use Rattle.sys_files.proofs.Walks.{owns_all, walk_resume}
 use Rattle.sys_procs.specs.Process.{Process, no_process, member_of, register, image_of}
 use Rattle.sys_procs.specs.World as world
 use Rattle.sys_procs.specs.World.{World, change, members}
@@ -342,11 +342,11 @@ module _ (s : ℕ) where
   leaves_call u (OnFiles call) args free r =
       let h : Handed = handed_of u (process_of u s) in
       let did : Did = file_row call h s args u.clock.time in
-      let calm : Calm h.u s did = walk_row (calm_walks h.u s) call h args u.clock.time tt (λ moves. tt)
+      let calm : Calm h.u s did = walk_row (calm_walks h.u s) call h args u.clock.time tt (λ moves. tt) (λ both. tt) (owns_all h)
       (record { same = same_call h.u; numbers = tidy_numbers u s r.tidy }) in
       leaves_runs (takes_time (reads_disk call h did.answer) s (did_by u s did))
       (runs_timed (reads_disk call h did.answer) (did_by u s did)
-      (runs_did s u did (walk_row (counted_walks h s) call h args u.clock.time tt (λ moves. tt) (runs_counted s u r)) calm.numbers
+      (runs_did s u did (walk_row (counted_walks h s) call h args u.clock.time tt (λ moves. tt) (λ both. tt) (owns_all h) (runs_counted s u r)) calm.numbers
       (row_pends call h s args u.clock.time free) r))
   leaves_call u (OnProcesses call) args free r =
       let c : Comes = process_row call (mounts_of u) (world_of u) s args in
@@ -407,7 +407,7 @@ module _ (s : ℕ) where
           let has = tidy_can u s r.tidy r.there r.lives on in
           let calm : Calm (without_pending h).u s did = resume_calm h s u.clock.time has (tidy_numbers u s r.tidy) in
           leaves_runs (did_by u s did)
-          (runs_did s u did (walk_resume (counted_walks h s) h u.clock.time has (runs_counted s u r)) calm.numbers
+          (runs_did s u did (walk_resume (counted_walks h s) h u.clock.time has (owns_all h) (runs_counted s u r)) calm.numbers
           (resume_pends h s u.clock.time on (handed_pends u s r.tidy.waits r.there r.lives)) r)
       by false on =
           leaves_runs (came_by u s (resume_proc (world_of u) s))

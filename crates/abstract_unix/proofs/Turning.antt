@@ -48,7 +48,7 @@ use Rattle.abstract_unix.specs.Turn.{machine_of, with_machine, faults, comes_to,
 use Rattle.abstract_unix.proofs.Sitting.{seat_for, seats_in, seats_of, found_in, runner_seat, runner_there, runner_alive, put_in, kept_in, changed_in}
 use Rattle.abstract_unix.proofs.Steps.{AptSteps, Begun, AptBegun, ends_in, returns_apt, signals_apt, answers_apt, came_apt}
 use Rattle.abstract_unix.proofs.Quiet.{HasNumbers, Calm, same_call, calm_walks, resume_calm}
-use Rattle.sys_files.proofs.Walks.{CanResume}
+use Rattle.sys_files.proofs.Walks.{CanResume, owns_all}
 use Rattle.abstract_unix.proofs.FileRows.{walk_row}
 use Rattle.abstract_unix.proofs.ProcessRows.{plain_row, resume_plain}
 use Rattle.abstract_unix.proofs.Rows.{FineComes, Calling, plain_fine}
@@ -62,7 +62,7 @@ use Rattle.abstract_unix.proofs.Tidy.{IsTidy, tidy_numbers, tidy_can}
 
 -- a row of a call on files
 calm_row : (call : FileCall) (h : Handed) (s : ℕ) (args : List ℕ) (now : ℕ) → HasNumbers h → Calm h.u s (file_row call h s args now)
-calm_row call h s args now numbers = walk_row (calm_walks h.u s) call h args now tt (λ moves. tt) (record { same = same_call h.u; numbers = numbers })
+calm_row call h s args now numbers = walk_row (calm_walks h.u s) call h args now tt (λ moves. tt) (λ both. tt) (owns_all h) (record { same = same_call h.u; numbers = numbers })
 
 -- a row of a call on processes
 fine_row : (call : ProcessCall) (mounts : MountTable) (s : ℕ) (seen : Seen) (w : World) (args : List ℕ) → Calling s w seen

@@ -35,6 +35,7 @@ use Rattle.sys_procs.specs.Process.{Process, register, image_of}
 use Rattle.sys_procs.specs.TextTable.{marks_of}
 use Rattle.sys_procs.specs.World.{World}
 use Rattle.sys_procs.specs.Comes.{Comes}
+use Rattle.sys_procs.specs.Frame.{exec_named}
 use Rattle.sys_procs.specs.Break.{break_at, grow}
 use Rattle.sys_procs.specs.ExecFile.{exec_file}
 use Rattle.sys_procs.specs.Ids.{pid_of, set_uid, get_uid, set_gid, get_gid, switches, no_op, nice_to}
@@ -206,6 +207,11 @@ process_row process.Times mounts w slot a = times_to w slot (slice_index a 0)
 process_row process.Setgid mounts w slot a = set_gid w slot
 process_row process.Getgid mounts w slot a = get_gid w slot
 process_row process.Signal mounts w slot a = signal_set w slot (slice_index a 0) (slice_index a 1)
+
+-- the inode that it names: that of the program which it executes
+abbrev pub process_named : ProcessCall → MountTable → World → ℕ → List ℕ → List ℕ
+process_named process.Exec mounts w slot a = exec_named mounts w slot (slice_index a 0)
+process_named call mounts w slot a = []
 
 -- What a call on files shows goes out when it is done: the bytes of each line, lowest line first, and then the lines of the log.
 abbrev pub bytes_from : ℕ → ℕ → List Item → List Item

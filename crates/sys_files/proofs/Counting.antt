@@ -203,19 +203,20 @@ abbrev pub IsCounted : Handed → Handed → Type 0
 IsCounted old h = Counted old.files old.u.files h.files h.u.files
 
 pub counted_walks : (old : Handed) (slot : ℕ) → Walks (IsCounted old) (λ d. IsCounted old d.state) (λ count. Unit {0})
-    (λ ino. Unit {0}) (λ line. Unit {0}) (Unit {0}) slot
+    (λ ino. Unit {0}) (λ line. Unit {0}) (λ key. Unit {0}) (Unit {0}) (Unit {0}) slot
 counted_walks old slot = record {
   refused = λ h e p. p;
   done = λ h a b p. p;
-  lets_go = λ ino d p. p;
-  named = λ names d p. p;
+  lets_go = λ ino d p. p tt;
+  named = λ ino d p. p tt;
   waits = λ h l entry at count calling line p. p;
   waits_for_room = λ h l entry at count done calling line p. p;
   waits_in_pipe = λ h chan pending entry at count left which of awaits p. p;
   tells = λ entries d few all quiet p. p;
   lets_out = λ h l front back d few first second here quiet p. p;
   showing = λ l line bytes count d long few p. p;
-  inodes = λ h inodes same p. p;
+  inodes = λ h inodes same touches p. p;
+  made = λ h dir mode user now here p. p;
   opened = λ h ino kind fd entry plain number free moves p. counted_opened old.files old.u.files h.files h.u.files p
       (opened ino kind) fd entry refl number free;
   ends = λ h ino fd entry next_fd next_entry above within number free next_number next_free moves p.
@@ -242,4 +243,4 @@ counted_walks old slot = record {
 -- All numbers of a process let their files go, one after another.
 pub close_all_counted : (h : Handed) → IsCounted h h → IsCounted h (close_all h).state
 close_all_counted h k =
-    closes_all (λ c. IsCounted h c.state) (λ c fd named p. walk_closes (counted_walks h 0) c.state fd 0 0 named tt p) h k
+    closes_all (λ c. IsCounted h c.state) (λ c fd named p. walk_closes (counted_walks h 0) c.state fd 0 0 named tt tt p) h k

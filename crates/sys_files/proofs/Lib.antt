@@ -39,7 +39,9 @@ pub mod PipeKeptLemmas
 pub mod NodeCounts
 pub mod WalkSteps
 pub mod Walks
+pub mod OtherWalks
 pub mod Counting
+pub mod OtherCloses
 pub mod Steady
 pub mod CoreLemmas
 pub mod PipeMovingLemmas

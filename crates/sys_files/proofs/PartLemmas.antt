@@ -6,6 +6,7 @@ use Rattle.fs_tree.specs.Finding.{Inodes, Finding, put_back}
 use Rattle.sys_files.specs.Handed.{Handed, with_inodes}
 use Rattle.sys_files.specs.Did.{Did, unnamed, fails, is_done, check, must, until_end, then_named}
 use Rattle.sys_files.specs.Entering.{did_of, did_with}
+use Rattle.sys_files.specs.Making.{names_directory}
 
 -- a test that holds, and one that fails
 pub passes : (h : Handed) (e : Errno) (t : Bool) (next : Unit {0} → Did) → t ≡ true → check h (must e t) next ≡ next tt
@@ -44,6 +45,11 @@ unnamed_told h d r did = ap unnamed did ∙ by r where
   by : (r : Result (Unit {0}) Errno) → unnamed (did_of h r) ≡ did_of h r
   by (Ok u) = refl
   by (Err e) = refl
+
+-- the directory of a name that goes is a name as any other
+pub unnamed_directory : (found : Result (ℕ × ℕ × ℕ) Errno) (d : Did) → unnamed (names_directory found d) ≡ unnamed d
+unnamed_directory (Ok entry) d = refl
+unnamed_directory (Err e) d = refl
 
 -- a reference that goes at the end of a part
 pub until_told : (h : Handed) (ino : ℕ) (r : Result (Unit {0}) Errno) (n : Inodes) → n ≡ put_back h.inodes ino

@@ -28,7 +28,7 @@ use Rattle.lines_eight.specs.Told.{keys_of, show_of, wakes_if}
 use Rattle.lines_eight.proofs.LinesLemmas.{room_any}
 use Rattle.sys_files.proofs.Bounds.{IsOfFiles, IsOfCall, keys_of_files, show_of_files, AreFew, Fits, most_entries, most_bytes, few_none, few_up_to, few_then, few_sent, few_lines, few_told, fits_none, fits_lines, fits_shown}
 use Rattle.sys_files.proofs.ReleasedLemmas.{shut}
-use Rattle.sys_files.proofs.Walks.{Walks, CanResume, walk_closes, walk_resume}
+use Rattle.sys_files.proofs.Walks.{Walks, CanResume, owns_all, walk_closes, walk_resume}
 use Rattle.open_files.specs.declared.file.OpenFile.{OpenFile}
 use Rattle.open_files.specs.Files.{entry_of}
 use Rattle.tty_line.specs.Said as said
@@ -150,15 +150,15 @@ signal_stays old row s = by (is_signal SIGPIPE && not (row.sig == SIGKIL))
 
 -- Each row of a call on files is confined, and a write is while its number of bytes is a word.
 pub confined_walks : (old : Handed) (slot : ℕ)
-    → Walks (Steady old) (Confined slot old) (λ count. count ≤ 65535) (λ ino. Unit {0}) (λ line. Unit {0}) (Unit {0}) slot
+    → Walks (Steady old) (Confined slot old) (λ count. count ≤ 65535) (λ ino. Unit {0}) (λ line. Unit {0}) (λ key. Unit {0}) (Unit {0}) (Unit {0}) slot
 confined_walks old slot = record {
   refused = λ h e s. record { fits = fits_none slot; steady = s };
   done = λ h a b s. record { fits = fits_none slot; steady = s };
-  lets_go = λ ino d c. record {
+  lets_go = λ ino d when. let c = when tt in record {
     fits = c.fits;
     steady = record { row = c.steady.row; area = c.steady.area; image = c.steady.image; marks = c.steady.marks; room = c.steady.room };
   };
-  named = λ names d c. record { fits = c.fits; steady = c.steady };
+  named = λ ino d when. let c = when tt in record { fits = c.fits; steady = c.steady };
   waits = λ h l entry at count calling line s. record {
     fits = fits_none slot;
     steady = steady_pending old h LINE_READ (entry ∷ at ∷ count ∷ 0 ∷ 0 ∷ 0 ∷ 0 ∷ 0 ∷ []) s;
@@ -178,7 +178,8 @@ confined_walks old slot = record {
     steady = c.steady;
   };
   showing = λ l line bytes count d long few c. record { fits = fits_shown slot l line bytes (omega (arith, long, few)); steady = c.steady };
-  inodes = λ h inodes same s. record { row = s.row; area = s.area; image = s.image; marks = s.marks; room = s.room };
+  inodes = λ h inodes same touches s. record { row = s.row; area = s.area; image = s.image; marks = s.marks; room = s.room };
+  made = λ h dir mode user now here s. record { row = s.row; area = s.area; image = s.image; marks = s.marks; room = s.room };
   opened = λ h ino kind fd entry plain number free moves s. steady_moved old h _ (slice_set h.u.files fd (entry + 1)) h.u.dir s;
   ends = λ h ino fd entry next_fd next_entry above within number free next_number next_free moves s. record {
     row = s.row;
@@ -225,7 +226,7 @@ confined_walks old slot = record {
 -- A call goes on in which a process slept.
 pub resume_confined : (h : Handed) (slot now : ℕ) → All HasRoom h.lines → CanResume (λ count. count ≤ 65535) h → Confined slot h (resumes h slot now)
 resume_confined h slot now room can =
-    walk_resume (confined_walks h slot) h now can (steady_pending h h NOTHING_PENDING (replicate 8 0) (steady_same h room))
+    walk_resume (confined_walks h slot) h now can (owns_all h) (steady_pending h h NOTHING_PENDING (replicate 8 0) (steady_same h room))
 
 -- A number lets its file go: four times at most is somebody woken, who waits for a pipe or for a line, and what waits on a line goes out.
 roused_few : (slot ino : ℕ) (pipe : Bool) → AreFew slot 2 0 (cond pipe (Log (Wake (Write ino)) ∷ Log (Wake (Read ino)) ∷ []) [])
@@ -298,7 +299,7 @@ more_shut slot h n c fd shut = by (slice_index c.state.u.files fd == 0) refl
     by false is =
         let some = eqb-false (slice_index c.state.u.files fd) 0 is in
         record {
-          steady = (walk_closes (confined_walks h slot) c.state fd 0 0 (omega (arith, some)) tt shut.steady).steady;
+          steady = (walk_closes (confined_walks h slot) c.state fd 0 0 (omega (arith, some)) tt tt shut.steady).steady;
           few = few_up_to slot (4 * n + 4) (1008 * n + 1008) (4 * suc n) (1008 * suc n) _ (omega arith) (omega arith)
               (few_then slot (4 * n) (1008 * n) 4 1008 c.items (closes c.state fd).items shut.few
               (released_few slot (dropped c.state fd) (told_by c.state fd) shut.steady.room));

@@ -1,5 +1,5 @@
 -- What a walk over the rows of calls on files asks of each step that rows are made of.
-use Rattle.std.proofs.Common.{◌≡◌, ◌≢◌, ◌<◌, ◌≤◌, ◌∙◌, ◌+◌, ◌-◌, ◌==◌, ◌||◌, ℕ, Bool, true, false, cond, List, [], ◌∷◌, length, slice_index, slice_set, pos, is_some, unwrap_or, Option, Some, None, Ok, Err, refl, sym, ap, subst, arith, ◌++◌, map}
+use Rattle.std.proofs.Common.{◌≡◌, ◌≢◌, ◌<◌, ◌≤◌, ◌∙◌, ◌+◌, ◌-◌, ◌==◌, ◌||◌, ◌⊎◌, ℕ, Bool, true, false, cond, List, [], ◌∷◌, length, slice_index, slice_set, pos, is_some, unwrap_or, Option, Some, None, Ok, Err, refl, sym, ap, subst, arith, ◌++◌, map}
 use Rattle.std.proofs.lemmas.Bool.{eqb-false, eq-eqb}
 use Rattle.v6_base.specs.Image.{Image}
 use Rattle.v6_base.specs.Trace.{Log, sent}
@@ -11,7 +11,8 @@ use Rattle.v6_base.specs.declared.errno.Errno.TheVariants.{EBADF}
 use Rattle.v6_base.proofs.Copies.{SameLengths}
 use Rattle.u_area.specs.declared.layout.TheConstants.{LINE_READ, LINE_WRITE}
 use Rattle.u_area.specs.Pending.{IsPipeCall}
-use Rattle.fs_nodes.specs.Keys.{counts, key_count}
+use Rattle.fs_nodes.specs.Keys.{Stores, OnItsDisk, counts, key_count}
+use Rattle.fs_tree.specs.declared.user.User.{User}
 use Rattle.fs_tree.specs.Finding.{Inodes}
 use Rattle.open_files.specs.declared.file.OpenFile.{OpenFile}
 use Rattle.open_files.specs.declared.file.FileKind.{FileKind}
@@ -25,9 +26,10 @@ use Rattle.lines_eight.specs.Lines.{HasRoom}
 use Rattle.lines_eight.specs.Told.{keys_of, show_of}
 use Rattle.sig_core.specs.Signals.{posted}
 use Rattle.pipe_ends.specs.declared.ends.Pipe.{Pipe}
-use Rattle.sys_files.specs.Handed.{Handed, no_file, file_of, line_at, with_line, with_inodes, with_number}
-use Rattle.sys_files.specs.Did.{Did, fails, must, need, until_end}
+use Rattle.sys_files.specs.Handed.{Handed, no_file, file_of, disk_of, line_at, with_line, with_inodes, with_number}
+use Rattle.sys_files.specs.Did.{Did, fails, must, need, until_end, names}
 use Rattle.sys_files.specs.Descriptors.{open_entry, dropped}
+use Rattle.sys_files.specs.Making.{new_in}
 use Rattle.sys_files.specs.Mounting.{with_covered}
 use Rattle.sys_files.specs.Pipes.{with_pipe, without_pipe, has_end}
 use Rattle.sys_files.specs.Piping.{reading_end, with_end, with_ends, words_of, pipe_at}
@@ -89,15 +91,34 @@ pub record CanResume (Few : ℕ → Type 0) (h : Handed) : Type 0 where
   pub pipe : ((h.u.pending == LINE_READ) || (h.u.pending == LINE_WRITE)) ≡ false → (file_of h (slice_index h.u.call 0)).kind.pipe ≡ true
   pub few : Few (slice_index h.u.call 2 - slice_index h.u.call 3)
 
+-- What a step changes of the stores: both, where the call may; or nothing; or the disk of a key that is the call's own.
+pub record Within (Here : ℕ → Type 0) (old new : Stores) : Type 0 where
+  pub key : ℕ
+  pub here : Here key
+  pub only : OnItsDisk old new key
+
+abbrev pub Touches : (ℕ → Type 0) → Type 0 → Stores → Stores → Type 0
+Touches Here Both old new = Both ⊎ ((new ≡ old) ⊎ Within Here old new)
+
+-- The files of a process, the pipes that they are ends of, and its directory are its calls' own.
+pub record Owns (Here : ℕ → Type 0) (h : Handed) : Type 0 where
+  pub file : (entry : ℕ) → 1 ≤ times h.u.files entry → Here (file_of h entry).ino
+  pub pipe : (entry : ℕ) → (file_of h entry).kind.pipe ≡ true → 1 ≤ times h.u.files entry → Here (pipe_at h entry).ino
+  pub dir : Here h.u.dir
+
+-- where nothing is asked of that
+pub owns_all : (h : Handed) → Owns (λ key. Unit {0}) h
+owns_all h = record { file = λ entry named. tt; pipe = λ entry is named. tt; dir = tt }
+
 -- What has to be shown of the words of which the rows are made, of a fact of the parts and of a fact of what a row of the process
 -- of a slot does. A write shows so many bytes at most as it has to write; the inodes of pipes that are open are known,
--- and so are the numbers of the lines that there are; the
--- numbers and the directory of the process change in calls that may move them.
-pub record Walks (P : Handed → Type 0) (Q : Did → Type 0) (Few Known Line : ℕ → Type 0) (Moves : Type 0) (slot : ℕ) : Type 0 where
+-- and so are the numbers of the lines that there are; the numbers and the directory of the process change in calls that may move
+-- them; an inode that a call refers to for itself, or names, is its own where that is used.
+pub record Walks (P : Handed → Type 0) (Q : Did → Type 0) (Few Known Line Here : ℕ → Type 0) (Moves Both : Type 0) (slot : ℕ) : Type 0 where
   pub refused : (h : Handed) (e : Errno) → P h → Q (fails h e)
   pub done : (h : Handed) (a b : ℕ) → P h → Q (record { answer = Ret a b; state = h; items = []; named = [] })
-  pub lets_go : (ino : ℕ) (d : Did) → Q d → Q (until_end ino d)
-  pub named : (names : List ℕ) (d : Did) → Q d → Q (record d { named = names })
+  pub lets_go : (ino : ℕ) (d : Did) → (Here ino → Q d) → Q (until_end ino d)
+  pub named : (ino : ℕ) (d : Did) → (Here ino → Q d) → Q (names ino d)
   pub waits : (h : Handed) (l entry at count : ℕ) → IsCalling h entry count 0 → (l ≢ 0 → Line l) → P h → Q (asleep_for_keys h l entry at count)
   pub waits_for_room : (h : Handed) (l entry at count done : ℕ) → IsCalling h entry count done → (l ≢ 0 → Line l) → P h
       → Q (asleep_for_room h l entry at count done)
@@ -111,7 +132,10 @@ pub record Walks (P : Handed → Type 0) (Q : Did → Type 0) (Few Known Line : 
       → Q (record d { items = map Log front ++ (sent l (line_at h l).output ++ map Log back) })
   pub showing : (l : ℕ) (line : Terminal) (bytes : List ℕ) (count : ℕ) (d : Did) → length bytes ≤ count → Few count → Q d
       → Q (record d { items = sent l (shows line bytes) })
-  pub inodes : (h : Handed) (inodes : Inodes) → counts inodes.store ≡ counts h.inodes.store → P h → P (with_inodes h inodes)
+  pub inodes : (h : Handed) (inodes : Inodes) → counts inodes.store ≡ counts h.inodes.store
+      → Touches Here Both h.inodes.store inodes.store → P h → P (with_inodes h inodes)
+  pub made : (h : Handed) (dir mode : ℕ) (user : User) (now : ℕ) → Here dir → P h
+      → P (with_inodes h (new_in h.inodes (disk_of h dir) mode user now).inodes)
   pub opened : (h : Handed) (ino : ℕ) (kind : FileKind) (fd entry : ℕ) → kind.pipe ≡ false → free_number h.u.files ≡ Some fd
       → free_entry h.files ≡ Some entry
       → Moves → P h → P (record h { files = slice_set h.files entry (Some (files.opened ino kind)); u = with_number h.u fd (entry + 1) })
@@ -187,3 +211,15 @@ named_told Known file named = by (file.count == 1)
     by : (last : Bool) → IsNamedBy Known (cond last (Last (with_fewer file)) (Still (with_fewer file)))
     by true = named
     by false = named
+
+-- The inode of a file that has gone with a number is the call's own.
+abbrev pub LetsGo : (ℕ → Type 0) → Closed → Type 0
+LetsGo Here (Still file) = Unit {0}
+LetsGo Here (Last file) = Here file.ino
+
+pub own_told : (Here : ℕ → Type 0) (file : OpenFile) → Here file.ino → LetsGo Here (files.closed file)
+own_told Here file here = by (file.count == 1)
+  where
+    by : (last : Bool) → LetsGo Here (cond last (Last (with_fewer file)) (Still (with_fewer file)))
+    by true = here
+    by false = tt

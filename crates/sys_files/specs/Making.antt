@@ -1,6 +1,8 @@
 -- Files are made, linked and unlinked: creat(II), mknod(II), link(II), unlink(II); Lions' Commentary, `creat` and `maknode` in
 -- `sys2.c` and `iget.c`, `unlink` in `sys4.c`.
-use Rattle.std.specs.Prelude.{ℕ, Bool, true, false, not, ◌+◌, ◌-◌, ◌==◌, ◌||◌, nat_lt, if◌then◌else◌, List, [], ◌∷◌, Option, Some, None, Ok, slice_index, slice_set, bit_and}
+use Rattle.std.specs.Prelude.{ℕ, Bool, true, false, not, ◌+◌, ◌-◌, ◌==◌, ◌||◌, nat_lt, if◌then◌else◌, List, [], ◌∷◌, Option, Some, None, Result, Ok, Err, slice_index, slice_set, bit_and}
+use Rattle.v6_base.specs.Access.{then_do}
+use Rattle.v6_base.specs.declared.errno.Errno.{Errno}
 use Rattle.v6_base.specs.declared.errno.Errno.TheVariants.{EPERM, EBUSY, EEXIST, EXDEV, EISDIR, ENFILE, ENOSPC, EMLINK}
 use Rattle.fs_codec.specs.Bytes.{entry_bytes}
 use Rattle.fs_codec.specs.Modes.{is_device, is_directory}
@@ -16,9 +18,10 @@ use Rattle.fs_tree.specs.declared.user.Want.TheVariants.{Write}
 use Rattle.fs_tree.specs.Name.{name_at}
 use Rattle.fs_tree.specs.Permission.{access}
 use Rattle.fs_tree.specs.Entries.{written, answer_to}
-use Rattle.fs_tree.specs.Finding.{Inodes, Finding, refused, remove_in}
+use Rattle.fs_tree.specs.Path.{way, to_remove}
+use Rattle.fs_tree.specs.Finding.{Inodes, Finding, refused, removing}
 use Rattle.sys_files.specs.Handed.{Handed, node_in, node_at, disk_of, number_of, user_of, with_inodes}
-use Rattle.sys_files.specs.Did.{Did, fails, is_done, check, must, until_end, then_named, finds, makes}
+use Rattle.sys_files.specs.Did.{Did, fails, is_done, check, must, until_end, names, then_named, finds, makes}
 use Rattle.sys_files.specs.Opening.{opens}
 
 -- A new inode on a disk, to which the call refers. Its number stays out of that disk's list of free ones where a hundred are
@@ -164,7 +167,18 @@ empties now h dir offset ino =
 abbrev pub removes : ℕ → Handed → ℕ × ℕ × ℕ → Did
 removes now h (dir, offset, ino) = until_end ino (until_end dir (empties now h dir offset ino))
 
+-- the entry that a name leads to
+abbrev pub found_to_remove : Handed → ℕ → Result (ℕ × ℕ × ℕ) Errno
+found_to_remove h name =
+    then_do (way h.inodes.store h.mounts (user_of h.u) h.u.dir (name_at h.image name)) (to_remove h.inodes.store h.mounts h.marks)
+
+-- The call names the directory of the entry, also where it can't refer to both.
+abbrev pub names_directory : Result (ℕ × ℕ × ℕ) Errno → Did → Did
+names_directory (Ok entry) did = names entry.0 did
+names_directory (Err e) did = did
+
 -- 10, unlink: a name. The inode goes with its last link and its last reference.
 abbrev pub unlink_file : Handed → ℕ → ℕ → Did
 unlink_file h name now =
-    then_named h (remove_in h.inodes h.mounts h.marks (user_of h.u) h.u.dir (name_at h.image name)) (removes now)
+    let found : Result (ℕ × ℕ × ℕ) Errno = found_to_remove h name in
+    names_directory found (then_named h (removing h.inodes found) (removes now))

@@ -1,6 +1,6 @@
 -- A directory is entered, a file's permissions and its owner are changed: chdir(II), chmod(II), chown(II), sync(II).
 -- Lions' Commentary, `sys4.c`.
-use Rattle.std.specs.Prelude.{ℕ, Bool, [], ◌∷◌, ◌/◌, ◌%◌, ◌==◌, ◌||◌, if◌then◌else◌, bit_and, bit_or}
+use Rattle.std.specs.Prelude.{ℕ, Bool, ◌/◌, ◌%◌, ◌==◌, ◌||◌, if◌then◌else◌, bit_and, bit_or}
 use Rattle.v6_base.specs.declared.errno.Errno.TheVariants.{EPERM, ENOTDIR}
 use Rattle.fs_codec.specs.Modes.{is_directory}
 use Rattle.fs_codec.specs.declared.modes.TheConstants.{IALLOC}
@@ -9,13 +9,15 @@ use Rattle.fs_tree.specs.declared.user.Want.TheVariants.{Execute}
 use Rattle.fs_tree.specs.Permission.{permission}
 use Rattle.fs_tree.specs.Finding.{with_reference}
 use Rattle.sys_files.specs.Handed.{Handed, node_at, user_of, with_store, with_changed, let_go}
-use Rattle.sys_files.specs.Did.{Did, is_done, check, must, finds}
+use Rattle.sys_files.specs.Did.{Did, is_done, check, must, names, finds}
 use Rattle.sys_files.specs.Making.{is_super_user}
 
 -- the current directory is another one: that one is referred to, and then the reference to the old one goes
+abbrev pub entered_at : Handed → ℕ → Handed
+entered_at h ino = record h { inodes = with_reference h.inodes ino; u = record h.u { dir = ino } }
+
 abbrev pub with_directory : Handed → ℕ → Handed
-with_directory h ino =
-    let_go (record h { inodes = with_reference h.inodes ino; u = record h.u { dir = ino } }) h.u.dir
+with_directory h ino = let_go (entered_at h ino) h.u.dir
 
 -- 12, chdir: a name of a directory that the user may search
 abbrev pub enters_directory : Handed → ℕ → Did
@@ -58,4 +60,4 @@ chown_to h name owner now =
 -- 36, sync: the super-block of each disk goes to it, where it has changed. It names the roots of both.
 abbrev pub sync_all : Handed → ℕ → Did
 sync_all h now =
-    record (is_done (with_store h (synced h.inodes.store now))) { named = 1 ∷ key_on h.inodes.store 1 1 ∷ [] }
+    names 1 (names (key_on h.inodes.store 1 1) (is_done (with_store h (synced h.inodes.store now))))

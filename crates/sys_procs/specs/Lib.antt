@@ -18,4 +18,5 @@ pub mod Tests
 pub mod Stack
 pub mod ExecFile
 pub mod Break
+pub mod Frame
 pub mod inside

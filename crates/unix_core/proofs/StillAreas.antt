@@ -14,7 +14,7 @@ use Rattle.sys_files.specs.Did.{Did}
 use Rattle.abstract_unix.specs.declared.calls.FileCall.{FileCall}
 use Rattle.abstract_unix.specs.declared.calls.FileCall.TheVariants as file
 use Rattle.abstract_unix.specs.Calls.{file_row}
-use Rattle.sys_files.proofs.Walks.{Walks}
+use Rattle.sys_files.proofs.Walks.{Walks, owns_all}
 use Rattle.abstract_unix.proofs.FileRows.{moves_area, walk_row}
 
 -- The area is what it was, unless the call sleeps.
@@ -27,19 +27,20 @@ abbrev Still : UArea → Did → Type 0
 Still u did = Same u did.state.u did.answer
 
 -- Each row of a call that moves no numbers and no directory leaves it so.
-still_walks : (u : UArea) (slot : ℕ) → Walks (λ h. h.u ≡ u) (Still u) (λ count. Unit {0}) (λ ino. Unit {0}) (λ line. Unit {0}) ⊥ slot
+still_walks : (u : UArea) (slot : ℕ) → Walks (λ h. h.u ≡ u) (Still u) (λ count. Unit {0}) (λ ino. Unit {0}) (λ line. Unit {0}) (λ key. Unit {0}) ⊥ (Unit {0}) slot
 still_walks u slot = record {
   refused = λ h e same. same;
   done = λ h a b same. same;
-  lets_go = λ ino d still. still;
-  named = λ names d still. still;
+  lets_go = λ ino d still. still tt;
+  named = λ ino d still. still tt;
   waits = λ h l entry at count calling line same. tt;
   waits_for_room = λ h l entry at count done calling line same. tt;
   waits_in_pipe = λ h chan pending entry at count left which of awaits same. tt;
   tells = λ entries d few all none still. still;
   lets_out = λ h l front back d few first second same none still. still;
   showing = λ l line bytes count d long few still. still;
-  inodes = λ h inodes count same. same;
+  inodes = λ h inodes count touches same. same;
+  made = λ h dir mode user now here same. same;
   opened = λ h ino kind fd entry plain number free moves same. absurd moves;
   ends = λ h ino fd entry next_fd next_entry above within number free next_number next_free moves same. absurd moves;
   given = λ h fd free named number moves same. absurd moves;
@@ -62,7 +63,7 @@ pub row_is_still : (call : FileCall) (answer : Answer) → moves_area call ≡ f
     → (file_row call h slot args now).state.u ≡ h.u
 row_is_still call answer is awake h slot args now same =
     by answer awake (subst (Same h.u (file_row call h slot args now).state.u) same
-    (walk_row (still_walks h.u slot) call h args now tt (λ moves. false≢true (sym is ∙ moves)) refl))
+    (walk_row (still_walks h.u slot) call h args now tt (λ moves. false≢true (sym is ∙ moves)) (λ both. tt) (owns_all h) refl))
   where
     by : (a : Answer) → ((pri : ℤ) (chan : Chan) → a ≢ Sleep pri chan) → Same h.u (file_row call h slot args now).state.u a
         → (file_row call h slot args now).state.u ≡ h.u

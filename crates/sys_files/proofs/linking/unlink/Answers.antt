@@ -4,10 +4,10 @@ use Rattle.fs_tree.specs.Finding.{inodes_of, remove_in}
 use Rattle.sys_files.specs.Handed.{Handed, handed, user_of, with_inodes}
 use Rattle.sys_files.specs.Did.{unnamed, until_end}
 use Rattle.sys_files.specs.Entering.{did_of}
-use Rattle.sys_files.specs.Making.{empties, removes}
+use Rattle.sys_files.specs.Making.{empties, removes, found_to_remove}
 use Rattle.sys_files.proofs.EnteringLemmas.{taken}
 use Rattle.sys_files.proofs.GivingLemmas.{gives, takes_gives, gives_first}
-use Rattle.sys_files.proofs.PartLemmas.{searched, not_searched, unnamed_told, until}
+use Rattle.sys_files.proofs.PartLemmas.{searched, not_searched, unnamed_told, unnamed_directory, until}
 use Rattle.sys_files.proofs.linking.unlink.Goals as goal
 
 pub returns-in_err-dir-clause-did : goal.returns-in_err-dir-clause-did
@@ -16,7 +16,8 @@ returns-in_err-dir-clause-did g c = λ row.
     let after : Handed = handed (record c.args.f.now { tree = c.find_to_remove.new.tree }) c.args.u.now row
     (g.S.Space.image c.args.space.now) in
     let is : Err c.in_err-dir.field-0.0 ≡ c.from_residual.result = search rules in
-    ap unnamed (not_searched h after (remove_in h.inodes h.mounts h.marks (user_of h.u) h.u.dir (name_at h.image c.args.name))
+    unnamed_directory (found_to_remove h c.args.name) _
+    ∙ ap unnamed (not_searched h after (remove_in h.inodes h.mounts h.marks (user_of h.u) h.u.dir (name_at h.image c.args.name))
     (removes c.args.now)
     (λ i. record h { inodes = c.find_to_remove.ensures.inodes i; marks = c.find_to_remove.ensures.marks i; mounts = c.find_to_remove.ensures.mounts i })
     c.in_err-dir.field-0.0 c.in_err-dir.ensures.answer)
@@ -31,7 +32,8 @@ returns-clause-did g c = λ row.
     let dir = c.in_ok-dir.dir in
     let ino = c.in_ok-dir.ino in
     let result = c.remove_entry-result.result in
-    ap unnamed (searched h after (remove_in h.inodes h.mounts h.marks (user_of h.u) h.u.dir (name_at h.image c.args.name))
+    unnamed_directory (found_to_remove h c.args.name) _
+    ∙ ap unnamed (searched h after (remove_in h.inodes h.mounts h.marks (user_of h.u) h.u.dir (name_at h.image c.args.name))
     (removes c.args.now)
     (λ i. record h { inodes = c.find_to_remove.ensures.inodes i; marks = c.find_to_remove.ensures.marks i; mounts = c.find_to_remove.ensures.mounts i })
     (dir, c.in_ok-dir.offset, ino) c.in_ok-dir.ensures.answer)
