@@ -1,5 +1,5 @@
 -- What a walk over the rows of calls on files asks of each step that rows are made of.
-use Rattle.std.proofs.Common.{◌≡◌, ◌≢◌, ◌<◌, ◌≤◌, ◌∙◌, ◌+◌, ◌-◌, ◌==◌, ◌||◌, ◌⊎◌, ℕ, Bool, true, false, cond, List, [], ◌∷◌, length, slice_index, slice_set, pos, is_some, unwrap_or, Option, Some, None, Ok, Err, refl, sym, ap, subst, arith, ◌++◌, map}
+use Rattle.std.proofs.Common.{◌≡◌, ◌≢◌, ◌<◌, ◌≤◌, ◌∙◌, ◌+◌, ◌-◌, ◌==◌, ◌||◌, ◌⊎◌, ℕ, Bool, true, false, cond, List, [], ◌∷◌, length, slice_index, slice_set, pos, is_some, unwrap_or, Option, Some, None, Ok, Err, refl, sym, ap, subst, inl, inr, arith, ◌++◌, map, fold}
 use Rattle.std.proofs.lemmas.Bool.{eqb-false, eq-eqb}
 use Rattle.v6_base.specs.Image.{Image}
 use Rattle.v6_base.specs.Trace.{Log, sent}
@@ -28,16 +28,17 @@ use Rattle.sig_core.specs.Signals.{posted}
 use Rattle.pipe_ends.specs.declared.ends.Pipe.{Pipe}
 use Rattle.sys_files.specs.Handed.{Handed, no_file, file_of, disk_of, line_at, with_line, with_inodes, with_number}
 use Rattle.sys_files.specs.Did.{Did, fails, must, need, until_end, names}
-use Rattle.sys_files.specs.Descriptors.{open_entry, dropped}
+use Rattle.sys_files.specs.Descriptors.{open_entry, dropped, closes, Closing, then_closes, close_all}
 use Rattle.sys_files.specs.Making.{new_in}
 use Rattle.sys_files.specs.Mounting.{with_covered}
 use Rattle.sys_files.specs.Pipes.{with_pipe, without_pipe, has_end}
 use Rattle.sys_files.specs.Piping.{reading_end, with_end, with_ends, words_of, pipe_at}
-use Rattle.std.specs.List.{All}
+use Rattle.std.specs.List.{All, range_with_len}
 use Rattle.v6_base.specs.declared.entry.Entry.{Entry}
 use Rattle.sig_core.specs.declared.numbers.TheConstants.{SIGPIPE}
 use Rattle.sys_files.proofs.Bounds.{IsLineOf}
 use Rattle.sys_files.proofs.NumberLemmas.{number_low}
+use Rattle.sys_files.proofs.OffsetLemmas.{entry_same}
 use Rattle.sys_files.proofs.OwedLemmas.{counted}
 
 -- A read sleeps until keys come: its entry, address and count are kept.
@@ -99,6 +100,14 @@ pub record Within (Here : ℕ → Type 0) (old new : Stores) : Type 0 where
 
 abbrev pub Touches : (ℕ → Type 0) → Type 0 → Stores → Stores → Type 0
 Touches Here Both old new = Both ⊎ ((new ≡ old) ⊎ Within Here old new)
+
+-- a change of nothing, and one at a key of the call's own
+pub nothing : {Here : ℕ → Type 0} {Both : Type 0} {old new : Stores} → new ≡ old → Touches Here Both old new
+nothing same = inr (inl same)
+
+pub own_key : {Here : ℕ → Type 0} {Both : Type 0} {old new : Stores} (key : ℕ) → Here key → OnItsDisk old new key
+    → Touches Here Both old new
+own_key key here only = inr (inr (record { key = key; here = here; only = only }))
 
 -- The files of a process, the pipes that they are ends of, and its directory are its calls' own.
 pub record Owns (Here : ℕ → Type 0) (h : Handed) : Type 0 where
@@ -223,3 +232,30 @@ own_told Here file here = by (file.count == 1)
     by : (last : Bool) → LetsGo Here (cond last (Last (with_fewer file)) (Still (with_fewer file)))
     by true = here
     by false = tt
+
+-- an entry is there still when its offset has changed
+pub moved_there : (h : Handed) (entry place : ℕ) → is_some (files.file_at h.files entry) ≡ true
+    → is_some (files.file_at (with_change h.files entry (with_offset place)) entry) ≡ true
+moved_there h entry place there = entry_same is_some h.files entry place entry changed_some ∙ there
+  where
+    changed_some : (o : Option OpenFile) → is_some (files.changed (with_offset place) o) ≡ is_some o
+    changed_some None = refl
+    changed_some (Some file) = refl
+
+-- All numbers of a process let their files go, one after another.
+pub closes_all : (K : Closing → Type 0)
+    → ((c : Closing) (fd : ℕ) → 0 < slice_index c.state.u.files fd → K c
+    → K (record { state = (closes c.state fd).state; items = c.items ++ (closes c.state fd).items }))
+    → (h : Handed) → K (record { state = h; items = [] }) → K (close_all h)
+unfolding close_all
+closes_all K next h begun = all (record { state = h; items = [] }) (range_with_len 0 15) begun
+  where
+    one : (c : Closing) (fd : ℕ) (b : Bool) → (slice_index c.state.u.files fd == 0) ≡ b → K c
+        → K (cond {A = Closing} b c
+        (record { state = (closes c.state fd).state; items = c.items ++ (closes c.state fd).items }))
+    one c fd true e k = k
+    one c fd false e k = let some = eqb-false (slice_index c.state.u.files fd) 0 e in next c fd (omega (arith, some)) k
+
+    all : (c : Closing) (fds : List ℕ) → K c → K (fold then_closes c fds)
+    all c [] k = k
+    all c (fd ∷ fds) k = all (then_closes c fd) fds (one c fd (slice_index c.state.u.files fd == 0) refl k)

@@ -1,7 +1,5 @@
--- One walk over the rows of calls on files, for each fact that says what stays, what is shown, and which numbers, entries and
--- pipes a step changes.
-use Rattle.std.proofs.Common.{◌≡◌, ◌≢◌, ◌<◌, ◌≤◌, ◌∙◌, ◌+◌, ◌-◌, ◌/◌, ◌%◌, ◌^◌, ◌==◌, ◌&&◌, ◌||◌, ℕ, Bool, true, false, not, nat_lt, cond, List, [], ◌∷◌, append-nil, length, take, slice_index, slice_set, is_some, is_none, IfSome, Option, Some, None, Result, Ok, Err, refl, sym, ap, subst, inl, inr, arith, ◌++◌, map, length-append, fold}
-use Rattle.std.proofs.lemmas.Bool.{eqb-false}
+-- One walk over the rows of calls on files, for each fact that says what stays, what is shown and what a step changes.
+use Rattle.std.proofs.Common.{◌≡◌, ◌≢◌, ◌<◌, ◌≤◌, ◌∙◌, ◌+◌, ◌-◌, ◌/◌, ◌%◌, ◌^◌, ◌==◌, ◌&&◌, ◌||◌, ℕ, Bool, true, false, not, nat_lt, cond, List, [], ◌∷◌, append-nil, length, take, slice_index, slice_set, is_some, is_none, IfSome, Option, Some, None, Result, Ok, Err, refl, sym, ap, subst, inl, inr, arith, ◌++◌, map, length-append}
 use Rattle.v6_base.specs.Image.{Image}
 use Rattle.v6_base.specs.Trace.{Log, sent, Item}
 use Rattle.v6_base.specs.Copy.{store_bytes}
@@ -20,7 +18,7 @@ use Rattle.fs_codec.specs.declared.modes.TheConstants.{IALLOC}
 use Rattle.u_area.specs.declared.layout.TheConstants.{LINE_READ, LINE_WRITE, PIPE_READ, PIPE_WRITE}
 use Rattle.u_area.specs.Pending.{IsPipeCall}
 use Rattle.fs_laws.specs.Pieces.{Moving}
-use Rattle.fs_nodes.specs.Keys.{Stores, OnItsDisk, counts, key_count, key_on, synced}
+use Rattle.fs_nodes.specs.Keys.{counts, key_count, key_on, synced}
 use Rattle.fs_nodes.proofs.CountLaws.{counts_synced, keys_counted}
 use Rattle.fs_nodes.proofs.OtherDisk.{node_there}
 use Rattle.fs_tree.specs.declared.made.Made.{Made}
@@ -34,7 +32,7 @@ use Rattle.open_files.specs.declared.file.FileKind.{FileKind}
 use Rattle.open_files.specs.declared.file.Closed.{Closed}
 use Rattle.open_files.specs.declared.file.Closed.TheVariants.{Still, Last}
 use Rattle.open_files.specs.Files as files
-use Rattle.open_files.specs.Files.{entry_of, free_number, free_entry, with_change, with_more, with_offset, times}
+use Rattle.open_files.specs.Files.{entry_of, free_number, free_entry, with_change, with_more, times}
 use Rattle.tty_line.specs.Terminal as terminal
 use Rattle.tty_line.specs.Terminal.{Terminal}
 use Rattle.tty_line.specs.declared.line.Took.{Took}
@@ -54,7 +52,7 @@ use Rattle.pipe_ends.specs.Reads.{PipeRead}
 use Rattle.pipe_ends.specs.Writes.{PipeWrite}
 use Rattle.sys_files.specs.Handed.{Handed, r0, r1, node_at, disk_of, number_of, file_of, user_of, line_of, line_at, with_line, with_inodes, with_store, with_changed, with_number, let_go}
 use Rattle.sys_files.specs.Did.{Did, fails, returns, is_done, check, must, need, unless_due, until_end, names, then_named, finds, by_made, makes}
-use Rattle.sys_files.specs.Descriptors.{open_entry, dup_file, is_line_open, closes_line, without_marks, with_roused, pipe_roused, with_gone, released, told_by, dropped, closes, close_file, Closing, then_closes, close_all}
+use Rattle.sys_files.specs.Descriptors.{open_entry, dup_file, is_line_open, closes_line, without_marks, with_roused, pipe_roused, with_gone, released, told_by, dropped, closes, close_file, Closing}
 use Rattle.sys_files.specs.Opening.{last_failure, open_tests, can_open, with_tty, lines_opened, with_opened, opens, opens_named, open_file}
 use Rattle.sys_files.specs.Making.{new_in, entry_written, writes_entry, with_links, enters_new, makes_node, opens_for_writing, with_no_blocks, opens_again, makes_file, creat_file, with_device, is_super_user, makes_any, mknod_at, may_link, is_covered, enters_again, links_to, link_file, empties, removes, found_to_remove, names_directory, unlink_file}
 use Rattle.sys_files.specs.Mounting.{disk_named, can_cover, with_covered, covers, mounts_disk, mount_on, is_held, uncovers, unmounts, unmounts_named, umount_off}
@@ -69,28 +67,21 @@ use Rattle.sys_files.proofs.LineLemmas.{line_there, terminal_there, kept_there}
 use Rattle.sys_files.proofs.ReleasedLemmas.{shut}
 use Rattle.sys_files.proofs.WriteLemmas.{with_shown, ends_shown, lined_on, piped_on}
 use Rattle.sys_files.proofs.PipedLemmas.{pipe_lengths, left_of, write_leaves, read_leaves}
-use Rattle.std.specs.List.{All, range_with_len}
+use Rattle.std.specs.List.{All}
 use Rattle.std.proofs.lemmas.List.{map-append, length-take}
 use Rattle.std.proofs.lemmas.List.Elements.{All-nil, All-cons, All-append}
 use Rattle.v6_base.specs.declared.entry.Entry.{Entry}
 use Rattle.sig_core.specs.declared.numbers.TheConstants.{SIGPIPE}
 use Rattle.sys_files.proofs.Bounds.{IsOfFiles, IsLineOf, keys_of_files, show_of_files, few_readable}
-use Rattle.sys_files.proofs.OffsetLemmas.{entry_same, moved_counts}
+use Rattle.sys_files.proofs.OffsetLemmas.{moved_counts}
 use Rattle.sys_files.proofs.NodeCounts.{put_back_counts, finding_counts, making_counts, removing_counts, new_counts, entry_counts, links_counts, fields_counts, truncated_counts, device_counts, new_within}
-pub use Rattle.sys_files.proofs.WalkSteps.{asleep_for_keys, asleep_for_room, asleep_in_pipe, IsOfPipe, IsCalling, IsAwaiting, CanResume, Owns, owns_all, Walks}
-use Rattle.sys_files.proofs.WalkSteps.{Touches, need_some, entry_named, is_named, must_true, file_there, IsNamedBy, named_told, LetsGo, own_told}
+pub use Rattle.sys_files.proofs.WalkSteps.{asleep_for_keys, asleep_for_room, asleep_in_pipe, IsOfPipe, IsCalling, IsAwaiting, CanResume, Owns, owns_all, Walks, closes_all}
+use Rattle.sys_files.proofs.WalkSteps.{Touches, nothing, own_key, moved_there, need_some, entry_named, is_named, must_true, file_there, IsNamedBy, named_told, LetsGo, own_told}
 use Rattle.sys_files.proofs.FrameLemmas.{finding_store, making_store, removing_there, entry_there, links_there, truncated_there, device_there, changed_there, lets_go_there, read_there, write_there}
 
 module _ {P : Handed → Type 0} {Q : Did → Type 0} {Few Known Line Here : ℕ → Type 0} {Moves Both : Type 0} {slot : ℕ}
     (k : Walks P Q Few Known Line Here Moves Both slot)
   where
-    -- a change of nothing, and one at a key of the call's own
-    nothing : {old new : Stores} → new ≡ old → Touches Here Both old new
-    nothing same = inr (inl same)
-
-    own_key : {old new : Stores} (key : ℕ) → Here key → OnItsDisk old new key → Touches Here Both old new
-    own_key key here only = inr (inr (record { key = key; here = here; only = only }))
-
     checks : {A : Type 0} (h : Handed) (test : Result A Errno) (next : A → Did) → P h → ((a : A) → Q (next a))
         → Q (check h test next)
     checks h (Ok a) next p goes = goes a
@@ -229,14 +220,6 @@ module _ {P : Handed → Type 0} {Q : Did → Type 0} {Few Known Line Here : ℕ
         (record { there = calling.there; named = calling.named; few = calling.few }) line
         (k.stored (with_line h l reading.terminal) reading.image (line_lengths (line_at h l) h.image at count)
         (k.typewriter h l reading.terminal (room_read (line_at h l) h.image at count) p))
-
-    moved_there : (h : Handed) (entry place : ℕ) → is_some (files.file_at h.files entry) ≡ true
-        → is_some (files.file_at (with_change h.files entry (with_offset place)) entry) ≡ true
-    moved_there h entry place there = entry_same is_some h.files entry place entry changed_some ∙ there
-      where
-        changed_some : (o : Option OpenFile) → is_some (files.changed (with_offset place) o) ≡ is_some o
-        changed_some None = refl
-        changed_some (Some file) = refl
 
     read_by : (h : Handed) (entry at count now : ℕ) (line : Option ℕ) → ((l : ℕ) → line ≡ Some l → l < length h.lines) → IsCalling h entry count 0
         → Owns Here h → P h → Q (reads_by (with_read h entry (read_of h entry at count now)) line entry at count (read_of h entry at count now))
@@ -797,9 +780,6 @@ module _ {P : Handed → Type 0} {Q : Did → Type 0} {Few Known Line Here : ℕ
         call : List ℕ
         call = h.u.call
 
-        mine : Owns Here rest
-        mine = record { file = own.file; pipe = own.pipe; dir = own.dir }
-
         line : line_kept rest (slice_index call 0) ≢ 0 → Line (line_kept rest (slice_index call 0))
         line other = k.numbered rest (line_kept rest (slice_index call 0)) other (kept_there rest (node_at rest (file_of rest (slice_index call 0)).ino) other) p
 
@@ -812,25 +792,8 @@ module _ {P : Handed → Type 0} {Q : Did → Type 0} {Few Known Line Here : ℕ
             walk_writes_line rest (line_kept rest (slice_index call 0)) (slice_index call 0) (slice_index call 1) (slice_index call 2) (slice_index call 3) can.few
             (record { there = can.calling.there; named = can.calling.named; few = can.calling.few }) line p
         by_call false first true is =
-            walk_reads_pipe rest (slice_index call 0) (slice_index call 1) (slice_index call 2) now (can.pipe is) can.calling.named mine p
+            walk_reads_pipe rest (slice_index call 0) (slice_index call 1) (slice_index call 2) now (can.pipe is) can.calling.named
+            (record { file = own.file; pipe = own.pipe; dir = own.dir }) p
         by_call false first false is =
             walk_writes_pipe rest (slice_index call 0) (slice_index call 1) (slice_index call 2) (slice_index call 3) now (can.pipe is)
-            can.calling.named can.calling.few mine p
-
--- All numbers of a process let their files go, one after another.
-pub closes_all : (K : Closing → Type 0)
-    → ((c : Closing) (fd : ℕ) → 0 < slice_index c.state.u.files fd → K c
-    → K (record { state = (closes c.state fd).state; items = c.items ++ (closes c.state fd).items }))
-    → (h : Handed) → K (record { state = h; items = [] }) → K (close_all h)
-unfolding close_all
-closes_all K next h begun = all (record { state = h; items = [] }) (range_with_len 0 15) begun
-  where
-    one : (c : Closing) (fd : ℕ) (b : Bool) → (slice_index c.state.u.files fd == 0) ≡ b → K c
-        → K (cond {A = Closing} b c
-        (record { state = (closes c.state fd).state; items = c.items ++ (closes c.state fd).items }))
-    one c fd true e k = k
-    one c fd false e k = let some = eqb-false (slice_index c.state.u.files fd) 0 e in next c fd (omega (arith, some)) k
-
-    all : (c : Closing) (fds : List ℕ) → K c → K (fold then_closes c fds)
-    all c [] k = k
-    all c (fd ∷ fds) k = all (then_closes c fd) fds (one c fd (slice_index c.state.u.files fd == 0) refl k)
+            can.calling.named can.calling.few (record { file = own.file; pipe = own.pipe; dir = own.dir }) p
