@@ -1,4 +1,4 @@
-use Rattle.std.proofs.Common.{◌≡◌, ◌∙◌, ◌≤◌, ◌==◌, ℕ, Some, if◌then◌else◌, slice_index, sym, ap, subst}
+use Rattle.std.proofs.Common.{◌≡◌, ◌∙◌, ◌==◌, ℕ, Some, if◌then◌else◌, slice_index, sym, ap, subst}
 use Rattle.fs_nodes.specs.Keys.{Stores}
 use Rattle.fs_nodes.specs.FileSystem.{FileSystem}
 use Rattle.abstract_unix.proofs.FirstTidy.{few_keys}
