@@ -62,7 +62,7 @@ returns-in_err-device-clause-did g c = λ row.
     let h : Handed = handed c.args.f.now c.args.u.now row image in
     let after : Handed = handed (record c.args.f.now { tree = c.find_name.new.tree }) c.args.u.now row image in
     let rest : Handed = handed c.leave_special.new.f c.args.u.now row image in
-    let is : Err c.in_err-device.field-0.0 ≡ c.from_residual.result = search rules in
+    let is : Err c.in_err-device.field-0.0 ≡ c.from_residual-in_err-device.result = search rules in
     ap unnamed (searched h after (find_in h.inodes h.mounts (user_of h.u) h.u.dir (name_at h.image c.args.special))
     unmounts_named
     (λ i. record h {

@@ -13,6 +13,7 @@ use Rattle.fs_laws.proofs.ImageLemmas.{image_short, image_whole}
 use Rattle.fs_nodes.proofs.SecondImage.{second_short, second_sound}
 use Rattle.unix_core.proofs.BootLemmas.{volume_sound, volume_store, volume_stamp, second_volume_sound, second_volume_store, both}
 use Rattle.unix_core.proofs.boot.file_systems_of.Goals as goal
+use Rattle.unix_core.proofs.boot.file_systems_of.Goals.{After-open_on}
 
 pub from_bytes-requires : goal.from_bytes-requires
 from_bytes-requires c = image_short c.args.image.now c.requires.root
@@ -33,13 +34,13 @@ pub open_on-requires : goal.open_on-requires
 open_on-requires c = subst (λ l. IsSound (block_at l)) (sym (cache_is-2 c)) (second_sound c.args.second.now c.requires.second)
 
 -- The first volume, and the second.
-first_blocks : (c : goal.After-open_on) → c.open_on-volume.result.state.blocks ≡ blocks_of c.args.image.now
+first_blocks : (c : After-open_on) → c.open_on-volume.result.state.blocks ≡ blocks_of c.args.image.now
 first_blocks c = c.open_on-volume.ensures.blocks ∙ c.in_ok-cache.ensures.blocks ∙ c.in_ok-disk.ensures
 
-first_store : (c : goal.After-open_on) → store_now c.open_on-volume.result.state ≡ store_of (disk_of c.args.image.now)
+first_store : (c : After-open_on) → store_now c.open_on-volume.result.state ≡ store_of (disk_of c.args.image.now)
 first_store c = volume_store c.args.image.now c.requires.root c.open_on-volume.result.state (first_blocks c) c.open_on-volume.ensures.clean c.head.ensures.stored
 
-second_store : (c : goal.After-open_on) → store_now c.open_on.result.state ≡ store_of (disk_of c.args.second.now)
+second_store : (c : After-open_on) → store_now c.open_on.result.state ≡ store_of (disk_of c.args.second.now)
 second_store c =
     second_volume_store c.args.second.now c.requires.second (cached_blocks c.in_ok-cache-2.cache) c.open_on.result.state
     (c.in_ok-cache-2.ensures.blocks ∙ c.in_ok-disk-2.ensures) c.open_on.ensures.clean c.open_on.ensures.stands

@@ -8,7 +8,7 @@ pub returns-in-Ok : goal.returns-in-Ok
 returns-in-Ok c =
     let n = key_count (stores_of c.args.image.now (Some c.args.second.now)) in
     let first = c.inode_count.ensures.count in
-    let second = c.inode_count-2.ensures.count in
+    let second = c.inode_count-in-Ok.ensures.count in
     c.counted_fault.ensures ∙ ap counted_fault (omega (arith, first, second)) ∙ sym (ap (λ f. fault_or_count f n) c.in-Ok.ensures)
 
 pub returns-in-Err : goal.returns-in-Err

@@ -21,16 +21,16 @@ around-requires-clause-time c =
     c.in-Ok.ensures.time
     ∙ sym (ap (λ (fs : FileSystem). fs.store.root.stamp) c.one_tree.ensures.nodes ∙ ap (λ (s : Stores). s.root.stamp) (c.take_root.ensures.store ∙ c.in-Ok.ensures.store))
 
-pub returns-in-Ok-2-clause-system : goal.returns-in-Ok-2-clause-system
-returns-in-Ok-2-clause-system c =
+pub returns-in-Ok-around-clause-system : goal.returns-in-Ok-around-clause-system
+returns-in-Ok-around-clause-system c =
     boots_as c.args.image.now None c.args.core c.args.lines c.one_tree.result.nodes.store _ c.in_default.ensures refl
-    (ap (λ (fs : FileSystem). fs.store) c.one_tree.ensures.nodes ∙ c.take_root.ensures.store ∙ c.in-Ok.ensures.store) c.in-Ok-2.ensures.system
+    (ap (λ (fs : FileSystem). fs.store) c.one_tree.ensures.nodes ∙ c.take_root.ensures.store ∙ c.in-Ok.ensures.store) c.in-Ok-around.ensures.system
 
-pub returns-in-Ok-2-clause-blocks : goal.returns-in-Ok-2-clause-blocks
-returns-in-Ok-2-clause-blocks c =
-    c.in-Ok-2.ensures.blocks ∙ ap (λ (fs : FileSystem). fs.blocks) c.one_tree.ensures.nodes ∙ c.take_root.ensures.blocks ∙ c.in-Ok.ensures.blocks
+pub returns-in-Ok-around-clause-blocks : goal.returns-in-Ok-around-clause-blocks
+returns-in-Ok-around-clause-blocks c =
+    c.in-Ok-around.ensures.blocks ∙ ap (λ (fs : FileSystem). fs.blocks) c.one_tree.ensures.nodes ∙ c.take_root.ensures.blocks ∙ c.in-Ok.ensures.blocks
 
-pub returns-in-Ok-2-clause-stored : goal.returns-in-Ok-2-clause-stored
-returns-in-Ok-2-clause-stored c =
-    c.in-Ok-2.ensures.stored ∙ ap (λ (fs : FileSystem). fs.stored) c.one_tree.ensures.nodes
+pub returns-in-Ok-around-clause-stored : goal.returns-in-Ok-around-clause-stored
+returns-in-Ok-around-clause-stored c =
+    c.in-Ok-around.ensures.stored ∙ ap (λ (fs : FileSystem). fs.stored) c.one_tree.ensures.nodes
     ∙ c.take_root.ensures.stored (c.in-Ok.ensures.stored ∙ sym c.in-Ok.ensures.blocks) ∙ c.in-Ok.ensures.blocks
