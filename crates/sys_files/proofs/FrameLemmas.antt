@@ -119,10 +119,10 @@ removing_there n entry = by (not (can_refer n entry.0)) (not (can_refer once ent
   by false false = same_stores n.store entry.0
 
 -- A new node stands on the disk that was asked for: its key is one of it.
-no_one : {P : Type 0} → 1 ≡ 0 → P
+no_one : {P : Type 0} → ◌≡◌ {A = ℕ} 1 0 → P
 no_one e = absurd (omega (arith, e))
 
-no_zero : {P : Type 0} → 0 ≡ 1 → P
+no_zero : {P : Type 0} → ◌≡◌ {A = ℕ} 0 1 → P
 no_zero e = absurd (omega (arith, e))
 
 not_above : (key count : ℕ) → cond {A = ℕ} (nat_le key count) 0 1 ≡ 0 → nat_lt count key ≡ false
@@ -280,10 +280,10 @@ tests_there c w on rest = by (w.left == 0) (nat_lt c.ends 2) (nat_le PIPSIZ (siz
   m : Moving (Unit {0})
   m = append_of c w
 
-  by : (none alone full : Bool) → OnItsDisk w.store
-      (cond {A = PipeWrite} none (ends_as w (Done c.count)) (cond alone (ends_as w Broken)
+  by : (none unread full : Bool) → OnItsDisk w.store
+      (cond {A = PipeWrite} none (ends_as w (Done c.count)) (cond unread (ends_as w Broken)
       (cond full (waits w) (unless_error (appended w m) m.error on)))).store w.pipe.ino
-  by true alone full = same_stores w.store w.pipe.ino
+  by true unread full = same_stores w.store w.pipe.ino
   by false true full = same_stores w.store w.pipe.ino
   by false false true = same_stores w.store w.pipe.ino
   by false false false = error_there w.store (appended w m) w.pipe.ino m.error on (node_there w.store w.pipe.ino m.node m.room) rest
