@@ -33,6 +33,7 @@ pub mod CallLemmas
 pub mod PendingRows
 pub mod OtherRows
 pub mod OtherProcs
+pub mod OtherCalls
 pub mod GoingOnLemmas
 pub mod WaitingRows
 pub mod GoingOnSteps

@@ -51,7 +51,7 @@ inodes_when true x y n p q = p
 inodes_when false x y n p q = q
 
 module _ (s : ℕ) where
-  plain_inodes : (v : World) (c : Comes) → Plain s v c → c.state.inodes ≡ v.inodes
+  pub plain_inodes : (v : World) (c : Comes) → Plain s v c → c.state.inodes ≡ v.inodes
   plain_inodes v c (gives w r0 r1) = refl
   plain_inodes v c (refuses w e) = refl
   plain_inodes v c (waits w rule pri chan same sleeping is range) = refl

@@ -4,6 +4,7 @@ pub mod Endings
 pub mod Errors
 pub mod Init
 pub mod Law
+pub mod OtherDisk
 pub mod Outside
 pub mod Private
 pub mod References

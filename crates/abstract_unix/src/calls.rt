@@ -7,11 +7,9 @@ ghost use Rattle.fs_tree.specs.Mounting.{AreMounts};
 ghost use Rattle.sys_files.specs.Handed as parts;
 ghost use Rattle.sys_files.specs.Sound.{IsSound};
 ghost use Rattle.sys_files.specs.Does.{Does};
-ghost use Rattle.sys_files.specs.Frame.{LeavesOther};
 ghost use Rattle.sys_procs.specs.Done.{HasDone};
-ghost use Rattle.sys_procs.specs.Frame as its;
 ghost use Rattle.sys_procs.specs.Handed.{handed, AreProcs, AreBare, Calls, IsMarked};
-ghost use Rattle.abstract_unix.specs.Calls.{sysent_of, file_row, process_row, process_named};
+ghost use Rattle.abstract_unix.specs.Calls.{sysent_of, file_row, process_row};
 
 use fs_tree::Tree;
 use proc_tab::Row;
@@ -195,9 +193,7 @@ fn on_processes(count: u8, call: ProcessCall) -> Sysent
     entry(count, SystemCall::OnProcesses(call))
 }
 
-/// Does a call on files. But for sync(II) and pipe(II), it leaves a disk alone with which it has nothing to do: where
-/// all that it names, the open files of its process and its directory are on the other one.
-#[tactic(auto, using(crate::proofs::OtherRows::row_leaves_other))]
+/// Does a call on files.
 pub fn do_file_call<S: Space, T: Trace>(
     call: FileCall,
     files: &mut Files,
@@ -212,9 +208,6 @@ pub fn do_file_call<S: Space, T: Trace>(
     requires sound { IsSound (parts.handed files.old u.old row.old (S.image space.old)) }
     ensures does { Does (parts.handed files.old u.old row.old (S.image space.old))
         (parts.handed files.new u.new row.new (S.image space.new)) result (T.taken trace.old) (T.taken trace.new)
-        (file_row call (parts.handed files.old u.old row.old (S.image space.old)) slot args now) }
-    ensures other { call ≢ FileCall.Sync → call ≢ FileCall.Pipe
-        → LeavesOther (parts.handed files.old u.old row.old (S.image space.old))
         (file_row call (parts.handed files.old u.old row.old (S.image space.old)) slot args now) }
     ensures frame { T.leads_to trace.old trace.new }
     ensures memory { S.rest space.new ≡ S.rest space.old }
@@ -286,9 +279,8 @@ fn do_other_call<T: Trace>(
     }
 }
 
-/// Does a call on processes. Where it stops in exec(II), its process may have neither its old image nor its new one. It
-/// leaves a disk alone on which neither the program that it names nor the text of its process is.
-#[tactic(auto, using(crate::proofs::CallLemmas::stops_whole, crate::proofs::CallLemmas::stops_so, crate::proofs::OtherProcs::process_leaves_other))]
+/// Does a call on processes. Where it stops in exec(II), its process may have neither its old image nor its new one.
+#[tactic(auto, using(crate::proofs::CallLemmas::stops_whole, crate::proofs::CallLemmas::stops_so))]
 pub fn do_process_call<T: Trace>(
     call: ProcessCall,
     p: &mut Procs,
@@ -301,9 +293,6 @@ pub fn do_process_call<T: Trace>(
     requires marks { IsMarked p.old tree.old.marks }
     requires mounts { AreMounts tree.old.mounts tree.old.nodes.store }
     ensures does { HasDone p.old p.new tree.new.nodes result (T.taken trace.old) (T.taken trace.new)
-        (process_row call tree.old.mounts (handed p.old tree.old.nodes) s args) }
-    ensures other { its.LeavesOther (handed p.old tree.old.nodes) s
-        (process_named call tree.old.mounts (handed p.old tree.old.nodes) s args)
         (process_row call tree.old.mounts (handed p.old tree.old.nodes) s args) }
     ensures frame { T.leads_to trace.old trace.new }
     ensures agree { IfOk result (λ answer. AreProcs p.new) }

@@ -4,6 +4,7 @@ ghost use Rattle.std.specs.Option.{option_map};
 ghost use Rattle.v6_port.specs.Outside.{Out, IsIdle, OnlyAt, Tells, is_report};
 ghost use Rattle.v6_port.specs.declared.host.OutPort.{OutPort};
 ghost use Rattle.abstract_unix.specs.Law.{LogsAreLawful};
+ghost use Rattle.abstract_unix.specs.OtherDisk.{CallsLeaveOther};
 ghost use Rattle.v6_run.specs.Words.{command_in, command_value};
 ghost use Rattle.v6_run.specs.Fronts.{HoldsFront};
 ghost use Rattle.v6_run.specs.Report.{report, report_line, told_line};
@@ -165,6 +166,9 @@ pub fn v6<H: Host>(alloc: Global, words: &Vec<String>, host: &mut H) -> Status
     // Each line of the log of a run has its numbers in their ranges and fits what the lines before it give, so that each choice
     // is the one that the rules give; and the log of a run that comes to the end of its script is lawful.
     ensures lawful { LogsAreLawful }
+
+    // Of two disks a call leaves the one alone with which it has nothing to do.
+    ensures apart { CallsLeaveOther }
 
     // The bytes of a log fix what an audit of it answers.
     ensures audited { AuditsEndInOneWay }

@@ -9,6 +9,7 @@ use Rattle.v6_run.specs.Headline.{reports_done, done_line}
 use Rattle.v6_run.specs.Answers.{AnswersWords}
 use Rattle.v6_run.proofs.CommandLemmas as command
 use Rattle.abstract_unix.proofs.Lawfully.{logs_are_lawful}
+use Rattle.abstract_unix.proofs.OtherCalls.{calls_leave_other}
 use Rattle.v6_run.proofs.OneWay.{audits_end_in_one_way}
 use Rattle.v6_run.proofs.command.v6.Goals as goal
 
@@ -171,3 +172,6 @@ returns-clause-audited g c = audits_end_in_one_way
 
 pub returns-clause-lawful : goal.returns-clause-lawful
 returns-clause-lawful g c = logs_are_lawful
+
+pub returns-clause-apart : goal.returns-clause-apart
+returns-clause-apart g c = calls_leave_other
