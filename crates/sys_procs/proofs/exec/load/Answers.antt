@@ -2,6 +2,7 @@ use Rattle.std.proofs.Common.{◌≡◌, ◌∙◌, ◌+◌, ◌<◌, ◌≤◌,
 use Rattle.u_area.specs.declared.area.UArea.{UArea}
 use Rattle.proc_tab.specs.declared.row.Row.{Row}
 use Rattle.fs_nodes.specs.FileSystem.{FileSystem}
+use Rattle.fs_nodes.proofs.RestLemmas.{rest_then}
 use Rattle.image_keep.specs.SharedTexts.{AreShared}
 use Rattle.pick_rules.specs.Logged.{left_by}
 use Rattle.v6_base.specs.Trace.{Taken, Took, Log}
@@ -150,3 +151,8 @@ returns-clause-frame g c =
     g.met.T.Trace.goes_on c.args.trace.now c.leave_text.new.trace c.begin_program.new.trace c.leave_text.ensures.frame
     (g.met.T.Trace.goes_on c.leave_text.new.trace c.leave_place.new.trace c.begin_program.new.trace c.leave_place.ensures.frame
     c.begin_program.ensures.frame)
+
+pub returns-clause-blocks : goal.returns-clause-blocks
+returns-clause-blocks g c =
+    rest_then c.args.tree.now.nodes.blocks c.leave_text.new.tree.nodes.blocks c.begin_program.new.tree.nodes.blocks
+    c.leave_text.ensures.blocks c.begin_program.ensures.blocks

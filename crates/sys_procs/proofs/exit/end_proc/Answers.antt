@@ -1,5 +1,6 @@
 use Rattle.std.proofs.Common.{◌<◌, ℕ, length, Option, subst, arith}
 use Rattle.fs_nodes.specs.FileSystem.{FileSystem}
+use Rattle.fs_nodes.proofs.RestLemmas.{rest_then}
 use Rattle.sys_procs.specs.declared.procs.Procs.{Procs}
 use Rattle.sys_procs.specs.World.{World, process_of}
 use Rattle.sys_procs.specs.Exit.{leaves, dies}
@@ -31,3 +32,8 @@ returns-clause-does g c =
     ended_as (end_row w s c.args.status text (text_left w s c.args.status low))
     (ended_from c.leave.ensures.board
     (ended_behind v s text (λ x. dies x s) left (c.die.ensures.does c.leave_text.new.tree.nodes)))
+
+pub returns-clause-blocks : goal.returns-clause-blocks
+returns-clause-blocks g c =
+    rest_then c.args.tree.now.nodes.blocks c.leave.new.tree.nodes.blocks c.leave_text.new.tree.nodes.blocks
+    c.leave.ensures.blocks c.leave_text.ensures.blocks

@@ -1,4 +1,4 @@
-use Rattle.std.proofs.Common.{◌≡◌, ◌∙◌, ◌<◌, true, false, slice_index, inl, inr, sym, ap, subst}
+use Rattle.std.proofs.Common.{◌≡◌, ◌∙◌, ◌<◌, true, false, slice_index, inl, inr, refl, sym, ap, subst}
 use Rattle.text_tab.specs.declared.left.Left.TheVariants.{Gone}
 use Rattle.fs_nodes.proofs.RestLemmas.{rest_stays}
 use Rattle.image_keep.specs.Kept.{Kept, text_of}
@@ -69,6 +69,7 @@ returns-in-Used g c =
       none = ap (λ (k : Kept). text_of k c.args.s) (used_is g c).kept ∙ none_now c.is_sticky-sticky.result h;
       marks = c.requires.marks ∙ sym (ap (λ (k : Kept). marks_of (texts_in k)) (used_is g c).kept
           ∙ marks_stay c.is_sticky-sticky.result h c.leave_text.result c.leave_text.ensures.left (stays g c));
+      mounts = refl;
       blocks = rest_stays _;
     }
 
