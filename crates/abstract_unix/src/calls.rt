@@ -194,6 +194,7 @@ fn on_processes(count: u8, call: ProcessCall) -> Sysent
 }
 
 /// Does a call on files.
+#[inline(always)]
 pub fn do_file_call<S: Space, T: Trace>(
     call: FileCall,
     files: &mut Files,
