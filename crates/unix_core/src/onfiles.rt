@@ -22,6 +22,7 @@ use u_area::UArea;
 use v6_base::{Answer, Slot};
 
 /// Does a call on files by its row.
+#[inline(always)]
 pub(crate) fn do_on_files(
     world: &mut World,
     fixed: &Fixed,

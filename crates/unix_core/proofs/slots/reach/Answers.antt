@@ -1,4 +1,4 @@
-use Rattle.std.proofs.Common.{◌≡◌, ◌<◌, ◌==◌, not, length, map, false, refl, sym, ap}
+use Rattle.std.proofs.Common.{◌<◌, ◌==◌, not, length, map, false, refl, sym, ap}
 use Rattle.v6_base.proofs.Took.{took_nothing}
 use Rattle.pick_rules.specs.Effects.{Show}
 use Rattle.pick_rules.specs.Logged.{logged}

@@ -1,5 +1,4 @@
-use Rattle.std.proofs.Common.{◌≡◌, ◌∙◌, sym, ap}
-use Rattle.sys_procs.specs.declared.procs.Procs.{Procs}
+use Rattle.std.proofs.Common.{◌∙◌, sym, ap}
 use Rattle.unix_core.specs.declared.world.World.{World}
 use Rattle.unix_core.proofs.SlotWorlds.{reach_others, reach_good, reach_passed, reach_timed, sent_unix, sent_board, sent_any, sent_took, none_woken}
 use Rattle.unix_core.proofs.slots.reach_wake.Goals as goal
