@@ -2,10 +2,10 @@
 ghost use Rattle.std.specs.Prelude.{◌≡◌, ◌+◌, ◌<◌, ◌≤◌, [], ◌∷◌, length};
 ghost use Rattle.fs_codec.specs.Bytes.{bytes_of};
 ghost use Rattle.u_area.specs.Area.{fetched, IsStored};
-ghost use Rattle.u_area.specs.Fields.{Becomes};
+ghost use Rattle.u_area.specs.Fields.{Becomes, with_register, with_codes, with_ids, with_handler, with_call, with_tick, with_no_times, with_child_times, with_end};
 ghost use Rattle.u_area.specs.declared.area.UArea.{UArea};
 ghost use Rattle.image_keep.specs.Kept.{Held, Has, HasImage, HasSizes, IsKept, area_of, image_of, with_area};
-ghost use Rattle.image_keep.specs.Fields.{IsAreaAt, area_there, with_register, with_codes, with_ids, with_handler, with_call, with_tick, with_no_times, with_child_times, with_end};
+ghost use Rattle.image_keep.specs.Fields.{IsAreaAt, area_there};
 ghost use Rattle.image_keep.specs.Running.{IsFixed, with_pc, with_results, with_state};
 
 use crate::images::Images;

@@ -2,8 +2,8 @@
 ghost use Rattle.std.specs.Prelude.{◌≡◌, ◌%◌, ◌<◌, length};
 ghost use Rattle.pdp_decode.specs.Numbers.{reg_code};
 ghost use Rattle.pdp_decode.specs.Decode.{reg_of};
-ghost use Rattle.image_keep.specs.Standing.{StandsIn, IsStated};
-ghost use Rattle.image_keep.specs.Near.{StandsWith};
+ghost use Rattle.image_keep.specs.Standing.{StandsIn};
+ghost use Rattle.image_keep.specs.Near.{StandsWith, IsStated};
 
 use crate::standing::{
     Standing, codes, load_byte, load_word, program_byte, program_word, reg, set_codes, set_reg,
@@ -53,6 +53,7 @@ fn index(n: u32) -> usize
 impl Processor for Near<'_> {
     ghost use Rattle.image_keep.specs.Near.{standing_machine, around, Beside, IsPlaceFor};
     ghost use Rattle.image_keep.specs.Standing.{address};
+    ghost use Rattle.fs_codec.proofs.WordsLemmas.{length-words};
 
     ghost machine = { λ p. standing_machine p.core.now p.standing.now };
 
@@ -136,5 +137,5 @@ impl Processor for Near<'_> {
         Ok(())
     }
 
-    ghost eight = { λ p. registers_long p.core.now p.standing.now.area };
+    ghost eight = { λ p. length-words p.core.now p.standing.now.area 8 };
 }

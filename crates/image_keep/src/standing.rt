@@ -4,7 +4,8 @@ ghost use Rattle.v6_base.specs.Access.{load_byte, load_word, store_byte, store_w
 ghost use Rattle.v6_base.specs.Words.{word_set};
 ghost use Rattle.core_mem.specs.Bytes.{part, over};
 ghost use Rattle.image_keep.specs.Running.{words_or};
-ghost use Rattle.image_keep.specs.Standing.{IsNear, standing_image, StandsIn, IsPlace, IsWordPlace, address, registers_at, codes_at, IsStated};
+ghost use Rattle.image_keep.specs.Standing.{IsNear, standing_image, StandsIn, IsPlace, IsWordPlace, address};
+ghost use Rattle.image_keep.specs.Near.{registers_at, codes_at, IsStated};
 
 use crate::memory::word_in;
 use crate::starts::Starts;
@@ -61,7 +62,9 @@ fn is_odd(f: &Standing, at: usize) -> bool
 impl Standing {
     /// No process: its program has no bytes.
     fn none() -> Standing
-        ensures { result.code_len ≡ 0 }
+        ensures none { result.code_len ≡ 0 }
+        ensures area { result.area ≡ 0 }
+        ensures nil { result.nil ≡ 0 }
     {
         Standing {
             area: 0,

@@ -3,7 +3,7 @@ ghost use Rattle.std.specs.Prelude.{◌≡◌, ◌<◌, is_some, length};
 ghost use Rattle.u_area.specs.Area.{fetched, IsStored};
 ghost use Rattle.sig_core.specs.Signals.{due};
 ghost use Rattle.fs_nodes.specs.FileSystem.{FileSystem};
-ghost use Rattle.image_keep.specs.Fields.{with_register, with_call, with_ids, with_handler, with_no_times, with_child_times, with_end};
+ghost use Rattle.u_area.specs.Fields.{with_register, with_call, with_ids, with_handler, with_no_times, with_child_times, with_end};
 ghost use Rattle.image_keep.specs.Kept.{with_area};
 ghost use Rattle.sys_procs.specs.World.{with_process};
 ghost use Rattle.sys_procs.specs.Handed.{handed, board, process_here, IsAlive};
