@@ -58,7 +58,6 @@ detach-requires-clause-taken c = (detaches (stock_in c.self.inside) c.args.s c.t
 pub detach-requires-clause-room : goal.detach-requires-clause-room
 detach-requires-clause-room c = (both_room (stock_in c.self.inside) c.self.inside.core_map c.self.inside.swap_map c.self.invariant.sound c.self.invariant.maps c.self.invariant.table c.count.ensures.few c.count-2.ensures.few).1
 
-
 pub invariant_of-self : goal.invariant_of-self
 invariant_of-self c =
     let g = (text_left (stock_in c.self.inside) c.args.self.now.kept c.args.s c.text_in-t.result c.args.sticky c.self.inside.core_map c.unload_text.new.core_map c.self.inside.swap_map c.detach.new.swap_map c.row_of-row.result (line_of c.clear_text_size.new.memory) c.unload_text.new.texts c.detach.new.texts (with_items c.self.inside.rows c.give_text.new.rows).items (kept_is c.self.view_is) c.self.invariant.sound c.self.invariant.maps c.self.invariant.counted (has_text_of (stock_in c.self.inside) c.args.self.now.kept c.args.s c.text_in-t.result (kept_is c.self.view_is) c.self.invariant.counted (text_named (stock_in c.self.inside) c.args.self.now.kept c.args.s c.text_in-t.result c.row_of-row.result (kept_is c.self.view_is) (rw c.deref.ensures.value at c.row_of-row.ensures) c.text_in-t.ensures)) (rw c.deref.ensures.value at c.row_of-row.ensures) c.clear_text_size.ensures.line c.clear_text_size.ensures.long (with_items_is c.self.inside.rows c.give_text.new.rows (c.give_text.ensures.long ∙ c.deref_mut.ensures.len) ∙ (rw c.deref_mut.ensures.value at c.give_text.ensures.rows)) (c.unload_text.ensures.texts ∙ ap (leave_texts c.self.inside.texts) c.loaded_text.ensures) (λ y. c.unload_text.ensures.core y ∙ ap (λ x. is_free c.self.inside.core_map y || leaving_units c.self.inside.texts x y) c.loaded_text.ensures) c.detach.ensures.table c.detach.ensures.swap) in
