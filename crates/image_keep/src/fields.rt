@@ -1,7 +1,7 @@
 //! The u area of an image, read and written where it stands, whole and field by field.
 ghost use Rattle.std.specs.Prelude.{◌≡◌, ◌+◌, ◌<◌, ◌≤◌, [], ◌∷◌, length};
 ghost use Rattle.fs_codec.specs.Bytes.{bytes_of};
-ghost use Rattle.u_area.specs.Area.{fetched, IsStored};
+ghost use Rattle.u_area.specs.Area.{fetched, IsSized, IsStored};
 ghost use Rattle.u_area.specs.Fields.{Becomes, with_register, with_codes, with_ids, with_handler, with_call, with_tick, with_no_times, with_child_times, with_end};
 ghost use Rattle.u_area.specs.declared.area.UArea.{UArea};
 ghost use Rattle.image_keep.specs.Kept.{Held, Has, HasImage, HasSizes, IsKept, area_of, image_of, with_area};
@@ -104,8 +104,9 @@ impl Images {
         requires image { HasImage self.old.kept _s }
         requires place { IsAreaAt self.old.kept _s at }
         requires within { field + length bytes.now ≤ 1024 }
-        requires meaning { (u : UArea) × Becomes (area_of self.old.kept _s) field bytes.now u × HasSizes u (image_of self.old.kept _s) }
-        ensures kept { (u : UArea) → Becomes (area_of self.old.kept _s) field bytes.now u → self.new.kept ≡ with_area self.old.kept _s u }
+        requires meaning { (u : UArea) × Becomes (area_of self.old.kept _s) field bytes.now u × IsSized u × HasSizes u (image_of self.old.kept _s) }
+        ensures kept { (u : UArea) → Becomes (area_of self.old.kept _s) field bytes.now u → IsSized u
+            → self.new.kept ≡ with_area self.old.kept _s u }
     {
         self.memory.see_bytes();
         self.memory.put(at + field, bytes);
