@@ -7,7 +7,7 @@ ghost use Rattle.image_keep.specs.Running.{IsFixed, machine_in, with_machine_in}
 use crate::images::Images;
 use crate::running::Fixed;
 use pdp_decode::Dispatch;
-use pdp_step::{Outcome, Regs, step};
+use pdp_step::{Outcome, step};
 
 impl Images {
     /// The process of which this is fixed does one instruction, whatever it comes to: true exactly where that is the next one.

@@ -100,14 +100,15 @@ impl Images {
 
     // Puts bytes into the u area of a slot's image, which begins at a place.
     #[inline(always)]
-    fn put_field(&mut self, _s: Slot, at: usize, field: usize, bytes: &[u8])
-        requires image { HasImage self.old.kept _s }
-        requires place { IsAreaAt self.old.kept _s at }
+    fn put_field(&mut self, s: Slot, at: usize, field: usize, bytes: &[u8])
+        requires image { HasImage self.old.kept s }
+        requires place { IsAreaAt self.old.kept s at }
         requires within { field + length bytes.now ≤ 1024 }
-        requires meaning { (u : UArea) × Becomes (area_of self.old.kept _s) field bytes.now u × IsSized u × HasSizes u (image_of self.old.kept _s) }
-        ensures kept { (u : UArea) → Becomes (area_of self.old.kept _s) field bytes.now u → IsSized u
-            → self.new.kept ≡ with_area self.old.kept _s u }
+        requires meaning { (u : UArea) × Becomes (area_of self.old.kept s) field bytes.now u × IsSized u × HasSizes u (image_of self.old.kept s) }
+        ensures kept { (u : UArea) → Becomes (area_of self.old.kept s) field bytes.now u → IsSized u
+            → self.new.kept ≡ with_area self.old.kept s u }
     {
+        let _ = s;
         self.memory.see_bytes();
         self.memory.put(at + field, bytes);
     }

@@ -328,12 +328,12 @@ fn fork<T: Trace>(world: &mut World, s: Slot, trace: &mut T) -> Ending
     ensures rest { SameRest world.old.files.tree.nodes world.new.files.tree.nodes }
     ensures slots { world.new.slots ≡ world.old.slots }
 {
-    let files = files(world.procs.images.area_bytes(s));
+    let numbers = files(world.procs.images.area_bytes(s));
     world.files.tree.nodes.see();
     see_table(&world.files.table);
     match fork_one(&mut world.procs, &mut world.files.tree, s, [0; 4], trace) {
         Ok(answer) => {
-            share_files(&mut world.files.table, &files, answer);
+            share_files(&mut world.files.table, &numbers, answer);
             conclude(world, s, answer, trace)
         }
         Err(kind) => {

@@ -12,12 +12,12 @@ use Rattle.image_keep.proofs.images.Images.put_field.Goals as goal
 
 pub put-requires-clause-place : goal.put-requires-clause-place
 put-requires-clause-place c =
-    let here = area_here (stock_in c.self.inside) c.args.self.now.kept c.args._s c.args.at (kept_is c.self.view_is) c.self.invariant.sound c.self.invariant.counted c.requires.image c.requires.place in
+    let here = area_here (stock_in c.self.inside) c.args.self.now.kept c.args.s c.args.at (kept_is c.self.view_is) c.self.invariant.sound c.self.invariant.counted c.requires.image c.requires.place in
     field_side c.self.inside.core c.args.at c.args.field _ _ here.side c.requires.within c.self.invariant.cut
 
 pub put-requires-clause-inside : goal.put-requires-clause-inside
 put-requires-clause-inside c =
-    let here = area_here (stock_in c.self.inside) c.args.self.now.kept c.args._s c.args.at (kept_is c.self.view_is) c.self.invariant.sound c.self.invariant.counted c.requires.image c.requires.place in
+    let here = area_here (stock_in c.self.inside) c.args.self.now.kept c.args.s c.args.at (kept_is c.self.view_is) c.self.invariant.sound c.self.invariant.counted c.requires.image c.requires.place in
     let inside = here.inside in let within = c.requires.within in
     omega (arith, inside, within)
 
@@ -26,9 +26,9 @@ invariant_of-self c =
     let k : Kept = c.args.self.now.kept in
     let u : UArea = c.requires.meaning.0 in
     let holds : IsKept k = kept_holds (stock_in c.self.inside) k (kept_is c.self.view_is) c.self.invariant.sound c.self.invariant.table c.self.invariant.told c.see_bytes.ensures in
-    let sizes = area_sizes k c.args._s u holds c.requires.image c.requires.meaning.3 in
-    let done : AreaSet (stock_in c.self.inside) k c.args._s u (line_of c.put.new.self) =
-    field_set (stock_in c.self.inside) c.args.self.now.kept c.args._s c.args.at c.args.field u c.args.bytes.now (line_of c.put.new.self) (kept_is c.self.view_is) c.self.invariant.sound c.self.invariant.counted c.requires.image c.requires.place
+    let sizes = area_sizes k c.args.s u holds c.requires.image c.requires.meaning.3 in
+    let done : AreaSet (stock_in c.self.inside) k c.args.s u (line_of c.put.new.self) =
+    field_set (stock_in c.self.inside) c.args.self.now.kept c.args.s c.args.at c.args.field u c.args.bytes.now (line_of c.put.new.self) (kept_is c.self.view_is) c.self.invariant.sound c.self.invariant.counted c.requires.image c.requires.place
     c.requires.meaning.1 c.requires.meaning.2 c.requires.within sizes.1 sizes.2 c.put.ensures.bytes in
     record {
       sound = done.sound;
@@ -36,7 +36,7 @@ invariant_of-self c =
       table = c.self.invariant.table;
       cut = c.put.ensures.core ∙ c.self.invariant.cut;
       counted = c.self.invariant.counted;
-      told = area_told _ _ k c.args._s u (kept_is c.self.view_is) done.kept holds c.requires.meaning.3 c.self.invariant.told;
+      told = area_told _ _ k c.args.s u (kept_is c.self.view_is) done.kept holds c.requires.meaning.3 c.self.invariant.told;
     }
 
 pub returns : goal.returns
@@ -45,6 +45,6 @@ returns c = λ u becomes sized.
     let its : UArea = c.requires.meaning.0 in
     let holds : IsKept k = kept_holds (stock_in c.self.inside) k (kept_is c.self.view_is) c.self.invariant.sound c.self.invariant.table c.self.invariant.told c.see_bytes.ensures in
     let same : u ≡ its = one_spelled u its sized c.requires.meaning.2 (sym becomes ∙ c.requires.meaning.1) in
-    let sizes = area_sizes k c.args._s its holds c.requires.image c.requires.meaning.3 in
-    (field_set (stock_in c.self.inside) c.args.self.now.kept c.args._s c.args.at c.args.field u c.args.bytes.now (line_of c.put.new.self) (kept_is c.self.view_is) c.self.invariant.sound c.self.invariant.counted c.requires.image c.requires.place
+    let sizes = area_sizes k c.args.s its holds c.requires.image c.requires.meaning.3 in
+    (field_set (stock_in c.self.inside) c.args.self.now.kept c.args.s c.args.at c.args.field u c.args.bytes.now (line_of c.put.new.self) (kept_is c.self.view_is) c.self.invariant.sound c.self.invariant.counted c.requires.image c.requires.place
     becomes sized c.requires.within (ap (λ (w : UArea). w.data_size) same ∙ sizes.1) (ap (λ (w : UArea). w.stack_size) same ∙ sizes.2) c.put.ensures.bytes).kept
