@@ -14,7 +14,6 @@ use Rattle.u_area.proofs.AreaLemmas.{one_area}
 use Rattle.map_fit.specs.declared.holes.Hole.{Hole}
 use Rattle.text_tab.specs.declared.row.TextRow.{TextRow}
 use Rattle.pdp_step.specs.declared.outcome.Outcome.TheVariants.{Call, Next}
-use Rattle.pdp_step.specs.Machine.{Machine}
 use Rattle.pdp_step.specs.Instruction.{Stepped, stepped, instr}
 use Rattle.image_keep.specs.declared.images.Images.TheInside.{Inside}
 use Rattle.image_keep.specs.declared.row.Row.{Row}

@@ -14,8 +14,6 @@ use Rattle.image_keep.proofs.KeptForm.{place_is}
 use Rattle.image_keep.proofs.Found.{place_inside, place_low, less_in}
 use Rattle.image_keep.proofs.Cutting.{tail_taken}
 use Rattle.image_keep.proofs.Growing.{cuts}
-use Rattle.image_keep.specs.Kept.{area_of, image_of}
-use Rattle.image_keep.specs.Growth.{area_resized, image_resized}
 use Rattle.image_keep.proofs.images.Images.cut.Goals as goal
 
 pub place_of-place-requires : goal.place_of-place-requires
