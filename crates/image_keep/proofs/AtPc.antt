@@ -12,7 +12,6 @@ use Rattle.pdp_step.specs.Operands.{at_memory, word_at}
 use Rattle.pdp_step.specs.Instruction.{row_of, begun, plan_of, settled, stepped, instr}
 use Rattle.pdp_step.proofs.Ends.{instr_done}
 use Rattle.pdp_step.proofs.TableRows.{attempted}
-use Rattle.u_area.specs.declared.area.UArea.{UArea}
 use Rattle.image_keep.specs.declared.standing.Standing.{Standing}
 use Rattle.image_keep.specs.Standing.{standing_image}
 use Rattle.image_keep.specs.Near.{StandsWith, IsRowDone, standing_machine, Around, around}
@@ -32,15 +31,14 @@ instr_call m pc word n is loaded asks =
     ∙ ap (λ (a : ℕ). stepped (Call n) (with_reg m Pc ((a + 2) % 65536))) (sym is)
 
 -- an attempt at the row of the word at PC
-pub row_attempted : (core new : List ℕ) (u w : UArea) (f : Standing) (pc word : ℕ) (result : Bool) → pc ≡ reg_in (standing_machine core u f) Pc → pc < 65536 → 0 < f.code_len → load_word (standing_image core f) pc ≡ Ok word
-    → (IsTrue result → IsRowDone (standing_machine core u f) (pc + 2) word (standing_machine new w f)) → (result ≡ false → standing_machine new w f ≡ standing_machine core u f) → around new w f ≡ around core u f → StandsWith new w f
-    → Attempted f core new u w result
-row_attempted core new u w f pc word result is small some loaded row missed same stands = record {
+pub row_attempted : (core new : List ℕ) (f : Standing) (pc word : ℕ) (result : Bool) → pc ≡ reg_in (standing_machine core f) Pc → pc < 65536 → 0 < f.code_len → load_word (standing_image core f) pc ≡ Ok word
+    → (IsTrue result → IsRowDone (standing_machine core f) (pc + 2) word (standing_machine new f)) → (result ≡ false → standing_machine new f ≡ standing_machine core f) → around new f ≡ around core f → StandsWith new f
+    → Attempted f core new result
+row_attempted core new f pc word result is small some loaded row missed same stands = record {
   near = λ _. some;
-  done = λ well. instr_row (standing_machine core u f) (standing_machine new w f) pc word is small loaded (row well);
+  done = λ well. instr_row (standing_machine core f) (standing_machine new f) pc word is small loaded (row well);
   missed = λ ill _. missed ill;
   far_core = λ ill none. absurd (omega (arith, some, none));
-  far_area = λ ill none. absurd (omega (arith, some, none));
   around = λ _. same;
   stated = λ _. stands.stated;
   size = ap (λ (a : Around). a.size) same;

@@ -41,7 +41,6 @@ pub mod Reading
 pub mod Made
 pub mod Putting
 pub mod Words
-pub mod AreasKept
 pub mod WordsRead
 pub mod RunsRead
 pub mod Lent

@@ -1,10 +1,10 @@
--- A process at hand in core: its parts are bytes of core, and what its instructions leave of core and of its u area, decoded,
--- is what is kept, with this image and these registers and codes.
-use Rattle.std.proofs.Common.{◌≡◌, ℕ, ◌+◌, ◌-◌, ◌<◌, ◌≤◌, inl, inr, Bool, true, false, List, ◌++◌, length, set, Option, Some, None, refl, sym, ap, subst, ◌∙◌, arith}
-use Rattle.std.specs.Prelude.{IfSome, IsTrue, replicate}
+-- A process at hand in core: its parts are bytes of core, and what its instructions leave of core is what is kept, with this image
+-- and these registers and codes.
+use Rattle.std.proofs.Common.{◌≡◌, ℕ, ◌+◌, ◌-◌, ◌<◌, ◌≤◌, inl, inr, Bool, true, false, List, ◌++◌, length, Option, Some, None, refl, sym, ap, subst, ◌∙◌, arith}
+use Rattle.std.specs.Prelude.{IfSome, IsTrue}
 use Rattle.std.proofs.lemmas.Bool.{cases_lt}
-use Rattle.std.specs.Vec.{with_items}
-use Rattle.std.proofs.lemmas.List.{length-append, set-get_or, with_items_is}
+use Rattle.std.proofs.lemmas.List.{length-append}
+use Rattle.fs_codec.proofs.WordsLemmas.{length-words}
 use Rattle.v6_base.specs.Image.{Image, AreBytes}
 use Rattle.v6_base.proofs.Copies.{SameLengths}
 use Rattle.core_mem.specs.Bytes.{part}
@@ -14,15 +14,12 @@ use Rattle.u_area.proofs.AreaLemmas.{one_area}
 use Rattle.map_fit.specs.declared.holes.Hole.{Hole}
 use Rattle.text_tab.specs.declared.row.TextRow.{TextRow}
 use Rattle.pdp_step.specs.declared.outcome.Outcome.TheVariants.{Call, Next}
-use Rattle.pdp_step.specs.Machine.{Machine}
 use Rattle.pdp_step.specs.Instruction.{Stepped, stepped, instr}
 use Rattle.image_keep.specs.declared.images.Images.TheInside.{Inside}
 use Rattle.image_keep.specs.declared.row.Row.{Row}
 use Rattle.image_keep.specs.declared.running.Fixed.{Fixed}
 use Rattle.image_keep.specs.declared.standing.Standing.{Standing}
 use Rattle.image_keep.specs.declared.starts.Starts.{Starts}
-use Rattle.image_keep.specs.Area.{no_area}
-use Rattle.image_keep.specs.Areas.{area_at, AreAreas}
 use Rattle.image_keep.specs.Line.{Lists, line_of}
 use Rattle.image_keep.specs.Kept.{Kept, IsKept, HasImage, image_of, area_of, with_image, with_area}
 use Rattle.image_keep.specs.Memory.{Stock, place_at, kept_of, IsSound}
@@ -33,7 +30,7 @@ use Rattle.image_keep.specs.Inside.{stock_in, kept_in, AreImages}
 use Rattle.image_keep.specs.Starts.{AreStarts}
 use Rattle.image_keep.specs.Running.{IsFixed, with_state, state_bytes, machine_in, with_machine_in}
 use Rattle.image_keep.specs.Standing.{standing_image, StandsIn}
-use Rattle.image_keep.specs.Near.{standing_machine, stack_end, Around, around}
+use Rattle.image_keep.specs.Near.{standing_machine, stack_end, Around, around, registers_at, codes_at, IsStated}
 use Rattle.image_keep.specs.Attempted.{IsAtHand, Attempted, Called}
 use Rattle.image_keep.proofs.Frames.{alive_image, image_back, area_back, with_image_area}
 use Rattle.image_keep.proofs.Own.{with_line}
@@ -41,34 +38,32 @@ use Rattle.image_keep.proofs.InPlan.{core_kept}
 use Rattle.image_keep.proofs.KeptForm.{kept_holds}
 use Rattle.image_keep.proofs.Storing.{told_image}
 use Rattle.image_keep.proofs.Told.{state_told}
-use Rattle.image_keep.proofs.AreasKept.{seat, area_known, image_low, areas_imaged, areas_described}
 use Rattle.image_keep.proofs.Reading.{starts_after}
-use Rattle.image_keep.proofs.Registers.{Stands, stands, state_there, state_eight, starts_described}
+use Rattle.image_keep.proofs.Registers.{Stands, stands, state_there, starts_described}
+use Rattle.image_keep.proofs.StandingState.{state_read, stated_of, codes_low}
 use Rattle.image_keep.proofs.Landing.{StandsAs, LeftAround, Landed, landed, lengths_same}
 use Rattle.image_keep.proofs.StandsThere.{stands_as}
 
--- A process at hand, by the bytes of core and its u area, decoded.
-pub record AtHand (k : Kept) (s : ℕ) (f : Standing) (core : List ℕ) (u : UArea) : Type 0 where
-  pub area : u ≡ area_of k s
-  pub eight : length u.r ≡ 8
+-- A process at hand, by the bytes of core.
+pub record AtHand (k : Kept) (s : ℕ) (f : Standing) (core : List ℕ) : Type 0 where
   pub inside : 0 < f.code_len → StandsIn (length core) f
-  pub stated : 0 < f.code_len → part core f.area 18 ≡ state_bytes u.r u.cc
-  pub image : 0 < f.code_len → standing_image core f ≡ image_of k s
+  pub stated : 0 < f.code_len → IsStated core f.area
+  pub machine : 0 < f.code_len → standing_machine core f ≡ machine_in k s
+  pub room : f.area + 18 ≤ length core
 
 -- All else of the images is as it was.
-pub record OthersStay (a b : Inside) (s : ℕ) (w : UArea) : Type 0 where
+pub record OthersStay (a b : Inside) : Type 0 where
   pub swap : b.memory.swap ≡ a.memory.swap
   pub core : b.core ≡ a.core
   pub rows : b.rows.items ≡ a.rows.items
-  pub areas : b.areas.items ≡ set a.areas.items s w
   pub texts : b.texts ≡ a.texts
   pub core_map : b.core_map ≡ a.core_map
   pub swap_map : b.swap_map ≡ a.swap_map
 
--- what is so of core and of the u area after any of it
-pub record LeftBeside (f : Standing) (old new : List ℕ) (u w : UArea) : Type 0 where
-  pub around : 0 < f.code_len → around new w f ≡ around old u f
-  pub stated : 0 < f.code_len → part new f.area 18 ≡ state_bytes w.r w.cc
+-- what is so of core after any of it
+pub record LeftBeside (f : Standing) (old new : List ℕ) : Type 0 where
+  pub around : 0 < f.code_len → around new f ≡ around old f
+  pub stated : 0 < f.code_len → IsStated new f.area
   pub size : length new ≡ length old
 
 -- images that keep this, in their form
@@ -137,9 +132,9 @@ core_behind old new swap at size low same =
     let joined : part (new ++ swap) at (n + m) ≡ part (old ++ swap) at (n + m) = part-add (new ++ swap) at n m ∙ (λ i. one i ++ two i) ∙ sym (part-add (old ++ swap) at n m) in
     subst (λ i. part (new ++ swap) at i ≡ part (old ++ swap) at i) (sym long) joined
 
-core_around : (old new swap : List ℕ) (f : Standing) (u w : UArea) → StandsIn (length old) f → length new ≡ length old → around new w f ≡ around old u f → part new f.area 18 ≡ state_bytes w.r w.cc
-    → LeftAround (old ++ swap) (new ++ swap) f w.r w.cc
-core_around old new swap f u w i size same stated =
+core_around : (old new swap : List ℕ) (f : Standing) (r : List ℕ) (cc : ℕ) → StandsIn (length old) f → length new ≡ length old → around new f ≡ around old f → part new f.area 18 ≡ state_bytes r cc
+    → LeftAround (old ++ swap) (new ++ swap) f r cc
+core_around old new swap f r cc i size same stated =
     let ar = i.area in let e = i.end in let b = i.stack_below in let s = i.stack_in in
     let was = length-append old swap in
     let is = length-append new swap in
@@ -151,21 +146,15 @@ core_around old new swap f u w i size same stated =
       stated = part-left new swap f.area 18 (omega (arith, ar, e, b, s, size)) ∙ stated;
     }
 
--- a u area of which all else is as it was
-other_state : (u w : UArea) → with_state w (replicate 8 0) 0 ≡ with_state u (replicate 8 0) 0 → w ≡ with_state u w.r w.cc
-other_state u w same =
-    let c = w.codes in
-    one_area w (with_state u w.r w.cc) refl (omega (arith, c))
-    (ap (λ (x : UArea). x.uid) same) (ap (λ (x : UArea). x.gid) same) (ap (λ (x : UArea). x.ruid) same) (ap (λ (x : UArea). x.rgid) same) (ap (λ (x : UArea). x.dir) same)
-    (ap (λ (x : UArea). x.text_size) same) (ap (λ (x : UArea). x.data_size) same) (ap (λ (x : UArea). x.stack_size) same) (ap (λ (x : UArea). x.pending) same)
-    (ap (λ (x : UArea). x.call) same) (ap (λ (x : UArea). x.user_time) same) (ap (λ (x : UArea). x.system_time) same) (ap (λ (x : UArea). x.child_user) same)
-    (ap (λ (x : UArea). x.child_system) same) (ap (λ (x : UArea). x.status) same) (ap (λ (x : UArea). x.handlers) same) (ap (λ (x : UArea). x.files) same)
+-- a u area with the registers and codes that it has
+same_state : (u : UArea) → with_state u u.r u.cc ≡ u
+same_state u = (let c = u.codes in one_area (with_state u u.r u.cc) u refl (omega (arith, c)) refl refl refl refl refl refl refl refl refl refl refl refl refl refl refl refl refl)
 
 -- what an instruction works on that leaves all as it is
 machine_back : (k : Kept) (s : ℕ) → with_machine_in k s (machine_in k s) ≡ k
 machine_back k s =
     let u : UArea = area_of k s in
-    let same : with_state u u.r u.cc ≡ u = sym (other_state u u refl) in
+    let same : with_state u u.r u.cc ≡ u = same_state u in
     (λ i. with_area (image_back k s i) s (same i)) ∙ area_back k s
 
 module _ (a : Inside) (k : Kept) (f : Fixed) (view : kept_in a ≡ k) (h : AreImages a) (bytes : AreBytes (line_of a.memory)) (fixed : IsFixed k f) where
@@ -175,9 +164,6 @@ module _ (a : Inside) (k : Kept) (f : Fixed) (view : kept_in a ≡ k) (h : AreIm
   x : Starts
   x = f.starts
 
-  u : UArea
-  u = area_at a.areas.items f.slot
-
   has : HasImage k f.slot
   has = alive_image k f.slot fixed.alive
 
@@ -186,9 +172,6 @@ module _ (a : Inside) (k : Kept) (f : Fixed) (view : kept_in a ≡ k) (h : AreIm
 
   there : Stands (stock_in a) k f.slot f.starts (alive_image k f.slot fixed.alive).0.place
   there = stands (stock_in a) k f.slot f.starts view h.sound h.counted fixed
-
-  known : area_at a.areas.items f.slot ≡ area_of k f.slot
-  known = area_known a.areas.items (kept_in a) k f.slot view h.areas has
 
   placed : 0 < f.standing.code_len → StandsAs (stock_in a) k f.slot f.starts f.standing
   placed some = stands_as (stock_in a) k f.slot f.starts f.standing view h.sound h.counted (holds.formed f.slot) fixed (f.near.follows some)
@@ -203,8 +186,8 @@ module _ (a : Inside) (k : Kept) (f : Fixed) (view : kept_in a ≡ k) (h : AreIm
   image : 0 < f.standing.code_len → standing_image a.memory.core f.standing ≡ image_of k f.slot
   image some = sym (core_image a.memory.core a.memory.swap f.standing (inside some)) ∙ (placed some).image
 
-  stated : 0 < f.standing.code_len → part a.memory.core f.standing.area 18 ≡ state_bytes (area_at a.areas.items f.slot).r (area_at a.areas.items f.slot).cc
-  stated some =
+  stands_there : 0 < f.standing.code_len → part a.memory.core f.standing.area 18 ≡ state_bytes (area_of k f.slot).r (area_of k f.slot).cc
+  stands_there some =
       let i = inside some in
       let ar = i.area in let e = i.end in let b = i.stack_below in let st = i.stack_in in
       let at = there.at in let d = (placed some).data_at in
@@ -212,21 +195,29 @@ module _ (a : Inside) (k : Kept) (f : Fixed) (view : kept_in a ≡ k) (h : AreIm
       sym (part-left a.memory.core a.memory.swap f.standing.area 18 (omega (arith, ar, e, b, st)))
       ∙ ap (λ n. part (line_of a.memory) n 18) begins
       ∙ state_there (line_of a.memory) (place_at a.core (alive_image k f.slot fixed.alive).0.place) (area_of k f.slot) there.sized.r there.bytes
-      ∙ ap (λ (w : UArea). state_bytes w.r w.cc) (sym known)
 
-  pub at_hand : AtHand k f.slot f.standing a.memory.core (area_at a.areas.items f.slot)
+  its_machine : 0 < f.standing.code_len → standing_machine a.memory.core f.standing ≡ machine_in k f.slot
+  its_machine some =
+      let m = image some in
+      let read = state_read a.memory.core f.standing.area (area_of k f.slot).r (area_of k f.slot).cc there.sized.r (area_of k f.slot).codes (stands_there some) in
+      λ i. record { r = read.0 i; cc = read.1 i; image = m i }
+
+  room : f.standing.area + 18 ≤ length a.memory.core
+  room =
+      let cut = h.cut in let least = h.sound.least in let c = fixed.core in
+      let core : a.core ≡ k.core = sym (core_kept (stock_in a)) ∙ ap (λ (j : Kept). j.core) view in
+      let r = f.near.room (omega (arith, c, core, least)) in
+      omega (arith, r, c, core, cut)
+
+  pub at_hand : AtHand k f.slot f.standing a.memory.core
   at_hand = record {
-    area = known;
-    eight = ap (λ (w : UArea). length w.r) known ∙ there.sized.r;
     inside = inside;
-    stated = stated;
-    image = image;
+    stated = λ some. stated_of a.memory.core f.standing.area (area_of k f.slot).r (area_of k f.slot).cc there.sized.r (area_of k f.slot).codes (stands_there some);
+    machine = its_machine;
+    room = room;
   }
 
-  its_machine : 0 < f.standing.code_len → standing_machine a.memory.core (area_at a.areas.items f.slot) f.standing ≡ machine_in k f.slot
-  its_machine some = (let m = image some in λ i. record { r = (known i).r; cc = (known i).cc; image = m i })
-
-  module _ (b : Inside) (w : UArea) (others : OthersStay a b f.slot w) (did : LeftBeside f.standing a.memory.core b.memory.core (area_at a.areas.items f.slot) w) where
+  module _ (b : Inside) (others : OthersStay a b) (did : LeftBeside f.standing a.memory.core b.memory.core) where
     line : List ℕ
     line = b.memory.core ++ a.memory.swap
 
@@ -234,8 +225,8 @@ module _ (a : Inside) (k : Kept) (f : Fixed) (view : kept_in a ≡ k) (h : AreIm
     its_stock = λ i. record { line = b.memory.core ++ others.swap i; core = others.core i; rows = others.rows i; texts = others.texts i }
 
     -- what stays of the invariant, whatever the bytes are
-    left_images : IsSound (with_line (stock_in a) (b.memory.core ++ a.memory.swap)) → AreTold (kept_in b) → AreAreas b.areas.items (kept_in b).slots → AreImages b
-    left_images sound told areas =
+    left_images : IsSound (with_line (stock_in a) (b.memory.core ++ a.memory.swap)) → AreTold (kept_in b) → AreImages b
+    left_images sound told =
         let size = did.size in let cut = h.cut in let c = others.core in
         let maps : AreMaps (with_line (stock_in a) (b.memory.core ++ a.memory.swap)) a.core_map a.swap_map = record { core = h.maps.core; swap = h.maps.swap } in
         record {
@@ -245,69 +236,58 @@ module _ (a : Inside) (k : Kept) (f : Fixed) (view : kept_in a ≡ k) (h : AreIm
           cut = omega (arith, size, cut, c);
           counted = subst (λ (l : List Row). IsCounted l b.texts) (sym others.rows) (subst (λ (l : List (Option TextRow)). IsCounted a.rows.items l) (sym others.texts) h.counted);
           told = told;
-          areas = areas;
         }
 
     module _ (some : 0 < f.standing.code_len) where
-      now : Machine
-      now = standing_machine b.memory.core w f.standing
+      r : List ℕ
+      r = registers_at b.memory.core f.standing.area
+
+      cc : ℕ
+      cc = codes_at b.memory.core f.standing.area
 
       wide : StandsIn (length b.memory.core) f.standing
       wide = subst (λ n. StandsIn n f.standing) (sym did.size) (inside some)
 
-      becomes : w ≡ with_state (area_of k f.slot) w.r w.cc
-      becomes = other_state (area_at a.areas.items f.slot) w (ap (λ (p : Around). p.area) (did.around some)) ∙ ap (λ (p : UArea). with_state p w.r w.cc) known
+      done_landed : Landed (stock_in a) k f.slot f.standing (b.memory.core ++ a.memory.swap) (registers_at b.memory.core f.standing.area) (codes_at b.memory.core f.standing.area)
+      done_landed = landed (stock_in a) k f.slot f.starts f.standing (b.memory.core ++ a.memory.swap) (registers_at b.memory.core f.standing.area) (codes_at b.memory.core f.standing.area) view h.sound h.counted fixed (placed some)
+          (length-words b.memory.core f.standing.area 8) (codes_low b.memory.core f.standing.area)
+          (core_around a.memory.core b.memory.core a.memory.swap f.standing (registers_at b.memory.core f.standing.area) (codes_at b.memory.core f.standing.area) (inside some) did.size (did.around some) (did.stated some))
 
-      done_landed : Landed (stock_in a) k f.slot f.standing (b.memory.core ++ a.memory.swap) w.r w.cc
-      done_landed = landed (stock_in a) k f.slot f.starts f.standing (b.memory.core ++ a.memory.swap) w.r w.cc view h.sound h.counted fixed (placed some) (state_eight b.memory.core f.standing.area w.r w.cc room (did.stated some)) w.codes
-          (core_around a.memory.core b.memory.core a.memory.swap f.standing (area_at a.areas.items f.slot) w (inside some) did.size (did.around some) (did.stated some))
-        where
-          room : f.standing.area + 18 ≤ length b.memory.core
-          room = let ar = wide.area in let e = wide.end in let b = wide.stack_below in let st = wide.stack_in in omega (arith, ar, e, b, st)
-
-      now_kept : kept_in b ≡ with_machine_in k f.slot (standing_machine b.memory.core w f.standing)
-      now_kept = ap kept_of its_stock ∙ done_landed.kept ∙ ap (λ (m : Image). with_area (with_image k f.slot m) f.slot (with_state (area_of k f.slot) w.r w.cc)) (core_image b.memory.core a.memory.swap f.standing wide)
+      now_kept : kept_in b ≡ with_machine_in k f.slot (standing_machine b.memory.core f.standing)
+      now_kept = ap kept_of its_stock ∙ done_landed.kept ∙ ap (λ (m : Image). with_area (with_image k f.slot m) f.slot (with_state (area_of k f.slot) (registers_at b.memory.core f.standing.area) (codes_at b.memory.core f.standing.area))) (core_image b.memory.core a.memory.swap f.standing wide)
 
       now_told : AreTold (kept_in b)
       now_told =
           let m : Image = standing_image b.memory.core f.standing in
-          state_told (with_image k f.slot m) (kept_in b) f.slot w.r w.cc (now_kept ∙ ap (λ (p : UArea). with_area (with_image k f.slot m) f.slot (with_state p w.r w.cc)) (sym (with_image_area k f.slot f.slot m)))
+          let rs : List ℕ = registers_at b.memory.core f.standing.area in
+          let c : ℕ = codes_at b.memory.core f.standing.area in
+          state_told (with_image k f.slot m) (kept_in b) f.slot rs c (now_kept ∙ ap (λ (p : UArea). with_area (with_image k f.slot m) f.slot (with_state p rs c)) (sym (with_image_area k f.slot f.slot m)))
           (told_image (kept_in a) (with_image k f.slot m) k f.slot m view refl h.told)
-
-      now_areas : AreAreas b.areas.items (kept_in b).slots
-      now_areas =
-          let m : Image = standing_image b.memory.core f.standing in
-          areas_described a.areas.items b.areas.items (with_image k f.slot m) (kept_in b) (with_image k f.slot m) f.slot (with_state (area_of k f.slot) w.r w.cc) refl now_kept
-          (image_low (stock_in a) k f.slot view h.sound h.counted has)
-          (others.areas ∙ ap (set a.areas.items f.slot) becomes)
-          (areas_imaged a.areas.items (kept_in a) (with_image k f.slot m) k f.slot m view refl h.areas)
 
       now_fixed : IsFixed (kept_in b) f
       now_fixed =
           let m : Image = standing_image b.memory.core f.standing in
           let same : SameLengths (image_of k f.slot) m = lengths_same a.memory.core b.memory.core f.standing (image_of k f.slot) (inside some) did.size (image some) in
-          subst (λ j. AreStarts j f.slot f.starts) (sym now_kept) (starts_described (with_image k f.slot m) f.slot f.starts (with_state (area_of k f.slot) w.r w.cc) (starts_after k f.slot f.starts m fixed same))
+          subst (λ j. AreStarts j f.slot f.starts) (sym now_kept) (starts_described (with_image k f.slot m) f.slot f.starts (with_state (area_of k f.slot) (registers_at b.memory.core f.standing.area) (codes_at b.memory.core f.standing.area)) (starts_after k f.slot f.starts m fixed same))
 
-      at_work : Comes b f (with_machine_in k f.slot (standing_machine b.memory.core w f.standing))
-      at_work = record { images = left_images done_landed.sound now_told now_areas; kept = now_kept; fixed = now_fixed }
+      at_work : Comes b f (with_machine_in k f.slot (standing_machine b.memory.core f.standing))
+      at_work = record { images = left_images done_landed.sound now_told; kept = now_kept; fixed = now_fixed }
 
-    far_away : b.memory.core ≡ a.memory.core → w ≡ area_at a.areas.items f.slot → Comes b f k
-    far_away same own =
+    far_away : b.memory.core ≡ a.memory.core → Comes b f k
+    far_away same =
         let stays : stock_in b ≡ stock_in a = its_stock ∙ ap (λ (p : List ℕ). with_line (stock_in a) (p ++ a.memory.swap)) same in
         let kept : kept_in b ≡ kept_in a = ap kept_of stays in
-        let areas : b.areas.items ≡ a.areas.items = others.areas ∙ ap (set a.areas.items f.slot) own ∙ set-get_or a.areas.items f.slot no_area in
         record {
-          images = left_images (subst (λ (p : List ℕ). IsSound (with_line (stock_in a) (p ++ a.memory.swap))) (sym same) h.sound) (subst AreTold (sym kept) h.told)
-              (subst (λ (l : List UArea). AreAreas l (kept_in b).slots) (sym areas) (subst (λ (j : Kept). AreAreas a.areas.items j.slots) (sym kept) h.areas));
+          images = left_images (subst (λ (p : List ℕ). IsSound (with_line (stock_in a) (p ++ a.memory.swap))) (sym same) h.sound) (subst AreTold (sym kept) h.told);
           kept = kept ∙ view;
           fixed = subst (λ j. AreStarts j f.slot f.starts) (sym (kept ∙ view)) fixed;
         }
 
     -- an instruction with the next one after it
-    done_here : (result : Bool) → Attempted f.standing a.memory.core b.memory.core (area_at a.areas.items f.slot) w result → 0 < f.standing.code_len → Executed b k f result
+    done_here : (result : Bool) → Attempted f.standing a.memory.core b.memory.core result → 0 < f.standing.code_len → Executed b k f result
     done_here result at some =
-        let c : Comes b f (with_machine_in k f.slot (standing_machine b.memory.core w f.standing)) = at_work some in
-        let step : IsTrue result → instr (machine_in k f.slot) ≡ stepped Next (standing_machine b.memory.core w f.standing) = λ well. ap instr (sym (its_machine some)) ∙ at.done well in
+        let c : Comes b f (with_machine_in k f.slot (standing_machine b.memory.core f.standing)) = at_work some in
+        let step : IsTrue result → instr (machine_in k f.slot) ≡ stepped Next (standing_machine b.memory.core f.standing) = λ well. ap instr (sym (its_machine some)) ∙ at.done well in
         record {
           images = c.images;
           outcome = λ well. ap (λ (p : Stepped). p.outcome) (step well);
@@ -316,26 +296,26 @@ module _ (a : Inside) (k : Kept) (f : Fixed) (view : kept_in a ≡ k) (h : AreIm
           fixed = c.fixed;
         }
 
-    nothing_here : (result : Bool) → Attempted f.standing a.memory.core b.memory.core (area_at a.areas.items f.slot) w result → f.standing.code_len ≡ 0 → Executed b k f result
+    nothing_here : (result : Bool) → Attempted f.standing a.memory.core b.memory.core result → f.standing.code_len ≡ 0 → Executed b k f result
     nothing_here true at none = (let some = at.near refl in absurd (omega (arith, some, none)))
     nothing_here false at none =
-        let c : Comes b f k = far_away (at.far_core refl none) (at.far_area refl none) in
+        let c : Comes b f k = far_away (at.far_core refl none) in
         record { images = c.images; outcome = λ well. absurd (cc well); done = λ well. absurd (cc well); kept = λ ill. c.kept; fixed = c.fixed }
 
-    pub executed : (result : Bool) → Attempted f.standing a.memory.core b.memory.core (area_at a.areas.items f.slot) w result → Executed b k f result
+    pub executed : (result : Bool) → Attempted f.standing a.memory.core b.memory.core result → Executed b k f result
     executed result at = elim (cases_lt 0 f.standing.code_len) [
       | inl some ↦ done_here result at some
       | inr none ↦ nothing_here result at (omega (arith, none))
     ]
 
     -- a system call
-    pub called : (result : Option ℕ) → Called f.standing a.memory.core b.memory.core (area_at a.areas.items f.slot) w result → CalledFor b k f result
+    pub called : (result : Option ℕ) → Called f.standing a.memory.core b.memory.core result → CalledFor b k f result
     called None at =
-        let c : Comes b f k = far_away (at.kept_core refl) (at.kept_area refl) in
+        let c : Comes b f k = far_away (at.kept_core refl) in
         record { images = c.images; outcome = tt; done = tt; kept = λ none. c.kept; fixed = c.fixed }
     called (Some n) at =
-        let c : Comes b f (with_machine_in k f.slot (standing_machine b.memory.core w f.standing)) = at_work at.near in
-        let step : instr (machine_in k f.slot) ≡ stepped (Call n) (standing_machine b.memory.core w f.standing) = ap instr (sym (its_machine at.near)) ∙ at.called in
+        let c : Comes b f (with_machine_in k f.slot (standing_machine b.memory.core f.standing)) = at_work at.near in
+        let step : instr (machine_in k f.slot) ≡ stepped (Call n) (standing_machine b.memory.core f.standing) = ap instr (sym (its_machine at.near)) ∙ at.called in
         record {
           images = c.images;
           outcome = ap (λ (p : Stepped). p.outcome) step;
@@ -344,49 +324,21 @@ module _ (a : Inside) (k : Kept) (f : Fixed) (view : kept_in a ≡ k) (h : AreIm
           fixed = c.fixed;
         }
 
--- the same over a slice of the u areas, by an index
-pub at_hand_in : (a : Inside) (k : Kept) (f : Fixed) (given : List UArea) → kept_in a ≡ k → AreImages a → AreBytes (line_of a.memory) → IsFixed k f → given ≡ a.areas.items
-    → IsAtHand f.standing a.memory.core (area_at given f.index)
-at_hand_in a k f given view h bytes fixed same =
-    let at : AtHand k f.slot f.standing a.memory.core (area_at a.areas.items f.slot) = at_hand a k f view h bytes fixed in
-    let there : IsAtHand f.standing a.memory.core (area_at a.areas.items f.slot) = record { eight = at.eight; inside = at.inside; stated = at.stated } in
-    subst (λ n. IsAtHand f.standing a.memory.core (area_at given n)) (sym f.indexed) (subst (λ (l : List UArea). IsAtHand f.standing a.memory.core (area_at l f.slot)) (sym same) there)
+-- what an attempt takes, and what it comes to
+pub at_hand_in : (a : Inside) (k : Kept) (f : Fixed) → kept_in a ≡ k → AreImages a → AreBytes (line_of a.memory) → IsFixed k f → IsAtHand f.standing a.memory.core
+at_hand_in a k f view h bytes fixed =
+    let at : AtHand k f.slot f.standing a.memory.core = at_hand a k f view h bytes fixed in
+    record { inside = at.inside; stated = at.stated; room = at.room; nil = f.near.nil }
 
-others_in : (a : Inside) (f : Fixed) (given areas : List UArea) (m : Lists) → given ≡ a.areas.items → length areas ≡ a.areas.len → m.swap ≡ a.memory.swap → areas ≡ set given f.index (area_at areas f.index)
-    → OthersStay a (record a { memory = m; areas = with_items a.areas areas }) f.slot (area_at areas f.slot)
-others_in a f given areas m same long swap put =
-    let its : areas ≡ set given f.slot (area_at areas f.slot) = subst (λ n. areas ≡ set given n (area_at areas n)) f.indexed put in
-    record {
-      swap = swap;
-      core = refl;
-      rows = refl;
-      areas = with_items_is a.areas areas long ∙ its ∙ ap (λ (l : List UArea). set l f.slot (area_at areas f.slot)) same;
-      texts = refl;
-      core_map = refl;
-      swap_map = refl;
-    }
+others_in : (a : Inside) (m : Lists) → m.swap ≡ a.memory.swap → OthersStay a (record a { memory = m })
+others_in a m swap = record { swap = swap; core = refl; rows = refl; texts = refl; core_map = refl; swap_map = refl }
 
-pub executed_in : (a : Inside) (k : Kept) (f : Fixed) (given areas : List UArea) (m : Lists) (result : Bool) → kept_in a ≡ k → AreImages a → AreBytes (line_of a.memory) → IsFixed k f → given ≡ a.areas.items → length areas ≡ a.areas.len
-    → Attempted f.standing a.memory.core m.core (area_at given f.index) (area_at areas f.index) result → m.swap ≡ a.memory.swap → areas ≡ set given f.index (area_at areas f.index)
-    → Executed (record a { memory = m; areas = with_items a.areas areas }) k f result
-executed_in a k f given areas m result view h bytes fixed same long did swap put =
-    let at : Attempted f.standing a.memory.core m.core (area_at a.areas.items f.slot) (area_at areas f.slot) result =
-    subst (λ (l : List UArea). Attempted f.standing a.memory.core m.core (area_at l f.slot) (area_at areas f.slot) result) same (subst (λ n. Attempted f.standing a.memory.core m.core (area_at given n) (area_at areas n) result) f.indexed did) in
-    executed a k f view h bytes fixed (record a { memory = m; areas = with_items a.areas areas }) (area_at areas f.slot) (others_in a f given areas m same long swap put)
-    (record { around = at.around; stated = at.stated; size = at.size }) result at
+pub executed_in : (a : Inside) (k : Kept) (f : Fixed) (m : Lists) (result : Bool) → kept_in a ≡ k → AreImages a → AreBytes (line_of a.memory) → IsFixed k f
+    → Attempted f.standing a.memory.core m.core result → m.swap ≡ a.memory.swap → Executed (record a { memory = m }) k f result
+executed_in a k f m result view h bytes fixed did swap =
+    executed a k f view h bytes fixed (record a { memory = m }) (others_in a m swap) (record { around = did.around; stated = did.stated; size = did.size }) result did
 
-pub called_in : (a : Inside) (k : Kept) (f : Fixed) (given areas : List UArea) (m : Lists) (result : Option ℕ) → kept_in a ≡ k → AreImages a → AreBytes (line_of a.memory) → IsFixed k f → given ≡ a.areas.items → length areas ≡ a.areas.len
-    → Called f.standing a.memory.core m.core (area_at given f.index) (area_at areas f.index) result → m.swap ≡ a.memory.swap → areas ≡ set given f.index (area_at areas f.index)
-    → CalledFor (record a { memory = m; areas = with_items a.areas areas }) k f result
-called_in a k f given areas m result view h bytes fixed same long did swap put =
-    let at : Called f.standing a.memory.core m.core (area_at a.areas.items f.slot) (area_at areas f.slot) result =
-    subst (λ (l : List UArea). Called f.standing a.memory.core m.core (area_at l f.slot) (area_at areas f.slot) result) same (subst (λ n. Called f.standing a.memory.core m.core (area_at given n) (area_at areas n) result) f.indexed did) in
-    called a k f view h bytes fixed (record a { memory = m; areas = with_items a.areas areas }) (area_at areas f.slot) (others_in a f given areas m same long swap put)
-    (record { around = at.around; stated = at.stated; size = at.size }) result at
-
--- the index is one of a u area
-pub seat_in : (a : Inside) (k : Kept) (f : Fixed) → kept_in a ≡ k → AreImages a → IsFixed k f → f.index < length a.areas.items
-seat_in a k f view h fixed =
-    let low : f.slot < 50 = image_low (stock_in a) k f.slot view h.sound h.counted (alive_image k f.slot fixed.alive) in
-    let at : f.slot < length a.areas.items = seat a.areas.items (kept_in a).slots f.slot h.areas low in
-    subst (λ n. n < length a.areas.items) (sym f.indexed) at
+pub called_in : (a : Inside) (k : Kept) (f : Fixed) (m : Lists) (result : Option ℕ) → kept_in a ≡ k → AreImages a → AreBytes (line_of a.memory) → IsFixed k f
+    → Called f.standing a.memory.core m.core result → m.swap ≡ a.memory.swap → CalledFor (record a { memory = m }) k f result
+called_in a k f m result view h bytes fixed did swap =
+    called a k f view h bytes fixed (record a { memory = m }) (others_in a m swap) (record { around = did.around; stated = did.stated; size = did.size }) result did

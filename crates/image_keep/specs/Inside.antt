@@ -8,7 +8,6 @@ use Rattle.image_keep.specs.Memory.{Stock, IsSound, kept_of}
 use Rattle.image_keep.specs.Maps.{AreMaps}
 use Rattle.image_keep.specs.Counts.{IsCounted}
 use Rattle.image_keep.specs.Told.{AreTold}
-use Rattle.image_keep.specs.Areas.{AreAreas}
 
 abbrev pub stock_in : Inside → Stock
 stock_in a = record { line = line_of a.memory; core = a.core; rows = a.rows.items; texts = a.texts }
@@ -26,4 +25,3 @@ pub record AreImages (a : Inside) : Type 0 where
   pub cut : length a.memory.core ≡ 64 * a.core
   pub counted : IsCounted a.rows.items a.texts
   pub told : AreTold (kept_in a)
-  pub areas : AreAreas a.areas.items (kept_in a).slots

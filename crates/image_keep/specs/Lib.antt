@@ -1,5 +1,4 @@
 pub mod Area
-pub mod Areas
 pub mod Kept
 pub mod State
 pub mod Places
@@ -10,6 +9,7 @@ pub mod Maps
 pub mod Line
 pub mod LineInside
 pub mod Counts
+pub mod Fields
 pub mod Finding
 pub mod Resized
 pub mod Moves

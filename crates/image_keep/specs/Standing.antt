@@ -55,9 +55,12 @@ pub record Follows (f : Standing) (x : Starts) : Type 0 where
   pub bare : f.text_len ≡ 0 → (f.code ≡ f.data) × (f.code_len ≡ f.data_len)
   pub pure : 0 < f.text_len → (f.code ≡ f.text) × (f.code_len ≡ f.text_len)
 
--- where all parts are in core, the places follow from where they start; else there is no program at hand
+-- where all parts are in core, the places follow from where they start; else there is no program at hand, and the place of the
+-- u area is some place in core
 pub record IsNear (f : Standing) (x : Starts) : Type 0 where
   pub follows : 0 < f.code_len → Follows f x
+  pub room : 1024 ≤ x.core → f.area + 1024 ≤ x.core
+  pub nil : f.nil ≡ 0
   pub text_in : 0 < f.code_len → f.text + f.text_len ≤ x.core
   pub stack_in : 0 < f.code_len → f.data_end + 65536 ≤ x.core + f.stack_start
 

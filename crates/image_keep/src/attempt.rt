@@ -8,13 +8,12 @@ ghost use Rattle.image_keep.specs.Attempted.{IsAtHand, Attempted, Called};
 ghost use Rattle.image_keep.specs.Near.{StandsWith, IsRowDone, standing_machine, around};
 
 use crate::near::processor;
-use crate::standing::{Standing, instruction_word, reg, set_state};
+use crate::standing::{Standing, instruction_word, pc_of, reg, set_state, state_at};
 use pdp_decode::{Dispatch, Handler};
 use pdp_step::{
     Processor, perform, perform_any, perform_apart, perform_between, perform_bytes,
-    perform_extended, perform_rare, perform_stepping,
+    perform_extended, perform_stepping,
 };
-use u_area::UArea;
 
 /// The instruction at PC, where the process is at hand, its word has a handler, and all that it reads and writes is there.
 /// Else nothing has changed. The places come twice: the compiler forms the address of a field where it is used only as long
@@ -22,20 +21,19 @@ use u_area::UArea;
 #[inline(always)]
 pub(crate) fn attempt(
     core: &mut [u8],
-    area: &mut UArea,
     standing: &Standing,
     again: &Standing,
     dispatch: &Dispatch,
 ) -> bool
-    requires at_hand { IsAtHand standing.now core.old area.old }
+    requires at_hand { IsAtHand standing.now core.old }
     requires same { again.now ≡ standing.now }
-    ensures { Attempted standing.now core.old core.new area.old area.new result }
+    ensures { Attempted standing.now core.old core.new result }
 {
-    let pc = usize::from(reg(area, 7));
+    let pc = pc_of(core, standing);
     match instruction_word(core, standing, pc) {
         Some(word) => {
             let handler = dispatch.handler(word);
-            attempt_row(core, area, standing, again, handler, pc + 2, word)
+            attempt_row(core, standing, again, handler, pc + 2, word)
         }
         None => false,
     }
@@ -45,7 +43,6 @@ pub(crate) fn attempt(
 #[inline(always)]
 fn attempt_row(
     core: &mut [u8],
-    area: &mut UArea,
     standing: &Standing,
     again: &Standing,
     handler: Handler,
@@ -53,154 +50,148 @@ fn attempt_row(
     word: u32,
 ) -> bool
     requires same { again.now ≡ standing.now }
-    requires stands { StandsWith core.old area.old standing.now }
+    requires stands { StandsWith core.old standing.now }
     requires handles { Handles handler word }
     requires word { word < 65536 }
     requires room { pc ≤ 65538 }
-    ensures row { IsTrue result → IsRowDone (standing_machine core.old area.old standing.now) pc word (standing_machine core.new area.new standing.now) }
-    ensures missed { result ≡ false → standing_machine core.new area.new standing.now ≡ standing_machine core.old area.old standing.now }
-    ensures around { around core.new area.new standing.now ≡ around core.old area.old standing.now }
-    ensures stands { StandsWith core.new area.new standing.now }
+    ensures row { IsTrue result → IsRowDone (standing_machine core.old standing.now) pc word (standing_machine core.new standing.now) }
+    ensures missed { result ≡ false → standing_machine core.new standing.now ≡ standing_machine core.old standing.now }
+    ensures around { around core.new standing.now ≡ around core.old standing.now }
+    ensures stands { StandsWith core.new standing.now }
 {
-    attempt_frequent(core, area, standing, handler, pc, word)
-        || attempt_further(core, area, again, handler, pc, word)
+    attempt_frequent(core, standing, handler, pc, word)
+        || attempt_further(core, again, handler, pc, word)
 }
 
 // The same for the most frequent handlers. Each function of rows has one caller: the compiler then puts it there.
 #[inline(always)]
 fn attempt_frequent(
     core: &mut [u8],
-    area: &mut UArea,
     standing: &Standing,
     handler: Handler,
     pc: usize,
     word: u32,
 ) -> bool
-    requires stands { StandsWith core.old area.old standing.now }
+    requires stands { StandsWith core.old standing.now }
     requires handles { Handles handler word }
     requires word { word < 65536 }
     requires room { pc ≤ 65538 }
-    ensures row { IsTrue result → IsRowDone (standing_machine core.old area.old standing.now) pc word (standing_machine core.new area.new standing.now) }
-    ensures missed { result ≡ false → standing_machine core.new area.new standing.now ≡ standing_machine core.old area.old standing.now }
-    ensures around { around core.new area.new standing.now ≡ around core.old area.old standing.now }
-    ensures stands { StandsWith core.new area.new standing.now }
+    ensures row { IsTrue result → IsRowDone (standing_machine core.old standing.now) pc word (standing_machine core.new standing.now) }
+    ensures missed { result ≡ false → standing_machine core.new standing.now ≡ standing_machine core.old standing.now }
+    ensures around { around core.new standing.now ≡ around core.old standing.now }
+    ensures stands { StandsWith core.new standing.now }
 {
-    perform(&mut processor(core, area, standing), handler, pc, word).is_ok()
+    perform(&mut processor(core, standing), handler, pc, word).is_ok()
 }
 
 // The same for all others.
 #[inline(always)]
 fn attempt_further(
     core: &mut [u8],
-    area: &mut UArea,
     standing: &Standing,
     handler: Handler,
     pc: usize,
     word: u32,
 ) -> bool
-    requires stands { StandsWith core.old area.old standing.now }
+    requires stands { StandsWith core.old standing.now }
     requires handles { Handles handler word }
     requires word { word < 65536 }
     requires room { pc ≤ 65538 }
-    ensures row { IsTrue result → IsRowDone (standing_machine core.old area.old standing.now) pc word (standing_machine core.new area.new standing.now) }
-    ensures missed { result ≡ false → standing_machine core.new area.new standing.now ≡ standing_machine core.old area.old standing.now }
-    ensures around { around core.new area.new standing.now ≡ around core.old area.old standing.now }
-    ensures stands { StandsWith core.new area.new standing.now }
+    ensures row { IsTrue result → IsRowDone (standing_machine core.old standing.now) pc word (standing_machine core.new standing.now) }
+    ensures missed { result ≡ false → standing_machine core.new standing.now ≡ standing_machine core.old standing.now }
+    ensures around { around core.new standing.now ≡ around core.old standing.now }
+    ensures stands { StandsWith core.new standing.now }
 {
     handler != Handler::Other
-        && (attempt_bytes(core, area, standing, handler, pc, word)
-            || attempt_apart(core, area, standing, handler, pc, word)
-            || attempt_between(core, area, standing, handler, pc, word)
-            || attempt_extended(core, area, standing, handler, pc, word)
-            || attempt_stepping(core, area, standing, handler, pc, word))
+        && (attempt_bytes(core, standing, handler, pc, word)
+            || attempt_apart(core, standing, handler, pc, word)
+            || attempt_between(core, standing, handler, pc, word)
+            || attempt_extended(core, standing, handler, pc, word)
+            || attempt_stepping(core, standing, handler, pc, word))
 }
 
 // The same for those that work on bytes.
 #[inline(always)]
 fn attempt_bytes(
     core: &mut [u8],
-    area: &mut UArea,
     standing: &Standing,
     handler: Handler,
     pc: usize,
     word: u32,
 ) -> bool
-    requires stands { StandsWith core.old area.old standing.now }
+    requires stands { StandsWith core.old standing.now }
     requires handles { Handles handler word }
     requires word { word < 65536 }
     requires room { pc ≤ 65538 }
-    ensures row { IsTrue result → IsRowDone (standing_machine core.old area.old standing.now) pc word (standing_machine core.new area.new standing.now) }
-    ensures missed { result ≡ false → standing_machine core.new area.new standing.now ≡ standing_machine core.old area.old standing.now }
-    ensures around { around core.new area.new standing.now ≡ around core.old area.old standing.now }
-    ensures stands { StandsWith core.new area.new standing.now }
+    ensures row { IsTrue result → IsRowDone (standing_machine core.old standing.now) pc word (standing_machine core.new standing.now) }
+    ensures missed { result ≡ false → standing_machine core.new standing.now ≡ standing_machine core.old standing.now }
+    ensures around { around core.new standing.now ≡ around core.old standing.now }
+    ensures stands { StandsWith core.new standing.now }
 {
-    perform_bytes(&mut processor(core, area, standing), handler, pc, word).is_ok()
+    perform_bytes(&mut processor(core, standing), handler, pc, word).is_ok()
 }
 
 // The same for those that are less frequent.
 #[inline(always)]
 fn attempt_apart(
     core: &mut [u8],
-    area: &mut UArea,
     standing: &Standing,
     handler: Handler,
     pc: usize,
     word: u32,
 ) -> bool
-    requires stands { StandsWith core.old area.old standing.now }
+    requires stands { StandsWith core.old standing.now }
     requires handles { Handles handler word }
     requires word { word < 65536 }
     requires room { pc ≤ 65538 }
-    ensures row { IsTrue result → IsRowDone (standing_machine core.old area.old standing.now) pc word (standing_machine core.new area.new standing.now) }
-    ensures missed { result ≡ false → standing_machine core.new area.new standing.now ≡ standing_machine core.old area.old standing.now }
-    ensures around { around core.new area.new standing.now ≡ around core.old area.old standing.now }
-    ensures stands { StandsWith core.new area.new standing.now }
+    ensures row { IsTrue result → IsRowDone (standing_machine core.old standing.now) pc word (standing_machine core.new standing.now) }
+    ensures missed { result ≡ false → standing_machine core.new standing.now ≡ standing_machine core.old standing.now }
+    ensures around { around core.new standing.now ≡ around core.old standing.now }
+    ensures stands { StandsWith core.new standing.now }
 {
-    perform_apart(&mut processor(core, area, standing), handler, pc, word).is_ok()
+    perform_apart(&mut processor(core, standing), handler, pc, word).is_ok()
 }
 
 // The same for those with two words in memory.
 #[inline(always)]
 fn attempt_between(
     core: &mut [u8],
-    area: &mut UArea,
     standing: &Standing,
     handler: Handler,
     pc: usize,
     word: u32,
 ) -> bool
-    requires stands { StandsWith core.old area.old standing.now }
+    requires stands { StandsWith core.old standing.now }
     requires handles { Handles handler word }
     requires word { word < 65536 }
     requires room { pc ≤ 65538 }
-    ensures row { IsTrue result → IsRowDone (standing_machine core.old area.old standing.now) pc word (standing_machine core.new area.new standing.now) }
-    ensures missed { result ≡ false → standing_machine core.new area.new standing.now ≡ standing_machine core.old area.old standing.now }
-    ensures around { around core.new area.new standing.now ≡ around core.old area.old standing.now }
-    ensures stands { StandsWith core.new area.new standing.now }
+    ensures row { IsTrue result → IsRowDone (standing_machine core.old standing.now) pc word (standing_machine core.new standing.now) }
+    ensures missed { result ≡ false → standing_machine core.new standing.now ≡ standing_machine core.old standing.now }
+    ensures around { around core.new standing.now ≡ around core.old standing.now }
+    ensures stands { StandsWith core.new standing.now }
 {
-    perform_between(&mut processor(core, area, standing), handler, pc, word).is_ok()
+    perform_between(&mut processor(core, standing), handler, pc, word).is_ok()
 }
 
 // The same for MUL, DIV, ASH, ASHC, SXT and the condition codes.
 #[inline(always)]
 fn attempt_extended(
     core: &mut [u8],
-    area: &mut UArea,
     standing: &Standing,
     handler: Handler,
     pc: usize,
     word: u32,
 ) -> bool
-    requires stands { StandsWith core.old area.old standing.now }
+    requires stands { StandsWith core.old standing.now }
     requires handles { Handles handler word }
     requires word { word < 65536 }
     requires room { pc ≤ 65538 }
-    ensures row { IsTrue result → IsRowDone (standing_machine core.old area.old standing.now) pc word (standing_machine core.new area.new standing.now) }
-    ensures missed { result ≡ false → standing_machine core.new area.new standing.now ≡ standing_machine core.old area.old standing.now }
-    ensures around { around core.new area.new standing.now ≡ around core.old area.old standing.now }
-    ensures stands { StandsWith core.new area.new standing.now }
+    ensures row { IsTrue result → IsRowDone (standing_machine core.old standing.now) pc word (standing_machine core.new standing.now) }
+    ensures missed { result ≡ false → standing_machine core.new standing.now ≡ standing_machine core.old standing.now }
+    ensures around { around core.new standing.now ≡ around core.old standing.now }
+    ensures stands { StandsWith core.new standing.now }
 {
-    perform_extended(&mut processor(core, area, standing), handler, pc, word).is_ok()
+    perform_extended(&mut processor(core, standing), handler, pc, word).is_ok()
 }
 
 // The same for those whose source steps before the destination is located. Where one misses, the registers are put back.
@@ -208,88 +199,52 @@ fn attempt_extended(
 #[tactic(auto, using(crate::proofs::StandingState::image_same))]
 fn attempt_stepping(
     core: &mut [u8],
-    area: &mut UArea,
     standing: &Standing,
     handler: Handler,
     pc: usize,
     word: u32,
 ) -> bool
-    requires stands { StandsWith core.old area.old standing.now }
+    requires stands { StandsWith core.old standing.now }
     requires handles { Handles handler word }
     requires word { word < 65536 }
     requires room { pc ≤ 65538 }
-    ensures row { IsTrue result → IsRowDone (standing_machine core.old area.old standing.now) pc word (standing_machine core.new area.new standing.now) }
-    ensures missed { result ≡ false → standing_machine core.new area.new standing.now ≡ standing_machine core.old area.old standing.now }
-    ensures around { around core.new area.new standing.now ≡ around core.old area.old standing.now }
-    ensures stands { StandsWith core.new area.new standing.now }
+    ensures row { IsTrue result → IsRowDone (standing_machine core.old standing.now) pc word (standing_machine core.new standing.now) }
+    ensures missed { result ≡ false → standing_machine core.new standing.now ≡ standing_machine core.old standing.now }
+    ensures around { around core.new standing.now ≡ around core.old standing.now }
+    ensures stands { StandsWith core.new standing.now }
 {
-    let r = area.r;
-    let cc = area.cc;
-    if step_row(core, area, standing, handler, pc, word) {
+    let state = state_at(core, standing.area);
+    if step_row(core, standing, handler, pc, word) {
         return true;
     }
-    set_state(core, area, standing.area, &r, cc);
+    set_state(core, standing.area, &state);
     false
 }
 
 // The same with the registers as they were by then.
 #[inline(always)]
-fn step_row(
-    core: &mut [u8],
-    area: &mut UArea,
-    standing: &Standing,
-    handler: Handler,
-    pc: usize,
-    word: u32,
-) -> bool
-    requires stands { StandsWith core.old area.old standing.now }
+fn step_row(core: &mut [u8], standing: &Standing, handler: Handler, pc: usize, word: u32) -> bool
+    requires stands { StandsWith core.old standing.now }
     requires handles { Handles handler word }
     requires word { word < 65536 }
     requires room { pc ≤ 65538 }
-    ensures row { IsTrue result → IsRowDone (standing_machine core.old area.old standing.now) pc word (standing_machine core.new area.new standing.now) }
+    ensures row { IsTrue result → IsRowDone (standing_machine core.old standing.now) pc word (standing_machine core.new standing.now) }
     ensures image { result ≡ false → standing_image core.new standing.now ≡ standing_image core.old standing.now }
-    ensures around { around core.new area.new standing.now ≡ around core.old area.old standing.now }
-    ensures stands { StandsWith core.new area.new standing.now }
+    ensures around { around core.new standing.now ≡ around core.old standing.now }
+    ensures stands { StandsWith core.new standing.now }
 {
-    perform_stepping(&mut processor(core, area, standing), handler, pc, word).is_ok()
-}
-
-/// The same for some words that have no handler.
-#[inline(always)]
-pub(crate) fn attempt_rare(core: &mut [u8], area: &mut UArea, standing: &Standing) -> bool
-    requires { IsAtHand standing.now core.old area.old }
-    ensures { Attempted standing.now core.old core.new area.old area.new result }
-{
-    let pc = usize::from(reg(area, 7));
-    match instruction_word(core, standing, pc) {
-        Some(word) => rare_row(core, area, standing, pc + 2, word),
-        None => false,
-    }
-}
-
-// The row of such a word.
-#[inline(always)]
-fn rare_row(core: &mut [u8], area: &mut UArea, standing: &Standing, pc: usize, word: u32) -> bool
-    requires stands { StandsWith core.old area.old standing.now }
-    requires word { word < 65536 }
-    requires room { pc ≤ 65538 }
-    ensures row { IsTrue result → IsRowDone (standing_machine core.old area.old standing.now) pc word (standing_machine core.new area.new standing.now) }
-    ensures missed { result ≡ false → standing_machine core.new area.new standing.now ≡ standing_machine core.old area.old standing.now }
-    ensures around { around core.new area.new standing.now ≡ around core.old area.old standing.now }
-    ensures stands { StandsWith core.new area.new standing.now }
-{
-    perform_rare(&mut processor(core, area, standing), pc, word).is_ok()
+    perform_stepping(&mut processor(core, standing), handler, pc, word).is_ok()
 }
 
 /// The same for any instruction, by no handler.
 #[inline(always)]
-pub(crate) fn attempt_any(core: &mut [u8], area: &mut UArea, standing: &Standing) -> bool
-    requires { IsAtHand standing.now core.old area.old }
-    ensures { Attempted standing.now core.old core.new area.old area.new result }
+pub(crate) fn attempt_any(core: &mut [u8], standing: &Standing) -> bool
+    requires { IsAtHand standing.now core.old }
+    ensures { Attempted standing.now core.old core.new result }
 {
-    let pc = usize::from(reg(area, 7));
+    let pc = usize::from(reg(core, standing.area, 7));
     match instruction_word(core, standing, pc) {
-        Some(word) => attempt_modes(core, area, standing, pc + 2, word),
+        Some(word) => attempt_modes(core, standing, pc + 2, word),
         None => false,
     }
 }
@@ -297,42 +252,35 @@ pub(crate) fn attempt_any(core: &mut [u8], area: &mut UArea, standing: &Standing
 // The row of a word over any addressing modes. Where it isn't done, the registers are put back.
 #[inline(always)]
 #[tactic(auto, using(crate::proofs::StandingState::image_same))]
-fn attempt_modes(
-    core: &mut [u8],
-    area: &mut UArea,
-    standing: &Standing,
-    pc: usize,
-    word: u32,
-) -> bool
-    requires stands { StandsWith core.old area.old standing.now }
+fn attempt_modes(core: &mut [u8], standing: &Standing, pc: usize, word: u32) -> bool
+    requires stands { StandsWith core.old standing.now }
     requires word { word < 65536 }
     requires room { pc ≤ 65538 }
-    ensures row { IsTrue result → IsRowDone (standing_machine core.old area.old standing.now) pc word (standing_machine core.new area.new standing.now) }
-    ensures missed { result ≡ false → standing_machine core.new area.new standing.now ≡ standing_machine core.old area.old standing.now }
-    ensures around { around core.new area.new standing.now ≡ around core.old area.old standing.now }
-    ensures stands { StandsWith core.new area.new standing.now }
+    ensures row { IsTrue result → IsRowDone (standing_machine core.old standing.now) pc word (standing_machine core.new standing.now) }
+    ensures missed { result ≡ false → standing_machine core.new standing.now ≡ standing_machine core.old standing.now }
+    ensures around { around core.new standing.now ≡ around core.old standing.now }
+    ensures stands { StandsWith core.new standing.now }
 {
-    let r = area.r;
-    let cc = area.cc;
-    if modes_row(core, area, standing, pc, word) {
+    let state = state_at(core, standing.area);
+    if modes_row(core, standing, pc, word) {
         return true;
     }
-    set_state(core, area, standing.area, &r, cc);
+    set_state(core, standing.area, &state);
     false
 }
 
 // The same with the registers as they were by then.
 #[inline(always)]
-fn modes_row(core: &mut [u8], area: &mut UArea, standing: &Standing, pc: usize, word: u32) -> bool
-    requires stands { StandsWith core.old area.old standing.now }
+fn modes_row(core: &mut [u8], standing: &Standing, pc: usize, word: u32) -> bool
+    requires stands { StandsWith core.old standing.now }
     requires word { word < 65536 }
     requires room { pc ≤ 65538 }
-    ensures row { IsTrue result → IsRowDone (standing_machine core.old area.old standing.now) pc word (standing_machine core.new area.new standing.now) }
+    ensures row { IsTrue result → IsRowDone (standing_machine core.old standing.now) pc word (standing_machine core.new standing.now) }
     ensures image { result ≡ false → standing_image core.new standing.now ≡ standing_image core.old standing.now }
-    ensures around { around core.new area.new standing.now ≡ around core.old area.old standing.now }
-    ensures stands { StandsWith core.new area.new standing.now }
+    ensures around { around core.new standing.now ≡ around core.old standing.now }
+    ensures stands { StandsWith core.new standing.now }
 {
-    perform_any(&mut processor(core, area, standing), pc, word).is_ok()
+    perform_any(&mut processor(core, standing), pc, word).is_ok()
 }
 
 /// The words of TRAP, whose last six bits are a number: PDP-11/40 Processor Handbook, chapter 4.
@@ -343,14 +291,14 @@ const LAST_TRAP: u32 = 0o104777;
 /// The instruction at PC, where the process is at hand and asks for a system call: PC passes its word, and the number of the
 /// call is answered. Else nothing has changed.
 #[inline(always)]
-pub(crate) fn attempt_call(core: &mut [u8], area: &mut UArea, standing: &Standing) -> Option<u8>
-    requires { IsAtHand standing.now core.old area.old }
-    ensures { Called standing.now core.old core.new area.old area.new result }
+pub(crate) fn attempt_call(core: &mut [u8], standing: &Standing) -> Option<u8>
+    requires { IsAtHand standing.now core.old }
+    ensures { Called standing.now core.old core.new result }
 {
-    let pc = reg(area, 7);
+    let pc = reg(core, standing.area, 7);
     match instruction_word(core, standing, usize::from(pc)) {
         Some(word) if FIRST_TRAP <= word && word <= LAST_TRAP => {
-            set_pc(core, area, standing, pc.wrapping_add(2));
+            set_pc(core, standing, pc.wrapping_add(2));
             Some((word % 64) as u8)
         }
         _ => None,
@@ -360,11 +308,11 @@ pub(crate) fn attempt_call(core: &mut [u8], area: &mut UArea, standing: &Standin
 // Sets PC.
 #[inline(always)]
 #[tactic(auto, unfolding(pdp_decode::specs::Decode::reg_of))]
-fn set_pc(core: &mut [u8], area: &mut UArea, standing: &Standing, pc: u16)
-    requires { StandsWith core.old area.old standing.now }
-    ensures machine { standing_machine core.new area.new standing.now ≡ with_reg (standing_machine core.old area.old standing.now) Reg.Pc pc }
-    ensures around { around core.new area.new standing.now ≡ around core.old area.old standing.now }
-    ensures stands { StandsWith core.new area.new standing.now }
+fn set_pc(core: &mut [u8], standing: &Standing, pc: u16)
+    requires { StandsWith core.old standing.now }
+    ensures machine { standing_machine core.new standing.now ≡ with_reg (standing_machine core.old standing.now) Reg.Pc pc }
+    ensures around { around core.new standing.now ≡ around core.old standing.now }
+    ensures stands { StandsWith core.new standing.now }
 {
-    processor(core, area, standing).set_reg(7, pc);
+    processor(core, standing).set_reg(7, pc);
 }

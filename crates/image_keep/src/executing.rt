@@ -1,78 +1,13 @@
 //! One instruction of the process that executes instructions: where it stands in core, or else over its memory that is lent.
-ghost use Rattle.std.specs.Prelude.{◌≡◌, ◌↔◌, ◌<◌, IfSome, IsTrue, None, false, length, slice_set};
+ghost use Rattle.std.specs.Prelude.{◌≡◌, ◌↔◌, IfSome, IsTrue, None, false};
 ghost use Rattle.pdp_step.specs.declared.outcome.Outcome.TheVariants.{Call, Next};
 ghost use Rattle.pdp_step.specs.Instruction.{instr};
-ghost use Rattle.image_keep.specs.Areas.{area_at};
-ghost use Rattle.image_keep.specs.Attempted.{IsAtHand, Attempted, Called};
 ghost use Rattle.image_keep.specs.Running.{IsFixed, machine_in, with_machine_in};
 
 use crate::images::Images;
-use crate::memory::Memory;
 use crate::running::Fixed;
-use crate::standing::Standing;
 use pdp_decode::Dispatch;
-use pdp_step::{Outcome, Regs, step};
-use u_area::UArea;
-
-/// An attempt at one instruction of the process in a slot.
-#[inline(always)]
-fn attempt_in(
-    memory: &mut Memory,
-    areas: &mut [UArea],
-    s: usize,
-    standing: &Standing,
-    again: &Standing,
-    dispatch: &Dispatch,
-) -> bool
-    requires slot { s < length areas.old }
-    requires same { again.now ≡ standing.now }
-    requires at_hand { IsAtHand standing.now memory.old.core (area_at areas.old s) }
-    ensures did { Attempted standing.now memory.old.core memory.new.core (area_at areas.old s) (area_at areas.new s) result }
-    ensures swap { memory.new.swap ≡ memory.old.swap }
-    ensures areas { areas.new ≡ slice_set areas.old s (area_at areas.new s) }
-    ensures long { length areas.new ≡ length areas.old }
-{
-    memory.attempt(&mut areas[s], standing, again, dispatch)
-}
-
-/// The same for some words that have no handler.
-#[inline(always)]
-fn attempt_rare_in(memory: &mut Memory, areas: &mut [UArea], s: usize, standing: &Standing) -> bool
-    requires slot { s < length areas.old }
-    requires at_hand { IsAtHand standing.now memory.old.core (area_at areas.old s) }
-    ensures did { Attempted standing.now memory.old.core memory.new.core (area_at areas.old s) (area_at areas.new s) result }
-    ensures swap { memory.new.swap ≡ memory.old.swap }
-    ensures areas { areas.new ≡ slice_set areas.old s (area_at areas.new s) }
-    ensures long { length areas.new ≡ length areas.old }
-{
-    memory.attempt_rare(&mut areas[s], standing)
-}
-
-/// The same for any instruction, by no handler.
-#[inline(always)]
-fn attempt_any_in(memory: &mut Memory, areas: &mut [UArea], s: usize, standing: &Standing) -> bool
-    requires slot { s < length areas.old }
-    requires at_hand { IsAtHand standing.now memory.old.core (area_at areas.old s) }
-    ensures did { Attempted standing.now memory.old.core memory.new.core (area_at areas.old s) (area_at areas.new s) result }
-    ensures swap { memory.new.swap ≡ memory.old.swap }
-    ensures areas { areas.new ≡ slice_set areas.old s (area_at areas.new s) }
-    ensures long { length areas.new ≡ length areas.old }
-{
-    memory.attempt_any(&mut areas[s], standing)
-}
-
-/// The system call that the process in a slot asks for.
-#[inline(always)]
-fn call_in(memory: &mut Memory, areas: &mut [UArea], s: usize, standing: &Standing) -> Option<u8>
-    requires slot { s < length areas.old }
-    requires at_hand { IsAtHand standing.now memory.old.core (area_at areas.old s) }
-    ensures did { Called standing.now memory.old.core memory.new.core (area_at areas.old s) (area_at areas.new s) result }
-    ensures swap { memory.new.swap ≡ memory.old.swap }
-    ensures areas { areas.new ≡ slice_set areas.old s (area_at areas.new s) }
-    ensures long { length areas.new ≡ length areas.old }
-{
-    memory.attempt_call(&mut areas[s], standing)
-}
+use pdp_step::{Outcome, step};
 
 impl Images {
     /// The process of which this is fixed does one instruction, whatever it comes to: true exactly where that is the next one.
@@ -107,7 +42,7 @@ impl Images {
             *outcome = Outcome::Call(n);
             return false;
         }
-        self.execute_rare(fixed) || self.execute_any(fixed) || self.execute_lent(fixed, outcome)
+        self.execute_any(fixed) || self.execute_lent(fixed, outcome)
     }
 
     // The same over the memory of the process, which is lent for it, with the registers in its u area.
@@ -136,9 +71,7 @@ impl Images {
         ensures kept { self.new.kept ≡ with_machine_in self.old.kept fixed.now.slot (instr (machine_in self.old.kept fixed.now.slot)).machine }
         ensures fixed { IsFixed self.new.kept fixed.now }
     {
-        let u = self.area_at(fixed);
-        let r = u.r;
-        let mut regs = Regs { r, cc: u.cc };
+        let mut regs = self.registers_at(fixed);
         let outcome = {
             let mut space = self.space_at(fixed);
             step(&mut regs, &mut space)
@@ -158,32 +91,7 @@ impl Images {
         ensures fixed { IsFixed self.new.kept fixed.now }
     {
         self.memory.see_bytes();
-        attempt_in(
-            &mut self.memory,
-            &mut self.areas,
-            fixed.index,
-            &fixed.standing,
-            &fixed.again,
-            dispatch,
-        )
-    }
-
-    // The same for some words that have no handler.
-    #[inline(always)]
-    fn execute_rare(&mut self, fixed: &Fixed) -> bool
-        requires { IsFixed self.old.kept fixed.now }
-        ensures outcome { IsTrue result → (instr (machine_in self.old.kept fixed.now.slot)).outcome ≡ Next }
-        ensures done { IsTrue result → self.new.kept ≡ with_machine_in self.old.kept fixed.now.slot (instr (machine_in self.old.kept fixed.now.slot)).machine }
-        ensures kept { result ≡ false → self.new.kept ≡ self.old.kept }
-        ensures fixed { IsFixed self.new.kept fixed.now }
-    {
-        self.memory.see_bytes();
-        attempt_rare_in(
-            &mut self.memory,
-            &mut self.areas,
-            fixed.index,
-            &fixed.standing,
-        )
+        self.memory.attempt(&fixed.standing, &fixed.again, dispatch)
     }
 
     // The same for any instruction.
@@ -196,12 +104,7 @@ impl Images {
         ensures fixed { IsFixed self.new.kept fixed.now }
     {
         self.memory.see_bytes();
-        attempt_any_in(
-            &mut self.memory,
-            &mut self.areas,
-            fixed.index,
-            &fixed.standing,
-        )
+        self.memory.attempt_any(&fixed.standing)
     }
 
     // The process of which this is fixed asks for a system call, where its word is at hand: PC passes the word, and the number
@@ -215,11 +118,6 @@ impl Images {
         ensures fixed { IsFixed self.new.kept fixed.now }
     {
         self.memory.see_bytes();
-        call_in(
-            &mut self.memory,
-            &mut self.areas,
-            fixed.index,
-            &fixed.standing,
-        )
+        self.memory.attempt_call(&fixed.standing)
     }
 }

@@ -5,7 +5,6 @@ ghost use Rattle.image_keep.specs.Kept.{HasImage, Nothing, keeping, text_of, are
 ghost use Rattle.image_keep.specs.Places.{placed};
 ghost use Rattle.image_keep.specs.Moves.{forked_entries, forked_at};
 
-use crate::areas::copy_area;
 use crate::finding::{may_stand, take_place};
 use crate::images::{Images, NoSwap};
 use crate::parts::{at_row, clicks_of, place_click, place_of, row_of, set_row};
@@ -69,7 +68,6 @@ impl Images {
         self.memory.copy(at, copy, clicks);
         fork_text(&mut self.texts, row.text, place);
         set_row(&mut self.rows, to as usize, at_row(row, place));
-        copy_area(&mut self.areas, from as usize, to as usize);
         Ok(place)
     }
 }

@@ -13,7 +13,6 @@ ghost use Rattle.image_keep.specs.Memory.{clicks_in, IsIn};
 ghost use Rattle.image_keep.specs.Moves.{moved_entries, moving_units, with_image_moved};
 ghost use Rattle.image_keep.specs.Resized.{IsLess, resized_bytes, sized_row, core_tail, swap_tail};
 
-use crate::areas::{resize_area, resized};
 use crate::finding::{may_stand, take_place};
 use crate::images::{Images, NoSwap};
 use crate::memory::Memory;
@@ -109,7 +108,17 @@ pub(crate) fn sized_row(row: Row, place: Place, d: u16, stack: u16) -> Row
     }
 }
 
-/// A u area with these sizes of data and stack, as bytes.
+/// A u area with these sizes of data and stack.
+fn resized(u: &UArea, d: u16, stack: u16) -> UArea
+    ensures { result ≡ area_resized u.now d stack }
+{
+    let mut u = *u;
+    u.data_size = d;
+    u.stack_size = stack;
+    u
+}
+
+/// The same as bytes.
 fn sized_bytes(u: &UArea, d: u16, stack: u16) -> [u8; 1024]
     ensures sized { IsSized (area_resized u.now d stack) }
     ensures written { result ≡ area_bytes (area_resized u.now d stack) }
@@ -252,7 +261,6 @@ impl Images {
             16 + d + stack,
         );
         set_row(&mut self.rows, s as usize, sized_row(row, place, d, stack));
-        resize_area(&mut self.areas, s as usize, d, stack);
         place
     }
 
@@ -286,7 +294,6 @@ impl Images {
         let _ = self.core_map.count();
         move_text(&mut self.texts, &mut self.core_map, row.text, from, place);
         set_row(&mut self.rows, s as usize, sized_row(row, place, d, stack));
-        resize_area(&mut self.areas, s as usize, d, stack);
         Ok(place)
     }
 

@@ -1,29 +1,23 @@
 //! The images of all slots, in core and in the swap area.
 ghost use Rattle.std.specs.Prelude.{◌≡◌, ◌⊎◌, ◌+◌, ◌*◌, ◌-◌, ◌<◌, ◌≤◌, ℕ, ◌||◌, true, false, None, Some, IfOk, MatchResult, List, length, slice_index, slice_index_or, slice_set, replicate};
 ghost use Rattle.image_keep.specs.declared.memory.TheConstants.{SWAP_BYTES};
-ghost use Rattle.image_keep.specs.Kept.{Kept, first_kept, IsKept, HasSizes, HasImage, HasGrave, place_of, image_of, area_of, with_area, with_keeping, text_of, Nothing};
+ghost use Rattle.image_keep.specs.Kept.{Kept, first_kept, IsKept, HasImage, HasGrave, place_of, area_of, with_keeping, text_of, Nothing};
 ghost use Rattle.image_keep.specs.Growth.{most_clicks};
-ghost use Rattle.image_keep.specs.Area.{no_area};
 ghost use Rattle.image_keep.specs.Memory.{no_row};
 ghost use Rattle.image_keep.specs.Places.{swap_fit, with_grave_at};
-ghost use Rattle.image_keep.specs.Running.{with_results, with_state};
 ghost use Rattle.u_area.specs.Area.{IsSized, half_bytes};
 
-use crate::areas::{area_at, put_area, put_results, put_state};
-use crate::making::made_area;
 use crate::memory::Memory;
 use crate::parts::{
     block_click, give_back, grave_block, grave_row, nothing_row, place_click, place_in, place_of,
     row_of, set_row,
 };
 use crate::row::{Row, State};
-use crate::state::{state_bytes, two_words};
 use fs_codec::SWAP_START;
 use map_fit::Holes;
 use std::alloc::{AllocError, Global};
 use std::marker::Model;
 use text_tab::Texts;
-use u_area::UArea;
 use v6_base::{Place, Slot};
 
 /// The slots of the table of processes: `NPROC` in Lions' Commentary.
@@ -46,7 +40,6 @@ pub struct Images {
     pub(crate) memory: Memory,
     pub(crate) core: u16,
     pub(crate) rows: Vec<Row>,
-    pub(crate) areas: Vec<UArea>,
     pub(crate) texts: Texts,
     pub(crate) core_map: Holes,
     pub(crate) swap_map: Holes,
@@ -83,13 +76,6 @@ fn empty_rows(alloc: Global) -> Result<Vec<Row>, AllocError>
     vec![in alloc; empty_row(); SLOTS]
 }
 
-/// Fifty u areas of which no image is.
-fn empty_areas(alloc: Global) -> Result<Vec<UArea>, AllocError>
-    ensures { IfOk result (λ areas. areas.items ≡ replicate 50 no_area) }
-{
-    vec![in alloc; made_area(0, 0, 0); SLOTS]
-}
-
 impl Images {
     /// Fifty slots without an image, beside a core of so many clicks, which is cleared, and a swap area of these bytes.
     /// All the memory that they will ever use is taken here.
@@ -109,7 +95,6 @@ impl Images {
             memory: Memory::new(alloc, core, swap)?,
             core,
             rows: empty_rows(alloc)?,
-            areas: empty_areas(alloc)?,
             texts: Texts::new(),
             core_map: Holes::new(1, core),
             swap_map: Holes::new(SWAP_START, SWAP_BLOCKS),
@@ -132,59 +117,6 @@ impl Images {
         ensures { result ≡ most_clicks self.now.kept }
     {
         self.core.min(MOST_CLICKS)
-    }
-
-    /// The u area of a slot with an image, as it stands in core or in the swap area.
-    pub fn area(&self, s: Slot) -> UArea
-        requires { HasImage self.now.kept s }
-        ensures u { result ≡ area_of self.now.kept s }
-        ensures sizes { HasSizes result (image_of self.now.kept s) }
-        ensures holds { IsKept self.now.kept }
-    {
-        self.memory.see_bytes();
-        area_at(&self.areas, s as usize)
-    }
-
-    /// Gives a slot with an image another u area, with the sizes of that image.
-    pub fn set_area(&mut self, s: Slot, u: &UArea)
-        requires image { HasImage self.old.kept s }
-        requires sizes { HasSizes u.now (image_of self.old.kept s) }
-        ensures { self.new.kept ≡ with_area self.old.kept s u.now }
-    {
-        self.memory.see_bytes();
-        let row = row_of(&self.rows, s as usize);
-        let front = u.front();
-        let at = place_click(self.core, place_of(row));
-        self.memory.put(64 * at, &front);
-        put_area(&mut self.areas, s as usize, u);
-    }
-
-    /// Puts R0 and R1 into the u area of a slot with an image: its first four bytes are written, and the rest stands there as
-    /// it was.
-    #[inline(always)]
-    pub fn set_results(&mut self, s: Slot, r0: u16, r1: u16)
-        requires { HasImage self.old.kept s }
-        ensures { self.new.kept ≡ with_area self.old.kept s (with_results (area_of self.old.kept s) r0 r1) }
-    {
-        self.memory.see_bytes();
-        let row = row_of(&self.rows, s as usize);
-        let at = place_click(self.core, place_of(row));
-        self.memory.put(64 * at, &two_words(r0, r1));
-        put_results(&mut self.areas, s as usize, r0, r1);
-    }
-
-    /// Puts registers and condition codes into the u area of a slot with an image: its first 18 bytes are written, and the
-    /// rest stands there as it was.
-    pub fn set_registers(&mut self, s: Slot, r: &[u16; 8], cc: u8)
-        requires image { HasImage self.old.kept s }
-        requires codes { cc < 16 }
-        ensures { self.new.kept ≡ with_area self.old.kept s (with_state (area_of self.old.kept s) r.now cc) }
-    {
-        self.memory.see_bytes();
-        let row = row_of(&self.rows, s as usize);
-        let at = place_click(self.core, place_of(row));
-        self.memory.put(64 * at, &state_bytes(r, cc));
-        put_state(&mut self.areas, s as usize, r, cc);
     }
 
     /// Keeps of a process that ends half of its u area, in a block of the swap area, which is the answer. Lions'

@@ -5,11 +5,11 @@
 #![tactic(auto)]
 
 mod access;
-mod areas;
 mod attempt;
 mod bytes;
 mod deposit;
 mod executing;
+mod fields;
 mod finding;
 mod fork;
 mod growth;

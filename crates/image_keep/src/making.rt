@@ -9,7 +9,6 @@ ghost use Rattle.image_keep.specs.Places.{placed, made_image};
 ghost use Rattle.image_keep.specs.Moves.{with_image_moved};
 ghost use Rattle.image_keep.specs.Resized.{cleared_bytes};
 
-use crate::areas::put_area;
 use crate::finding::{may_stand, take_place};
 use crate::growth::{enter_place, sized_row};
 use crate::images::{Images, NoSwap};
@@ -21,7 +20,7 @@ use u_area::{NOTHING_PENDING, UArea};
 use v6_base::{Place, Slot};
 
 /// The u area of an image that is made anew.
-pub(crate) fn made_area(text_size: u16, data_size: u16, stack_size: u16) -> UArea
+fn made_area(text_size: u16, data_size: u16, stack_size: u16) -> UArea
     ensures { result ≡ made_area text_size data_size stack_size }
 {
     UArea {
@@ -104,11 +103,6 @@ impl Images {
             &mut self.rows,
             s as usize,
             sized_row(row, place, p.data_size, p.stack_size),
-        );
-        put_area(
-            &mut self.areas,
-            s as usize,
-            &made_area(p.text_size, p.data_size, p.stack_size),
         );
         Ok(place)
     }

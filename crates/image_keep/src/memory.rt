@@ -6,13 +6,13 @@ ghost use Rattle.v6_base.specs.Image.{AreBytes};
 ghost use Rattle.image_keep.specs.Attempted.{IsAtHand, Attempted, Called};
 ghost use Rattle.image_keep.specs.Line.{line_of};
 
-use crate::attempt::{attempt, attempt_any, attempt_call, attempt_rare};
+use crate::attempt::{attempt, attempt_any, attempt_call};
 use crate::standing::Standing;
 use core_mem::Core;
 use pdp_decode::Dispatch;
 use std::alloc::{AllocError, Global};
 use std::marker::Model;
-use u_area::UArea;
+use u_area::AREA_SIZE;
 
 /// How many bytes the swap area has: those of the blocks from 4000 to 4871 of the disk that has the root.
 pub const SWAP_BYTES: usize = 446_464;
@@ -356,47 +356,52 @@ impl Memory {
     #[inline(always)]
     pub(crate) fn attempt(
         &mut self,
-        area: &mut UArea,
         standing: &Standing,
         again: &Standing,
         dispatch: &Dispatch,
     ) -> bool
-        requires at_hand { IsAtHand standing.now self.old.core area.old }
+        requires at_hand { IsAtHand standing.now self.old.core }
         requires same { again.now ≡ standing.now }
-        ensures did { Attempted standing.now self.old.core self.new.core area.old area.new result }
+        ensures did { Attempted standing.now self.old.core self.new.core result }
         ensures swap { self.new.swap ≡ self.old.swap }
     {
-        attempt(self.core.bytes_mut(), area, standing, again, dispatch)
-    }
-
-    /// The same for some words that have no handler.
-    #[inline(always)]
-    pub(crate) fn attempt_rare(&mut self, area: &mut UArea, standing: &Standing) -> bool
-        requires { IsAtHand standing.now self.old.core area.old }
-        ensures did { Attempted standing.now self.old.core self.new.core area.old area.new result }
-        ensures swap { self.new.swap ≡ self.old.swap }
-    {
-        attempt_rare(self.core.bytes_mut(), area, standing)
+        attempt(self.core.bytes_mut(), standing, again, dispatch)
     }
 
     /// The same for any instruction, by no handler.
     #[inline(always)]
-    pub(crate) fn attempt_any(&mut self, area: &mut UArea, standing: &Standing) -> bool
-        requires { IsAtHand standing.now self.old.core area.old }
-        ensures did { Attempted standing.now self.old.core self.new.core area.old area.new result }
+    pub(crate) fn attempt_any(&mut self, standing: &Standing) -> bool
+        requires { IsAtHand standing.now self.old.core }
+        ensures did { Attempted standing.now self.old.core self.new.core result }
         ensures swap { self.new.swap ≡ self.old.swap }
     {
-        attempt_any(self.core.bytes_mut(), area, standing)
+        attempt_any(self.core.bytes_mut(), standing)
     }
 
     /// The system call that a process asks for, which stands in core.
     #[inline(always)]
-    pub(crate) fn attempt_call(&mut self, area: &mut UArea, standing: &Standing) -> Option<u8>
-        requires { IsAtHand standing.now self.old.core area.old }
-        ensures did { Called standing.now self.old.core self.new.core area.old area.new result }
+    pub(crate) fn attempt_call(&mut self, standing: &Standing) -> Option<u8>
+        requires { IsAtHand standing.now self.old.core }
+        ensures did { Called standing.now self.old.core self.new.core result }
         ensures swap { self.new.swap ≡ self.old.swap }
     {
-        attempt_call(self.core.bytes_mut(), area, standing)
+        attempt_call(self.core.bytes_mut(), standing)
+    }
+
+    /// The bytes of a u area that stands at a place, all of them in core or in the swap area.
+    #[inline(always)]
+    #[tactic(auto, using(crate::proofs::Joined::reads))]
+    pub(crate) fn area_bytes(&self, at: usize) -> &[u8]
+        requires place { (at + 1024 ≤ length self.now.core) ⊎ (length self.now.core ≤ at) }
+        requires inside { at + 1024 ≤ length (line_of self.now) }
+        ensures { result.now ≡ part (line_of self.now) at 1024 }
+    {
+        let cut = 64 * usize::from(self.clicks);
+        if at < cut {
+            &self.core.as_slice()[at..at + AREA_SIZE]
+        } else {
+            &self.swap[at - cut..at - cut + AREA_SIZE]
+        }
     }
 
     /// The bytes of the swap area.

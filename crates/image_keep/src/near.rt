@@ -1,51 +1,39 @@
 //! The process that executes instructions, as a processor over the bytes in which it stands.
 ghost use Rattle.std.specs.Prelude.{◌≡◌, ◌%◌, ◌<◌, length};
-ghost use Rattle.core_mem.specs.Bytes.{part};
 ghost use Rattle.pdp_decode.specs.Numbers.{reg_code};
 ghost use Rattle.pdp_decode.specs.Decode.{reg_of};
-ghost use Rattle.image_keep.specs.Running.{state_bytes};
 ghost use Rattle.image_keep.specs.Standing.{StandsIn};
-ghost use Rattle.image_keep.specs.Near.{StandsWith};
+ghost use Rattle.image_keep.specs.Near.{StandsWith, IsStated};
 
 use crate::standing::{
-    Standing, load_byte, load_word, program_byte, program_word, reg, set_cc, set_reg, store_byte,
-    store_word,
+    Standing, codes, load_byte, load_word, program_byte, program_word, reg, set_codes, set_reg,
+    store_byte, store_word,
 };
 use pdp_step::{Halt, Processor};
-use u_area::UArea;
 use v6_base::Trap;
 
-/// The bytes in which a process stands, with its u area, decoded. Registers and codes stand in both.
+/// The bytes in which a process stands, with its registers and codes in front of its u area.
 #[derive(Drop)]
 pub(crate) struct Near<'a> {
     core: &'a mut [u8],
-    area: &'a mut UArea,
     standing: &'a Standing,
     /// Where its u area stands.
     at: usize,
     ghost place: { at ≡ standing.now.area },
     ghost stands: { StandsIn (length core.now) standing.now },
-    ghost eight: { length area.now.r ≡ 8 },
-    ghost stated: { part core.now standing.now.area 18 ≡ state_bytes area.now.r area.now.cc },
+    ghost stated: { IsStated core.now standing.now.area },
 }
 
 /// The process that stands there.
 #[inline(always)]
-pub(crate) fn processor<'a>(
-    core: &'a mut [u8],
-    area: &'a mut UArea,
-    standing: &'a Standing,
-) -> Near<'a>
-    requires { StandsWith core.old area.old standing.now }
+pub(crate) fn processor<'a>(core: &'a mut [u8], standing: &'a Standing) -> Near<'a>
+    requires { StandsWith core.old standing.now }
     ensures core { result.core.now ≡ core.entry.now }
     ensures core_loan { result.core.ghost_name ≡ core.entry.ghost_name }
-    ensures area { result.area.now ≡ area.entry.now }
-    ensures area_loan { result.area.ghost_name ≡ area.entry.ghost_name }
     ensures standing { result.standing.now ≡ standing.now }
 {
     Near {
         core,
-        area,
         standing,
         at: standing.area,
     }
@@ -65,12 +53,13 @@ fn index(n: u32) -> usize
 impl Processor for Near<'_> {
     ghost use Rattle.image_keep.specs.Near.{standing_machine, around, Beside, IsPlaceFor};
     ghost use Rattle.image_keep.specs.Standing.{address};
+    ghost use Rattle.fs_codec.proofs.WordsLemmas.{length-words};
 
-    ghost machine = { λ p. standing_machine p.core.now p.area.now p.standing.now };
+    ghost machine = { λ p. standing_machine p.core.now p.standing.now };
 
     ghost Rest = { Beside };
 
-    ghost rest = { λ p. record { standing = p.standing.now; bytes = p.core.ghost_name; decoded = p.area.ghost_name; around = around p.core.now p.area.now p.standing.now } };
+    ghost rest = { λ p. record { standing = p.standing.now; bytes = p.core.ghost_name; around = around p.core.now p.standing.now } };
 
     ghost IsPlace = { IsPlaceFor };
 
@@ -82,22 +71,22 @@ impl Processor for Near<'_> {
 
     #[inline(always)]
     fn reg(&self, n: u32) -> u16 {
-        reg(self.area, index(n))
+        reg(self.core, self.at, index(n))
     }
 
     #[inline(always)]
     fn set_reg(&mut self, n: u32, value: u16) {
-        set_reg(self.core, self.area, self.at, index(n), value);
+        set_reg(self.core, self.at, index(n), value);
     }
 
     #[inline(always)]
     fn cc(&self) -> u8 {
-        self.area.cc
+        codes(self.core, self.at)
     }
 
     #[inline(always)]
     fn set_cc(&mut self, cc: u8) {
-        set_cc(self.core, self.area, self.at, cc);
+        set_codes(self.core, self.at, cc);
     }
 
     #[inline(always)]
@@ -148,5 +137,5 @@ impl Processor for Near<'_> {
         Ok(())
     }
 
-    ghost eight = { λ p. p.eight };
+    ghost eight = { λ p. length-words p.core.now p.standing.now.area 8 };
 }

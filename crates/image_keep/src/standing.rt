@@ -3,13 +3,14 @@ ghost use Rattle.std.specs.Prelude.{◌≡◌, ℕ, ◌+◌, ◌*◌, ◌%◌, �
 ghost use Rattle.v6_base.specs.Access.{load_byte, load_word, store_byte, store_word};
 ghost use Rattle.v6_base.specs.Words.{word_set};
 ghost use Rattle.core_mem.specs.Bytes.{part, over};
-ghost use Rattle.image_keep.specs.Running.{state_bytes, with_state, words_or};
+ghost use Rattle.image_keep.specs.Running.{words_or};
 ghost use Rattle.image_keep.specs.Standing.{IsNear, standing_image, StandsIn, IsPlace, IsWordPlace, address};
+ghost use Rattle.image_keep.specs.Near.{registers_at, codes_at, IsStated};
 
 use crate::memory::word_in;
 use crate::starts::Starts;
-use crate::state::{STATE_SIZE, state_bytes};
-use u_area::{AREA_SIZE, PS, UArea};
+use crate::state::{PC, STATE_SIZE};
+use u_area::{AREA_SIZE, PS};
 
 /// Where the parts of a process stand in core, in bytes from its beginning: the u area, the text, the data with the stack
 /// behind them; and the addresses at which the data and the stack begin.
@@ -34,6 +35,8 @@ pub(crate) struct Standing {
     pub odd: usize,
     /// 0, likewise: it is added to the word of an instruction.
     pub nought: u32,
+    /// 0 once more: it is added to PC.
+    pub nil: u32,
 }
 
 /// Puts a word to two neighbours.
@@ -59,7 +62,9 @@ fn is_odd(f: &Standing, at: usize) -> bool
 impl Standing {
     /// No process: its program has no bytes.
     fn none() -> Standing
-        ensures { result.code_len ≡ 0 }
+        ensures none { result.code_len ≡ 0 }
+        ensures area { result.area ≡ 0 }
+        ensures nil { result.nil ≡ 0 }
     {
         Standing {
             area: 0,
@@ -76,6 +81,7 @@ impl Standing {
             stack: 0,
             odd: 1,
             nought: 0,
+            nil: 0,
         }
     }
 
@@ -110,6 +116,7 @@ impl Standing {
             stack: data_end.wrapping_sub(starts.stack_start),
             odd: 1,
             nought: 0,
+            nil: 0,
         }
     }
 
@@ -268,69 +275,89 @@ pub(crate) fn store_byte(core: &mut [u8], f: &Standing, place: usize, value: u8)
     core[place] = value;
 }
 
-/// What a register of a process holds.
+/// What a register of a process holds, in front of its u area, which stands there.
 #[inline(always)]
-pub(crate) fn reg(area: &UArea, n: usize) -> u16
-    requires { n < 8 }
-    ensures { result ≡ slice_index area.now.r n }
+#[tactic(auto, using(crate::proofs::StandingState::reads))]
+pub(crate) fn reg(core: &[u8], at: usize, n: usize) -> u16
+    requires inside { at + 18 ≤ length core.now }
+    requires number { n < 8 }
+    ensures { result ≡ slice_index (registers_at core.now at) n }
 {
-    area.r[n]
+    word_in(core, at + 2 * n)
 }
 
-/// Gives a register of a process a value, in the bytes of its u area, which stands there, and in the decoded one.
+/// PC of a process. Its u area is in core, also where the process isn't at hand.
+#[inline(always)]
+#[tactic(auto, using(crate::proofs::StandingState::reads))]
+pub(crate) fn pc_of(core: &[u8], f: &Standing) -> usize
+    requires inside { f.now.area + 18 ≤ length core.now }
+    requires nil { f.now.nil ≡ 0 }
+    ensures { result ≡ slice_index (registers_at core.now f.now.area) 7 }
+{
+    (u32::from(word_in(core, f.area + PC)) + f.nil) as usize
+}
+
+/// The condition codes of a process, in front of its u area, which stands there.
+#[inline(always)]
+#[tactic(auto, using(crate::proofs::StandingState::reads))]
+pub(crate) fn codes(core: &[u8], at: usize) -> u8
+    requires inside { at + 18 ≤ length core.now }
+    requires stated { IsStated core.now at }
+    ensures { result ≡ codes_at core.now at }
+{
+    core[at + PS]
+}
+
+/// Gives a register of a process a value, in the bytes of its u area, which stands there.
 #[inline(always)]
 #[tactic(auto, using(crate::proofs::StandingState::registers))]
-pub(crate) fn set_reg(core: &mut [u8], area: &mut UArea, at: usize, n: usize, value: u16)
+pub(crate) fn set_reg(core: &mut [u8], at: usize, n: usize, value: u16)
     requires inside { at + 18 ≤ length core.old }
     requires number { n < 8 }
-    requires eight { length area.old.r ≡ 8 }
-    requires stated { part core.old at 18 ≡ state_bytes area.old.r area.old.cc }
-    ensures area { area.new ≡ with_state area.old (slice_set area.old.r n value) area.old.cc }
-    ensures stated { part core.new at 18 ≡ state_bytes area.new.r area.new.cc }
+    requires stated { IsStated core.old at }
+    ensures registers { registers_at core.new at ≡ slice_set (registers_at core.old at) n value }
+    ensures codes { codes_at core.new at ≡ codes_at core.old at }
+    ensures stated { IsStated core.new at }
     ensures rest { (k m : ℕ) → (k + m ≤ at) ⊎ (at + 18 ≤ k) → part core.new k m ≡ part core.old k m }
     ensures size { length core.new ≡ length core.old }
 {
     put_word(core, at + 2 * n, value);
-    area.r[n] = value;
 }
 
 /// Gives a process condition codes, likewise.
 #[inline(always)]
 #[tactic(auto, using(crate::proofs::StandingState::registers))]
-pub(crate) fn set_cc(core: &mut [u8], area: &mut UArea, at: usize, cc: u8)
+pub(crate) fn set_codes(core: &mut [u8], at: usize, cc: u8)
     requires inside { at + 18 ≤ length core.old }
     requires codes { cc < 16 }
-    requires eight { length area.old.r ≡ 8 }
-    requires stated { part core.old at 18 ≡ state_bytes area.old.r area.old.cc }
-    ensures area { area.new ≡ with_state area.old area.old.r cc }
-    ensures stated { part core.new at 18 ≡ state_bytes area.new.r area.new.cc }
+    requires stated { IsStated core.old at }
+    ensures registers { registers_at core.new at ≡ registers_at core.old at }
+    ensures codes { codes_at core.new at ≡ cc }
+    ensures stated { IsStated core.new at }
     ensures rest { (k m : ℕ) → (k + m ≤ at) ⊎ (at + 18 ≤ k) → part core.new k m ≡ part core.old k m }
     ensures size { length core.new ≡ length core.old }
 {
     core[at + PS] = cc;
-    area.cc = cc;
 }
 
-// Puts the bytes of registers and codes to a place.
+/// The bytes of the registers and of the processor status word of a process, as they stand in front of its u area.
+#[inline(always)]
+#[tactic(auto, unfolding(core_mem::specs::Bytes::part))]
+pub(crate) fn state_at(core: &[u8], at: usize) -> [u8; STATE_SIZE]
+    requires { at + 18 ≤ length core.now }
+    ensures { result ≡ part core.now at 18 }
+{
+    let mut bytes = [0; STATE_SIZE];
+    bytes.copy_from_slice(&core[at..at + STATE_SIZE]);
+    bytes
+}
+
+/// Puts them back.
+#[inline(always)]
 #[tactic(auto, unfolding(core_mem::specs::Bytes::over))]
-fn write(core: &mut [u8], at: usize, bytes: &[u8; STATE_SIZE])
+pub(crate) fn set_state(core: &mut [u8], at: usize, bytes: &[u8; STATE_SIZE])
     requires { at + length bytes.now ≤ length core.old }
     ensures { core.new ≡ over core.old at bytes.now }
 {
     core[at..at + STATE_SIZE].copy_from_slice(bytes);
-}
-
-/// Gives a process registers and condition codes, likewise.
-#[tactic(auto, using(crate::proofs::StandingState::states))]
-pub(crate) fn set_state(core: &mut [u8], area: &mut UArea, at: usize, r: &[u16; 8], cc: u8)
-    requires inside { at + 18 ≤ length core.old }
-    requires codes { cc < 16 }
-    ensures area { area.new ≡ with_state area.old r.now cc }
-    ensures stated { part core.new at 18 ≡ state_bytes area.new.r area.new.cc }
-    ensures rest { (k m : ℕ) → (k + m ≤ at) ⊎ (at + 18 ≤ k) → part core.new k m ≡ part core.old k m }
-    ensures size { length core.new ≡ length core.old }
-{
-    write(core, at, &state_bytes(r, cc));
-    area.r = *r;
-    area.cc = cc;
 }

@@ -2,23 +2,22 @@
 //! u area.
 ghost use Rattle.std.specs.Prelude.{◌≡◌, ◌<◌, ◌↔◌, [], ◌∷◌, IsTrue};
 ghost use Rattle.fs_codec.specs.Bytes.{bytes_of};
-ghost use Rattle.image_keep.specs.Kept.{HasImage, IsKept, area_of, image_of, with_area};
-ghost use Rattle.image_keep.specs.Running.{IsFixed, with_pc, with_state, state_bytes, word_or, words_or};
+ghost use Rattle.image_keep.specs.Kept.{HasImage, IsKept, image_of};
+ghost use Rattle.image_keep.specs.Running.{IsFixed, state_bytes, word_or, words_or};
 
-use crate::areas::{area_ref, put_pc, put_state};
 use crate::images::Images;
 use crate::memory::see_bytes;
 use crate::running::Fixed;
 use crate::standing::{Standing, instruction_word, program_words};
 use fs_codec::{put_word, put_words};
-use u_area::{AREA_SIZE, PS, REGISTERS, UArea, UMODE};
+use u_area::{PS, REGISTERS, UMODE};
 use v6_base::Slot;
 
 /// The bytes of the registers and of the processor status word.
 pub(crate) const STATE_SIZE: usize = 18;
 
 /// Where PC stands, the last of the registers, in front of the processor status word.
-const PC: usize = PS - 2;
+pub(crate) const PC: usize = PS - 2;
 
 /// The bytes of two words.
 #[inline(always)]
@@ -50,7 +49,7 @@ pub(crate) fn state_bytes(r: &[u16; 8], cc: u8) -> [u8; STATE_SIZE]
 impl Images {
     /// What is kept has its form. Nothing is read.
     #[inline(always)]
-    pub(crate) fn see_kept(&self)
+    pub fn see_kept(&self)
         ensures { IsKept self.now.kept }
     {
         self.memory.see_bytes();
@@ -135,42 +134,5 @@ impl Images {
             self.any_word_or(fixed, at.wrapping_add(4), other),
             self.any_word_or(fixed, at.wrapping_add(6), other),
         ]
-    }
-
-    /// The u area of the process of which this is fixed, with its registers.
-    #[inline(always)]
-    pub fn area_at(&self, fixed: &Fixed) -> &UArea
-        requires { IsFixed self.now.kept fixed.now }
-        ensures { result.now ≡ area_of self.now.kept fixed.now.slot }
-    {
-        area_ref(&self.areas, fixed.slot as usize)
-    }
-
-    /// Puts PC and condition codes into the u area of the process of which this is fixed.
-    #[inline(always)]
-    pub fn set_pc_at(&mut self, fixed: &Fixed, pc: u16, cc: u8)
-        requires fixed { IsFixed self.old.kept fixed.now }
-        requires codes { cc < 16 }
-        ensures kept { self.new.kept ≡ with_area self.old.kept fixed.now.slot (with_pc (area_of self.old.kept fixed.now.slot) pc cc) }
-        ensures fixed { IsFixed self.new.kept fixed.now }
-    {
-        self.memory.see_bytes();
-        let at = fixed.starts.image - AREA_SIZE + PC;
-        self.memory.put(at, &two_words(pc, UMODE + u16::from(cc)));
-        put_pc(&mut self.areas, fixed.slot as usize, pc, cc);
-    }
-
-    /// Puts registers and condition codes into the u area of the process of which this is fixed.
-    #[inline(always)]
-    pub(crate) fn set_registers_at(&mut self, fixed: &Fixed, r: &[u16; 8], cc: u8)
-        requires fixed { IsFixed self.old.kept fixed.now }
-        requires codes { cc < 16 }
-        ensures kept { self.new.kept ≡ with_area self.old.kept fixed.now.slot (with_state (area_of self.old.kept fixed.now.slot) r.now cc) }
-        ensures fixed { IsFixed self.new.kept fixed.now }
-    {
-        self.memory.see_bytes();
-        let at = fixed.starts.image - AREA_SIZE;
-        self.memory.put(at, &state_bytes(r, cc));
-        put_state(&mut self.areas, fixed.slot as usize, r, cc);
     }
 }

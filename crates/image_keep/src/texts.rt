@@ -13,7 +13,6 @@ ghost use Rattle.image_keep.specs.Places.{blocks, swap_fit};
 ghost use Rattle.image_keep.specs.Leaves.{textless_at, textless_line, IsStoredBy, IsLongBy, loaded_text, gone_units};
 ghost use Rattle.image_keep.specs.SharedTexts.{AreShared, AreLong, filled, retexted, found_text, FindsText, free_text, row_in, making, with_made_text, with_joined_text, row_of_text, with_left_text};
 
-use crate::areas::leave_area;
 use crate::images::Images;
 use crate::memory::Memory;
 use crate::parts::{block_click, place_click, row_of};
@@ -213,7 +212,6 @@ impl Images {
         let t = text_in(row);
         clear_text_size(&mut self.memory, self.core, row);
         give_text(&mut self.rows, s as usize, None);
-        leave_area(&mut self.areas, s as usize);
         let _ = self.core_map.count();
         let _ = self.swap_map.count();
         unload_text(&mut self.texts, &mut self.core_map, loaded_text(row));

@@ -243,7 +243,7 @@ fn fill_image(p: &mut Procs, tree: &mut Tree, s: Slot, program: &Program)
     ensures alive { IsAlive p.new s }
 {
     let now = p.table.now;
-    let _area = p.images.area(s);
+    p.images.see_kept();
     let mut space = p.images.space(s);
     fill(&mut tree.nodes, &mut space, program, now);
 }

@@ -22,7 +22,7 @@ use crate::texts::leave_text;
 use fs_tree::{Tree, let_go};
 use pick_rules::{Stat, Table};
 use proc_tab::Rows;
-use u_area::UArea;
+use u_area::{directory, register};
 use v6_base::{Answer, Chan, Entry, PanicKind, Pid, Place, Slot, Trace};
 
 /// The slot of process 1, whose children those become whose parent has ended.
@@ -30,17 +30,6 @@ const INIT: Slot = 1;
 
 /// What each signal does to a process that has ended: nothing. There is no signal 0.
 const IGNORED: [u16; 20] = [0, 1, 1, 1, 1, 1, 1, 1, 1, 1, 1, 1, 1, 1, 1, 1, 1, 1, 1, 1];
-
-/// The u area of a process that has left its directory and ends with a status.
-fn ended(u: UArea, status: u16) -> UArea
-    ensures { result ≡ record u { handlers = 0 ∷ replicate 19 1; dir = 0; status = status } }
-{
-    let mut u = u;
-    u.handlers = IGNORED;
-    u.dir = 0;
-    u.status = status;
-    u
-}
 
 /// Leaves the directory of a process, ignores all its signals, and keeps the status for its parent.
 fn leave(p: &mut Procs, tree: &mut Tree, s: Slot, status: u16)
@@ -54,9 +43,9 @@ fn leave(p: &mut Procs, tree: &mut Tree, s: Slot, status: u16)
     ensures mounts { tree.new.mounts ≡ tree.old.mounts }
     ensures blocks { SameRest tree.old.nodes tree.new.nodes }
 {
-    let u = p.area(s);
-    let_go(&mut tree.nodes, u.dir, p.table.now);
-    p.put_area(s, &ended(u, status));
+    let dir = directory(p.area_bytes(s));
+    let_go(&mut tree.nodes, dir, p.table.now);
+    p.put_end(s, status, &IGNORED);
 }
 
 /// The slot of a process by its pid, where one has it. Process 0 has the pid 0.
@@ -205,12 +194,11 @@ pub fn exit_now<T: Trace>(
     ensures mounts { tree.new.mounts ≡ tree.old.mounts }
     ensures blocks { SameRest tree.old.nodes tree.new.nodes }
 {
-    let u = p.area(s);
-    match end_proc(p, tree, s, 256 * (u.r[0] % 256), trace) {
-        Ok(()) => Ok(Answer::Ret {
-            r0: u.r[0],
-            r1: u.r[1],
-        }),
+    let area = p.area_bytes(s);
+    let r0 = register(area, 0);
+    let r1 = register(area, 1);
+    match end_proc(p, tree, s, 256 * (r0 % 256), trace) {
+        Ok(()) => Ok(Answer::Ret { r0, r1 }),
         Err(kind) => Err(kind),
     }
 }

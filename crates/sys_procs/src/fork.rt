@@ -18,35 +18,18 @@ use crate::seen::see;
 use fs_tree::{Tree, refer_again};
 use pick_rules::{Stat, Table, TableRow};
 use proc_tab::Rows;
-use u_area::UArea;
+use u_area::{directory, register};
 use v6_base::{Answer, Entry, Errno, PanicKind, Pid, Place, Slot, Trace};
 
-/// The u area of a child as it begins: R0 is the pid of its parent, and it has used no time.
-fn begun(u: UArea, parent: Pid) -> UArea
-    ensures { result ≡ record u {
-      r = slice_set u.r 0 parent;
-      user_time = 0;
-      system_time = 0;
-      child_user = 0;
-      child_system = 0;
-    } }
+/// A parent passes the word in which its child begins.
+fn pass_word(p: &mut Procs, s: Slot)
+    requires { IsAlive p.old s }
+    ensures state { (fs : FileSystem) → handed p.new fs ≡ change (handed p.old fs) s past_word }
+    ensures board { board p.new ≡ board p.old }
+    ensures alive { IsAlive p.new s }
 {
-    let mut u = u;
-    u.r[0] = parent;
-    u.user_time = 0;
-    u.system_time = 0;
-    u.child_user = 0;
-    u.child_system = 0;
-    u
-}
-
-/// The u area of a parent, which passes the word in which its child begins.
-fn past_word(u: UArea) -> UArea
-    ensures { result ≡ record u { r = slice_set u.r 7 ((slice_index u.r 7 + 2) % 65536) } }
-{
-    let mut u = u;
-    u.r[7] = u.r[7].wrapping_add(2);
-    u
+    let pc = register(p.area_bytes(s), 7).wrapping_add(2);
+    p.put_register(s, 7, pc);
 }
 
 /// The row of a new child, whose image stands at a place: it can run, and has its parent's nice, text and size.
@@ -109,14 +92,16 @@ fn go_on(p: &mut Procs, tree: &mut Tree, s: Slot, child: Slot) -> Answer
     ensures mounts { tree.new.mounts ≡ tree.old.mounts }
     ensures blocks { SameRest tree.old.nodes tree.new.nodes }
 {
-    let u = p.area(s);
-    let row = p.row(s);
-    let own = p.area(child);
     let r0 = p.row(child).pid;
-    p.put_area(child, &begun(own, row.pid));
-    p.put_area(s, &past_word(u));
-    refer_again(&mut tree.nodes, u.dir);
-    Answer::Ret { r0, r1: u.r[1] }
+    let parent = p.row(s).pid;
+    let area = p.area_bytes(s);
+    let dir = directory(area);
+    let r1 = register(area, 1);
+    p.put_register(child, 0, parent);
+    p.clear_times(child);
+    pass_word(p, s);
+    refer_again(&mut tree.nodes, dir);
+    Answer::Ret { r0, r1 }
 }
 
 /// Makes a child in a free slot, with the rows that it gives.
@@ -192,8 +177,7 @@ pub fn fork_one<T: Trace>(
     match rows.new_slot(s) {
         Some(child) => fork_into(p, tree, s, child, &rows, trace),
         None => {
-            let u = p.area(s);
-            p.put_area(s, &past_word(u));
+            pass_word(p, s);
             Ok(Answer::Fail(Errno::EAGAIN))
         }
     }

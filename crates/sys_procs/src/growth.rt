@@ -16,6 +16,7 @@ use crate::seen::see;
 use fs_tree::Tree;
 use pick_rules::Table;
 use seg_regs::Proto;
+use u_area::{register, sizes};
 use v6_base::{Answer, Entry, Errno, PanicKind, Place, Slot, Trace};
 
 /// How many clicks a stack grows beyond what is asked for: `SINCR`.
@@ -133,16 +134,16 @@ pub fn break_at<T: Trace>(
     ensures mounts { tree.new.mounts ≡ tree.old.mounts }
     ensures blocks { SameRest tree.old.nodes tree.new.nodes }
 {
-    let u = p.area(s);
-    let d = clicks_up_to(u.text_size, args[0]);
-    if Proto::make(u.text_size, d, u.stack_size, p.images.limit()).is_err() {
+    let area = p.area_bytes(s);
+    let [text_size, _, stack_size] = sizes(area);
+    let r0 = register(area, 0);
+    let r1 = register(area, 1);
+    let d = clicks_up_to(text_size, args[0]);
+    if Proto::make(text_size, d, stack_size, p.images.limit()).is_err() {
         return Ok(Answer::Fail(Errno::ENOMEM));
     }
-    match expand(p, s, d, u.stack_size, trace) {
-        Ok(()) => Ok(Answer::Ret {
-            r0: u.r[0],
-            r1: u.r[1],
-        }),
+    match expand(p, s, d, stack_size, trace) {
+        Ok(()) => Ok(Answer::Ret { r0, r1 }),
         Err(kind) => Err(kind),
     }
 }
@@ -169,12 +170,11 @@ pub fn grow<T: Trace>(
     ensures mounts { tree.new.mounts ≡ tree.old.mounts }
     ensures blocks { SameRest tree.old.nodes tree.new.nodes }
 {
-    let u = p.area(s);
-    let Some(stack) = grown_stack(u.text_size, u.data_size, u.stack_size, p.images.limit(), sp)
-    else {
+    let [text_size, data_size, stack_size] = sizes(p.area_bytes(s));
+    let Some(stack) = grown_stack(text_size, data_size, stack_size, p.images.limit(), sp) else {
         return Ok(false);
     };
-    match expand(p, s, u.data_size, stack, trace) {
+    match expand(p, s, data_size, stack, trace) {
         Ok(()) => Ok(true),
         Err(kind) => Err(kind),
     }

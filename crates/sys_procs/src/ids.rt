@@ -12,7 +12,7 @@ ghost use Rattle.sys_procs.specs.Done.{HasDone};
 use crate::procs::Procs;
 use fs_tree::Tree;
 use proc_tab::Row;
-use u_area::UArea;
+use u_area::{ids, register};
 use v6_base::{Answer, Entry, Errno, PanicKind, Slot, Trace};
 
 /// The greatest number that nice(II) keeps.
@@ -37,35 +37,15 @@ pub fn pid_of<T: Trace>(
     ensures blocks { SameRest tree.old.nodes tree.new.nodes }
 {
     let r0 = p.row(s).pid;
-    let u = p.area(s);
-    Ok(Answer::Ret { r0, r1: u.r[1] })
+    let r1 = register(p.area_bytes(s), 1);
+    Ok(Answer::Ret { r0, r1 })
 }
 
 /// Whether a process may take a user or a group: its real one, and the super-user any.
-fn may_take(u: &UArea, real: u8, id: u8) -> bool
-    ensures { result ≡ ((id == real) || (u.now.uid == 0)) }
+fn may_take(user: u8, real: u8, id: u8) -> bool
+    ensures { result ≡ ((id == real) || (user == 0)) }
 {
-    id == real || u.uid == 0
-}
-
-/// The u area with another user, both the real and the effective one.
-fn with_user(u: UArea, id: u8) -> UArea
-    ensures { result ≡ record u { uid = id; ruid = id } }
-{
-    let mut u = u;
-    u.uid = id;
-    u.ruid = id;
-    u
-}
-
-/// The u area with another group, both the real and the effective one.
-fn with_group(u: UArea, id: u8) -> UArea
-    ensures { result ≡ record u { gid = id; rgid = id } }
-{
-    let mut u = u;
-    u.gid = id;
-    u.rgid = id;
-    u
+    id == real || user == 0
 }
 
 /// Makes a user the real and the effective one of a process.
@@ -76,9 +56,9 @@ fn set_user(p: &mut Procs, s: Slot, id: u8)
     ensures alive { IsAlive p.new s }
 {
     let row = p.row(s);
-    let u = p.area(s);
+    let [_, gid, _, rgid] = ids(p.area_bytes(s));
     p.put_row(s, Row { uid: id, ..row });
-    p.put_area(s, &with_user(u, id));
+    p.put_ids(s, [id, gid, id, rgid]);
 }
 
 /// Makes a group the real and the effective one of a process.
@@ -88,8 +68,8 @@ fn set_group(p: &mut Procs, s: Slot, id: u8)
     ensures board { board p.new ≡ board p.old }
     ensures alive { IsAlive p.new s }
 {
-    let u = p.area(s);
-    p.put_area(s, &with_group(u, id));
+    let [uid, _, ruid, _] = ids(p.area_bytes(s));
+    p.put_ids(s, [uid, id, ruid, id]);
 }
 
 /// setuid(II): the low byte of R0 becomes the real and the effective user, where it is the real one or the super-user
@@ -115,16 +95,16 @@ pub fn set_uid<T: Trace>(
     ensures mounts { tree.new.mounts ≡ tree.old.mounts }
     ensures blocks { SameRest tree.old.nodes tree.new.nodes }
 {
-    let u = p.area(s);
-    let id = (u.r[0] % 256) as u8;
-    if !may_take(&u, u.ruid, id) {
+    let area = p.area_bytes(s);
+    let r0 = register(area, 0);
+    let r1 = register(area, 1);
+    let [uid, _, ruid, _] = ids(area);
+    let id = (r0 % 256) as u8;
+    if !may_take(uid, ruid, id) {
         return Ok(Answer::Fail(Errno::EPERM));
     }
     set_user(p, s, id);
-    Ok(Answer::Ret {
-        r0: u.r[0],
-        r1: u.r[1],
-    })
+    Ok(Answer::Ret { r0, r1 })
 }
 
 /// getuid(II): the low byte of R0 is the real user, the high byte the effective one.
@@ -145,9 +125,11 @@ pub fn get_uid<T: Trace>(
     ensures mounts { tree.new.mounts ≡ tree.old.mounts }
     ensures blocks { SameRest tree.old.nodes tree.new.nodes }
 {
-    let u = p.area(s);
-    let r0 = u16::from(u.ruid) + 256 * u16::from(u.uid);
-    Ok(Answer::Ret { r0, r1: u.r[1] })
+    let area = p.area_bytes(s);
+    let [uid, _, ruid, _] = ids(area);
+    let r0 = u16::from(ruid) + 256 * u16::from(uid);
+    let r1 = register(area, 1);
+    Ok(Answer::Ret { r0, r1 })
 }
 
 /// setgid(II): the low byte of R0 becomes the real and the effective group, where it is the real one or the super-user
@@ -173,16 +155,16 @@ pub fn set_gid<T: Trace>(
     ensures mounts { tree.new.mounts ≡ tree.old.mounts }
     ensures blocks { SameRest tree.old.nodes tree.new.nodes }
 {
-    let u = p.area(s);
-    let id = (u.r[0] % 256) as u8;
-    if !may_take(&u, u.rgid, id) {
+    let area = p.area_bytes(s);
+    let r0 = register(area, 0);
+    let r1 = register(area, 1);
+    let [uid, _, _, rgid] = ids(area);
+    let id = (r0 % 256) as u8;
+    if !may_take(uid, rgid, id) {
         return Ok(Answer::Fail(Errno::EPERM));
     }
     set_group(p, s, id);
-    Ok(Answer::Ret {
-        r0: u.r[0],
-        r1: u.r[1],
-    })
+    Ok(Answer::Ret { r0, r1 })
 }
 
 /// getgid(II): the low byte of R0 is the real group, the high byte the effective one.
@@ -203,9 +185,11 @@ pub fn get_gid<T: Trace>(
     ensures mounts { tree.new.mounts ≡ tree.old.mounts }
     ensures blocks { SameRest tree.old.nodes tree.new.nodes }
 {
-    let u = p.area(s);
-    let r0 = u16::from(u.rgid) + 256 * u16::from(u.gid);
-    Ok(Answer::Ret { r0, r1: u.r[1] })
+    let area = p.area_bytes(s);
+    let [_, gid, _, rgid] = ids(area);
+    let r0 = u16::from(rgid) + 256 * u16::from(gid);
+    let r1 = register(area, 1);
+    Ok(Answer::Ret { r0, r1 })
 }
 
 /// csw(II): R0 is what the switches of the console say.
@@ -226,11 +210,8 @@ pub fn switches<T: Trace>(
     ensures mounts { tree.new.mounts ≡ tree.old.mounts }
     ensures blocks { SameRest tree.old.nodes tree.new.nodes }
 {
-    let u = p.area(s);
-    Ok(Answer::Ret {
-        r0: p.switches,
-        r1: u.r[1],
-    })
+    let r1 = register(p.area_bytes(s), 1);
+    Ok(Answer::Ret { r0: p.switches, r1 })
 }
 
 /// The call smdate of earlier systems, which does nothing any more.
@@ -251,10 +232,10 @@ pub fn no_op<T: Trace>(
     ensures mounts { tree.new.mounts ≡ tree.old.mounts }
     ensures blocks { SameRest tree.old.nodes tree.new.nodes }
 {
-    let u = p.area(s);
+    let area = p.area_bytes(s);
     Ok(Answer::Ret {
-        r0: u.r[0],
-        r1: u.r[1],
+        r0: register(area, 0),
+        r1: register(area, 1),
     })
 }
 
@@ -313,21 +294,17 @@ pub fn nice_to<T: Trace>(
     ensures mounts { tree.new.mounts ≡ tree.old.mounts }
     ensures blocks { SameRest tree.old.nodes tree.new.nodes }
 {
-    let u = p.area(s);
-    let value = u.r[0];
-    if value < 32768 {
-        set_nice(p, s, held_nice(value), trace);
-        return Ok(Answer::Ret {
-            r0: u.r[0],
-            r1: u.r[1],
-        });
+    let area = p.area_bytes(s);
+    let r0 = register(area, 0);
+    let r1 = register(area, 1);
+    let uid = ids(area)[0];
+    if r0 < 32768 {
+        set_nice(p, s, held_nice(r0), trace);
+        return Ok(Answer::Ret { r0, r1 });
     }
-    if u.uid == 0 {
-        set_nice(p, s, low_nice(value), trace);
-        return Ok(Answer::Ret {
-            r0: u.r[0],
-            r1: u.r[1],
-        });
+    if uid == 0 {
+        set_nice(p, s, low_nice(r0), trace);
+        return Ok(Answer::Ret { r0, r1 });
     }
     set_nice(p, s, 0, trace);
     Ok(Answer::Fail(Errno::EPERM))

@@ -11,18 +11,8 @@ use crate::procs::Procs;
 use crate::times::sleep_until;
 use crate::wait::wait_child;
 use fs_tree::Tree;
-use u_area::{NOTHING_PENDING, SLEEP_CALL, UArea};
+use u_area::{NOTHING_PENDING, SLEEP_CALL, call_words, pending_call};
 use v6_base::{Answer, Errno, PanicKind, Slot, Trace};
-
-/// The u area of a process with no pending call.
-fn awake(u: UArea) -> UArea
-    ensures { result ≡ record u { pending = NOTHING_PENDING; call = replicate 8 0 } }
-{
-    let mut u = u;
-    u.pending = NOTHING_PENDING;
-    u.call = [0; 8];
-    u
-}
 
 /// Says that no call of a process is pending.
 fn wake_up(p: &mut Procs, s: Slot)
@@ -31,8 +21,7 @@ fn wake_up(p: &mut Procs, s: Slot)
     ensures board { board p.new ≡ board p.old }
     ensures calls { (fs : FileSystem) → Calls p.old fs s → Calls p.new fs s }
 {
-    let u = p.area(s);
-    p.put_area(s, &awake(u));
+    p.put_call(s, NOTHING_PENDING, &[0; 8]);
 }
 
 /// Goes on with the call of a process that has woken: sleep(II) or wait(II), from its beginning.
@@ -56,13 +45,15 @@ pub fn resume_proc<T: Trace>(
     ensures mounts { tree.new.mounts ≡ tree.old.mounts }
     ensures blocks { SameRest tree.old.nodes tree.new.nodes }
 {
-    let u = p.area(s);
+    let area = p.area_bytes(s);
+    let pending = pending_call(area);
+    let call = call_words(area);
     wake_up(p, s);
     if p.is_due(s) {
         return Ok(Answer::Fail(Errno::EINTR));
     }
-    if u.pending == SLEEP_CALL {
-        let until = 65536 * u32::from(u.call[4]) + u32::from(u.call[5]);
+    if pending == SLEEP_CALL {
+        let until = 65536 * u32::from(call[4]) + u32::from(call[5]);
         return Ok(sleep_until(p, s, until));
     }
     wait_child(p, tree, s, [0; 4], trace)

@@ -20,7 +20,7 @@ use fs_tree::Tree;
 use pick_rules::{Stat, Table};
 use proc_tab::Row;
 use sig_core::{NSIG, SIGKIL, post};
-use u_area::UArea;
+use u_area::{handler, ids, register};
 use v6_base::{Answer, Entry, Errno, PanicKind, Slot, Trace};
 
 /// A process goes at least at this priority from when it gets a signal: `PUSER` in Lions' Commentary, `param.h`.
@@ -206,31 +206,21 @@ pub fn kill_to<T: Trace>(
     ensures mounts { tree.new.mounts ≡ tree.old.mounts }
     ensures blocks { SameRest tree.old.nodes tree.new.nodes }
 {
-    let u = p.area(s);
+    let area = p.area_bytes(s);
+    let r0 = register(area, 0);
+    let r1 = register(area, 1);
+    let uid = ids(area)[0];
     let sender = Sender {
         slot: s,
-        pid: u.r[0],
+        pid: r0,
         tty: p.row(s).tty,
-        uid: u.uid,
+        uid,
     };
     if send_to_all(p, sender, args[0], trace) {
-        Ok(Answer::Ret {
-            r0: u.r[0],
-            r1: u.r[1],
-        })
+        Ok(Answer::Ret { r0, r1 })
     } else {
         Ok(Answer::Fail(Errno::ESRCH))
     }
-}
-
-/// The u area of a process that has asked for what a signal shall do.
-fn asking(u: UArea, sig: u16, handler: u16) -> UArea
-    requires { sig < NSIG }
-    ensures { result ≡ record u { handlers = slice_set u.handlers sig handler } }
-{
-    let mut u = u;
-    u.handlers[usize::from(sig)] = handler;
-    u
 }
 
 /// Forgets a signal of this number that waits for a process.
@@ -275,12 +265,10 @@ pub fn signal_set<T: Trace>(
     if sig == 0 || sig >= u16::from(NSIG) || sig == u16::from(SIGKIL) {
         return Ok(Answer::Fail(Errno::EINVAL));
     }
-    let u = p.area(s);
-    let old = u.handlers[usize::from(sig)];
-    p.put_area(s, &asking(u, sig, args[1]));
+    let area = p.area_bytes(s);
+    let r0 = handler(area, usize::from(sig));
+    let r1 = register(area, 1);
+    p.put_handler(s, usize::from(sig), args[1]);
     forget(p, s, sig);
-    Ok(Answer::Ret {
-        r0: old,
-        r1: u.r[1],
-    })
+    Ok(Answer::Ret { r0, r1 })
 }

@@ -142,7 +142,7 @@ fn test_call(p: &mut Procs, tree: &Tree, s: Slot, ino: u16, list: u16) -> Result
     if !is_plain(&tree.nodes, ino) {
         return Err(Errno::EACCES);
     }
-    let _sizes = p.images.area(s);
+    p.images.see_kept();
     read_arguments(&mut p.images, s, list)
 }
 

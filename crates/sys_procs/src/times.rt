@@ -13,9 +13,8 @@ ghost use Rattle.sys_procs.specs.Times.{time_now, set_time, sleep_until, sleep_f
 ghost use Rattle.sys_procs.specs.Done.{HasDone};
 
 use crate::procs::Procs;
-use fs_codec::put_words;
 use fs_tree::Tree;
-use u_area::{SLEEP_CALL, UArea};
+use u_area::{SLEEP_CALL, ids, register, time_bytes};
 use v6_base::{Answer, Chan, Entry, Errno, PanicKind, Slot, Space, Trace};
 
 /// What a process sleeps at until a time: `PSLEP` of `param.h` in Lions' Commentary.
@@ -91,15 +90,14 @@ pub fn set_time<T: Trace>(
     ensures mounts { tree.new.mounts ≡ tree.old.mounts }
     ensures blocks { SameRest tree.old.nodes tree.new.nodes }
 {
-    let u = p.area(s);
-    if u.uid != 0 {
+    let area = p.area_bytes(s);
+    if ids(area)[0] != 0 {
         return Ok(Answer::Fail(Errno::EPERM));
     }
-    put_time(p, s, time_in(u.r[0], u.r[1]), trace);
-    Ok(Answer::Ret {
-        r0: u.r[0],
-        r1: u.r[1],
-    })
+    let r0 = register(area, 0);
+    let r1 = register(area, 1);
+    put_time(p, s, time_in(r0, r1), trace);
+    Ok(Answer::Ret { r0, r1 })
 }
 
 /// The first time at which a sleeper is due, with one more sleeper.
@@ -112,21 +110,6 @@ fn tout_with(p: &Procs, until: u32) -> u32
     p.table.tout
 }
 
-/// The u area of a process that sleeps until a time.
-fn sleeping(u: UArea, until: u32) -> UArea
-    ensures { result ≡ record u {
-      pending = SLEEP_CALL;
-      call = 0 ∷ 0 ∷ 0 ∷ 0 ∷ until / 65536 ∷ until % 65536 ∷ 0 ∷ 0 ∷ [];
-    } }
-{
-    let high = (until / 65536) as u16;
-    let low = (until % 65536) as u16;
-    let mut u = u;
-    u.pending = SLEEP_CALL;
-    u.call = [0, 0, 0, 0, high, low, 0, 0];
-    u
-}
-
 /// Keeps for how long a process sleeps.
 fn keep_sleep(p: &mut Procs, s: Slot, until: u32)
     requires { IsAlive p.old s }
@@ -134,8 +117,9 @@ fn keep_sleep(p: &mut Procs, s: Slot, until: u32)
     ensures board { board p.new ≡ board p.old }
     ensures alive { IsAlive p.new s }
 {
-    let u = p.area(s);
-    p.put_area(s, &sleeping(u, until));
+    let high = (until / 65536) as u16;
+    let low = (until % 65536) as u16;
+    p.put_call(s, SLEEP_CALL, &[0, 0, 0, 0, high, low, 0, 0]);
 }
 
 /// Sleeps until a time, unless a signal is due, from the call and from each time that it goes on. sleep(II); Lions' Commentary,
@@ -149,10 +133,10 @@ pub(crate) fn sleep_until(p: &mut Procs, s: Slot, until: u32) -> Answer
     ensures alive { IsAlive p.new s }
 {
     if until <= p.table.now {
-        let u = p.area(s);
+        let area = p.area_bytes(s);
         return Answer::Ret {
-            r0: u.r[0],
-            r1: u.r[1],
+            r0: register(area, 0),
+            r1: register(area, 1),
         };
     }
     p.table.tout = tout_with(p, until);
@@ -188,41 +172,9 @@ pub fn sleep_for<T: Trace>(
     ensures mounts { tree.new.mounts ≡ tree.old.mounts }
     ensures blocks { SameRest tree.old.nodes tree.new.nodes }
 {
-    let u = p.area(s);
-    let until = p.table.now.wrapping_add(u32::from(u.r[0]));
+    let r0 = register(p.area_bytes(s), 0);
+    let until = p.table.now.wrapping_add(u32::from(r0));
     Ok(sleep_until(p, s, until))
-}
-
-/// The times of a process and of its children in their bytes: six words, those of the children with their high word
-/// first.
-fn times_bytes(u: &UArea) -> [u8; 12]
-    ensures { result ≡ bytes_of (times u.now) }
-{
-    let u = *u;
-    let mut bytes = [0; 12];
-    let user = [(u.child_user / 65536) as u16, (u.child_user % 65536) as u16];
-    let system = [
-        (u.child_system / 65536) as u16,
-        (u.child_system % 65536) as u16,
-    ];
-    let words = [
-        u.user_time,
-        u.system_time,
-        user[0],
-        user[1],
-        system[0],
-        system[1],
-    ];
-    put_words(&mut bytes, 0, &words);
-    see_bytes(&bytes);
-    bytes
-}
-
-/// Sees that bytes are below 256.
-fn see_bytes(bytes: &[u8])
-    ensures { (k : ℕ) → slice_index bytes.now k < 256 }
-{
-    let _ = bytes;
 }
 
 /// Puts bytes into the memory of a process, from an address on: all of them, or none where one can't be written.
@@ -234,7 +186,7 @@ fn put_bytes(p: &mut Procs, s: Slot, at: u16, bytes: &[u8; 12]) -> bool
     ensures board { board p.new ≡ board p.old }
     ensures alive { IsAlive p.new s }
 {
-    let _area = p.images.area(s);
+    p.images.see_kept();
     let mut space = p.images.space(s);
     space.copy_out(at, bytes)
 }
@@ -263,15 +215,16 @@ pub fn times_to<T: Trace>(
     ensures blocks { SameRest tree.old.nodes tree.new.nodes }
 {
     let at = args[0];
-    let u = p.area(s);
     if at % 2 == 1 {
         return Ok(Answer::Fail(Errno::EFAULT));
     }
-    if !put_bytes(p, s, at, &times_bytes(&u)) {
+    let times = time_bytes(p.area_bytes(s));
+    if !put_bytes(p, s, at, &times) {
         return Ok(Answer::Fail(Errno::EFAULT));
     }
+    let area = p.area_bytes(s);
     Ok(Answer::Ret {
-        r0: u.r[0],
-        r1: u.r[1],
+        r0: register(area, 0),
+        r1: register(area, 1),
     })
 }

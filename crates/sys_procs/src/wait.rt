@@ -20,41 +20,33 @@ use fs_codec::{long_at, word_at};
 use fs_tree::Tree;
 use pick_rules::{EMPTY_ROW, Table};
 use proc_tab::Child;
-use u_area::{STATUS, TIMES, UArea, WAIT_CALL};
+use u_area::{STATUS, TIMES, WAIT_CALL, child_times};
 use v6_base::{Answer, Chan, Entry, Errno, PanicKind, Slot, Trace};
 
 /// What a process sleeps at that waits for a child: Lions' Commentary, `param.h`.
 const PWAIT: i8 = 40;
 
-/// The u area of a process whose pending call is a wait.
-fn waiting(u: UArea) -> UArea
-    ensures { result ≡ record u { pending = WAIT_CALL; call = replicate 8 0 } }
-{
-    let mut u = u;
-    u.pending = WAIT_CALL;
-    u.call = [0; 8];
-    u
-}
-
-/// The u area of a process that has waited for a child, of whose own u area half is kept: the times of the child and of
-/// its children are added, modulo 2^32.
-fn with_times_of(own: UArea, half: &[u8; 512]) -> UArea
-    ensures { (dead : UArea) → IsSized dead → half.now ≡ half_bytes dead → result ≡ with_times_of own dead }
+/// Adds the times of a child and of its children to those of its parent's children, modulo 2^32. Half of the child's u area is
+/// kept.
+fn add_times(p: &mut Procs, s: Slot, half: &[u8; 512])
+    requires { IsAlive p.old s }
+    ensures state { (dead : UArea) → IsSized dead → half.now ≡ half_bytes dead → (fs : FileSystem)
+        → handed p.new fs ≡ change (handed p.old fs) s (λ q. record q { u = with_times_of q.u dead }) }
+    ensures board { board p.new ≡ board p.old }
+    ensures alive { IsAlive p.new s }
 {
     let user_time = word_at(half, TIMES);
     let system_time = word_at(half, TIMES + 2);
     let child_user = long_at(half, TIMES + 4);
     let child_system = long_at(half, TIMES + 8);
-    let mut u = own;
-    u.child_user = u
-        .child_user
+    let [user, system] = child_times(p.area_bytes(s));
+    let user = user
         .wrapping_add(u32::from(user_time))
         .wrapping_add(child_user);
-    u.child_system = u
-        .child_system
+    let system = system
         .wrapping_add(u32::from(system_time))
         .wrapping_add(child_system);
-    u
+    p.put_child_times(s, user, system);
 }
 
 /// The status with which a process has ended, of whose u area half is kept.
@@ -112,8 +104,7 @@ fn bury<T: Trace>(p: &mut Procs, s: Slot, dead: Slot, trace: &mut T) -> Answer
     see(p, s);
     let pid = p.rows.row(dead).pid;
     let half = clear(p, dead);
-    let u = p.area(s);
-    p.put_area(s, &with_times_of(u, &half));
+    add_times(p, s, &half);
     trace.entry(Entry::Reap(dead));
     Answer::Ret {
         r0: pid,
@@ -153,8 +144,7 @@ pub fn wait_child<T: Trace>(
             if p.is_due(s) {
                 return Ok(Answer::Fail(Errno::EINTR));
             }
-            let u = p.area(s);
-            p.put_area(s, &waiting(u));
+            p.put_call(s, WAIT_CALL, &[0; 8]);
             Ok(Answer::Sleep {
                 pri: PWAIT,
                 chan: Chan::Wait(s),

@@ -8,6 +8,7 @@ ghost use Rattle.abstract_unix.specs.Calls.{word_at, arguments_at, named_call, a
 use crate::files::see_kept;
 use abstract_unix::Asked;
 use image_keep::{Fixed, Images};
+use u_area::register;
 
 /// What a word counts as that can't be read.
 const ONES: u16 = 0o177777;
@@ -57,7 +58,7 @@ pub(crate) fn ask(images: &Images, fixed: &Fixed, number: u8) -> Asked
     ensures holds { IsKept images.now.kept }
 {
     see_kept(images);
-    let pc = images.area_at(fixed).r[7];
+    let pc = register(images.area_bytes_at(fixed), 7);
     if number != 0 {
         return Asked {
             number,

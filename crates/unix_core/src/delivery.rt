@@ -22,8 +22,9 @@ use crate::passing::pass_on;
 use crate::world::World;
 use abstract_unix::Ending;
 use image_keep::Images;
-use sig_core::{Delivered, deliver, due};
+use sig_core::{Delivered, deliver, due_in};
 use sys_procs::{Procs, end_proc, grow};
+use u_area::{handler, register};
 use v6_base::{Slot, Trace};
 
 /// The status of a process of which the whole file `core` was written has this.
@@ -39,7 +40,7 @@ fn due_to(procs: &Procs, s: Slot) -> Option<u8>
     if row.sig == 0 {
         return None;
     }
-    due(row, &procs.images.area(s))
+    due_in(row, procs.images.area_bytes(s))
 }
 
 /// A signal has come to a process, and waits no longer.
@@ -75,7 +76,9 @@ fn tell(world: &mut World, s: Slot, sig: u8) -> Delivered
         let mut space = world.procs.images.space(s);
         deliver(&mut u, sig, &mut space)
     };
-    world.procs.images.set_area(s, &u);
+    world.procs.images.set_registers(s, &u.r, u.cc);
+    let sig = usize::from(sig);
+    world.procs.images.set_handler(s, sig, u.handlers[sig]);
     told
 }
 
@@ -85,7 +88,7 @@ fn is_default(images: &Images, s: Slot, sig: u8) -> bool
     requires signal { is_signal sig ≡ true }
     ensures { result ≡ (handler_of (area_of images.now.kept s) sig == 0) }
 {
-    images.area(s).handlers[usize::from(sig)] == 0
+    handler(images.area_bytes(s), usize::from(sig)) == 0
 }
 
 /// Whether a process that was told of a signal leaves the file `core`.
@@ -118,7 +121,7 @@ fn catch<T: Trace>(world: &mut World, s: Slot, sig: u8, trace: &mut T) -> Ending
     world.files.tree.nodes.see();
     see_table(&world.files.table);
     see_kept(&world.procs.images);
-    let sp = world.procs.images.area(s).r[6].wrapping_sub(4);
+    let sp = register(world.procs.images.area_bytes(s), 6).wrapping_sub(4);
     match grow(&mut world.procs, &mut world.files.tree, s, sp, trace) {
         Ok(_) => {
             let _caught = tell(world, s, sig);
@@ -181,7 +184,7 @@ fn end_by<T: Trace>(world: &mut World, s: Slot, sig: u8, trace: &mut T) -> Endin
     ensures rest { SameRest world.old.files.tree.nodes world.new.files.tree.nodes }
     ensures slots { world.new.slots ≡ world.old.slots }
 {
-    let r0 = world.procs.images.area(s).r[0];
+    let r0 = register(world.procs.images.area_bytes(s), 0);
     let status = 256 * (r0 % 256) + u16::from(sig);
     let told = tell(world, s, sig);
     if leaves_core(told) {

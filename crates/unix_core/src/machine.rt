@@ -10,7 +10,7 @@ ghost use Rattle.abstract_unix.specs.declared.ends.Ends.TheVariants.{AtEnd};
 ghost use Rattle.abstract_unix.specs.Unix.{Unix, System, Started, process_of};
 ghost use Rattle.abstract_unix.specs.Endings.{is_early};
 ghost use Rattle.abstract_unix.specs.Turn.{Happened, after_slot, turned, ticked_by, turned_by, ending_of, turn, turn_of, settled, settled_after, pass_of};
-ghost use Rattle.abstract_unix.specs.Outside.{calls, calls_show, charged, mode_of, tick_entry, timed_area, is_user_mode, tick_of, with_key, key_lines, typed_of, hangup_of, paced_of};
+ghost use Rattle.abstract_unix.specs.Outside.{calls, calls_show, charged, mode_of, tick_entry, is_user_mode, tick_of, with_key, key_lines, typed_of, hangup_of, paced_of};
 ghost use Rattle.unix_core.specs.Slots.{IsTimed, IsCounted};
 ghost use Rattle.unix_core.specs.Parts.{unix_of, board_in, system_at, turn_at, turn_end, phase_of, slot_in, one_before, is_over, IsGood, IsReady, IsUser, IsRunning, IsCovered, IsKernel, IsKnown, IsStill, HasCome, HasStepped, Takes, delivers_where};
 
@@ -29,7 +29,7 @@ use sig_core::SIGHUP;
 use swap_sched::pass;
 use sys_procs::signal_line;
 use tty_line::Keyed;
-use u_area::{NOTHING_PENDING, UArea};
+use u_area::{NOTHING_PENDING, pending_call};
 use v6_base::{Chan, Entry, PanicKind, Slot, Trace};
 
 /// How far a run has come, and what the next slot finds.
@@ -65,25 +65,6 @@ fn tick_entry(mode: Mode) -> Entry
         Mode::Kernel => Entry::TickKernel,
         Mode::Idle => Entry::TickIdle,
     }
-}
-
-/// A u area with one tick more of the process's own time, or of the system's for it.
-fn timed(old: UArea, mode: Mode) -> UArea
-    ensures { result ≡ timed_area mode old }
-{
-    let mut u = old;
-    match mode {
-        Mode::User => {
-            u.user_time = u.user_time.wrapping_add(1);
-            return u;
-        }
-        Mode::Kernel => {
-            u.system_time = u.system_time.wrapping_add(1);
-            return u;
-        }
-        Mode::Idle => {}
-    }
-    u
 }
 
 /// Whether a second that ends calls for those who sleep for a time.
@@ -180,7 +161,7 @@ impl Machine {
         ensures started { phase_of self.new.stage ≡ Started }
         ensures world { self.new.world ≡ self.old.world }
     {
-        if self.world.procs.images.area(s).pending != NOTHING_PENDING {
+        if pending_call(self.world.procs.images.area_bytes(s)) != NOTHING_PENDING {
             self.rest();
         } else if !self.stays(s) {
             self.begin(s);
@@ -484,7 +465,7 @@ impl Machine {
             None => Mode::Idle,
             Some(0) => Mode::Kernel,
             Some(s) => {
-                if self.world.procs.images.area(s).pending == NOTHING_PENDING {
+                if pending_call(self.world.procs.images.area_bytes(s)) == NOTHING_PENDING {
                     Mode::User
                 } else {
                     Mode::Kernel
@@ -510,8 +491,11 @@ impl Machine {
         if s == 0 {
             return;
         }
-        let u = timed(self.world.procs.images.area(s), mode);
-        self.world.procs.images.set_area(s, &u);
+        match mode {
+            Mode::User => self.world.procs.images.add_tick(s, false),
+            Mode::Kernel => self.world.procs.images.add_tick(s, true),
+            Mode::Idle => {}
+        }
     }
 
     /// Delivers the signal that is due to the process that runs, where a tick is as a trap.

@@ -48,7 +48,7 @@ pub(crate) fn do_on_files(
     world.tape.clear();
     let s = fixed.slot;
     let now = world.procs.table.now;
-    let mut u = world.procs.images.area(s);
+    let mut u = world.procs.images.area_at(fixed);
     let mut row = *world.procs.rows.row(s);
     let answer = {
         let mut space = world.procs.images.space_at(fixed);

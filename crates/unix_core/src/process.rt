@@ -33,7 +33,7 @@ use pdp_step::{Kind, Outcome};
 use sig_core::{SIGBUS, SIGEMT, SIGINS, SIGIOT, SIGSEG, SIGSYS, SIGTRC};
 use sys_files::is_device_at;
 use sys_procs::{fork_one, grow, resume_proc, send_signal};
-use u_area::{DISK_WAIT, is_on_files};
+use u_area::{DISK_WAIT, codes, files, handler, is_on_files, pending_call, register};
 use v6_base::{Answer, Errno, PanicKind, Slot, Trace};
 
 /// The first number of an error that makes a signal.
@@ -49,9 +49,10 @@ fn enter(images: &mut Images, fixed: &Fixed, words: u8)
         ≡ with_area images.old.kept fixed.now.slot (entered_area words (area_of images.old.kept fixed.now.slot)) }
     ensures fixed { IsFixed images.new.kept fixed.now }
 {
-    let u = images.area_at(fixed);
-    let pc = u.r[7].wrapping_add(2 * u16::from(words));
-    let cc = u.cc - u.cc % 2;
+    let area = images.area_bytes_at(fixed);
+    let pc = register(area, 7).wrapping_add(2 * u16::from(words));
+    let cc = codes(area);
+    let cc = cc - cc % 2;
     images.set_pc_at(fixed, pc, cc);
 }
 
@@ -68,10 +69,9 @@ fn refuse(images: &mut Images, s: Slot, number: u16)
     requires { HasImage images.old.kept s }
     ensures { images.new.kept ≡ with_area images.old.kept s (refused_area number (area_of images.old.kept s)) }
 {
-    let u = images.area(s);
-    let mut r = u.r;
-    r[0] = number;
-    images.set_registers(s, &r, u.cc - u.cc % 2 + 1);
+    let cc = codes(images.area_bytes(s));
+    images.set_register(s, 0, number);
+    images.set_codes(s, cc - cc % 2 + 1);
 }
 
 /// The number of an error: INTRO(II).
@@ -224,8 +224,8 @@ fn names_disk(world: &World, s: Slot) -> bool
     see_kept(&world.procs.images);
     see_table(&world.files.table);
     world.files.tree.nodes.see();
-    let u = world.procs.images.area(s);
-    match world.files.table.get(&u.files, u.r[0]) {
+    let area = world.procs.images.area_bytes(s);
+    match world.files.table.get(&files(area), register(area, 0)) {
         Ok(entry) => {
             let file = world.files.table.file(entry);
             let device = is_device_at(&world.files.tree.nodes, file.ino);
@@ -328,12 +328,12 @@ fn fork<T: Trace>(world: &mut World, s: Slot, trace: &mut T) -> Ending
     ensures rest { SameRest world.old.files.tree.nodes world.new.files.tree.nodes }
     ensures slots { world.new.slots ≡ world.old.slots }
 {
-    let u = world.procs.images.area(s);
+    let numbers = files(world.procs.images.area_bytes(s));
     world.files.tree.nodes.see();
     see_table(&world.files.table);
     match fork_one(&mut world.procs, &mut world.files.tree, s, [0; 4], trace) {
         Ok(answer) => {
-            share_files(&mut world.files.table, &u.files, answer);
+            share_files(&mut world.files.table, &numbers, answer);
             conclude(world, s, answer, trace)
         }
         Err(kind) => {
@@ -358,7 +358,7 @@ fn exit<T: Trace>(world: &mut World, s: Slot, trace: &mut T) -> Ending
     ensures rest { SameRest world.old.files.tree.nodes world.new.files.tree.nodes }
     ensures slots { world.new.slots ≡ world.old.slots }
 {
-    let r0 = world.procs.images.area(s).r[0];
+    let r0 = register(world.procs.images.area_bytes(s), 0);
     end_with(world, s, 256 * (r0 % 256), trace)
 }
 
@@ -468,7 +468,7 @@ fn passes_setd(images: &Images, s: Slot, word: u16) -> bool
     requires { HasImage images.now.kept s }
     ensures { (u : Unix) → (process_of u s).u ≡ area_of images.now.kept s → result ≡ passes_setd u s word }
 {
-    word == SETD && images.area(s).handlers[usize::from(SIGINS)] == 0
+    word == SETD && handler(images.area_bytes(s), usize::from(SIGINS)) == 0
 }
 
 /// A fault, for which the stack may grow; else it is a signal.
@@ -535,7 +535,7 @@ fn pending_of(images: &Images, s: Slot) -> u8
     requires { HasImage images.now.kept s }
     ensures { result ≡ (area_of images.now.kept s).pending }
 {
-    images.area(s).pending
+    pending_call(images.area_bytes(s))
 }
 
 /// Goes on with a call on files.

@@ -30,7 +30,7 @@ use abstract_unix::Ending;
 use lines_eight::{Lines, show_of};
 use pick_rules::{Stat, Table};
 use sys_procs::Procs;
-use u_area::{DISK_WAIT, NOTHING_PENDING, UArea};
+use u_area::{DISK_WAIT, NOTHING_PENDING, call_words, pending_call};
 use v6_base::{Chan, Slot, Trace};
 
 /// The number of no slot: no run takes so many.
@@ -183,16 +183,6 @@ impl Slots {
     }
 }
 
-/// The u area of a process that waits for the disk, up to the end of the slot of this number.
-fn waiting(u: UArea, end: u32) -> UArea
-    ensures { result ≡ waiting_area end u }
-{
-    let mut u = u;
-    u.pending = DISK_WAIT;
-    u.call = [0, 0, 0, 0, (end / 65536) as u16, (end % 65536) as u16, 0, 0];
-    u
-}
-
 /// Lets a process that has read the disk wait for it.
 #[cold]
 #[inline(never)]
@@ -208,23 +198,13 @@ pub(crate) fn wait_for_disk(world: &mut World, s: Slot) -> Ending
     ensures files { world.new.files ≡ world.old.files }
 {
     let end = world.slots.wait_end();
-    let u = waiting(world.procs.images.area(s), end);
-    world.procs.images.set_area(s, &u);
+    let call = [0, 0, 0, 0, (end / 65536) as u16, (end % 65536) as u16, 0, 0];
+    world.procs.images.set_call(s, DISK_WAIT, &call);
     world.slots.add_wait(end);
     Ending::Slept {
         pri: PRIBIO,
         chan: Chan::Disk(s),
     }
-}
-
-/// The u area of a process whose call is done.
-fn rested(u: UArea) -> UArea
-    ensures { result ≡ rested_area u }
-{
-    let mut u = u;
-    u.pending = NOTHING_PENDING;
-    u.call = [0; 8];
-    u
 }
 
 /// A process has waited for the disk: its call is done.
@@ -237,8 +217,7 @@ pub(crate) fn end_wait(world: &mut World, s: Slot) -> Ending
     ensures files { world.new.files ≡ world.old.files }
     ensures trapped { result ≡ Ending.Trapped }
 {
-    let u = rested(world.procs.images.area(s));
-    world.procs.images.set_area(s, &u);
+    world.procs.images.set_call(s, NOTHING_PENDING, &[0; 8]);
     Ending::Trapped
 }
 
@@ -261,11 +240,11 @@ fn lives(stat: Stat) -> bool
     }
 }
 
-/// The number of the slot with whose end the wait ends that a u area keeps.
-fn end_kept(u: &UArea) -> u32
-    ensures { result ≡ 65536 * slice_index u.now.call 4 + slice_index u.now.call 5 }
+/// The number of the slot with whose end the wait ends that is kept of a call.
+fn end_kept(call: &[u16; 8]) -> u32
+    ensures { result ≡ 65536 * slice_index call.now 4 + slice_index call.now 5 }
 {
-    65536 * u32::from(u.call[4]) + u32::from(u.call[5])
+    65536 * u32::from(call[4]) + u32::from(call[5])
 }
 
 /// The number of the slot with whose end a process waits no more for the disk: `NEVER` where it doesn't wait for it. Who has
@@ -281,11 +260,11 @@ fn disk_end(procs: &Procs, s: Slot) -> u32
     if !lives(stat_of(procs, s)) {
         return NEVER;
     }
-    let u = procs.images.area(s);
-    if u.pending != DISK_WAIT {
+    let area = procs.images.area_bytes(s);
+    if pending_call(area) != DISK_WAIT {
         return NEVER;
     }
-    end_kept(&u)
+    end_kept(&call_words(area))
 }
 
 /// Who was woken by the disk with the end of a slot, and with which slot that comes again.

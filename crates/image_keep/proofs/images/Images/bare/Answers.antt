@@ -10,7 +10,6 @@ use Rattle.image_keep.specs.Maps.{InsideBy, core_units, swap_units}
 use Rattle.image_keep.proofs.AreaSet.{known}
 use Rattle.image_keep.proofs.Ended.{freed, units_taken, both_room, row_inside}
 use Rattle.image_keep.proofs.Told.{bare_told}
-use Rattle.image_keep.proofs.AreasKept.{areas_bare}
 use Rattle.image_keep.proofs.images.Images.bare.Goals as goal
 
 pub row_of-row-requires : goal.row_of-row-requires
@@ -38,7 +37,7 @@ pub give_back-requires-clause-swap_room : goal.give_back-requires-clause-swap_ro
 give_back-requires-clause-swap_room c = (both_room (stock_in c.self.inside) c.self.inside.core_map c.self.inside.swap_map c.self.invariant.sound c.self.invariant.maps c.self.invariant.table c.count.ensures.few c.count-2.ensures.few).1
 
 pub invariant_of-self : goal.invariant_of-self
-invariant_of-self c = let g = (freed (stock_in c.self.inside) c.args.self.now.kept c.args.s c.self.inside.core_map c.self.inside.swap_map c.give_back.new.core_map c.give_back.new.swap_map c.row_of-row.result (with_items c.self.inside.rows c.set_row.new.rows).items (kept_is c.self.view_is) c.self.invariant.sound c.self.invariant.maps c.self.invariant.counted (known (stock_in c.self.inside) c.args.self.now.kept c.args.s (kept_is c.self.view_is) c.self.invariant.sound c.self.invariant.counted c.requires.image).low c.requires.no_text (rw c.deref.ensures.value at c.row_of-row.ensures) c.give_back.ensures.core c.give_back.ensures.swap (with_items_is c.self.inside.rows c.set_row.new.rows (c.set_row.ensures.long ∙ c.deref_mut.ensures.len) ∙ (rw c.deref_mut.ensures.value at c.set_row.ensures.rows) ∙ ap (set c.self.inside.rows.items c.args.s) c.nothing_row.ensures)) in record { sound = g.sound; maps = g.maps; table = c.self.invariant.table; cut = c.self.invariant.cut; counted = g.counted; told = bare_told _ _ c.args.self.now.kept c.args.s (kept_is c.self.view_is) g.kept c.self.invariant.told; areas = areas_bare c.self.inside.areas.items _ _ c.args.self.now.kept c.args.s (kept_is c.self.view_is) g.kept c.self.invariant.areas }
+invariant_of-self c = let g = (freed (stock_in c.self.inside) c.args.self.now.kept c.args.s c.self.inside.core_map c.self.inside.swap_map c.give_back.new.core_map c.give_back.new.swap_map c.row_of-row.result (with_items c.self.inside.rows c.set_row.new.rows).items (kept_is c.self.view_is) c.self.invariant.sound c.self.invariant.maps c.self.invariant.counted (known (stock_in c.self.inside) c.args.self.now.kept c.args.s (kept_is c.self.view_is) c.self.invariant.sound c.self.invariant.counted c.requires.image).low c.requires.no_text (rw c.deref.ensures.value at c.row_of-row.ensures) c.give_back.ensures.core c.give_back.ensures.swap (with_items_is c.self.inside.rows c.set_row.new.rows (c.set_row.ensures.long ∙ c.deref_mut.ensures.len) ∙ (rw c.deref_mut.ensures.value at c.set_row.ensures.rows) ∙ ap (set c.self.inside.rows.items c.args.s) c.nothing_row.ensures)) in record { sound = g.sound; maps = g.maps; table = c.self.invariant.table; cut = c.self.invariant.cut; counted = g.counted; told = bare_told _ _ c.args.self.now.kept c.args.s (kept_is c.self.view_is) g.kept c.self.invariant.told }
 
 pub returns : goal.returns
 returns c = (freed (stock_in c.self.inside) c.args.self.now.kept c.args.s c.self.inside.core_map c.self.inside.swap_map c.give_back.new.core_map c.give_back.new.swap_map c.row_of-row.result (with_items c.self.inside.rows c.set_row.new.rows).items (kept_is c.self.view_is) c.self.invariant.sound c.self.invariant.maps c.self.invariant.counted (known (stock_in c.self.inside) c.args.self.now.kept c.args.s (kept_is c.self.view_is) c.self.invariant.sound c.self.invariant.counted c.requires.image).low c.requires.no_text (rw c.deref.ensures.value at c.row_of-row.ensures) c.give_back.ensures.core c.give_back.ensures.swap (with_items_is c.self.inside.rows c.set_row.new.rows (c.set_row.ensures.long ∙ c.deref_mut.ensures.len) ∙ (rw c.deref_mut.ensures.value at c.set_row.ensures.rows) ∙ ap (set c.self.inside.rows.items c.args.s) c.nothing_row.ensures)).kept

@@ -14,7 +14,6 @@ use Rattle.image_keep.proofs.SwapOut.{out_clicks}
 use Rattle.image_keep.proofs.KeptForm.{row_low}
 use Rattle.image_keep.proofs.Found.{placed_is, place_found, place_inside}
 use Rattle.image_keep.proofs.Forking.{forks, forked_long}
-use Rattle.image_keep.proofs.AreasKept.{image_low, seat, areas_forked}
 use Rattle.image_keep.proofs.images.Images.copy_for_fork.Goals as goal
 
 pub row_of-row-requires : goal.row_of-row-requires
@@ -47,14 +46,8 @@ fork_text-requires-clause-few_users c t e = (few_users (stock_in c.self.inside) 
 pub fork_text-requires-clause-few_loaded : goal.fork_text-requires-clause-few_loaded
 fork_text-requires-clause-few_loaded c t e = (few_users (stock_in c.self.inside) c.args.from c.row_of-row.result c.self.invariant.sound c.self.invariant.counted (rw c.deref.ensures.value at c.row_of-row.ensures) t e).1
 
-pub copy_area-requires-clause-from : goal.copy_area-requires-clause-from
-copy_area-requires-clause-from c = rw c.deref_mut-2.ensures.value (seat c.self.inside.areas.items _ c.args.from c.self.invariant.areas (image_low (stock_in c.self.inside) c.args.self.now.kept c.args.from (kept_is c.self.view_is) c.self.invariant.sound c.self.invariant.counted c.requires.image))
-
-pub copy_area-requires-clause-to : goal.copy_area-requires-clause-to
-copy_area-requires-clause-to c = rw c.deref_mut-2.ensures.value (seat c.self.inside.areas.items _ c.args.to c.self.invariant.areas c.requires.slot)
-
 pub invariant_of-self-2 : goal.invariant_of-self-2
-invariant_of-self-2 c = let g = (forks (stock_in c.self.inside) c.args.self.now.kept c.args.from c.args.to c.clicks_of-clicks.result c.place_click-at.result c.place_click-copy.result c.place_of.result c.in-Some.place c.self.inside.core_map c.self.inside.swap_map c.take_place.new.core_map c.take_place.new.swap_map c.row_of-row.result (line_of c.copy.new.self) c.fork_text.new.texts (with_items c.self.inside.rows c.set_row.new.rows).items (kept_is c.self.view_is) c.self.invariant.sound c.self.invariant.maps c.self.invariant.counted c.self.invariant.told (row_low (stock_in c.self.inside) c.args.to c.self.invariant.sound c.requires.slot) c.requires.image c.requires.nothing c.requires.no_text (rw c.deref.ensures.value at c.row_of-row.ensures) c.place_of.ensures c.clicks_of-clicks.ensures (sym (placed_is (stock_in c.self.inside) c.args.self.now.kept c.args.from c.clicks_of-clicks.result c.self.inside.core_map c.self.inside.swap_map c.may_stand-stands.result c.row_of-row.result (Some c.in-Some.place) (kept_is c.self.view_is) c.self.invariant.sound c.self.invariant.maps (rw c.deref.ensures.value at c.row_of-row.ensures) c.may_stand-stands.ensures c.in-Some.ensures.fit)) c.place_click-at.ensures c.place_click-copy.ensures c.in-Some.ensures.core c.in-Some.ensures.swap c.copy.ensures.bytes c.fork_text.ensures (with_items_is c.self.inside.rows c.set_row.new.rows (c.set_row.ensures.long ∙ c.deref_mut.ensures.len) ∙ (rw c.deref_mut.ensures.value at c.set_row.ensures.rows) ∙ ap (set c.self.inside.rows.items c.args.to) c.at_row.ensures)) in record { sound = g.sound; maps = g.maps; table = ap length c.fork_text.ensures ∙ forked_long c.self.inside.texts c.row_of-row.result.text c.in-Some.place ∙ c.self.invariant.table; cut = c.copy.ensures.core ∙ c.self.invariant.cut; counted = g.counted; told = g.told; areas = areas_forked c.self.inside.areas.items (with_items c.self.inside.areas c.copy_area.new.areas).items _ _ c.args.self.now.kept c.args.from c.args.to c.in-Some.place (kept_is c.self.view_is) g.kept c.requires.slot c.requires.image (with_items_is c.self.inside.areas c.copy_area.new.areas (c.copy_area.ensures.long ∙ c.deref_mut-2.ensures.len) ∙ (rw c.deref_mut-2.ensures.value at c.copy_area.ensures.areas)) c.self.invariant.areas }
+invariant_of-self-2 c = let g = (forks (stock_in c.self.inside) c.args.self.now.kept c.args.from c.args.to c.clicks_of-clicks.result c.place_click-at.result c.place_click-copy.result c.place_of.result c.in-Some.place c.self.inside.core_map c.self.inside.swap_map c.take_place.new.core_map c.take_place.new.swap_map c.row_of-row.result (line_of c.copy.new.self) c.fork_text.new.texts (with_items c.self.inside.rows c.set_row.new.rows).items (kept_is c.self.view_is) c.self.invariant.sound c.self.invariant.maps c.self.invariant.counted c.self.invariant.told (row_low (stock_in c.self.inside) c.args.to c.self.invariant.sound c.requires.slot) c.requires.image c.requires.nothing c.requires.no_text (rw c.deref.ensures.value at c.row_of-row.ensures) c.place_of.ensures c.clicks_of-clicks.ensures (sym (placed_is (stock_in c.self.inside) c.args.self.now.kept c.args.from c.clicks_of-clicks.result c.self.inside.core_map c.self.inside.swap_map c.may_stand-stands.result c.row_of-row.result (Some c.in-Some.place) (kept_is c.self.view_is) c.self.invariant.sound c.self.invariant.maps (rw c.deref.ensures.value at c.row_of-row.ensures) c.may_stand-stands.ensures c.in-Some.ensures.fit)) c.place_click-at.ensures c.place_click-copy.ensures c.in-Some.ensures.core c.in-Some.ensures.swap c.copy.ensures.bytes c.fork_text.ensures (with_items_is c.self.inside.rows c.set_row.new.rows (c.set_row.ensures.long ∙ c.deref_mut.ensures.len) ∙ (rw c.deref_mut.ensures.value at c.set_row.ensures.rows) ∙ ap (set c.self.inside.rows.items c.args.to) c.at_row.ensures)) in record { sound = g.sound; maps = g.maps; table = ap length c.fork_text.ensures ∙ forked_long c.self.inside.texts c.row_of-row.result.text c.in-Some.place ∙ c.self.invariant.table; cut = c.copy.ensures.core ∙ c.self.invariant.cut; counted = g.counted; told = g.told }
 
 pub returns-clause-place : goal.returns-clause-place
 returns-clause-place c = ap (placed c.args.self.now.kept c.args.from) (out_clicks (stock_in c.self.inside) c.args.self.now.kept c.args.from c.place_of.result c.row_of-row.result c.clicks_of-clicks.result (kept_is c.self.view_is) c.self.invariant.sound (at_place_of (stock_in c.self.inside) c.args.self.now.kept c.args.from c.row_of-row.result c.place_of.result (kept_is c.self.view_is) c.self.invariant.sound c.self.invariant.counted c.requires.image (rw c.deref.ensures.value at c.row_of-row.ensures) c.place_of.ensures).is (rw c.deref.ensures.value at c.row_of-row.ensures) c.clicks_of-clicks.ensures) ∙ sym (placed_is (stock_in c.self.inside) c.args.self.now.kept c.args.from c.clicks_of-clicks.result c.self.inside.core_map c.self.inside.swap_map c.may_stand-stands.result c.row_of-row.result (Some c.in-Some.place) (kept_is c.self.view_is) c.self.invariant.sound c.self.invariant.maps (rw c.deref.ensures.value at c.row_of-row.ensures) c.may_stand-stands.ensures c.in-Some.ensures.fit)

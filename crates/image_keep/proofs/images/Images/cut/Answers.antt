@@ -14,9 +14,6 @@ use Rattle.image_keep.proofs.KeptForm.{place_is}
 use Rattle.image_keep.proofs.Found.{place_inside, place_low, less_in}
 use Rattle.image_keep.proofs.Cutting.{tail_taken}
 use Rattle.image_keep.proofs.Growing.{cuts}
-use Rattle.image_keep.proofs.AreasKept.{image_low, seat, area_sized, areas_made}
-use Rattle.image_keep.specs.Kept.{area_of, image_of}
-use Rattle.image_keep.specs.Growth.{area_resized, image_resized}
 use Rattle.image_keep.proofs.images.Images.cut.Goals as goal
 
 pub place_of-place-requires : goal.place_of-place-requires
@@ -58,11 +55,8 @@ give_tail-requires-clause-core_room c = (both_room (stock_in c.self.inside) c.se
 pub give_tail-requires-clause-swap_room : goal.give_tail-requires-clause-swap_room
 give_tail-requires-clause-swap_room c = (both_room (stock_in c.self.inside) c.self.inside.core_map c.self.inside.swap_map c.self.invariant.sound c.self.invariant.maps c.self.invariant.table c.count.ensures.few c.count-2.ensures.few).1
 
-pub resize_area-requires : goal.resize_area-requires
-resize_area-requires c = rw c.deref_mut-2.ensures.value (seat c.self.inside.areas.items _ c.args.s c.self.invariant.areas (image_low (stock_in c.self.inside) c.args.self.now.kept c.args.s (kept_is c.self.view_is) c.self.invariant.sound c.self.invariant.counted c.requires.image))
-
 pub invariant_of-self : goal.invariant_of-self
-invariant_of-self c = let g = (cuts (stock_in c.self.inside) c.args.self.now.kept c.args.s c.args.d c.args.stack c.place_click-at.result c.place_of-place.result c.area.result c.sized_bytes-bytes.result c.self.inside.core_map c.self.inside.swap_map c.give_tail.new.core_map c.give_tail.new.swap_map c.row_of-row.result (line_of c.lay_resized.new.memory) (with_items c.self.inside.rows c.set_row.new.rows).items (kept_is c.self.view_is) c.self.invariant.sound c.self.invariant.maps c.self.invariant.counted c.self.invariant.told c.requires.image (rw c.deref.ensures.value at c.row_of-row.ensures) c.place_of-place.ensures c.requires.segments (subst (λ n. (16 + c.args.d + c.args.stack) ≤ n) (out_clicks (stock_in c.self.inside) c.args.self.now.kept c.args.s c.place_of-place.result c.row_of-row.result (clicks_in c.row_of-row.result) (kept_is c.self.view_is) c.self.invariant.sound (at_place_of (stock_in c.self.inside) c.args.self.now.kept c.args.s c.row_of-row.result c.place_of-place.result (kept_is c.self.view_is) c.self.invariant.sound c.self.invariant.counted c.requires.image (rw c.deref.ensures.value at c.row_of-row.ensures) c.place_of-place.ensures).is (rw c.deref.ensures.value at c.row_of-row.ensures) refl) c.requires.small) c.area.ensures.u c.sized_bytes-bytes.ensures.sized c.sized_bytes-bytes.ensures.written (search rules) c.place_click-at.ensures (rw c.clicks_of.ensures at c.give_tail.ensures.core) (rw c.clicks_of.ensures at c.give_tail.ensures.swap) c.lay_resized.ensures.line (with_items_is c.self.inside.rows c.set_row.new.rows (c.set_row.ensures.long ∙ c.deref_mut.ensures.len) ∙ (rw c.deref_mut.ensures.value at c.set_row.ensures.rows) ∙ ap (set c.self.inside.rows.items c.args.s) c.sized_row.ensures)) in record { sound = g.sound; maps = g.maps; table = c.self.invariant.table; cut = c.lay_resized.ensures.core ∙ c.self.invariant.cut; counted = g.counted; told = g.told; areas = areas_made c.self.inside.areas.items (with_items c.self.inside.areas c.resize_area.new.areas).items _ _ c.args.self.now.kept c.args.s (area_resized (area_of c.args.self.now.kept c.args.s) c.args.d c.args.stack) (image_resized (image_of c.args.self.now.kept c.args.s) c.args.d c.args.stack) c.place_of-place.result (kept_is c.self.view_is) g.kept (image_low (stock_in c.self.inside) c.args.self.now.kept c.args.s (kept_is c.self.view_is) c.self.invariant.sound c.self.invariant.counted c.requires.image) (area_sized c.self.inside.areas.items (with_items c.self.inside.areas c.resize_area.new.areas).items _ c.args.self.now.kept c.args.s c.args.d c.args.stack (kept_is c.self.view_is) c.self.invariant.areas c.requires.image (with_items_is c.self.inside.areas c.resize_area.new.areas (c.resize_area.ensures.long ∙ c.deref_mut-2.ensures.len) ∙ (rw c.deref_mut-2.ensures.value at c.resize_area.ensures.areas))) c.self.invariant.areas }
+invariant_of-self c = let g = (cuts (stock_in c.self.inside) c.args.self.now.kept c.args.s c.args.d c.args.stack c.place_click-at.result c.place_of-place.result c.area.result c.sized_bytes-bytes.result c.self.inside.core_map c.self.inside.swap_map c.give_tail.new.core_map c.give_tail.new.swap_map c.row_of-row.result (line_of c.lay_resized.new.memory) (with_items c.self.inside.rows c.set_row.new.rows).items (kept_is c.self.view_is) c.self.invariant.sound c.self.invariant.maps c.self.invariant.counted c.self.invariant.told c.requires.image (rw c.deref.ensures.value at c.row_of-row.ensures) c.place_of-place.ensures c.requires.segments (subst (λ n. (16 + c.args.d + c.args.stack) ≤ n) (out_clicks (stock_in c.self.inside) c.args.self.now.kept c.args.s c.place_of-place.result c.row_of-row.result (clicks_in c.row_of-row.result) (kept_is c.self.view_is) c.self.invariant.sound (at_place_of (stock_in c.self.inside) c.args.self.now.kept c.args.s c.row_of-row.result c.place_of-place.result (kept_is c.self.view_is) c.self.invariant.sound c.self.invariant.counted c.requires.image (rw c.deref.ensures.value at c.row_of-row.ensures) c.place_of-place.ensures).is (rw c.deref.ensures.value at c.row_of-row.ensures) refl) c.requires.small) c.area.ensures.u c.sized_bytes-bytes.ensures.sized c.sized_bytes-bytes.ensures.written (search rules) c.place_click-at.ensures (rw c.clicks_of.ensures at c.give_tail.ensures.core) (rw c.clicks_of.ensures at c.give_tail.ensures.swap) c.lay_resized.ensures.line (with_items_is c.self.inside.rows c.set_row.new.rows (c.set_row.ensures.long ∙ c.deref_mut.ensures.len) ∙ (rw c.deref_mut.ensures.value at c.set_row.ensures.rows) ∙ ap (set c.self.inside.rows.items c.args.s) c.sized_row.ensures)) in record { sound = g.sound; maps = g.maps; table = c.self.invariant.table; cut = c.lay_resized.ensures.core ∙ c.self.invariant.cut; counted = g.counted; told = g.told }
 
 pub returns-clause-place : goal.returns-clause-place
 returns-clause-place c = sym (place_is (stock_in c.self.inside) c.args.self.now.kept c.args.s c.row_of-row.result (kept_is c.self.view_is) (rw c.deref.ensures.value at c.row_of-row.ensures)) ∙ ap place_by c.place_of-place.ensures

@@ -13,7 +13,6 @@ use Rattle.image_keep.specs.Maps.{InsideBy, core_units, swap_units}
 use Rattle.image_keep.proofs.AreaSet.{known}
 use Rattle.image_keep.proofs.Ended.{ended, units_taken, both_room, swap_fits, block_found, row_inside, still_taken}
 use Rattle.image_keep.proofs.Told.{grave_told}
-use Rattle.image_keep.proofs.AreasKept.{areas_grave}
 use Rattle.image_keep.proofs.images.Images.end.Goals as goal
 
 pub row_of-row-requires : goal.row_of-row-requires
@@ -56,7 +55,7 @@ pub returns-clause-block : goal.returns-clause-block
 returns-clause-block c = sym (swap_fits (stock_in c.self.inside) c.args.self.now.kept c.self.inside.core_map c.self.inside.swap_map 1 (Some c.in-Some.block) (kept_is c.self.view_is) c.self.invariant.sound c.self.invariant.maps (λ taken first last m. sym c.in-Some.is ∙ c.take.ensures.fit taken first last m))
 
 pub invariant_of-self-2 : goal.invariant_of-self-2
-invariant_of-self-2 c = let g = (ended (stock_in c.self.inside) c.args.self.now.kept c.args.s c.in-Some.block c.place_click-from.result c.block_click-to.result c.place_of.result c.self.inside.core_map c.self.inside.swap_map c.take.new.self c.give_back.new.core_map c.give_back.new.swap_map c.row_of-row.result (line_of c.copy.new.self) (with_items c.self.inside.rows c.set_row.new.rows).items (kept_is c.self.view_is) c.self.invariant.sound c.self.invariant.maps c.self.invariant.counted c.requires.image c.requires.no_text (rw c.deref.ensures.value at c.row_of-row.ensures) c.place_of.ensures (sym (swap_fits (stock_in c.self.inside) c.args.self.now.kept c.self.inside.core_map c.self.inside.swap_map 1 (Some c.in-Some.block) (kept_is c.self.view_is) c.self.invariant.sound c.self.invariant.maps (λ taken first last m. sym c.in-Some.is ∙ c.take.ensures.fit taken first last m))) c.place_click-from.ensures c.block_click-to.ensures c.in-Some.ensures.left c.give_back.ensures.core c.give_back.ensures.swap c.copy.ensures.bytes (with_items_is c.self.inside.rows c.set_row.new.rows (c.set_row.ensures.long ∙ c.deref_mut.ensures.len) ∙ (rw c.deref_mut.ensures.value at c.set_row.ensures.rows) ∙ ap (set c.self.inside.rows.items c.args.s) c.grave_row.ensures)) in record { sound = g.sound; maps = g.maps; table = c.self.invariant.table; cut = c.copy.ensures.core ∙ c.self.invariant.cut; counted = g.counted; told = grave_told _ _ c.args.self.now.kept c.args.s (area_of c.args.self.now.kept c.args.s) c.in-Some.block (kept_is c.self.view_is) g.kept c.requires.no_text c.self.invariant.told; areas = areas_grave c.self.inside.areas.items _ _ c.args.self.now.kept c.args.s (area_of c.args.self.now.kept c.args.s) c.in-Some.block (kept_is c.self.view_is) g.kept c.self.invariant.areas }
+invariant_of-self-2 c = let g = (ended (stock_in c.self.inside) c.args.self.now.kept c.args.s c.in-Some.block c.place_click-from.result c.block_click-to.result c.place_of.result c.self.inside.core_map c.self.inside.swap_map c.take.new.self c.give_back.new.core_map c.give_back.new.swap_map c.row_of-row.result (line_of c.copy.new.self) (with_items c.self.inside.rows c.set_row.new.rows).items (kept_is c.self.view_is) c.self.invariant.sound c.self.invariant.maps c.self.invariant.counted c.requires.image c.requires.no_text (rw c.deref.ensures.value at c.row_of-row.ensures) c.place_of.ensures (sym (swap_fits (stock_in c.self.inside) c.args.self.now.kept c.self.inside.core_map c.self.inside.swap_map 1 (Some c.in-Some.block) (kept_is c.self.view_is) c.self.invariant.sound c.self.invariant.maps (λ taken first last m. sym c.in-Some.is ∙ c.take.ensures.fit taken first last m))) c.place_click-from.ensures c.block_click-to.ensures c.in-Some.ensures.left c.give_back.ensures.core c.give_back.ensures.swap c.copy.ensures.bytes (with_items_is c.self.inside.rows c.set_row.new.rows (c.set_row.ensures.long ∙ c.deref_mut.ensures.len) ∙ (rw c.deref_mut.ensures.value at c.set_row.ensures.rows) ∙ ap (set c.self.inside.rows.items c.args.s) c.grave_row.ensures)) in record { sound = g.sound; maps = g.maps; table = c.self.invariant.table; cut = c.copy.ensures.core ∙ c.self.invariant.cut; counted = g.counted; told = grave_told _ _ c.args.self.now.kept c.args.s (area_of c.args.self.now.kept c.args.s) c.in-Some.block (kept_is c.self.view_is) g.kept c.requires.no_text c.self.invariant.told }
 
 pub returns-clause-kept : goal.returns-clause-kept
 returns-clause-kept c = (ended (stock_in c.self.inside) c.args.self.now.kept c.args.s c.in-Some.block c.place_click-from.result c.block_click-to.result c.place_of.result c.self.inside.core_map c.self.inside.swap_map c.take.new.self c.give_back.new.core_map c.give_back.new.swap_map c.row_of-row.result (line_of c.copy.new.self) (with_items c.self.inside.rows c.set_row.new.rows).items (kept_is c.self.view_is) c.self.invariant.sound c.self.invariant.maps c.self.invariant.counted c.requires.image c.requires.no_text (rw c.deref.ensures.value at c.row_of-row.ensures) c.place_of.ensures (sym (swap_fits (stock_in c.self.inside) c.args.self.now.kept c.self.inside.core_map c.self.inside.swap_map 1 (Some c.in-Some.block) (kept_is c.self.view_is) c.self.invariant.sound c.self.invariant.maps (λ taken first last m. sym c.in-Some.is ∙ c.take.ensures.fit taken first last m))) c.place_click-from.ensures c.block_click-to.ensures c.in-Some.ensures.left c.give_back.ensures.core c.give_back.ensures.swap c.copy.ensures.bytes (with_items_is c.self.inside.rows c.set_row.new.rows (c.set_row.ensures.long ∙ c.deref_mut.ensures.len) ∙ (rw c.deref_mut.ensures.value at c.set_row.ensures.rows) ∙ ap (set c.self.inside.rows.items c.args.s) c.grave_row.ensures)).kept ∙ ap (with_grave_at c.args.self.now.kept c.args.s (area_of c.args.self.now.kept c.args.s)) (swap_fits (stock_in c.self.inside) c.args.self.now.kept c.self.inside.core_map c.self.inside.swap_map 1 (Some c.in-Some.block) (kept_is c.self.view_is) c.self.invariant.sound c.self.invariant.maps (λ taken first last m. sym c.in-Some.is ∙ c.take.ensures.fit taken first last m))

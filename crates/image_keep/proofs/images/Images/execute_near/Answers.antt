@@ -1,18 +1,14 @@
 use Rattle.image_keep.proofs.StateOf.{kept_is}
-use Rattle.std.proofs.Common.{◌∙◌}
-use Rattle.image_keep.proofs.NearCore.{at_hand_in, executed_in, seat_in}
+use Rattle.image_keep.proofs.NearCore.{at_hand_in, executed_in}
 use Rattle.image_keep.proofs.images.Images.execute_near.Goals as goal
 
-pub attempt_in-requires-clause-slot : goal.attempt_in-requires-clause-slot
-attempt_in-requires-clause-slot c = rw c.deref_mut.ensures.value (seat_in c.self.inside c.args.self.now.kept c.args.fixed.now (kept_is c.self.view_is) c.self.invariant c.requires)
-
-pub attempt_in-requires-clause-at_hand : goal.attempt_in-requires-clause-at_hand
-attempt_in-requires-clause-at_hand c = at_hand_in c.self.inside c.args.self.now.kept c.args.fixed.now _ (kept_is c.self.view_is) c.self.invariant c.see_bytes.ensures c.requires c.deref_mut.ensures.value
+pub attempt-requires-clause-at_hand : goal.attempt-requires-clause-at_hand
+attempt-requires-clause-at_hand c = at_hand_in c.self.inside c.args.self.now.kept c.args.fixed.now (kept_is c.self.view_is) c.self.invariant c.see_bytes.ensures c.requires
 
 pub invariant_of-self : goal.invariant_of-self
-invariant_of-self c = (executed_in c.self.inside c.args.self.now.kept c.args.fixed.now _ c.attempt_in.new.areas c.attempt_in.new.memory c.attempt_in.result (kept_is c.self.view_is) c.self.invariant c.see_bytes.ensures c.requires c.deref_mut.ensures.value (c.attempt_in.ensures.long ∙ c.deref_mut.ensures.len) c.attempt_in.ensures.did c.attempt_in.ensures.swap c.attempt_in.ensures.areas).images
+invariant_of-self c = (executed_in c.self.inside c.args.self.now.kept c.args.fixed.now c.attempt.new.self c.attempt.result (kept_is c.self.view_is) c.self.invariant c.see_bytes.ensures c.requires c.attempt.ensures.did c.attempt.ensures.swap).images
 
 pub returns : goal.returns
 returns c =
-    let e = executed_in c.self.inside c.args.self.now.kept c.args.fixed.now _ c.attempt_in.new.areas c.attempt_in.new.memory c.attempt_in.result (kept_is c.self.view_is) c.self.invariant c.see_bytes.ensures c.requires c.deref_mut.ensures.value (c.attempt_in.ensures.long ∙ c.deref_mut.ensures.len) c.attempt_in.ensures.did c.attempt_in.ensures.swap c.attempt_in.ensures.areas in
+    let e = executed_in c.self.inside c.args.self.now.kept c.args.fixed.now c.attempt.new.self c.attempt.result (kept_is c.self.view_is) c.self.invariant c.see_bytes.ensures c.requires c.attempt.ensures.did c.attempt.ensures.swap in
     record { outcome = e.outcome; done = e.done; kept = e.kept; fixed = e.fixed }

@@ -16,7 +16,6 @@ use Rattle.image_keep.proofs.AreaSet.{known, at_place_of}
 use Rattle.image_keep.proofs.Ended.{units_taken, both_room, row_inside, still_taken}
 use Rattle.image_keep.proofs.Found.{placed_is, place_found, place_inside, place_low, clicks_apart}
 use Rattle.image_keep.proofs.Growing.{grows, moved_text, moved_long}
-use Rattle.image_keep.proofs.AreasKept.{image_low, seat, area_sized, areas_moved}
 use Rattle.image_keep.proofs.images.Images.grow.Goals as goal
 
 pub place_of-from-requires : goal.place_of-from-requires
@@ -76,11 +75,8 @@ move_text-requires-clause-taken c = (moved_text (stock_in c.self.inside) c.args.
 pub move_text-requires-clause-room : goal.move_text-requires-clause-room
 move_text-requires-clause-room c = (moved_text (stock_in c.self.inside) c.args.self.now.kept c.args.s c.args.d c.args.stack c.place_click-at.result c.place_click-to.result c.place_of-from.result c.in-Some.place c.area.result c.sized_bytes-bytes.result c.self.inside.core_map c.self.inside.swap_map c.take_place.new.core_map c.give_back.new.core_map c.take_place.new.swap_map c.give_back.new.swap_map c.row_of-row.result (kept_is c.self.view_is) c.self.invariant.sound c.self.invariant.maps c.self.invariant.counted c.self.invariant.told c.requires.image (rw c.deref.ensures.value at c.row_of-row.ensures) c.place_of-from.ensures c.requires.segments c.area.ensures.u c.sized_bytes-bytes.ensures.sized c.sized_bytes-bytes.ensures.written (search rules) (sym (placed_is (stock_in c.self.inside) c.args.self.now.kept c.args.s (16 + c.args.d + c.args.stack) c.self.inside.core_map c.self.inside.swap_map c.may_stand-stands.result c.row_of-row.result (Some c.in-Some.place) (kept_is c.self.view_is) c.self.invariant.sound c.self.invariant.maps (rw c.deref.ensures.value at c.row_of-row.ensures) c.may_stand-stands.ensures c.in-Some.ensures.fit)) c.place_click-at.ensures c.place_click-to.ensures c.in-Some.ensures.core c.in-Some.ensures.swap c.give_back.ensures.core c.give_back.ensures.swap c.self.invariant.table c.count-3.ensures.few).room
 
-pub resize_area-requires : goal.resize_area-requires
-resize_area-requires c = rw c.deref_mut-2.ensures.value (seat c.self.inside.areas.items _ c.args.s c.self.invariant.areas (image_low (stock_in c.self.inside) c.args.self.now.kept c.args.s (kept_is c.self.view_is) c.self.invariant.sound c.self.invariant.counted c.requires.image))
-
 pub invariant_of-self-2 : goal.invariant_of-self-2
-invariant_of-self-2 c = let g = (grows (stock_in c.self.inside) c.args.self.now.kept c.args.s c.args.d c.args.stack c.place_click-at.result c.place_click-to.result c.place_of-from.result c.in-Some.place c.area.result c.sized_bytes-bytes.result c.self.inside.core_map c.self.inside.swap_map c.take_place.new.core_map c.give_back.new.core_map c.take_place.new.swap_map c.give_back.new.swap_map c.row_of-row.result (kept_is c.self.view_is) c.self.invariant.sound c.self.invariant.maps c.self.invariant.counted c.self.invariant.told c.requires.image (rw c.deref.ensures.value at c.row_of-row.ensures) c.place_of-from.ensures c.requires.segments c.area.ensures.u c.sized_bytes-bytes.ensures.sized c.sized_bytes-bytes.ensures.written (search rules) (sym (placed_is (stock_in c.self.inside) c.args.self.now.kept c.args.s (16 + c.args.d + c.args.stack) c.self.inside.core_map c.self.inside.swap_map c.may_stand-stands.result c.row_of-row.result (Some c.in-Some.place) (kept_is c.self.view_is) c.self.invariant.sound c.self.invariant.maps (rw c.deref.ensures.value at c.row_of-row.ensures) c.may_stand-stands.ensures c.in-Some.ensures.fit)) c.place_click-at.ensures c.place_click-to.ensures c.in-Some.ensures.core c.in-Some.ensures.swap c.give_back.ensures.core c.give_back.ensures.swap c.move_text.new.core_map (line_of c.lay_resized.new.memory) c.move_text.new.texts (with_items c.self.inside.rows c.set_row.new.rows).items c.move_text.ensures.core c.lay_resized.ensures.line c.move_text.ensures.texts (with_items_is c.self.inside.rows c.set_row.new.rows (c.set_row.ensures.long ∙ c.deref_mut.ensures.len) ∙ (rw c.deref_mut.ensures.value at c.set_row.ensures.rows) ∙ ap (set c.self.inside.rows.items c.args.s) c.sized_row.ensures)) in record { sound = g.sound; maps = g.maps; table = ap length c.move_text.ensures.texts ∙ moved_long c.self.inside.texts c.row_of-row.result.text (Some c.place_of-from.result) c.in-Some.place ∙ c.self.invariant.table; cut = c.lay_resized.ensures.core ∙ c.self.invariant.cut; counted = g.counted; told = g.told; areas = areas_moved c.self.inside.areas.items (with_items c.self.inside.areas c.resize_area.new.areas).items _ _ c.args.self.now.kept c.args.s (area_resized (area_of c.args.self.now.kept c.args.s) c.args.d c.args.stack) (image_resized (image_of c.args.self.now.kept c.args.s) c.args.d c.args.stack) c.in-Some.place (kept_is c.self.view_is) g.kept (image_low (stock_in c.self.inside) c.args.self.now.kept c.args.s (kept_is c.self.view_is) c.self.invariant.sound c.self.invariant.counted c.requires.image) (area_sized c.self.inside.areas.items (with_items c.self.inside.areas c.resize_area.new.areas).items _ c.args.self.now.kept c.args.s c.args.d c.args.stack (kept_is c.self.view_is) c.self.invariant.areas c.requires.image (with_items_is c.self.inside.areas c.resize_area.new.areas (c.resize_area.ensures.long ∙ c.deref_mut-2.ensures.len) ∙ (rw c.deref_mut-2.ensures.value at c.resize_area.ensures.areas))) c.self.invariant.areas }
+invariant_of-self-2 c = let g = (grows (stock_in c.self.inside) c.args.self.now.kept c.args.s c.args.d c.args.stack c.place_click-at.result c.place_click-to.result c.place_of-from.result c.in-Some.place c.area.result c.sized_bytes-bytes.result c.self.inside.core_map c.self.inside.swap_map c.take_place.new.core_map c.give_back.new.core_map c.take_place.new.swap_map c.give_back.new.swap_map c.row_of-row.result (kept_is c.self.view_is) c.self.invariant.sound c.self.invariant.maps c.self.invariant.counted c.self.invariant.told c.requires.image (rw c.deref.ensures.value at c.row_of-row.ensures) c.place_of-from.ensures c.requires.segments c.area.ensures.u c.sized_bytes-bytes.ensures.sized c.sized_bytes-bytes.ensures.written (search rules) (sym (placed_is (stock_in c.self.inside) c.args.self.now.kept c.args.s (16 + c.args.d + c.args.stack) c.self.inside.core_map c.self.inside.swap_map c.may_stand-stands.result c.row_of-row.result (Some c.in-Some.place) (kept_is c.self.view_is) c.self.invariant.sound c.self.invariant.maps (rw c.deref.ensures.value at c.row_of-row.ensures) c.may_stand-stands.ensures c.in-Some.ensures.fit)) c.place_click-at.ensures c.place_click-to.ensures c.in-Some.ensures.core c.in-Some.ensures.swap c.give_back.ensures.core c.give_back.ensures.swap c.move_text.new.core_map (line_of c.lay_resized.new.memory) c.move_text.new.texts (with_items c.self.inside.rows c.set_row.new.rows).items c.move_text.ensures.core c.lay_resized.ensures.line c.move_text.ensures.texts (with_items_is c.self.inside.rows c.set_row.new.rows (c.set_row.ensures.long ∙ c.deref_mut.ensures.len) ∙ (rw c.deref_mut.ensures.value at c.set_row.ensures.rows) ∙ ap (set c.self.inside.rows.items c.args.s) c.sized_row.ensures)) in record { sound = g.sound; maps = g.maps; table = ap length c.move_text.ensures.texts ∙ moved_long c.self.inside.texts c.row_of-row.result.text (Some c.place_of-from.result) c.in-Some.place ∙ c.self.invariant.table; cut = c.lay_resized.ensures.core ∙ c.self.invariant.cut; counted = g.counted; told = g.told }
 
 pub returns-clause-place : goal.returns-clause-place
 returns-clause-place c = sym (placed_is (stock_in c.self.inside) c.args.self.now.kept c.args.s (16 + c.args.d + c.args.stack) c.self.inside.core_map c.self.inside.swap_map c.may_stand-stands.result c.row_of-row.result (Some c.in-Some.place) (kept_is c.self.view_is) c.self.invariant.sound c.self.invariant.maps (rw c.deref.ensures.value at c.row_of-row.ensures) c.may_stand-stands.ensures c.in-Some.ensures.fit)

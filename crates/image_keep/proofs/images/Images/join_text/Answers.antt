@@ -8,7 +8,6 @@ use Rattle.image_keep.specs.Told.{AreTold}
 use Rattle.image_keep.proofs.TextSearch.{used_is}
 use Rattle.image_keep.proofs.NewText.{text_joined, few_users}
 use Rattle.image_keep.proofs.TextTold.{told_joined}
-use Rattle.image_keep.proofs.AreasKept.{areas_joined}
 use Rattle.image_keep.proofs.images.Images.join_text.Goals as goal
 
 pub join-requires-clause-used : goal.join-requires-clause-used
@@ -27,7 +26,6 @@ invariant_of-self c =
       cut = c.self.invariant.cut;
       counted = g.counted;
       told = subst AreTold (sym g.kept) (told_joined c.args.self.now.kept c.args.s c.args.t (subst AreTold (kept_is c.self.view_is) c.self.invariant.told) c.requires.nothing);
-      areas = areas_joined c.self.inside.areas.items _ _ c.args.self.now.kept c.args.s c.args.t (kept_is c.self.view_is) g.kept c.self.invariant.areas;
     }
 
 pub returns : goal.returns

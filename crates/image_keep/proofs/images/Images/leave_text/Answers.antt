@@ -16,7 +16,6 @@ use Rattle.image_keep.proofs.Ended.{both_room}
 use Rattle.image_keep.proofs.SwapOut.{out_long}
 use Rattle.image_keep.proofs.LeaveText.{Unloads, has_text_of, stored_by, unloads, detaches, text_left, text_named, told_answer, others_stay, kept_long}
 use Rattle.image_keep.proofs.TextTold.{told_left}
-use Rattle.image_keep.proofs.AreasKept.{seat, areas_left}
 use Rattle.std.proofs.lemmas.List.{with_items_is}
 use Rattle.image_keep.proofs.images.Images.leave_text.Goals as goal
 
@@ -59,9 +58,6 @@ detach-requires-clause-taken c = (detaches (stock_in c.self.inside) c.args.s c.t
 pub detach-requires-clause-room : goal.detach-requires-clause-room
 detach-requires-clause-room c = (both_room (stock_in c.self.inside) c.self.inside.core_map c.self.inside.swap_map c.self.invariant.sound c.self.invariant.maps c.self.invariant.table c.count.ensures.few c.count-2.ensures.few).1
 
-pub leave_area-requires : goal.leave_area-requires
-leave_area-requires c = rw c.deref_mut-2.ensures.value (seat c.self.inside.areas.items _ c.args.s c.self.invariant.areas (let l = (has_text_of (stock_in c.self.inside) c.args.self.now.kept c.args.s c.text_in-t.result (kept_is c.self.view_is) c.self.invariant.counted (text_named (stock_in c.self.inside) c.args.self.now.kept c.args.s c.text_in-t.result c.row_of-row.result (kept_is c.self.view_is) (rw c.deref.ensures.value at c.row_of-row.ensures) c.text_in-t.ensures)).low in let n = c.self.invariant.sound.slots in omega (arith, l, n)))
-
 pub invariant_of-self : goal.invariant_of-self
 invariant_of-self c =
     let g = (text_left (stock_in c.self.inside) c.args.self.now.kept c.args.s c.text_in-t.result c.args.sticky c.self.inside.core_map c.unload_text.new.core_map c.self.inside.swap_map c.detach.new.swap_map c.row_of-row.result (line_of c.clear_text_size.new.memory) c.unload_text.new.texts c.detach.new.texts (with_items c.self.inside.rows c.give_text.new.rows).items (kept_is c.self.view_is) c.self.invariant.sound c.self.invariant.maps c.self.invariant.counted (has_text_of (stock_in c.self.inside) c.args.self.now.kept c.args.s c.text_in-t.result (kept_is c.self.view_is) c.self.invariant.counted (text_named (stock_in c.self.inside) c.args.self.now.kept c.args.s c.text_in-t.result c.row_of-row.result (kept_is c.self.view_is) (rw c.deref.ensures.value at c.row_of-row.ensures) c.text_in-t.ensures)) (rw c.deref.ensures.value at c.row_of-row.ensures) c.clear_text_size.ensures.line c.clear_text_size.ensures.long (with_items_is c.self.inside.rows c.give_text.new.rows (c.give_text.ensures.long ∙ c.deref_mut.ensures.len) ∙ (rw c.deref_mut.ensures.value at c.give_text.ensures.rows)) (c.unload_text.ensures.texts ∙ ap (leave_texts c.self.inside.texts) c.loaded_text.ensures) (λ y. c.unload_text.ensures.core y ∙ ap (λ x. is_free c.self.inside.core_map y || leaving_units c.self.inside.texts x y) c.loaded_text.ensures) c.detach.ensures.table c.detach.ensures.swap) in
@@ -75,7 +71,6 @@ invariant_of-self c =
       cut = c.clear_text_size.ensures.new_core ∙ c.self.invariant.cut;
       counted = g.counted;
       told = subst AreTold (sym g.kept) (told_left c.args.self.now.kept c.args.s c.text_in-t.result c.args.sticky (subst (λ n. c.args.s < n) (sym long.0) low) (subst (λ n. c.args.s < n) (sym long.1) low) (subst AreTold (kept_is c.self.view_is) c.self.invariant.told) (others_stay (stock_in c.self.inside) c.args.self.now.kept c.args.s c.text_in-t.result c.args.sticky (kept_is c.self.view_is) c.self.invariant.counted (has_text_of (stock_in c.self.inside) c.args.self.now.kept c.args.s c.text_in-t.result (kept_is c.self.view_is) c.self.invariant.counted (text_named (stock_in c.self.inside) c.args.self.now.kept c.args.s c.text_in-t.result c.row_of-row.result (kept_is c.self.view_is) (rw c.deref.ensures.value at c.row_of-row.ensures) c.text_in-t.ensures))));
-      areas = areas_left c.self.inside.areas.items (with_items c.self.inside.areas c.leave_area.new.areas).items _ _ c.args.self.now.kept c.args.s c.text_in-t.result c.args.sticky (kept_is c.self.view_is) g.kept (let l = (has_text_of (stock_in c.self.inside) c.args.self.now.kept c.args.s c.text_in-t.result (kept_is c.self.view_is) c.self.invariant.counted (text_named (stock_in c.self.inside) c.args.self.now.kept c.args.s c.text_in-t.result c.row_of-row.result (kept_is c.self.view_is) (rw c.deref.ensures.value at c.row_of-row.ensures) c.text_in-t.ensures)).low in let n = c.self.invariant.sound.slots in omega (arith, l, n)) (with_items_is c.self.inside.areas c.leave_area.new.areas (c.leave_area.ensures.long ∙ c.deref_mut-2.ensures.len) ∙ (rw c.deref_mut-2.ensures.value at c.leave_area.ensures.areas)) c.self.invariant.areas;
     }
 
 pub returns-clause-left : goal.returns-clause-left

@@ -13,7 +13,6 @@ use Rattle.image_keep.proofs.Ended.{swap_fits}
 use Rattle.image_keep.proofs.TextSearch.{found_is, free_is}
 use Rattle.image_keep.proofs.NewText.{text_made, no_entry, an_entry, nobody_has}
 use Rattle.image_keep.proofs.TextTold.{told_new}
-use Rattle.image_keep.proofs.AreasKept.{areas_new_text}
 use Rattle.image_keep.proofs.images.Images.new_text.Goals as goal
 
 pub returns-then-is_full-clause-text : goal.returns-then-is_full-clause-text
@@ -47,7 +46,6 @@ invariant_of-self-2 c =
       cut = c.clear.ensures.core ∙ c.self.invariant.cut;
       counted = g.counted;
       told = subst AreTold (sym g.kept) (told_new c.args.self.now.kept c.args.s c.attach-t.result c.args.ino c.args.clicks c.in-Some.block (subst AreTold (kept_is c.self.view_is) c.self.invariant.told) c.requires.nothing (nobody_has (stock_in c.self.inside) c.args.self.now.kept c.attach-t.result (kept_is c.self.view_is) c.self.invariant.counted c.attach-t.ensures.first));
-      areas = areas_new_text c.self.inside.areas.items _ _ c.args.self.now.kept c.args.s c.attach-t.result c.args.ino c.args.clicks c.in-Some.block (kept_is c.self.view_is) g.kept c.self.invariant.areas;
     }
 
 pub returns-clause-text : goal.returns-clause-text

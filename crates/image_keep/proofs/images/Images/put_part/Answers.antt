@@ -7,7 +7,6 @@ use Rattle.image_keep.specs.Starts.{AreStarts, start_of}
 use Rattle.image_keep.proofs.RunsRead.{run_read}
 use Rattle.image_keep.proofs.Lent.{side_to}
 use Rattle.image_keep.proofs.Putting.{puts}
-use Rattle.image_keep.proofs.AreasKept.{areas_imaged}
 use Rattle.image_keep.proofs.images.Images.put_part.Goals as goal
 
 pub put-requires-clause-place : goal.put-requires-clause-place
@@ -17,7 +16,7 @@ pub put-requires-clause-inside : goal.put-requires-clause-inside
 put-requires-clause-inside c = subst (λ j. j + (length c.args.bytes.now) ≤ length (line_of c.self.inside.memory)) (sym c.start_of.ensures) (run_read (stock_in c.self.inside) c.args.self.now.kept c.args.s (length c.args.bytes.now) c.args.starts.now c.args.to (kept_is c.self.view_is) c.self.invariant.sound c.self.invariant.counted c.requires.starts c.requires.within c.requires.few c.requires.some).inside
 
 pub invariant_of-self : goal.invariant_of-self
-invariant_of-self c = let g = (puts (stock_in c.self.inside) c.args.self.now.kept c.args.s c.args.starts.now c.args.to c.args.bytes.now (line_of c.put.new.self) (kept_is c.self.view_is) c.self.invariant.sound c.self.invariant.counted c.self.invariant.told c.requires.starts c.requires.within c.requires.storable c.requires.few c.requires.some (c.put.ensures.bytes ∙ ap (λ j. over (line_of c.self.inside.memory) j c.args.bytes.now) c.start_of.ensures)) in record { sound = g.sound; maps = record { core = c.self.invariant.maps.core; swap = c.self.invariant.maps.swap }; table = c.self.invariant.table; cut = c.put.ensures.core ∙ c.self.invariant.cut; counted = c.self.invariant.counted; told = g.told; areas = areas_imaged c.self.inside.areas.items _ _ c.args.self.now.kept c.args.s _ (kept_is c.self.view_is) g.kept c.self.invariant.areas }
+invariant_of-self c = let g = (puts (stock_in c.self.inside) c.args.self.now.kept c.args.s c.args.starts.now c.args.to c.args.bytes.now (line_of c.put.new.self) (kept_is c.self.view_is) c.self.invariant.sound c.self.invariant.counted c.self.invariant.told c.requires.starts c.requires.within c.requires.storable c.requires.few c.requires.some (c.put.ensures.bytes ∙ ap (λ j. over (line_of c.self.inside.memory) j c.args.bytes.now) c.start_of.ensures)) in record { sound = g.sound; maps = record { core = c.self.invariant.maps.core; swap = c.self.invariant.maps.swap }; table = c.self.invariant.table; cut = c.put.ensures.core ∙ c.self.invariant.cut; counted = c.self.invariant.counted; told = g.told }
 
 pub returns-clause-kept : goal.returns-clause-kept
 returns-clause-kept c = (puts (stock_in c.self.inside) c.args.self.now.kept c.args.s c.args.starts.now c.args.to c.args.bytes.now (line_of c.put.new.self) (kept_is c.self.view_is) c.self.invariant.sound c.self.invariant.counted c.self.invariant.told c.requires.starts c.requires.within c.requires.storable c.requires.few c.requires.some (c.put.ensures.bytes ∙ ap (λ j. over (line_of c.self.inside.memory) j c.args.bytes.now) c.start_of.ensures)).kept

@@ -7,7 +7,6 @@ use Rattle.image_keep.specs.Starts.{AreStarts, start_of}
 use Rattle.image_keep.proofs.Lent.{side_to}
 use Rattle.image_keep.proofs.Putting.{low_of, storable_some}
 use Rattle.image_keep.proofs.WordsRead.{word_read, puts_word}
-use Rattle.image_keep.proofs.AreasKept.{areas_imaged}
 use Rattle.image_keep.proofs.images.Images.put_word.Goals as goal
 
 pub start_of-requires : goal.start_of-requires
@@ -20,7 +19,7 @@ pub set_word-requires-clause-inside : goal.set_word-requires-clause-inside
 set_word-requires-clause-inside c = subst (λ j. j + 2 ≤ length (line_of c.self.inside.memory)) (sym c.start_of.ensures) (word_read (stock_in c.self.inside) c.args.self.now.kept c.args.s c.args.starts.now c.args.at (kept_is c.self.view_is) c.self.invariant.sound c.self.invariant.counted c.requires.starts c.requires.within c.requires.next (storable_some c.args.at c.requires.storable)).inside
 
 pub invariant_of-self : goal.invariant_of-self
-invariant_of-self c = let g = (puts_word (stock_in c.self.inside) c.args.self.now.kept c.args.s c.args.starts.now c.args.at c.args.value (line_of c.set_word.new.self) (kept_is c.self.view_is) c.self.invariant.sound c.self.invariant.counted c.self.invariant.told c.requires.starts c.requires.within c.requires.next c.requires.storable (c.set_word.ensures.bytes ∙ ap (λ j. word_set (line_of c.self.inside.memory) j c.args.value) c.start_of.ensures)) in record { sound = g.sound; maps = record { core = c.self.invariant.maps.core; swap = c.self.invariant.maps.swap }; table = c.self.invariant.table; cut = c.set_word.ensures.core ∙ c.self.invariant.cut; counted = c.self.invariant.counted; told = g.told; areas = areas_imaged c.self.inside.areas.items _ _ c.args.self.now.kept c.args.s _ (kept_is c.self.view_is) g.kept c.self.invariant.areas }
+invariant_of-self c = let g = (puts_word (stock_in c.self.inside) c.args.self.now.kept c.args.s c.args.starts.now c.args.at c.args.value (line_of c.set_word.new.self) (kept_is c.self.view_is) c.self.invariant.sound c.self.invariant.counted c.self.invariant.told c.requires.starts c.requires.within c.requires.next c.requires.storable (c.set_word.ensures.bytes ∙ ap (λ j. word_set (line_of c.self.inside.memory) j c.args.value) c.start_of.ensures)) in record { sound = g.sound; maps = record { core = c.self.invariant.maps.core; swap = c.self.invariant.maps.swap }; table = c.self.invariant.table; cut = c.set_word.ensures.core ∙ c.self.invariant.cut; counted = c.self.invariant.counted; told = g.told }
 
 pub returns-clause-kept : goal.returns-clause-kept
 returns-clause-kept c = (puts_word (stock_in c.self.inside) c.args.self.now.kept c.args.s c.args.starts.now c.args.at c.args.value (line_of c.set_word.new.self) (kept_is c.self.view_is) c.self.invariant.sound c.self.invariant.counted c.self.invariant.told c.requires.starts c.requires.within c.requires.next c.requires.storable (c.set_word.ensures.bytes ∙ ap (λ j. word_set (line_of c.self.inside.memory) j c.args.value) c.start_of.ensures)).kept

@@ -9,7 +9,6 @@ use Rattle.image_keep.specs.Line.{line_of}
 use Rattle.image_keep.proofs.Ended.{both_room}
 use Rattle.image_keep.proofs.Reaping.{grave_facts, grave_at, grave_taken, grave_inside, half_got, half_sized, reaped}
 use Rattle.image_keep.proofs.Told.{bare_told, grave_text}
-use Rattle.image_keep.proofs.AreasKept.{areas_bare}
 use Rattle.image_keep.proofs.images.Images.reap.Goals as goal
 
 pub row_of-row-requires : goal.row_of-row-requires
@@ -40,7 +39,7 @@ pub set_row-requires : goal.set_row-requires
 set_row-requires c = rw c.deref_mut.ensures.value ((grave_facts (stock_in c.self.inside) c.args.self.now.kept c.args.s (kept_is c.self.view_is) c.self.invariant.sound c.requires).low)
 
 pub invariant_of-self : goal.invariant_of-self
-invariant_of-self c = let g = (reaped (stock_in c.self.inside) c.args.self.now.kept c.args.s c.grave_block-block.result c.self.inside.core_map c.self.inside.swap_map c.give.new.self c.row_of-row.result (with_items c.self.inside.rows c.set_row.new.rows).items (kept_is c.self.view_is) c.self.invariant.sound c.self.invariant.maps c.self.invariant.counted (grave_at (stock_in c.self.inside) c.args.self.now.kept c.args.s c.grave_block-block.result c.row_of-row.result (kept_is c.self.view_is) c.self.invariant.sound c.requires (rw c.deref.ensures.value at c.row_of-row.ensures) c.grave_block-block.ensures) (grave_text _ c.args.self.now.kept c.args.s (kept_is c.self.view_is) c.self.invariant.told c.requires) (rw c.deref.ensures.value at c.row_of-row.ensures) c.give.ensures (with_items_is c.self.inside.rows c.set_row.new.rows (c.set_row.ensures.long ∙ c.deref_mut.ensures.len) ∙ (rw c.deref_mut.ensures.value at c.set_row.ensures.rows) ∙ ap (set c.self.inside.rows.items c.args.s) c.nothing_row.ensures)) in record { sound = g.sound; maps = g.maps; table = c.self.invariant.table; cut = c.self.invariant.cut; counted = g.counted; told = bare_told _ _ c.args.self.now.kept c.args.s (kept_is c.self.view_is) g.kept c.self.invariant.told; areas = areas_bare c.self.inside.areas.items _ _ c.args.self.now.kept c.args.s (kept_is c.self.view_is) g.kept c.self.invariant.areas }
+invariant_of-self c = let g = (reaped (stock_in c.self.inside) c.args.self.now.kept c.args.s c.grave_block-block.result c.self.inside.core_map c.self.inside.swap_map c.give.new.self c.row_of-row.result (with_items c.self.inside.rows c.set_row.new.rows).items (kept_is c.self.view_is) c.self.invariant.sound c.self.invariant.maps c.self.invariant.counted (grave_at (stock_in c.self.inside) c.args.self.now.kept c.args.s c.grave_block-block.result c.row_of-row.result (kept_is c.self.view_is) c.self.invariant.sound c.requires (rw c.deref.ensures.value at c.row_of-row.ensures) c.grave_block-block.ensures) (grave_text _ c.args.self.now.kept c.args.s (kept_is c.self.view_is) c.self.invariant.told c.requires) (rw c.deref.ensures.value at c.row_of-row.ensures) c.give.ensures (with_items_is c.self.inside.rows c.set_row.new.rows (c.set_row.ensures.long ∙ c.deref_mut.ensures.len) ∙ (rw c.deref_mut.ensures.value at c.set_row.ensures.rows) ∙ ap (set c.self.inside.rows.items c.args.s) c.nothing_row.ensures)) in record { sound = g.sound; maps = g.maps; table = c.self.invariant.table; cut = c.self.invariant.cut; counted = g.counted; told = bare_told _ _ c.args.self.now.kept c.args.s (kept_is c.self.view_is) g.kept c.self.invariant.told }
 
 pub returns-clause-half : goal.returns-clause-half
 returns-clause-half c = half_got (stock_in c.self.inside) c.args.self.now.kept c.args.s c.grave_block-block.result c.block_click-at.result c.half.new.out (kept_is c.self.view_is) c.self.invariant.sound (grave_at (stock_in c.self.inside) c.args.self.now.kept c.args.s c.grave_block-block.result c.row_of-row.result (kept_is c.self.view_is) c.self.invariant.sound c.requires (rw c.deref.ensures.value at c.row_of-row.ensures) c.grave_block-block.ensures).is c.block_click-at.ensures c.half.ensures

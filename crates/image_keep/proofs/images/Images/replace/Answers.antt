@@ -16,7 +16,6 @@ use Rattle.image_keep.proofs.KeptForm.{row_low}
 use Rattle.image_keep.proofs.Found.{placed_is, place_found, place_inside, place_low}
 use Rattle.image_keep.proofs.Growing.{moved_long}
 use Rattle.image_keep.proofs.Made.{makes}
-use Rattle.image_keep.proofs.AreasKept.{seat, areas_moved}
 use Rattle.image_keep.proofs.images.Images.replace.Goals as goal
 
 pub row_of-row-requires : goal.row_of-row-requires
@@ -49,11 +48,8 @@ enter_place-requires-clause-used c t e = c.self.invariant.counted.used c.args.s 
 pub enter_place-requires-clause-few : goal.enter_place-requires-clause-few
 enter_place-requires-clause-few c t e = (few_users (stock_in c.self.inside) c.args.s c.row_of-row.result c.self.invariant.sound c.self.invariant.counted (rw c.deref.ensures.value at c.row_of-row.ensures) t (sym (c.requires.text ∙ sym (ap (λ j. text_of j c.args.s) (kept_is c.self.view_is)) ∙ text_of_row (stock_in c.self.inside) c.args.s ∙ sym (ap (λ (r : Row). r.text) (rw c.deref.ensures.value at c.row_of-row.ensures))) ∙ e)).1
 
-pub put_area-requires : goal.put_area-requires
-put_area-requires c = rw c.deref_mut-2.ensures.value (seat c.self.inside.areas.items _ c.args.s c.self.invariant.areas c.requires.slot)
-
 pub invariant_of-self-2 : goal.invariant_of-self-2
-invariant_of-self-2 c = let g = (makes (stock_in c.self.inside) c.args.self.now.kept c.args.s c.args.p.text_size c.args.p.data_size c.args.p.stack_size c.place_click-at.result c.in-Some.place c.args.text c.made_bytes-bytes.result c.self.inside.core_map c.self.inside.swap_map c.take_place.new.core_map c.take_place.new.swap_map c.row_of-row.result (line_of c.lay_cleared.new.memory) c.enter_place.new.texts (with_items c.self.inside.rows c.set_row.new.rows).items (kept_is c.self.view_is) c.self.invariant.sound c.self.invariant.maps c.self.invariant.counted c.self.invariant.told (row_low (stock_in c.self.inside) c.args.s c.self.invariant.sound c.requires.slot) c.requires.nothing c.requires.text c.requires.text_size c.args.p.segments (rw c.deref.ensures.value at c.row_of-row.ensures) c.made_bytes-bytes.ensures.sized c.made_bytes-bytes.ensures.written (search rules) (sym (placed_is (stock_in c.self.inside) c.args.self.now.kept c.args.s (16 + c.args.p.data_size + c.args.p.stack_size) c.self.inside.core_map c.self.inside.swap_map c.may_stand-stands.result c.row_of-row.result (Some c.in-Some.place) (kept_is c.self.view_is) c.self.invariant.sound c.self.invariant.maps (rw c.deref.ensures.value at c.row_of-row.ensures) (c.may_stand-stands.ensures ∙ ap (may_stand c.self.inside.texts) (c.requires.text ∙ sym (ap (λ j. text_of j c.args.s) (kept_is c.self.view_is)) ∙ text_of_row (stock_in c.self.inside) c.args.s ∙ sym (ap (λ (r : Row). r.text) (rw c.deref.ensures.value at c.row_of-row.ensures)))) c.in-Some.ensures.fit)) c.place_click-at.ensures c.in-Some.ensures.core c.in-Some.ensures.swap c.lay_cleared.ensures.line c.enter_place.ensures (with_items_is c.self.inside.rows c.set_row.new.rows (c.set_row.ensures.long ∙ c.deref_mut.ensures.len) ∙ (rw c.deref_mut.ensures.value at c.set_row.ensures.rows) ∙ ap (set c.self.inside.rows.items c.args.s) c.sized_row.ensures)) in record { sound = g.sound; maps = g.maps; table = ap length c.enter_place.ensures ∙ moved_long c.self.inside.texts c.args.text None c.in-Some.place ∙ c.self.invariant.table; cut = c.lay_cleared.ensures.core ∙ c.self.invariant.cut; counted = g.counted; told = g.told; areas = areas_moved c.self.inside.areas.items (with_items c.self.inside.areas c.put_area.new.areas).items _ _ c.args.self.now.kept c.args.s (made_area c.args.p.text_size c.args.p.data_size c.args.p.stack_size) _ c.in-Some.place (kept_is c.self.view_is) g.kept c.requires.slot ((with_items_is c.self.inside.areas c.put_area.new.areas (c.put_area.ensures.long ∙ c.deref_mut-2.ensures.len) ∙ (rw c.deref_mut-2.ensures.value at c.put_area.ensures.areas)) ∙ ap (set c.self.inside.areas.items c.args.s) c.made_area.ensures) c.self.invariant.areas }
+invariant_of-self-2 c = let g = (makes (stock_in c.self.inside) c.args.self.now.kept c.args.s c.args.p.text_size c.args.p.data_size c.args.p.stack_size c.place_click-at.result c.in-Some.place c.args.text c.made_bytes-bytes.result c.self.inside.core_map c.self.inside.swap_map c.take_place.new.core_map c.take_place.new.swap_map c.row_of-row.result (line_of c.lay_cleared.new.memory) c.enter_place.new.texts (with_items c.self.inside.rows c.set_row.new.rows).items (kept_is c.self.view_is) c.self.invariant.sound c.self.invariant.maps c.self.invariant.counted c.self.invariant.told (row_low (stock_in c.self.inside) c.args.s c.self.invariant.sound c.requires.slot) c.requires.nothing c.requires.text c.requires.text_size c.args.p.segments (rw c.deref.ensures.value at c.row_of-row.ensures) c.made_bytes-bytes.ensures.sized c.made_bytes-bytes.ensures.written (search rules) (sym (placed_is (stock_in c.self.inside) c.args.self.now.kept c.args.s (16 + c.args.p.data_size + c.args.p.stack_size) c.self.inside.core_map c.self.inside.swap_map c.may_stand-stands.result c.row_of-row.result (Some c.in-Some.place) (kept_is c.self.view_is) c.self.invariant.sound c.self.invariant.maps (rw c.deref.ensures.value at c.row_of-row.ensures) (c.may_stand-stands.ensures ∙ ap (may_stand c.self.inside.texts) (c.requires.text ∙ sym (ap (λ j. text_of j c.args.s) (kept_is c.self.view_is)) ∙ text_of_row (stock_in c.self.inside) c.args.s ∙ sym (ap (λ (r : Row). r.text) (rw c.deref.ensures.value at c.row_of-row.ensures)))) c.in-Some.ensures.fit)) c.place_click-at.ensures c.in-Some.ensures.core c.in-Some.ensures.swap c.lay_cleared.ensures.line c.enter_place.ensures (with_items_is c.self.inside.rows c.set_row.new.rows (c.set_row.ensures.long ∙ c.deref_mut.ensures.len) ∙ (rw c.deref_mut.ensures.value at c.set_row.ensures.rows) ∙ ap (set c.self.inside.rows.items c.args.s) c.sized_row.ensures)) in record { sound = g.sound; maps = g.maps; table = ap length c.enter_place.ensures ∙ moved_long c.self.inside.texts c.args.text None c.in-Some.place ∙ c.self.invariant.table; cut = c.lay_cleared.ensures.core ∙ c.self.invariant.cut; counted = g.counted; told = g.told }
 
 pub returns-clause-place : goal.returns-clause-place
 returns-clause-place c = sym (placed_is (stock_in c.self.inside) c.args.self.now.kept c.args.s (16 + c.args.p.data_size + c.args.p.stack_size) c.self.inside.core_map c.self.inside.swap_map c.may_stand-stands.result c.row_of-row.result (Some c.in-Some.place) (kept_is c.self.view_is) c.self.invariant.sound c.self.invariant.maps (rw c.deref.ensures.value at c.row_of-row.ensures) (c.may_stand-stands.ensures ∙ ap (may_stand c.self.inside.texts) (c.requires.text ∙ sym (ap (λ j. text_of j c.args.s) (kept_is c.self.view_is)) ∙ text_of_row (stock_in c.self.inside) c.args.s ∙ sym (ap (λ (r : Row). r.text) (rw c.deref.ensures.value at c.row_of-row.ensures)))) c.in-Some.ensures.fit)

@@ -1,5 +1,4 @@
 use Rattle.std.proofs.Common.{rules, ◌∙◌, ap}
-use Rattle.u_area.specs.declared.area.UArea.{UArea}
 use Rattle.image_keep.specs.Lent.{Lent}
 use Rattle.image_keep.proofs.Executed.{fixed_after, outcome_is, kept_after}
 use Rattle.image_keep.proofs.images.Images.step_lent.Goals as goal
@@ -18,7 +17,7 @@ returns-clause-outcome c =
     let done = c.step-outcome in
     outcome_is c.args.self.now lent.result.images.now done.new.space.images.now c.args.fixed.now lent.result.slot done.new.space.slot _ _
     c.requires lent.ensures.images lent.ensures.slot done.ensures.rest _ _ done.new.regs done.result
-    (ap (λ (u : UArea). u.r) c.area_at-u.ensures) (ap (λ (u : UArea). u.cc) c.area_at-u.ensures) done.ensures.step
+    c.registers_at-regs.ensures.r c.registers_at-regs.ensures.cc done.ensures.step
 
 pub returns-clause-kept : goal.returns-clause-kept
 returns-clause-kept c =
@@ -27,5 +26,5 @@ returns-clause-kept c =
     let loan = ap (λ (l : Lent). l.loan) done.ensures.rest ∙ lent.ensures.loan in
     kept_after c.args.self.now lent.result.images.now done.new.space.images.now c.args.fixed.now lent.result.slot done.new.space.slot _ _
     c.requires lent.ensures.images lent.ensures.slot done.ensures.rest _ _ done.new.regs done.result
-    (ap (λ (u : UArea). u.r) c.area_at-u.ensures) (ap (λ (u : UArea). u.cc) c.area_at-u.ensures) done.ensures.step
+    c.registers_at-regs.ensures.r c.registers_at-regs.ensures.cc done.ensures.step
     _ _ (search (rules, loan)) c.set_registers_at.ensures.kept

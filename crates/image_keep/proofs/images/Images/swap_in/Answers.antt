@@ -10,7 +10,6 @@ use Rattle.image_keep.specs.Moves.{swapped_in}
 use Rattle.image_keep.proofs.Facts.{facts}
 use Rattle.image_keep.proofs.InPlan.{plan, found_at, came_in, in_none, long_texts}
 use Rattle.image_keep.proofs.Told.{in_told}
-use Rattle.image_keep.proofs.AreasKept.{areas_in}
 use Rattle.image_keep.proofs.images.Images.swap_in.Goals as goal
 
 pub row_of-row-requires : goal.row_of-row-requires
@@ -70,7 +69,6 @@ invariant_of-self-2 c =
       cut = c.copy_image.ensures.new_core ∙ c.load_text.ensures.new_core ∙ c.self.invariant.cut;
       counted = g.counted;
       told = in_told _ _ c.args.self.now.kept c.args.s c.in-Some.at (kept_is c.self.view_is) g.kept c.self.invariant.told;
-      areas = areas_in c.self.inside.areas.items _ _ c.args.self.now.kept c.args.s c.in-Some.at (kept_is c.self.view_is) g.kept c.self.invariant.areas;
     }
 
 pub returns-clause-kept : goal.returns-clause-kept

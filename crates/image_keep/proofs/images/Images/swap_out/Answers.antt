@@ -17,7 +17,6 @@ use Rattle.image_keep.proofs.AreaSet.{same_place}
 use Rattle.image_keep.proofs.Ended.{units_taken, both_room, swap_fits, row_inside, still_taken}
 use Rattle.image_keep.proofs.SwapOut.{gone_out, out_text, out_clicks, out_long, out_none}
 use Rattle.image_keep.proofs.Told.{out_told}
-use Rattle.image_keep.proofs.AreasKept.{areas_out}
 use Rattle.image_keep.proofs.images.Images.swap_out.Goals as goal
 
 pub row_of-row-requires : goal.row_of-row-requires
@@ -81,7 +80,6 @@ invariant_of-self-2 c =
       cut = c.copy.ensures.core ∙ c.self.invariant.cut;
       counted = g.counted;
       told = out_told _ _ c.args.self.now.kept c.args.s c.in-Some.block (kept_is c.self.view_is) g.kept c.self.invariant.told;
-      areas = areas_out c.self.inside.areas.items _ _ c.args.self.now.kept c.args.s c.in-Some.block (kept_is c.self.view_is) g.kept c.self.invariant.areas;
     }
 
 pub returns-clause-block : goal.returns-clause-block

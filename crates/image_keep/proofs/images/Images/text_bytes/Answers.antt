@@ -6,7 +6,6 @@ use Rattle.image_keep.specs.Line.{line_of}
 use Rattle.image_keep.specs.Memory.{swap_at, kept_of}
 use Rattle.image_keep.proofs.Filling.{used_there, fill_inside, block_low, text_filled}
 use Rattle.image_keep.proofs.Told.{filled_told}
-use Rattle.image_keep.proofs.AreasKept.{areas_filled}
 use Rattle.image_keep.proofs.images.Images.text_bytes.Goals as goal
 
 pub row-row-requires : goal.row-row-requires
@@ -35,7 +34,6 @@ invariant_of-self c = record {
   cut = c.put.ensures.core ∙ c.self.invariant.cut;
   counted = c.self.invariant.counted;
   told = (let g = (text_filled (stock_in c.self.inside) c.args.self.now.kept c.args.t c.args.at c.block_click-first.result c.args.bytes.now (line_of c.put.new.self) c.requires.0 (kept_is c.self.view_is) c.self.invariant.sound c.requires.1 c.requires.2 c.requires.3 (c.block_click-first.ensures ∙ ap (λ (r : TextRow). swap_at c.self.inside.core r.block) c.row-row.ensures) c.put.ensures.bytes) in filled_told (kept_of (stock_in c.self.inside)) (kept_of (record (stock_in c.self.inside) { line = line_of c.put.new.self })) c.args.self.now.kept c.args.t c.args.at c.args.bytes.now (kept_is c.self.view_is) g.texts g.users g.slots c.self.invariant.told);
-  areas = areas_filled c.self.inside.areas.items (kept_of (stock_in c.self.inside)) (kept_of (record (stock_in c.self.inside) { line = line_of c.put.new.self })) c.args.self.now.kept c.args.t _ (kept_is c.self.view_is) (text_filled (stock_in c.self.inside) c.args.self.now.kept c.args.t c.args.at c.block_click-first.result c.args.bytes.now (line_of c.put.new.self) c.requires.0 (kept_is c.self.view_is) c.self.invariant.sound c.requires.1 c.requires.2 c.requires.3 (c.block_click-first.ensures ∙ ap (λ (r : TextRow). swap_at c.self.inside.core r.block) c.row-row.ensures) c.put.ensures.bytes).slots c.self.invariant.areas;
 }
 
 pub returns-clause-texts : goal.returns-clause-texts
