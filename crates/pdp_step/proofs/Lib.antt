@@ -8,4 +8,3 @@ pub mod RowEnds
 pub mod PcRows
 pub mod AnyMode
 pub mod TableRows
-pub mod PcSource

@@ -18,7 +18,6 @@ mod outcome;
 mod pair;
 mod pair_rows;
 mod processor;
-mod rare;
 mod regs;
 mod size;
 mod stepping;
@@ -31,7 +30,6 @@ pub use handlers::{
 };
 pub use outcome::{Kind, Outcome};
 pub use processor::Processor;
-pub use rare::perform_rare;
 pub use regs::Regs;
 pub use stepping::step;
 pub use table::perform_any;
