@@ -1,7 +1,7 @@
 //! The images of all slots, in core and in the swap area.
 ghost use Rattle.std.specs.Prelude.{◌≡◌, ◌⊎◌, ◌+◌, ◌*◌, ◌-◌, ◌<◌, ◌≤◌, ℕ, ◌||◌, true, false, None, Some, IfOk, MatchResult, List, length, slice_index, slice_index_or, slice_set, replicate};
 ghost use Rattle.image_keep.specs.declared.memory.TheConstants.{SWAP_BYTES};
-ghost use Rattle.image_keep.specs.Kept.{Kept, first_kept, IsKept, HasImage, HasGrave, place_of, area_of, with_keeping, text_of, Nothing};
+ghost use Rattle.image_keep.specs.Kept.{first_kept, IsKept, HasImage, HasGrave, place_of, area_of, with_keeping, text_of, Nothing};
 ghost use Rattle.image_keep.specs.Growth.{most_clicks};
 ghost use Rattle.image_keep.specs.Memory.{no_row};
 ghost use Rattle.image_keep.specs.Places.{swap_fit, with_grave_at};

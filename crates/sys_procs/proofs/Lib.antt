@@ -3,6 +3,7 @@ pub mod Slots
 pub mod Tables
 pub mod Agreement
 pub mod Alive
+pub mod PutAreas
 pub mod Shown
 pub mod Dones
 pub mod IdsLemmas

@@ -36,12 +36,12 @@ module _ (p new : Procs) (fs : FileSystem) (s : ℕ) (t : Taken) (same : board n
   times_none None none state = done_none _ (Fail EFAULT) refl refl state same
   times_none (Some image) none state = absurd (cc none)
 
-  pub times_some : (u : UArea) → IsAlive p s → u ≡ (process_of (handed p fs) s).u → (o : Option Image) → is_some o ≡ true
-      → handed new fs ≡ (stored (handed p fs) s o).state
-      → HasDone p new fs (Ok (Ret (get_or u.r 0 0) (get_or u.r 1 0))) t t (stored (handed p fs) s o)
-  times_some u alive is None some state = absurd (cc some)
-  times_some u alive is (Some image) some state =
+  pub times_some : (u : UArea) (r0 r1 : ℕ) → r0 ≡ get_or u.r 0 0 → r1 ≡ get_or u.r 1 0 → IsAlive p s → u ≡ (process_of (handed p fs) s).u
+      → (o : Option Image) → is_some o ≡ true → handed new fs ≡ (stored (handed p fs) s o).state
+      → HasDone p new fs (Ok (Ret r0 r1)) t t (stored (handed p fs) s o)
+  times_some u r0 r1 first second alive is None some state = absurd (cc some)
+  times_some u r0 r1 first second alive is (Some image) some state =
       let done : Answer → Result Answer PanicKind = λ a. Ok a in
       done_none _ _ refl
-      (ap done (answer_stays p fs s (λ (q : Process). record q { «data» = image.data; stack = image.stack }) u alive is (λ q. refl)))
+      (ap done ((λ i. Ret (first i) (second i)) ∙ answer_stays p fs s (λ (q : Process). record q { «data» = image.data; stack = image.stack }) u alive is (λ q. refl)))
       state same

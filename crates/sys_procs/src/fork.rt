@@ -1,5 +1,5 @@
 //! fork(II).
-ghost use Rattle.std.specs.Prelude.{◌≡◌, ◌≢◌, ◌+◌, ◌%◌, ◌<◌, ◌≤◌, ℕ, is_none, slice_index, slice_set, Some};
+ghost use Rattle.std.specs.Prelude.{◌≡◌, ◌≢◌, ◌<◌, ◌≤◌, ℕ, is_none, slice_index, Some};
 ghost use Rattle.v6_base.specs.Trace.{Took};
 ghost use Rattle.fs_nodes.specs.FileSystem.{SameRest};
 ghost use Rattle.fs_tree.specs.Finding.{inodes_of, with_reference};
@@ -19,7 +19,7 @@ use fs_tree::{Tree, refer_again};
 use pick_rules::{Stat, Table, TableRow};
 use proc_tab::Rows;
 use u_area::{directory, register};
-use v6_base::{Answer, Entry, Errno, PanicKind, Pid, Place, Slot, Trace};
+use v6_base::{Answer, Entry, Errno, PanicKind, Place, Slot, Trace};
 
 /// A parent passes the word in which its child begins.
 fn pass_word(p: &mut Procs, s: Slot)

@@ -1,5 +1,5 @@
 //! Signals are sent, and what they do is asked for: kill(II), signal(II).
-ghost use Rattle.std.specs.Prelude.{◌≡◌, ◌<◌, ◌∷◌, [], true, false, nat_lt, if◌then◌else◌, length, map, slice_index, slice_set};
+ghost use Rattle.std.specs.Prelude.{◌≡◌, ◌<◌, ◌∷◌, [], true, false, nat_lt, if◌then◌else◌, length, map, slice_index};
 ghost use Rattle.v6_base.specs.Trace.{Took};
 ghost use Rattle.fs_nodes.specs.FileSystem.{FileSystem, SameRest};
 ghost use Rattle.pick_rules.specs.Table.{IsTable};
@@ -266,9 +266,10 @@ pub fn signal_set<T: Trace>(
         return Ok(Answer::Fail(Errno::EINVAL));
     }
     let area = p.area_bytes(s);
-    let r0 = handler(area, usize::from(sig));
+    let number = usize::from(sig);
+    let r0 = handler(area, number);
     let r1 = register(area, 1);
-    p.put_handler(s, usize::from(sig), args[1]);
+    p.put_handler(s, number, args[1]);
     forget(p, s, sig);
     Ok(Answer::Ret { r0, r1 })
 }

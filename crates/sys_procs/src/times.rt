@@ -2,13 +2,10 @@
 ghost use Rattle.std.specs.Prelude.{◌≡◌, ℕ, ◌+◌, ◌*◌, ◌/◌, ◌%◌, ◌^◌, ◌<◌, [], ◌∷◌, slice_index, is_some};
 ghost use Rattle.v6_base.specs.Trace.{Took, Log};
 ghost use Rattle.v6_base.specs.Copy.{store_bytes};
-ghost use Rattle.fs_codec.specs.Bytes.{bytes_of};
-ghost use Rattle.u_area.specs.Area.{times};
-ghost use Rattle.u_area.specs.declared.layout.TheConstants.{SLEEP_CALL};
 ghost use Rattle.fs_nodes.specs.FileSystem.{FileSystem, SameRest};
 ghost use Rattle.pick_rules.specs.Apply.{applied};
 ghost use Rattle.sys_procs.specs.World.{change};
-ghost use Rattle.sys_procs.specs.Handed.{Calls, AreProcs, IsAlive, handed, board, process_here, memory_here};
+ghost use Rattle.sys_procs.specs.Handed.{Calls, AreProcs, IsAlive, handed, board, memory_here};
 ghost use Rattle.sys_procs.specs.Times.{time_now, set_time, sleep_until, sleep_for, sleeping_until, tout_with, with_time, stored, times_to};
 ghost use Rattle.sys_procs.specs.Done.{HasDone};
 
@@ -91,7 +88,8 @@ pub fn set_time<T: Trace>(
     ensures blocks { SameRest tree.old.nodes tree.new.nodes }
 {
     let area = p.area_bytes(s);
-    if ids(area)[0] != 0 {
+    let uid = ids(area)[0];
+    if uid != 0 {
         return Ok(Answer::Fail(Errno::EPERM));
     }
     let r0 = register(area, 0);
@@ -218,13 +216,12 @@ pub fn times_to<T: Trace>(
     if at % 2 == 1 {
         return Ok(Answer::Fail(Errno::EFAULT));
     }
-    let times = time_bytes(p.area_bytes(s));
+    let area = p.area_bytes(s);
+    let r0 = register(area, 0);
+    let r1 = register(area, 1);
+    let times = time_bytes(area);
     if !put_bytes(p, s, at, &times) {
         return Ok(Answer::Fail(Errno::EFAULT));
     }
-    let area = p.area_bytes(s);
-    Ok(Answer::Ret {
-        r0: register(area, 0),
-        r1: register(area, 1),
-    })
+    Ok(Answer::Ret { r0, r1 })
 }

@@ -1,10 +1,9 @@
 //! wait(II).
-ghost use Rattle.std.specs.Prelude.{◌≡◌, ◌<◌, ◌∷◌, [], replicate};
+ghost use Rattle.std.specs.Prelude.{◌≡◌, ◌<◌, ◌∷◌, []};
 ghost use Rattle.v6_base.specs.Trace.{Took, Log};
 ghost use Rattle.fs_nodes.specs.FileSystem.{FileSystem, SameRest};
 ghost use Rattle.u_area.specs.declared.area.UArea.{UArea};
 ghost use Rattle.u_area.specs.Area.{IsSized, half_bytes};
-ghost use Rattle.u_area.specs.declared.layout.TheConstants.{WAIT_CALL};
 ghost use Rattle.image_keep.specs.Kept.{with_keeping, HasGrave, IsKept, Nothing};
 ghost use Rattle.pick_rules.specs.Table.{IsTable, empty_row, with_row};
 ghost use Rattle.pick_rules.specs.Apply.{applied};

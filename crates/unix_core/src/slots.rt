@@ -12,7 +12,7 @@ ghost use Rattle.sys_procs.specs.Resume.{awake};
 ghost use Rattle.sys_procs.specs.World.{clock_of};
 ghost use Rattle.abstract_unix.specs.Unix.{Unix, process_of, with_process};
 ghost use Rattle.abstract_unix.specs.Steps.{returns};
-ghost use Rattle.abstract_unix.specs.Calls.{waiting_area, waits_for_disk};
+ghost use Rattle.abstract_unix.specs.Calls.{waits_for_disk};
 ghost use Rattle.abstract_unix.specs.Turn.{with_slot, waits_until};
 ghost use Rattle.abstract_unix.specs.Outside.{turned_to, paced_of};
 ghost use Rattle.pick_rules.specs.Table.{row_at};
@@ -21,7 +21,7 @@ ghost use Rattle.sys_procs.specs.Handed.{AreProcs};
 ghost use Rattle.sys_procs.specs.Signals.{is_meant};
 ghost use Rattle.unix_core.specs.Parts.{unix_of, board_in, system_at, one_before, IsGood, IsReady, HasCome};
 ghost use Rattle.unix_core.specs.Passing.{all_woken};
-ghost use Rattle.unix_core.specs.Slots.{passed_in, timing_in, NoneSend, CanWait, IsTimed, IsCounted, HasWaited, rested_area, processes_of, woken_with, AreDueFrom, NoneInGraves, sent_after, with_sent, slot_items, slot_wakes};
+ghost use Rattle.unix_core.specs.Slots.{passed_in, timing_in, NoneSend, CanWait, IsTimed, IsCounted, HasWaited, processes_of, woken_with, AreDueFrom, NoneInGraves, sent_after, with_sent, slot_items, slot_wakes};
 ghost use Rattle.unix_core.specs.declared.slots.TheConstants.{NEVER};
 
 use crate::settling::wake;

@@ -37,7 +37,7 @@ lent_is : (c : goal.After-fill) → kept.image_of c.space-space.result.images.no
 lent_is c =
     ap (kept.image_of c.space-space.result.images.now.kept) c.space-space.ensures.slot
     ∙ (ap (λ (i : ImagesState). kept.image_of i.kept c.args.s) c.space-space.ensures.images
-    ∙ (sym (image_here c.args.p.now c.args.s c.requires.alive c.area-area.ensures.holds) ∙ c.requires.cleared))
+    ∙ (sym (image_here c.args.p.now c.args.s c.requires.alive c.see_kept.ensures) ∙ c.requires.cleared))
 
 abbrev read : goal.After-fill → Moving Image
 read c = data_read (handed c.args.p.now c.args.tree.now.nodes) c.args.s c.args.program.now
@@ -52,7 +52,7 @@ returns-clause-state c =
     let p = c.args.p.now in
     let fs : FileSystem = c.fill.new.nodes in
     let old : Process = process_here p c.args.s in
-    loan_state p c.args.s c.requires.alive c.area-area.ensures.holds.slots (now c) (left c) fs
+    loan_state p c.args.s c.requires.alive c.see_kept.ensures.slots (now c) (left c) fs
     ∙ (λ i. with_process (record (handed p c.args.tree.now.nodes) {
       inodes = record {
         store = c.fill.ensures.store (memory_here p c.args.s).text (lent_is c) i;
@@ -71,16 +71,16 @@ long_is p s size alive holds same =
 pub fill-requires-clause-cleared : goal.fill-requires-clause-cleared
 fill-requires-clause-cleared c = (
   (memory_here c.args.p.now c.args.s).text,
-  long_is c.args.p.now c.args.s c.args.program.now.text_clicks c.requires.alive c.area-area.ensures.holds c.requires.text_size,
+  long_is c.args.p.now c.args.s c.args.program.now.text_clicks c.requires.alive c.see_kept.ensures c.requires.text_size,
   ap (kept.image_of c.space-space.result.images.now.kept) c.space-space.ensures.slot
       ∙ (ap (λ (i : ImagesState). kept.image_of i.kept c.args.s) c.space-space.ensures.images
-      ∙ (sym (image_here c.args.p.now c.args.s c.requires.alive c.area-area.ensures.holds) ∙ c.requires.cleared)),
+      ∙ (sym (image_here c.args.p.now c.args.s c.requires.alive c.see_kept.ensures) ∙ c.requires.cleared)),
 )
 
 pub returns-clause-board : goal.returns-clause-board
 returns-clause-board c =
-    loan_board c.args.p.now c.args.s c.requires.alive c.area-area.ensures.holds.slots (now c) (left c)
+    loan_board c.args.p.now c.args.s c.requires.alive c.see_kept.ensures.slots (now c) (left c)
 
 pub returns-clause-alive : goal.returns-clause-alive
 returns-clause-alive c =
-    loan_alive c.args.p.now c.args.s c.requires.alive c.area-area.ensures.holds.slots (now c) (left c)
+    loan_alive c.args.p.now c.args.s c.requires.alive c.see_kept.ensures.slots (now c) (left c)

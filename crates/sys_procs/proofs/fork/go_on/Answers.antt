@@ -1,72 +1,59 @@
-use Rattle.std.proofs.Common.{◌≡◌, ◌∙◌, ℕ, ◌+◌, ◌%◌, slice_index, slice_set, get_or, ap, sym}
+use Rattle.std.proofs.Common.{◌≡◌, ◌∙◌, ◌<◌, ℕ, List, Option, Some, get_or, slice_index, ap, sym, subst}
+use Rattle.std.proofs.lemmas.List.{set-set}
 use Rattle.v6_base.specs.declared.answer.Answer.TheVariants.{Ret}
 use Rattle.u_area.specs.declared.area.UArea.{UArea}
+use Rattle.u_area.specs.Fields.{with_register, with_no_times}
 use Rattle.fs_tree.specs.Finding.{Inodes, with_reference, inodes_of}
+use Rattle.proc_tab.specs.declared.row.Row.{Row}
 use Rattle.sys_procs.specs.Process.{Process}
 use Rattle.sys_procs.specs.World.{World, with_process, change}
 use Rattle.sys_procs.specs.Fork.{past_word}
 use Rattle.sys_procs.specs.Handed.{handed, process_here}
-use Rattle.sys_procs.proofs.Forks.{begun_by, still_alive, still_here}
+use Rattle.sys_procs.proofs.Forks.{begun_by, still_alive}
 use Rattle.sys_procs.proofs.fork.go_on.Goals as goal
 
-pub put_area-requires-2-clause-alive : goal.put_area-requires-2-clause-alive
-put_area-requires-2-clause-alive c =
-    still_alive c.args.p.now c.put_area.new.self c.args.s c.args.child c.begun.result c.requires.parent c.requires.apart c.put_area.ensures.images c.put_area.ensures.alive.agree
+pub pass_word-requires : goal.pass_word-requires
+pass_word-requires c =
+    let first = still_alive c.args.p.now c.put_register.new.self c.args.s c.args.child _ c.requires.parent c.requires.apart
+    c.put_register.ensures.images c.put_register.ensures.alive.agree in
+    still_alive c.put_register.new.self c.clear_times.new.self c.args.s c.args.child _ first c.requires.apart
+    c.clear_times.ensures.images c.clear_times.ensures.alive.agree
 
-pub put_area-requires-2-clause-text : goal.put_area-requires-2-clause-text
-put_area-requires-2-clause-text c =
-    let stays : process_here c.put_area.new.self c.args.s ≡ process_here c.args.p.now c.args.s =
-    still_here (handed c.args.p.now c.args.tree.now.nodes) (handed c.put_area.new.self c.args.tree.now.nodes) c.args.s c.args.child _
-    c.requires.apart (c.put_area.ensures.state c.args.tree.now.nodes) in
-    ap (λ (u : UArea). u.text_size) (c.past_word.ensures) ∙ ap (λ (u : UArea). u.text_size) (c.area-u.ensures ∙ sym (ap (λ (q : Process). q.u) stays))
-
-pub put_area-requires-2-clause-data_size : goal.put_area-requires-2-clause-data_size
-put_area-requires-2-clause-data_size c =
-    let stays : process_here c.put_area.new.self c.args.s ≡ process_here c.args.p.now c.args.s =
-    still_here (handed c.args.p.now c.args.tree.now.nodes) (handed c.put_area.new.self c.args.tree.now.nodes) c.args.s c.args.child _
-    c.requires.apart (c.put_area.ensures.state c.args.tree.now.nodes) in
-    ap (λ (u : UArea). u.data_size) (c.past_word.ensures) ∙ ap (λ (u : UArea). u.data_size) (c.area-u.ensures ∙ sym (ap (λ (q : Process). q.u) stays))
-
-pub put_area-requires-2-clause-stack_size : goal.put_area-requires-2-clause-stack_size
-put_area-requires-2-clause-stack_size c =
-    let stays : process_here c.put_area.new.self c.args.s ≡ process_here c.args.p.now c.args.s =
-    still_here (handed c.args.p.now c.args.tree.now.nodes) (handed c.put_area.new.self c.args.tree.now.nodes) c.args.s c.args.child _
-    c.requires.apart (c.put_area.ensures.state c.args.tree.now.nodes) in
-    ap (λ (u : UArea). u.stack_size) (c.past_word.ensures) ∙ ap (λ (u : UArea). u.stack_size) (c.area-u.ensures ∙ sym (ap (λ (q : Process). q.u) stays))
+-- the directory of both
+pub refer_again-requires-clause-referenced : goal.refer_again-requires-clause-referenced
+refer_again-requires-clause-referenced c =
+    let dir : c.directory-dir.result ≡ (process_here c.args.p.now c.args.s).u.dir = c.directory-dir.ensures ∙ ap (λ (u : UArea). u.dir) c.area_bytes-area.ensures.read in
+    subst (λ d. 0 < slice_index c.args.tree.now.nodes.references d) (sym dir) c.requires.referenced
 
 pub returns-clause-answer : goal.returns-clause-answer
-returns-clause-answer c = λ i. Ret (c.row-r0.ensures i).pid (get_or (c.area-u.ensures i).r 1 0)
+returns-clause-answer c =
+    let second : c.register-r1.result ≡ get_or (process_here c.args.p.now c.args.s).u.r 1 0 =
+    c.register-r1.ensures ∙ ap (λ (u : UArea). get_or u.r 1 0) c.area_bytes-area.ensures.read in
+    λ i. Ret (c.row-r0.ensures i).pid (second i)
 
 pub returns-clause-state : goal.returns-clause-state
 returns-clause-state c =
     let w : World = handed c.args.p.now c.args.tree.now.nodes in
     let now : World = handed c.args.p.now c.refer_again.new.nodes in
-    let parent : Process = process_here c.put_area.new.self c.args.s in
     let child : Process = process_here c.args.p.now c.args.child in
     let pid : ℕ = (process_here c.args.p.now c.args.s).row.pid in
-    let stays : parent ≡ process_here c.args.p.now c.args.s =
-    still_here (handed c.args.p.now c.args.tree.now.nodes) (handed c.put_area.new.self c.args.tree.now.nodes) c.args.s c.args.child _
-    c.requires.apart (c.put_area.ensures.state c.args.tree.now.nodes) in
-    let begun : c.begun.result ≡ (begun_by pid child).u = c.begun.ensures ∙ (λ i. record (c.area-own.ensures i) {
-      r = slice_set (c.area-own.ensures i).r 0 (c.row-row.ensures i).pid;
-      user_time = 0;
-      system_time = 0;
-      child_user = 0;
-      child_system = 0;
-    }) in
-    let past : c.past_word.result ≡ (past_word parent).u =
-    c.past_word.ensures
-    ∙ ap (λ (u : UArea). record u { r = slice_set u.r 7 ((slice_index u.r 7 + 2) % 65536) }) (c.area-u.ensures ∙ sym (ap (λ (q : Process). q.u) stays)) in
-    let first : handed c.put_area.new.self c.refer_again.new.nodes ≡ change now c.args.child (begun_by pid) =
-    c.put_area.ensures.state c.refer_again.new.nodes ∙ ap (λ (u : UArea). with_process now c.args.child (record child { u = u })) begun in
-    c.put_area-2.ensures.state c.refer_again.new.nodes
-    ∙ (ap (λ (u : UArea). with_process (handed c.put_area.new.self c.refer_again.new.nodes) c.args.s (record parent { u = u })) past
+    let given : ℕ = c.row-parent.result.pid in
+    let mid : Process = record child { u = with_register child.u 0 given } in
+    let begins : Process = record child { u = with_no_times (with_register child.u 0 given) } in
+    let dir : c.directory-dir.result ≡ (process_here c.args.p.now c.args.s).u.dir = c.directory-dir.ensures ∙ ap (λ (u : UArea). u.dir) c.area_bytes-area.ensures.read in
+    let first : handed c.clear_times.new.self c.refer_again.new.nodes ≡ change now c.args.child (begun_by pid) =
+    c.clear_times.ensures.state c.refer_again.new.nodes
+    ∙ (ap (λ (q : Process). with_process (handed c.put_register.new.self c.refer_again.new.nodes) c.args.child (record q { u = with_no_times q.u })) c.put_register.ensures.here
+    ∙ (ap (λ (v : World). with_process v c.args.child begins) (c.put_register.ensures.state c.refer_again.new.nodes)
+    ∙ (ap (λ (ps : List (Option Process)). record now { processes = ps }) (set-set now.processes c.args.child (Some mid) (Some begins))
+    ∙ ap (λ (r : Row). with_process now c.args.child (begun_by r.pid child)) c.row-parent.ensures))) in
+    c.pass_word.ensures.state c.refer_again.new.nodes
     ∙ (ap (λ (v : World). change v c.args.s past_word) first
     ∙ ap (λ (n : Inodes). change (change (record w { inodes = n }) c.args.child (begun_by pid)) c.args.s past_word)
-    (c.refer_again.ensures.inodes ∙ ap (λ (u : UArea). with_reference (inodes_of c.args.tree.now.nodes) u.dir) c.area-u.ensures)))
+    (c.refer_again.ensures.inodes ∙ ap (with_reference (inodes_of c.args.tree.now.nodes)) dir))
 
 pub returns-clause-board : goal.returns-clause-board
-returns-clause-board c = c.put_area-2.ensures.board ∙ c.put_area.ensures.board
+returns-clause-board c = c.pass_word.ensures.board ∙ (c.clear_times.ensures.board ∙ c.put_register.ensures.board)
 
 pub returns-clause-agree : goal.returns-clause-agree
-returns-clause-agree c = c.put_area-2.ensures.alive.agree
+returns-clause-agree c = c.pass_word.ensures.alive.agree

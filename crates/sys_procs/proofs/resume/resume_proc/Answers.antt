@@ -1,10 +1,11 @@
-use Rattle.std.proofs.Common.{◌≡◌, ◌∙◌, ◌+◌, ◌*◌, ℕ, Bool, [], get_or, refl, ap, subst, sym}
+use Rattle.std.proofs.Common.{◌≡◌, ◌∙◌, ◌+◌, ◌*◌, ℕ, Bool, List, [], get_or, refl, ap, subst, sym}
 use Rattle.v6_base.specs.Trace.{Took}
 use Rattle.v6_base.proofs.Took.{took_none}
 use Rattle.v6_base.specs.declared.answer.Answer.TheVariants.{Fail}
 use Rattle.v6_base.specs.declared.errno.Errno.TheVariants.{EINTR}
 use Rattle.pick_rules.specs.Board.{Board}
 use Rattle.pick_rules.specs.Logged.{Logged, logged, left_by}
+use Rattle.u_area.specs.Area.{fetched}
 use Rattle.fs_nodes.specs.FileSystem.{FileSystem}
 use Rattle.sys_procs.specs.World.{World, change}
 use Rattle.sys_procs.specs.Comes.{Comes}
@@ -47,7 +48,7 @@ sleep_until-requires g c = calls_alive c.wake_up.new.p c.args.tree.now.nodes c.a
 
 -- A sleep goes on.
 abbrev until : (g : given.Over) → goal.After-sleep_until g → ℕ
-until g c = 65536 * c.from.result + c.from-then-u-eq-SLEEP_CALL.result
+until g c = 65536 * c.from.result + c.from-then-pending-eq-SLEEP_CALL.result
 
 says : (g : given.Over) (c : goal.After-sleep_until g)
     → let fs : FileSystem = c.args.tree.now.nodes in
@@ -58,12 +59,13 @@ says g c =
     let w : World = handed c.args.p.now fs in
     let at : ℕ → ℕ → ℕ = λ a b. 65536 * a + b in
     let is : resume_proc w c.args.s ≡ sleep_until (handed c.wake_up.new.p fs) c.args.s (until g c) =
-    resume_sleep w c.args.s c.area-u.result c.area-u.ensures
+    resume_sleep w c.args.s (fetched c.area_bytes-area.result.now) c.area_bytes-area.ensures.read
     (heard _ (handed c.wake_up.new.p c.args.tree.now.nodes) c.args.s c.is_due.result
     (c.wake_up.ensures.state c.args.tree.now.nodes) c.is_due.ensures
-    ∙ c.if-is_due.false) c.if-u-eq-SLEEP_CALL.true
+    ∙ c.if-is_due.false) (sym c.pending_call-pending.ensures ∙ c.if-pending-eq-SLEEP_CALL.true)
     ∙ (ap (λ n. sleep_until (change w c.args.s awake) c.args.s n)
-    (ap (λ n. at n (get_or c.area-u.result.call 5 0)) (sym c.from.ensures) ∙ ap (at c.from.result) (sym c.from-then-u-eq-SLEEP_CALL.ensures))
+    (ap (λ (l : List ℕ). at (get_or l 4 0) (get_or l 5 0)) (sym c.call_words-call.ensures)
+    ∙ (ap (λ n. at n (get_or c.call_words-call.result 5 0)) (sym c.from.ensures) ∙ ap (at c.from.result) (sym c.from-then-pending-eq-SLEEP_CALL.ensures)))
     ∙ ap (λ (v : World). sleep_until v c.args.s (until g c)) (sym (c.wake_up.ensures.state fs))) in
     record {
       shown = ap (λ (d : Comes). logged (board c.args.p.now) d.effects) is
@@ -72,8 +74,8 @@ says g c =
       answer = ap (λ (d : Comes). d.answer) is ∙ sym (c.sleep_until.ensures.answer fs);
     }
 
-pub returns-then-u-eq-SLEEP_CALL-clause-does : goal.returns-then-u-eq-SLEEP_CALL-clause-does
-returns-then-u-eq-SLEEP_CALL-clause-does g c =
+pub returns-then-pending-eq-SLEEP_CALL-clause-does : goal.returns-then-pending-eq-SLEEP_CALL-clause-does
+returns-then-pending-eq-SLEEP_CALL-clause-does g c =
     its_call (says g c) (c.sleep_until.ensures.state c.args.tree.now.nodes) (c.sleep_until.ensures.board ∙ c.wake_up.ensures.board) (took_none _)
 
 -- A wait goes on.
@@ -84,10 +86,10 @@ is : (g : given.Over) (c : goal.After-wait_child g)
     → wait_child (handed c.wake_up.new.p c.args.tree.now.nodes) c.args.s ≡ resume_proc (handed c.args.p.now c.args.tree.now.nodes) c.args.s
 is g c =
     ap (λ (w : World). wait_child w c.args.s) (c.wake_up.ensures.state c.args.tree.now.nodes)
-    ∙ sym (resume_wait (handed c.args.p.now c.args.tree.now.nodes) c.args.s c.area-u.result c.area-u.ensures
+    ∙ sym (resume_wait (handed c.args.p.now c.args.tree.now.nodes) c.args.s (fetched c.area_bytes-area.result.now) c.area_bytes-area.ensures.read
     (heard _ (handed c.wake_up.new.p c.args.tree.now.nodes) c.args.s c.is_due.result
     (c.wake_up.ensures.state c.args.tree.now.nodes) c.is_due.ensures
-    ∙ c.if-is_due.false) c.if-u-eq-SLEEP_CALL.false)
+    ∙ c.if-is_due.false) (λ e. c.if-pending-eq-SLEEP_CALL.false (c.pending_call-pending.ensures ∙ e)))
 
 -- what is done from where the process is awake is done from before
 pub returns-clause-does : goal.returns-clause-does

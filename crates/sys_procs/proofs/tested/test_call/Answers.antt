@@ -24,5 +24,5 @@ returns-clause-answer c =
     ap (λ (u : User). permission node u Execute) (sym who) ∙ (sym c.may_execute.ensures ∙ c.in_ok-may_execute.was) in
     c.read_arguments.ensures.arguments
     ∙ (ap (λ (m : Image). arguments m c.args.list)
-    (sym (image_here p c.args.s c.requires.alive c.area-sizes.ensures.holds))
+    (sym (image_here p c.args.s c.requires.alive c.see_kept.ensures))
     ∙ both_hold (permission node (user_of q) Execute) _ _ may (sym c.is_plain.ensures ∙ c.if-not-is_plain.false))

@@ -29,7 +29,7 @@ left c =
 -- the image before, and the one after
 before : (c : goal.After-copy_out) → memory_here c.args.p.now c.args.s ≡ kept.image_of c.space-space.result.images.now.kept c.space-space.result.slot
 before c =
-    image_here c.args.p.now c.args.s c.requires c.area-area.ensures.holds
+    image_here c.args.p.now c.args.s c.requires c.see_kept.ensures
     ∙ (ap (λ (i : ImagesState). kept.image_of i.kept c.args.s) (sym c.space-space.ensures.images)
     ∙ ap (λ n. kept.image_of c.space-space.result.images.now.kept n) (sym c.space-space.ensures.slot))
 
@@ -42,7 +42,7 @@ none : (c : goal.After-copy_out) → c.copy_out.result ≡ false → store_bytes
 none c is = ap (λ m. store_bytes m c.args.at c.args.bytes.now) (before c) ∙ c.copy_out.ensures.refused is
 
 same : (c : goal.After-copy_out) → c.copy_out.result ≡ false → (now c).kept ≡ c.args.p.now.images.kept
-same c is = loan_same c.args.p.now c.args.s c.requires c.area-area.ensures.holds.slots (now c) (left c)
+same c is = loan_same c.args.p.now c.args.s c.requires c.see_kept.ensures.slots (now c) (left c)
     (ap (kept.image_of (now c).kept) (sym (slot_is c))
     ∙ (c.copy_out.ensures.same is
     ∙ (ap (λ n. kept.image_of c.space-space.result.images.now.kept n) c.space-space.ensures.slot
@@ -64,14 +64,14 @@ returns-clause-state c = λ fs. by fs c.copy_out.result refl
     by : (fs : FileSystem) (b : Bool) → c.copy_out.result ≡ b
         → handed (record p { images = now c }) fs ≡ (stored (handed p fs) c.args.s (store_bytes (memory_here p c.args.s) c.args.at c.args.bytes.now)).state
     by fs true is =
-        loan_state p c.args.s c.requires c.area-area.ensures.holds.slots (now c) (left c) fs
+        loan_state p c.args.s c.requires c.see_kept.ensures.slots (now c) (left c) fs
         ∙ sym (ap (λ (o : Option Image). (stored (handed p fs) c.args.s o).state) (whole c is))
     by fs false is =
         same_handed (same_images {p = p} {i = now c} (same c is)) fs
         ∙ sym (ap (λ (o : Option Image). (stored (handed p fs) c.args.s o).state) (none c is))
 
 pub returns-clause-board : goal.returns-clause-board
-returns-clause-board c = loan_board c.args.p.now c.args.s c.requires c.area-area.ensures.holds.slots (now c) (left c)
+returns-clause-board c = loan_board c.args.p.now c.args.s c.requires c.see_kept.ensures.slots (now c) (left c)
 
 pub returns-clause-alive : goal.returns-clause-alive
-returns-clause-alive c = loan_alive c.args.p.now c.args.s c.requires c.area-area.ensures.holds.slots (now c) (left c)
+returns-clause-alive c = loan_alive c.args.p.now c.args.s c.requires c.see_kept.ensures.slots (now c) (left c)

@@ -1,5 +1,6 @@
 use Rattle.std.proofs.Common.{◌≡◌, ◌∙◌, ◌+◌, ◌%◌, ◌^◌, ℕ, [], ap, sym}
 use Rattle.v6_base.proofs.Took.{took_none}
+use Rattle.u_area.specs.Area.{fetched}
 use Rattle.pick_rules.specs.Logged.{logged}
 use Rattle.sys_procs.specs.World.{World}
 use Rattle.sys_procs.specs.Comes.{Comes}
@@ -19,7 +20,8 @@ says : (g : given.Over) (c : goal.After-sleep_until g)
 says g c =
     let w : World = handed c.args.p.now c.args.tree.now.nodes in
     let is : sleep_for w c.args.s ≡ sleep_until w c.args.s (until g c) =
-    sleep_is w c.args.s c.area-u.result c.area-u.ensures ∙ ap (λ n. sleep_until w c.args.s ((c.args.p.now.table.now + n) % 2 ^ 32)) (sym c.from.ensures) in
+    sleep_is w c.args.s (fetched c.area_bytes.result.now) c.area_bytes.ensures.read
+    ∙ ap (λ n. sleep_until w c.args.s ((c.args.p.now.table.now + n) % 2 ^ 32)) (sym (c.from.ensures ∙ c.register-r0.ensures)) in
     record {
       shown = ap (λ (d : Comes). logged (board c.args.p.now) d.effects) is ∙ ap (logged (board c.args.p.now)) (sleep_shows_none w c.args.s (until g c));
       state = ap (λ (d : Comes). d.state) is;

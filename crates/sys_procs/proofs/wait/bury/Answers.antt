@@ -1,11 +1,10 @@
 use Rattle.std.proofs.Common.{◌≡◌, ◌∙◌, ap, sym}
 use Rattle.v6_base.specs.declared.answer.Answer.TheVariants.{Ret}
-use Rattle.u_area.specs.declared.area.UArea.{UArea}
 use Rattle.proc_tab.specs.declared.row.Row.{Row}
 use Rattle.sys_procs.specs.Process.{Process}
-use Rattle.sys_procs.specs.World.{World, change, with_process}
+use Rattle.sys_procs.specs.World.{World, change}
 use Rattle.sys_procs.specs.Wait.{with_times_of}
-use Rattle.sys_procs.specs.Handed.{handed, process_here}
+use Rattle.sys_procs.specs.Handed.{process_here}
 use Rattle.sys_procs.proofs.Slots.{own_row}
 use Rattle.sys_procs.proofs.Graves.{used, still_alive}
 use Rattle.sys_procs.proofs.wait.bury.Goals as goal
@@ -13,19 +12,8 @@ use Rattle.sys_procs.proofs.wait.bury.Goals as goal
 pub row-requires : goal.row-requires
 row-requires g c = used c.args.p.now.rows c.args.p.now.table c.args.p.now.images.kept c.args.dead c.requires.alive.agree c.requires.above c.requires.low c.requires.grave
 
-pub area-u-requires : goal.area-u-requires
-area-u-requires g c = still_alive c.args.p.now c.clear-half.new.p c.args.s c.args.dead c.requires.alive c.requires.grave c.clear-half.ensures.images c.clear-half.ensures.agree
-
-pub put_area-requires : goal.put_area-requires
-put_area-requires g c =
-    let same : c.with_times_of.result ≡ with_times_of c.area-u.result (process_here c.args.p.now c.args.dead).u =
-    c.with_times_of.ensures (process_here c.args.p.now c.args.dead).u c.clear-half.ensures.sized c.clear-half.ensures.half in
-    record {
-      alive = still_alive c.args.p.now c.clear-half.new.p c.args.s c.args.dead c.requires.alive c.requires.grave c.clear-half.ensures.images c.clear-half.ensures.agree;
-      text = ap (λ (u : UArea). u.text_size) same ∙ ap (λ (u : UArea). u.text_size) c.area-u.ensures;
-      data_size = ap (λ (u : UArea). u.data_size) same ∙ ap (λ (u : UArea). u.data_size) c.area-u.ensures;
-      stack_size = ap (λ (u : UArea). u.stack_size) same ∙ ap (λ (u : UArea). u.stack_size) c.area-u.ensures;
-    }
+pub add_times-requires : goal.add_times-requires
+add_times-requires g c = still_alive c.args.p.now c.clear-half.new.p c.args.s c.args.dead c.requires.alive c.requires.grave c.clear-half.ensures.images c.clear-half.ensures.agree
 
 pub returns-clause-answer : goal.returns-clause-answer
 returns-clause-answer g c = λ fs.
@@ -38,15 +26,11 @@ returns-clause-answer g c = λ fs.
 pub returns-clause-state : goal.returns-clause-state
 returns-clause-state g c = λ fs.
     let gone : Process = process_here c.args.p.now c.args.dead in
-    let own : Process = process_here c.clear-half.new.p c.args.s in
-    let same : c.with_times_of.result ≡ with_times_of own.u gone.u =
-    c.with_times_of.ensures gone.u c.clear-half.ensures.sized c.clear-half.ensures.half ∙ ap (λ (u : UArea). with_times_of u gone.u) c.area-u.ensures in
-    c.put_area.ensures.state fs
-    ∙ (ap (λ (u : UArea). with_process (handed c.clear-half.new.p fs) c.args.s (record own { u = u })) same
-    ∙ ap (λ (w : World). change w c.args.s (λ p. record p { u = with_times_of p.u gone.u })) (c.clear-half.ensures.state fs))
+    c.add_times.ensures.state gone.u c.clear-half.ensures.sized c.clear-half.ensures.half fs
+    ∙ ap (λ (w : World). change w c.args.s (λ p. record p { u = with_times_of p.u gone.u })) (c.clear-half.ensures.state fs)
 
 pub returns-clause-board : goal.returns-clause-board
-returns-clause-board g c = c.put_area.ensures.board ∙ c.clear-half.ensures.board
+returns-clause-board g c = c.add_times.ensures.board ∙ c.clear-half.ensures.board
 
 pub returns-clause-agree : goal.returns-clause-agree
-returns-clause-agree g c = c.put_area.ensures.alive.agree
+returns-clause-agree g c = c.add_times.ensures.alive.agree

@@ -1,18 +1,15 @@
-use Rattle.std.proofs.Common.{◌≡◌, ◌∙◌, replicate, Result, Ok, refl, ap, sym}
+use Rattle.std.proofs.Common.{◌≡◌, ◌∙◌, Result, Ok, refl, ap, sym}
 use Rattle.v6_base.specs.declared.answer.Answer.{Answer}
 use Rattle.v6_base.specs.declared.answer.Answer.TheVariants.{Fail, Sleep}
 use Rattle.v6_base.specs.declared.entry.Chan.TheVariants.{Wait}
 use Rattle.v6_base.specs.declared.entry.Entry.TheVariants as line
 use Rattle.v6_base.specs.declared.entry.PanicKind.{PanicKind}
 use Rattle.v6_base.specs.declared.errno.Errno.TheVariants.{ECHILD, EINTR}
-use Rattle.u_area.specs.declared.layout.TheConstants.{WAIT_CALL}
-use Rattle.u_area.specs.declared.area.UArea.{UArea}
 use Rattle.pick_rules.specs.Priority.{pwait}
 use Rattle.proc_tab.specs.declared.row.Row.{Row}
 use Rattle.proc_tab.specs.declared.child.Child.TheVariants as child
-use Rattle.sys_procs.specs.Process.{Process}
-use Rattle.sys_procs.specs.World.{World, with_process}
-use Rattle.sys_procs.specs.Handed.{board, handed, process_here}
+use Rattle.sys_procs.specs.World.{World}
+use Rattle.sys_procs.specs.Handed.{board, handed}
 use Rattle.sys_procs.proofs.Tables.{logged_line}
 use Rattle.sys_procs.proofs.Alive.{calls_alive}
 use Rattle.sys_procs.proofs.Dones.{done_none, done_as, done_logged}
@@ -47,16 +44,11 @@ returns-then-is_due-clause-does g c =
 -- No child has ended, and none is due.
 pub returns-else-is_due-clause-does : goal.returns-else-is_due-clause-does
 returns-else-is_due-clause-does g c =
-    let own : Process = process_here c.args.p.now c.args.s in
-    let area : c.waiting.result ≡ record own.u { pending = WAIT_CALL; call = replicate 8 0 } =
-    c.waiting.ensures ∙ ap (λ (u : UArea). record u { pending = WAIT_CALL; call = replicate 8 0 }) c.area-u.ensures in
     done_none _ (Sleep pwait (Wait c.args.s))
     (wait_begins (handed c.args.p.now c.args.tree.now.nodes) c.args.s (sym c.is_due.ensures ∙ c.if-is_due.false)
     ∙ wait_row c.args.p.now c.args.s c.args.tree.now.nodes c.row-pid.result.pid c.child.result child.Living
     c.see.ensures.rows.long (ap (λ (row : Row). row.pid) c.row-pid.ensures) c.child.ensures.child c.in-Living.is) refl
-    (c.put_area.ensures.state c.args.tree.now.nodes
-    ∙ ap (λ (u : UArea). with_process (handed c.args.p.now c.args.tree.now.nodes) c.args.s (record own { u = u })) area)
-    c.put_area.ensures.board
+    (c.put_call.ensures.state c.args.tree.now.nodes) c.put_call.ensures.board
 
 -- A child has ended.
 pub returns-in-Dead-clause-does : goal.returns-in-Dead-clause-does

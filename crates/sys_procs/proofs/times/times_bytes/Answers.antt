@@ -1,9 +1,0 @@
-use Rattle.std.proofs.Common.{◌∙◌, sym, ap, arith}
-use Rattle.fs_codec.specs.Bytes.{bytes_of}
-use Rattle.fs_codec.proofs.BytesLemmas.{bytes_of_words, part_whole}
-use Rattle.sys_procs.proofs.times.times_bytes.Goals as goal
-
-pub returns : goal.returns
-returns c =
-    sym (ap bytes_of (sym c.put_words.ensures.here)
-    ∙ (bytes_of_words c.put_words.new.b 0 6 (omega (arith, c.put_words.auto.b)) c.see_bytes.ensures ∙ part_whole c.put_words.new.b 12 c.put_words.auto.b))
