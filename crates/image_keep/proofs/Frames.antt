@@ -191,3 +191,22 @@ described_back (Grave u block) = refl
 pub area_back : (k : Kept) (s : ℕ) → with_area k s (area_of k s) ≡ k
 unfolding with_area
 area_back k s = ap (with_keeping k s) (described_back (keeping k s)) ∙ keeping_back k s
+
+described_twice : (u v : UArea) (x : Keeping) → described v (described u x) ≡ described v x
+described_twice u v Nothing = refl
+described_twice u v (Alive held) = refl
+described_twice u v (Grave w block) = refl
+
+pub area_twice : (k : Kept) (s : ℕ) (u v : UArea) → with_area (with_area k s u) s v ≡ with_area k s v
+unfolding with_area
+area_twice k s u v =
+    ap (λ x. with_keeping (with_area k s u) s (described v x)) (slot_described k s u)
+    ∙ ap (with_keeping (with_area k s u) s) (described_twice u v (keeping k s))
+    ∙ keeping_twice k s (described u (keeping k s)) (described v (keeping k s))
+
+-- what the slot's u area is then
+pub with_area_same : (k : Kept) (s : ℕ) (u : UArea) → HasImage k s → area_of (with_area k s u) s ≡ u
+with_area_same k s u has = ap area_in (slot_described k s u) ∙ ap (λ x. area_in (described u x)) has.1
+
+pub with_area_has : (k : Kept) (s t : ℕ) (u : UArea) → HasImage k t → HasImage (with_area k s u) t
+with_area_has k s t u has = alive_image (with_area k s u) t (with_area_alive k s t u ∙ image_alive k t has)

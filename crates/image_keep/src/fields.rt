@@ -93,8 +93,11 @@ impl Images {
     #[inline(always)]
     pub fn area_at(&self, fixed: &Fixed) -> UArea
         requires { IsFixed self.now.kept fixed.now }
-        ensures { result ≡ area_of self.now.kept fixed.now.slot }
+        ensures u { result ≡ area_of self.now.kept fixed.now.slot }
+        ensures sizes { HasSizes result (image_of self.now.kept fixed.now.slot) }
+        ensures holds { IsKept self.now.kept }
     {
+        self.memory.see_bytes();
         fetch_bytes(self.area_bytes_at(fixed))
     }
 

@@ -1,8 +1,8 @@
 -- A process has been told of a signal, and goes on with its routine, where it has one.
-use Rattle.std.proofs.Common.{◌≡◌, ◌∙◌, ◌+◌, ◌%◌, ◌/◌, ◌==◌, ℕ, Bool, true, false, if◌then◌else◌, List, slice_index, Option, Some, refl, sym, ap, subst}
+use Rattle.std.proofs.Common.{◌≡◌, ◌∙◌, ◌+◌, ◌%◌, ◌/◌, ◌==◌, ℕ, Bool, true, false, cond, if◌then◌else◌, List, length, get_or, set, slice_index, Option, Some, inl, inr, refl, sym, ap, subst, arith}
 use Rattle.std.specs.Prelude.{Result, Ok, Err}
-use Rattle.std.proofs.lemmas.Bool.{eq-eqb}
-use Rattle.std.proofs.lemmas.List.{set-set}
+use Rattle.std.proofs.lemmas.Bool.{eq-eqb, cases_lt}
+use Rattle.std.proofs.lemmas.List.{set-set, set-get_or, set_past, get_or_past, get_or-set_same}
 use Rattle.v6_base.specs.Image.{Image}
 use Rattle.v6_base.specs.Access.{then_do, store_byte, store_word, image_after}
 use Rattle.v6_base.specs.declared.space.Trap.{Trap}
@@ -10,12 +10,15 @@ use Rattle.v6_base.specs.declared.space.Trap.TheVariants.{Odd}
 use Rattle.v6_base.proofs.Copies.{SameLengths, same_lengths, then_lengths, store_lengths}
 use Rattle.u_area.specs.declared.area.UArea.{UArea}
 use Rattle.u_area.specs.Area.{status_word}
+use Rattle.u_area.specs.Fields.{with_handler}
+use Rattle.u_area.proofs.AreaLemmas.{one_area}
 use Rattle.image_keep.specs.Kept.{Kept, HasSizes, area_of, image_of, with_area, with_image}
 use Rattle.image_keep.specs.Kept as kept
+use Rattle.image_keep.specs.Running.{with_state}
 use Rattle.image_keep.specs.State.{ImagesState}
 use Rattle.sig_core.specs.declared.psig.Delivered.TheVariants.{Caught, Ends}
 use Rattle.sig_core.specs.Signals.{handler_of}
-use Rattle.sig_core.specs.Delivery.{Delivery, makes_core, below_stack, with_word_at, caught, pushed, delivery}
+use Rattle.sig_core.specs.Delivery.{Delivery, makes_core, below_stack, with_word_at, stays_set, handlers_after, caught, pushed, delivery}
 use Rattle.sys_procs.specs.Process as one
 use Rattle.sys_procs.specs.Process.{Process}
 use Rattle.sys_procs.proofs.Alive.{SameSizes}
@@ -87,6 +90,32 @@ module _ (u : UArea) (sig : ℕ) (m : Image) where
 
 pub told_sizes : (u : UArea) (sig : ℕ) (m : Image) → HasSizes u m → HasSizes (delivery u sig m).area (delivery u sig m).image
 told_sizes u sig m has = sizes_kept u (delivery u sig m).area m (delivery u sig m).image has (delivered_sizes u sig m) (delivered_lengths u sig m)
+
+-- Of a u area that was told of a signal the registers and what that signal does are other ones at most.
+zero_put : (l : List ℕ) (i : ℕ) → get_or (set l i 0) i 0 ≡ 0
+zero_put l i = elim (cases_lt i (length l)) [
+  | inl low ↦ get_or-set_same l i 0 0 low
+  | inr past ↦ ap (λ (xs : List ℕ). get_or xs i 0) (set_past l i 0 past) ∙ get_or_past l i 0 past
+]
+
+told_handlers : (u : UArea) (sig : ℕ) → set u.handlers sig (get_or (handlers_after u sig) sig 0) ≡ handlers_after u sig
+told_handlers u sig = by (stays_set sig)
+  where
+    by : (b : Bool) → let l : List ℕ = cond b u.handlers (set u.handlers sig 0) in set u.handlers sig (get_or l sig 0) ≡ l
+    by true = set-get_or u.handlers sig 0
+    by false = ap (set u.handlers sig) (zero_put u.handlers sig)
+
+pub told_area : (u : UArea) (sig : ℕ) (m : Image) → let v : UArea = (delivery u sig m).area in with_handler (with_state u v.r v.cc) sig (get_or v.handlers sig 0) ≡ v
+told_area u sig m = by (handler_of u sig == 0)
+  where
+    same : u.cc % 16 ≡ u.cc
+    same = let c = u.codes in omega (arith, c)
+
+    by : (b : Bool) → let v : UArea = cond b u (caught u sig) in with_handler (with_state u v.r v.cc) sig (get_or v.handlers sig 0) ≡ v
+    by true = one_area (with_handler (with_state u u.r u.cc) sig (get_or u.handlers sig 0)) u refl same
+        refl refl refl refl refl refl refl refl refl refl refl refl refl refl refl (set-get_or u.handlers sig 0) refl
+    by false = one_area (with_handler (with_state u (caught u sig).r u.cc) sig (get_or (handlers_after u sig) sig 0)) (caught u sig) refl same
+        refl refl refl refl refl refl refl refl refl refl refl refl refl refl refl (told_handlers u sig) refl
 
 module _ (w : World) (s : ℕ) (ready : IsReady w s) (holds : kept.IsKept w.procs.images.kept) (sig : ℕ) (x : ImagesState)
     (is : x.kept ≡ with_area (with_image w.procs.images.kept s (delivery (area_of w.procs.images.kept s) sig (image_of w.procs.images.kept s)).image) s

@@ -1,11 +1,9 @@
 -- What comes back from a call on files: the memory and the u area with their sizes, and the row with its pid and its
 -- parent.
-use Rattle.std.proofs.Common.{◌≡◌, ◌∙◌, ◌*◌, ℕ, refl, sym, ap, subst}
+use Rattle.std.proofs.Common.{◌≡◌, ◌∙◌, ◌*◌, ℕ, sym, ap, subst}
 use Rattle.v6_base.specs.Image.{Image}
 use Rattle.v6_base.proofs.Copies.{SameLengths}
 use Rattle.u_area.specs.declared.area.UArea.{UArea}
-use Rattle.pick_rules.specs.declared.row.Mode.{Mode}
-use Rattle.pick_rules.specs.declared.row.Mode.TheVariants.{User, Kernel, Idle}
 use Rattle.proc_tab.specs.declared.row.Row.{Row}
 use Rattle.proc_tab.specs.Processes.{row_at}
 use Rattle.image_keep.specs.Kept.{Kept, HasSizes, HasImage, image_of, with_image}
@@ -14,9 +12,8 @@ use Rattle.sys_files.specs.declared.files.Files.{Files}
 use Rattle.sys_files.specs.Handed.{Handed, handed}
 use Rattle.sys_files.specs.Did.{Did}
 use Rattle.sys_files.proofs.Steady.{SameRow, Steady}
-use Rattle.sys_procs.proofs.Alive.{SameSizes, sizes_stay}
+use Rattle.sys_procs.proofs.Alive.{SameSizes}
 use Rattle.unix_core.specs.declared.world.World.{World}
-use Rattle.abstract_unix.specs.Outside.{timed_area}
 use Rattle.unix_core.proofs.LeavingLemmas.{given, IsLent, lent_parts}
 
 pub sizes_kept : (u v : UArea) (m n : Image) → HasSizes u m → SameSizes v u → SameLengths m n → HasSizes v n
@@ -54,13 +51,3 @@ module _ (w : World) (s : ℕ) {u : UArea} {r : Row} {m : Image} (lent : IsLent 
 
   pub row_put : SameRow (row_at w.procs.rows s) row
   row_put = let P : Row → Type 0 = λ x. SameRow x row in subst P lent.row steady.row
-
--- A tick leaves the sizes.
-same_timed : (mode : Mode) (u : UArea) → SameSizes (timed_area mode u) u
-same_timed User u = record { text = refl; «data» = refl; stack = refl }
-same_timed Kernel u = record { text = refl; «data» = refl; stack = refl }
-same_timed Idle u = record { text = refl; «data» = refl; stack = refl }
-
-pub timed_sizes : (mode : Mode) (u v : UArea) (m : Image) → v ≡ timed_area mode u → HasSizes u m → HasSizes v m
-timed_sizes mode u v m is has =
-    subst (λ x. HasSizes x m) (sym is) (sizes_stay (timed_area mode u) u m (same_timed mode u) has)

@@ -5,11 +5,10 @@ use Rattle.u_area.specs.declared.layout.TheConstants.{NOTHING_PENDING, DISK_WAIT
 use Rattle.u_area.specs.declared.area.UArea.{UArea}
 use Rattle.u_area.specs.Pending.{IsFileCall}
 use Rattle.v6_base.specs.declared.entry.Chan.TheVariants.{Disk}
-use Rattle.v6_base.specs.Image.{Image}
 use Rattle.pick_rules.specs.Priority.{pribio}
 use Rattle.pick_rules.specs.Board.{Board}
 use Rattle.pick_rules.specs.Logged.{Stop, logged, left_by}
-use Rattle.image_keep.specs.Kept.{Kept, with_area, area_of, clicks_of, HasSizes}
+use Rattle.image_keep.specs.Kept.{Kept, with_area, area_of, clicks_of}
 use Rattle.image_keep.specs.State.{ImagesState}
 use Rattle.sys_procs.specs.Process.{Process}
 use Rattle.sys_procs.specs.Resume.{awake}
@@ -161,10 +160,6 @@ takes_disk x n all zero = by x (ap (λ b. x && not b) (sym (eq-eqb n 0 zero)) �
 pub slept_goes : (e : Ending) (s : ℕ) → e ≡ Slept pribio (Disk s) → is_over e ≡ true → ⊥
 slept_goes e s is over = let no = sym (ap is_over is) ∙ over in cc no
 
-pub waiting_sizes : (end : ℕ) (u v : UArea) (m : Image) → v ≡ waiting_area end u → HasSizes u m → HasSizes v m
-waiting_sizes end u v m is has =
-    subst (λ x. HasSizes x m) (sym is) (record { text_size = has.text_size; data_size = has.data_size; stack_size = has.stack_size })
-
 -- 3. A wait is over.
 module _ (w : World) (s : ℕ) (ready : IsReady w s) (x : ImagesState)
     (kept : x.kept ≡ with_area w.procs.images.kept s (rested_area (area_of w.procs.images.kept s))) where
@@ -173,10 +168,6 @@ module _ (w : World) (s : ℕ) (ready : IsReady w s) (x : ImagesState)
 
   pub rest_ready : IsReady (with_images w x) s
   rest_ready = moved_ready w s ready rested_area (λ u. record { clicks = refl; files = refl; dir = refl }) (λ u. never_in_call NOTHING_PENDING refl) x kept
-
-pub rested_sizes : (u v : UArea) (m : Image) → v ≡ rested_area u → HasSizes u m → HasSizes v m
-rested_sizes u v m is has =
-    subst (λ x. HasSizes x m) (sym is) (record { text_size = has.text_size; data_size = has.data_size; stack_size = has.stack_size })
 
 -- 4. A call has come to these steps, and waits or doesn't.
 pub timed_effects : (has : Bool) (s : ℕ) (steps : Steps) → (takes_time has s steps).effects ≡ steps.effects

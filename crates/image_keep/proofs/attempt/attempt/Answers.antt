@@ -1,5 +1,4 @@
 -- The word at PC has its row.
-use Rattle.std.proofs.Common.{◌∙◌}
 use Rattle.image_keep.proofs.AtPc.{row_attempted}
 use Rattle.image_keep.proofs.attempt.attempt.Goals as goal
 

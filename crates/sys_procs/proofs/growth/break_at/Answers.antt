@@ -1,4 +1,4 @@
-use Rattle.std.proofs.Common.{◌≡◌, ◌∙◌, ℕ, List, Bool, true, false, get_or, slice_index, Result, Ok, sym, ap, refl}
+use Rattle.std.proofs.Common.{◌≡◌, ◌∙◌, ℕ, List, Bool, true, false, slice_index, Result, Ok, sym, ap, refl}
 use Rattle.v6_base.specs.declared.answer.Answer.{Answer}
 use Rattle.v6_base.specs.declared.answer.Answer.TheVariants.{Ret, Fail}
 use Rattle.v6_base.specs.declared.entry.PanicKind.{PanicKind}

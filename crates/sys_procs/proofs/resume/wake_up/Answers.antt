@@ -1,4 +1,4 @@
-use Rattle.std.proofs.Common.{◌≡◌, ◌∙◌, ℕ, slice_index, ap, sym}
+use Rattle.std.proofs.Common.{◌≡◌, ◌∙◌, slice_index, ap, sym}
 use Rattle.u_area.specs.declared.area.UArea.{UArea}
 use Rattle.pick_rules.specs.declared.table.Table.{Table}
 use Rattle.image_keep.specs.Kept.{Kept, area_of}

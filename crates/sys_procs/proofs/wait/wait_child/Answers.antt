@@ -1,4 +1,4 @@
-use Rattle.std.proofs.Common.{◌≡◌, ◌∙◌, Result, Ok, refl, ap, sym}
+use Rattle.std.proofs.Common.{◌∙◌, Result, Ok, refl, ap, sym}
 use Rattle.v6_base.specs.declared.answer.Answer.{Answer}
 use Rattle.v6_base.specs.declared.answer.Answer.TheVariants.{Fail, Sleep}
 use Rattle.v6_base.specs.declared.entry.Chan.TheVariants.{Wait}

@@ -1,6 +1,7 @@
-use Rattle.std.proofs.Common.{◌≡◌, ◌∙◌, ◌%◌, ℕ, List, slice_index, sym, ap, subst}
+use Rattle.std.proofs.Common.{◌≡◌, ◌∙◌, ◌+◌, ◌-◌, ◌%◌, ℕ, List, slice_index, sym, ap, subst}
 use Rattle.fs_nodes.specs.FileSystem.{SameRest}
 use Rattle.u_area.specs.declared.area.UArea.{UArea}
+use Rattle.u_area.specs.Area.{fetched}
 use Rattle.image_keep.specs.Kept.{area_of}
 use Rattle.image_keep.specs.State.{ImagesState}
 use Rattle.abstract_unix.specs.declared.ending.Ending.TheVariants.{Trapped}
@@ -19,11 +20,11 @@ use Rattle.unix_core.proofs.DeliveryLemmas.{told_ready, told_unix, told_board}
 use Rattle.unix_core.proofs.delivery.catch.Goals as goal
 
 -- where the stack has to reach
-address : (w : World) (s : ℕ) (u : UArea) → IsReady w s → u ≡ area_of w.procs.images.kept s → signal_stack u ≡ signal_stack (process_of (unix_of w) s).u
-address w s u ready is = ap signal_stack (is ∙ own_area w s ready)
+address : (w : World) (s : ℕ) (u : UArea) (r6 : ℕ) → IsReady w s → u ≡ area_of w.procs.images.kept s → r6 ≡ slice_index u.r 6 → (r6 + (65536 - 4)) % 65536 ≡ signal_stack (process_of (unix_of w) s).u
+address w s u r6 ready is read = ap (λ n. (n + (65536 - 4)) % 65536) (read ∙ ap (λ (v : UArea). slice_index v.r 6) (is ∙ own_area w s ready))
 
-pub area-requires : goal.area-requires
-area-requires g c = c.requires.ready.good.running c.args.s c.requires.ready.runs c.requires.ready.user
+pub area_bytes-requires : goal.area_bytes-requires
+area_bytes-requires g c = c.requires.ready.good.running c.args.s c.requires.ready.runs c.requires.ready.user
 
 pub grow-requires : goal.grow-requires
 grow-requires g c = ready_calls c.args.world.now c.args.s c.requires.ready c.see_table.ensures c.see_kept.ensures
@@ -59,7 +60,7 @@ returns-in-Ok-clause-come g c =
     let k : ImagesState = c.tell-caught.new.world.procs.images in
     let grown = grows_ready w now s _ c.requires.ready c.see.ensures stays e.does c.in-Ok.field-0 c.in-Ok.is e.agree e.marks in
     subst (λ x. HasCome (board_in w) (catches (unix_of w) s sig) Trapped x) (sym t.others)
-    (caught_come w now s _ sig c.requires.ready c.see.ensures stays (address w s c.area.result c.requires.ready c.area.ensures.u) e.does c.in-Ok.field-0 c.in-Ok.is
+    (caught_come w now s _ sig c.requires.ready c.see.ensures stays (address w s (fetched c.area_bytes.result.now) c.register.result c.requires.ready c.area_bytes.ensures.read c.register.ensures) e.does c.in-Ok.field-0 c.in-Ok.is
     (with_images now k) (told_unix now s grown t.holds sig k t.images) (told_board now s grown t.holds sig k t.images))
 
 pub returns-in-Ok-clause-ready : goal.returns-in-Ok-clause-ready
@@ -76,7 +77,7 @@ pub returns-in-Ok-clause-items : goal.returns-in-Ok-clause-items
 returns-in-Ok-clause-items g c =
     let w : World = c.args.world.now in
     caught_took w (after w c.grow.new.tree c.grow.new.p) c.args.s _ c.args.sig c.requires.ready c.see.ensures (beside w c.grow.new.tree c.grow.new.p c.grow.ensures.mounts)
-    (address w c.args.s c.area.result c.requires.ready c.area.ensures.u) c.grow.ensures.does c.in-Ok.field-0 c.in-Ok.is
+    (address w c.args.s (fetched c.area_bytes.result.now) c.register.result c.requires.ready c.area_bytes.ensures.read c.register.ensures) c.grow.ensures.does c.in-Ok.field-0 c.in-Ok.is
 
 pub returns-in-Ok-clause-rest : goal.returns-in-Ok-clause-rest
 returns-in-Ok-clause-rest g c =
@@ -86,7 +87,7 @@ pub returns-in-Err-clause-come : goal.returns-in-Err-clause-come
 returns-in-Err-clause-come g c =
     let w : World = c.args.world.now in
     catch_stops w (after w c.grow.new.tree c.grow.new.p) c.args.s _ c.args.sig c.requires.ready c.see.ensures (beside w c.grow.new.tree c.grow.new.p c.grow.ensures.mounts)
-    (address w c.args.s c.area.result c.requires.ready c.area.ensures.u) c.grow.ensures.does c.in-Err.kind c.in-Err.is
+    (address w c.args.s (fetched c.area_bytes.result.now) c.register.result c.requires.ready c.area_bytes.ensures.read c.register.ensures) c.grow.ensures.does c.in-Err.kind c.in-Err.is
 
 pub returns-in-Err-clause-ready : goal.returns-in-Err-clause-ready
 returns-in-Err-clause-ready g c goes = over_then c.in-Err.kind goes
@@ -95,7 +96,7 @@ pub returns-in-Err-clause-items : goal.returns-in-Err-clause-items
 returns-in-Err-clause-items g c =
     let w : World = c.args.world.now in
     catch_cut w (after w c.grow.new.tree c.grow.new.p) c.args.s _ c.args.sig c.requires.ready c.see.ensures (beside w c.grow.new.tree c.grow.new.p c.grow.ensures.mounts)
-    (address w c.args.s c.area.result c.requires.ready c.area.ensures.u) c.grow.ensures.does c.in-Err.kind c.in-Err.is
+    (address w c.args.s (fetched c.area_bytes.result.now) c.register.result c.requires.ready c.area_bytes.ensures.read c.register.ensures) c.grow.ensures.does c.in-Err.kind c.in-Err.is
 
 pub see_covered-requires : goal.see_covered-requires
 see_covered-requires g c = c.grow.ensures.agree

@@ -4,6 +4,7 @@ use Rattle.fs_nodes.proofs.RestLemmas.{rest_then}
 use Rattle.fs_nodes.specs.FileSystem.{SameRest}
 use Rattle.pick_rules.specs.Logged.{logged}
 use Rattle.u_area.specs.declared.area.UArea.{UArea}
+use Rattle.u_area.specs.Area.{fetched}
 use Rattle.image_keep.specs.Kept.{Kept, IsKept, area_of, image_of, with_area, with_image}
 use Rattle.sig_core.specs.declared.psig.Delivered.{Delivered}
 use Rattle.sig_core.specs.declared.psig.Delivered.TheVariants.{Ends}
@@ -32,10 +33,10 @@ core_of w s = core_file (handed_of (unix_of w) (process_of (unix_of w) s)) w.pro
 abbrev flag : World → ℕ → ℕ
 flag w s = if is_written (core_of w s).answer then dumped else 0
 
-status_is : (w : World) (s sig : ℕ) (u : UArea) (n : ℕ) → IsReady w s → u ≡ area_of w.procs.images.kept s → n ≡ sig
-    → 256 * (slice_index u.r 0 % 256) + n ≡ signal_status (unix_of w) s sig
-status_is w s sig u n ready area same =
-    (λ i. 256 * (slice_index (area i).r 0 % 256) + same i) ∙ ap (λ (v : UArea). 256 * (slice_index v.r 0 % 256) + sig) (own_area w s ready)
+status_is : (w : World) (s sig : ℕ) (u : UArea) (r0 n : ℕ) → IsReady w s → u ≡ area_of w.procs.images.kept s → r0 ≡ slice_index u.r 0 → n ≡ sig
+    → 256 * (r0 % 256) + n ≡ signal_status (unix_of w) s sig
+status_is w s sig u r0 n ready area read same =
+    (λ i. 256 * (read i % 256) + same i) ∙ ap (λ (v : UArea). 256 * (slice_index v.r 0 % 256) + sig) (area ∙ own_area w s ready)
 
 total : (a b x y : ℕ) → a ≡ b → x ≡ y → a + x ≡ b + y
 total a b x y first second = λ i. first i + second i
@@ -86,8 +87,8 @@ module _ (w w1 : World) (s sig : ℕ) (ready : IsReady w s) (holds : IsKept w.pr
         ∙ (λ i. exits_with (with_handed (same_unix i) s (same_core i).state) s (signal_status (unix_of w) s sig + flag w s))
         ∙ ap by_core (sym is ∙ each (makes_core sig) ends_so)
 
-pub area-requires : goal.area-requires
-area-requires g c = c.requires.ready.good.running c.args.s c.requires.ready.runs c.requires.ready.user
+pub area_bytes-requires : goal.area_bytes-requires
+area_bytes-requires g c = c.requires.ready.good.running c.args.s c.requires.ready.runs c.requires.ready.user
 
 pub tell-told-requires-clause-image : goal.tell-told-requires-clause-image
 tell-told-requires-clause-image g c = c.requires.ready.good.running c.args.s c.requires.ready.runs c.requires.ready.user
@@ -115,7 +116,7 @@ returns-then-leaves_core-clause-come g c =
     let p = c.put_core-whole.ensures in
     let is = same_board w w1 c.args.s c.args.sig c.requires.ready t.holds c.requires.default c.tell-told.result t.answer t.images t.others in
     let board : board_in c.put_core-whole.new.world ≡ board_in w = ap (λ (x : Procs). board_of x.table x.images.kept) p.procs ∙ is in
-    let n = total _ _ _ _ (status_is w c.args.s c.args.sig c.area.result c.from.result c.requires.ready c.area.ensures.u c.from.ensures)
+    let n = total _ _ _ _ (status_is w c.args.s c.args.sig (fetched c.area_bytes.result.now) c.register-r0.result c.from.result c.requires.ready c.area_bytes.ensures.read c.register-r0.ensures c.from.ensures)
     (c.flag_of.ensures ∙ ap (λ b. if b then dumped else 0) p.whole) in
     subst (λ b. HasCome b (ends_by (unix_of w) c.args.s c.args.sig) c.end_with.result c.end_with.new.world) board
     (subst (λ x. HasCome (board_in c.put_core-whole.new.world) x c.end_with.result c.end_with.new.world)
@@ -131,7 +132,7 @@ returns-then-leaves_core-clause-items g c =
     let p = c.put_core-whole.ensures in
     let is = same_board w w1 c.args.s c.args.sig c.requires.ready t.holds c.requires.default c.tell-told.result t.answer t.images t.others in
     let board : board_in c.put_core-whole.new.world ≡ board_in w = ap (λ (x : Procs). board_of x.table x.images.kept) p.procs ∙ is in
-    let n = total _ _ _ _ (status_is w c.args.s c.args.sig c.area.result c.from.result c.requires.ready c.area.ensures.u c.from.ensures)
+    let n = total _ _ _ _ (status_is w c.args.s c.args.sig (fetched c.area_bytes.result.now) c.register-r0.result c.from.result c.requires.ready c.area_bytes.ensures.read c.register-r0.ensures c.from.ensures)
     (c.flag_of.ensures ∙ ap (λ b. if b then dumped else 0) p.whole) in
     subst (λ b. Took (g.T.Trace.taken c.args.trace.now) (logged b (ends_by (unix_of w) c.args.s c.args.sig).effects).items (g.T.Trace.taken c.end_with.new.trace)) board
     (subst (λ (x : Steps). Took (g.T.Trace.taken c.args.trace.now) (logged (board_in c.put_core-whole.new.world) x.effects).items (g.T.Trace.taken c.end_with.new.trace))
@@ -167,7 +168,7 @@ returns-clause-come g c =
     (subst (λ x. HasCome (board_in w1) x c.end_with-2.result c.end_with-2.new.world)
     (without w w1 c.args.s c.args.sig c.requires.ready t.holds c.requires.default c.tell-told.result t.answer t.images t.others
     c.leaves_core.result c.leaves_core.ensures c.if-leaves_core.false _
-    (status_is w c.args.s c.args.sig c.area.result c.from.result c.requires.ready c.area.ensures.u c.from.ensures))
+    (status_is w c.args.s c.args.sig (fetched c.area_bytes.result.now) c.register-r0.result c.from.result c.requires.ready c.area_bytes.ensures.read c.register-r0.ensures c.from.ensures))
     c.end_with-2.ensures.come)
 
 pub returns-clause-items : goal.returns-clause-items
@@ -180,7 +181,7 @@ returns-clause-items g c =
     (subst (λ (x : Steps). Took (g.T.Trace.taken c.args.trace.now) (logged (board_in w1) x.effects).items (g.T.Trace.taken c.end_with-2.new.trace))
     (without w w1 c.args.s c.args.sig c.requires.ready t.holds c.requires.default c.tell-told.result t.answer t.images t.others
     c.leaves_core.result c.leaves_core.ensures c.if-leaves_core.false _
-    (status_is w c.args.s c.args.sig c.area.result c.from.result c.requires.ready c.area.ensures.u c.from.ensures))
+    (status_is w c.args.s c.args.sig (fetched c.area_bytes.result.now) c.register-r0.result c.from.result c.requires.ready c.area_bytes.ensures.read c.register-r0.ensures c.from.ensures))
     c.end_with-2.ensures.items)
 
 pub returns-clause-rest : goal.returns-clause-rest

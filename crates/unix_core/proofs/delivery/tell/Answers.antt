@@ -1,17 +1,19 @@
-use Rattle.std.proofs.Common.{◌≡◌, ◌∙◌, ℕ, sym, ap, subst}
+use Rattle.std.proofs.Common.{◌≡◌, ◌∙◌, ℕ, get_or, sym, ap, subst}
 use Rattle.std.specs.Borrow.{GName}
 use Rattle.u_area.specs.declared.area.UArea.{UArea}
-use Rattle.image_keep.specs.Kept.{Kept, HasImage, HasSizes, area_of, image_of, with_area, with_image}
+use Rattle.u_area.specs.Fields.{with_handler}
+use Rattle.image_keep.specs.Kept.{Kept, HasImage, area_of, image_of, with_area, with_image}
 use Rattle.image_keep.specs.Lent.{Lent, left_of}
-use Rattle.image_keep.proofs.Frames.{image_alive, with_image_has, with_image_same}
+use Rattle.image_keep.specs.Running.{with_state}
+use Rattle.image_keep.proofs.Frames.{with_image_area, with_image_has, area_twice, with_area_same, with_area_has}
 use Rattle.sig_core.specs.Delivery.{Delivery, delivery}
 use Rattle.unix_core.proofs.LoanLemmas.{same_kept}
 use Rattle.image_keep.proofs.Loans.{lent_back}
-use Rattle.unix_core.proofs.DeliveryLemmas.{told_sizes}
+use Rattle.unix_core.proofs.DeliveryLemmas.{told_area}
 use Rattle.unix_core.proofs.delivery.tell.Goals as goal
 
--- What comes back: the memory with what was pushed, and the u area.
-module _ (k before now : Kept) (s was is sig : ℕ) (a b : GName) (u v : UArea) (has : HasImage k s) (sizes : HasSizes u (image_of k s)) (area : u ≡ area_of k s)
+-- What comes back: the memory with what was pushed, and the u area, of which the registers and one handler are put back.
+module _ (k before now : Kept) (s was is sig : ℕ) (a b : GName) (u v : UArea) (has : HasImage k s) (area : u ≡ area_of k s)
     (begins : before ≡ k) (slot : was ≡ s)
     (same : ◌≡◌ {A = Lent} (record { loan = a; slot = is; left = left_of now is }) (record { loan = b; slot = was; left = left_of before was }))
     (told : v ≡ (delivery u sig (image_of before was)).area) (memory : image_of now is ≡ (delivery u sig (image_of before was)).image) where
@@ -30,32 +32,41 @@ module _ (k before now : Kept) (s was is sig : ℕ) (a b : GName) (u v : UArea) 
   has_back : HasImage now s
   has_back = subst (λ x. HasImage x s) (sym back) (with_image_has k s s d.image has)
 
-  sizes_back : HasSizes v (image_of now s)
-  sizes_back =
-      let memory_is : image_of now s ≡ d.image = ap (λ x. image_of x s) back ∙ with_image_same k s d.image (image_alive k s has) in
-      subst (λ x. HasSizes x (image_of now s)) (sym v_is) (subst (HasSizes d.area) (sym memory_is)
-      (told_sizes (area_of k s) sig (image_of k s) (subst (λ x. HasSizes x (image_of k s)) area sizes)))
+  area_back : area_of now s ≡ area_of k s
+  area_back = ap (λ x. area_of x s) back ∙ with_image_area k s s d.image
 
-pub set_area-requires : goal.set_area-requires
-set_area-requires c = record {
+  module _ (then_kept : Kept) (stated : then_kept ≡ with_area now s (with_state (area_of now s) v.r v.cc)) where
+    has_stated : HasImage then_kept s
+    has_stated = subst (λ x. HasImage x s) (sym stated) (with_area_has now s s (with_state (area_of now s) v.r v.cc) has_back)
+
+    told_kept : (last : Kept) (n : ℕ) → n ≡ sig → last ≡ with_area then_kept s (with_handler (area_of then_kept s) n (get_or v.handlers n 0)) → last ≡ with_area (with_image k s d.image) s d.area
+    told_kept last n number put =
+        let state : UArea = with_state (area_of now s) v.r v.cc in
+        let h : ℕ = get_or v.handlers n 0 in
+        put
+        ∙ (ap (λ x. with_area x s (with_handler (area_of x s) n h)) stated
+        ∙ (ap (λ (x : UArea). with_area (with_area now s state) s (with_handler x n h)) (with_area_same now s state has_back)
+        ∙ (area_twice now s state (with_handler state n h)
+        ∙ ((λ i. with_area (back i) s (with_handler (with_state (area_back i) (v_is i).r (v_is i).cc) (number i) (get_or (v_is i).handlers (number i) 0)))
+        ∙ ap (with_area (with_image k s d.image) s) (told_area (area_of k s) sig (image_of k s))))))
+
+pub set_registers-requires : goal.set_registers-requires
+set_registers-requires c = record {
   image = has_back c.args.world.now.procs.images.kept c.space-space.result.images.now.kept c.deliver-told.new.space.images.now.kept c.args.s c.space-space.result.slot c.deliver-told.new.space.slot c.args.sig
-      _ _ c.area-u.result c.deliver-told.new.u c.requires.image c.area-u.ensures.sizes c.area-u.ensures.u (same_kept c.space-space.ensures.images) c.space-space.ensures.slot
+      _ _ c.area-u.result c.deliver-told.new.u c.requires.image c.area-u.ensures.u (same_kept c.space-space.ensures.images) c.space-space.ensures.slot
       c.deliver-told.ensures.rest c.deliver-told.ensures.area c.deliver-told.ensures.image;
-  sizes = sizes_back c.args.world.now.procs.images.kept c.space-space.result.images.now.kept c.deliver-told.new.space.images.now.kept c.args.s c.space-space.result.slot c.deliver-told.new.space.slot c.args.sig
-      _ _ c.area-u.result c.deliver-told.new.u c.requires.image c.area-u.ensures.sizes c.area-u.ensures.u (same_kept c.space-space.ensures.images) c.space-space.ensures.slot
-      c.deliver-told.ensures.rest c.deliver-told.ensures.area c.deliver-told.ensures.image;
+  codes = c.deliver-told.new.u.codes;
 }
+
+pub set_handler-requires-clause-image : goal.set_handler-requires-clause-image
+set_handler-requires-clause-image c =
+    has_stated c.args.world.now.procs.images.kept c.space-space.result.images.now.kept c.deliver-told.new.space.images.now.kept c.args.s c.space-space.result.slot c.deliver-told.new.space.slot c.args.sig
+    _ _ c.area-u.result c.deliver-told.new.u c.requires.image c.area-u.ensures.u (same_kept c.space-space.ensures.images) c.space-space.ensures.slot
+    c.deliver-told.ensures.rest c.deliver-told.ensures.area c.deliver-told.ensures.image c.set_registers.new.self.kept c.set_registers.ensures
 
 pub returns-clause-images : goal.returns-clause-images
 returns-clause-images c =
-    let k : Kept = c.args.world.now.procs.images.kept in
-    let d : Delivery = delivery (area_of k c.args.s) c.args.sig (image_of k c.args.s) in
-    c.set_area.ensures
-    ∙ ap (λ x. with_area x c.args.s c.deliver-told.new.u)
-    (back k c.space-space.result.images.now.kept c.deliver-told.new.space.images.now.kept c.args.s c.space-space.result.slot c.deliver-told.new.space.slot c.args.sig
-    _ _ c.area-u.result c.deliver-told.new.u c.requires.image c.area-u.ensures.sizes c.area-u.ensures.u (same_kept c.space-space.ensures.images) c.space-space.ensures.slot
-    c.deliver-told.ensures.rest c.deliver-told.ensures.area c.deliver-told.ensures.image)
-    ∙ ap (with_area (with_image k c.args.s d.image) c.args.s)
-    (v_is k c.space-space.result.images.now.kept c.deliver-told.new.space.images.now.kept c.args.s c.space-space.result.slot c.deliver-told.new.space.slot c.args.sig
-    _ _ c.area-u.result c.deliver-told.new.u c.requires.image c.area-u.ensures.sizes c.area-u.ensures.u (same_kept c.space-space.ensures.images) c.space-space.ensures.slot
-    c.deliver-told.ensures.rest c.deliver-told.ensures.area c.deliver-told.ensures.image)
+    told_kept c.args.world.now.procs.images.kept c.space-space.result.images.now.kept c.deliver-told.new.space.images.now.kept c.args.s c.space-space.result.slot c.deliver-told.new.space.slot c.args.sig
+    _ _ c.area-u.result c.deliver-told.new.u c.requires.image c.area-u.ensures.u (same_kept c.space-space.ensures.images) c.space-space.ensures.slot
+    c.deliver-told.ensures.rest c.deliver-told.ensures.area c.deliver-told.ensures.image c.set_registers.new.self.kept c.set_registers.ensures
+    c.set_handler.new.self.kept c.from-sig.result c.from-sig.ensures c.set_handler.ensures

@@ -5,6 +5,7 @@ use Rattle.image_keep.specs.Kept.{area_of}
 use Rattle.open_files.specs.declared.file.OpenFile.{OpenFile}
 use Rattle.open_files.specs.Files.{AreOpen, HaveRoom}
 use Rattle.u_area.specs.declared.area.UArea.{UArea}
+use Rattle.u_area.specs.Area.{fetched}
 use Rattle.unix_core.specs.declared.world.World.{World}
 use Rattle.fs_tree.specs.declared.tree.Tree.{Tree}
 use Rattle.sys_procs.specs.declared.procs.Procs.{Procs}
@@ -26,8 +27,8 @@ room_for w s ready entry file is =
     let few = few_numbers w.files.tree.nodes.references w.files.table w.files.pipes (unix_of w).texts (told_in (unix_of w).processes) ready.good.owed (fifty_told w) entry file is in
     omega (arith, few)
 
-pub area-u-requires : goal.area-u-requires
-area-u-requires g c = c.requires.ready.good.running c.args.s c.requires.ready.runs c.requires.ready.user
+pub area_bytes-requires : goal.area_bytes-requires
+area_bytes-requires g c = c.requires.ready.good.running c.args.s c.requires.ready.runs c.requires.ready.user
 
 pub fork_one-requires : goal.fork_one-requires
 fork_one-requires g c = ready_calls c.args.world.now c.args.s c.requires.ready c.see_table.ensures c.area-u.ensures.holds
@@ -35,7 +36,7 @@ fork_one-requires g c = ready_calls c.args.world.now c.args.s c.requires.ready c
 pub share_files-requires-clause-open : goal.share_files-requires-clause-open
 share_files-requires-clause-open g c =
     let w : World = c.args.world.now in
-    subst (λ (mine : List ℕ). AreOpen w.files.table mine) (sym (ap (λ (u : UArea). u.files) (c.area-u.ensures.u ∙ own_area w c.args.s c.requires.ready)))
+    subst (λ (mine : List ℕ). AreOpen w.files.table mine) (sym (c.files-numbers.ensures ∙ ap (λ (u : UArea). u.files) (c.area_bytes.ensures.read ∙ own_area w c.args.s c.requires.ready)))
     (names_open w.files.tree.nodes.references w.files.table w.files.pipes (unix_of w).texts (told_in (unix_of w).processes) c.requires.ready.good.owed c.args.s _ (told_here w c.args.s c.requires.ready))
 
 pub share_files-requires-clause-few : goal.share_files-requires-clause-few
@@ -45,9 +46,10 @@ share_files-requires-clause-few g c = room_for c.args.world.now c.args.s c.requi
 abbrev shared : World → Tree → List (Option OpenFile) → Procs → World
 shared w tree table procs = record w { files = record w.files { tree = tree; table = table }; procs = procs }
 
-its_table : (w : World) (s : ℕ) (u : UArea) (table : List (Option OpenFile)) (answer : Answer) → IsReady w s → u ≡ area_of w.procs.images.kept s
-    → table ≡ shares w.files.table u.files answer → table ≡ shares w.files.table (process_of (unix_of w) s).u.files answer
-its_table w s u table answer ready area is = is ∙ ap (λ (v : UArea). shares w.files.table v.files answer) (area ∙ own_area w s ready)
+its_table : (w : World) (s : ℕ) (u : UArea) (numbers : List ℕ) (table : List (Option OpenFile)) (answer : Answer) → IsReady w s → u ≡ area_of w.procs.images.kept s → numbers ≡ u.files
+    → table ≡ shares w.files.table numbers answer → table ≡ shares w.files.table (process_of (unix_of w) s).u.files answer
+its_table w s u numbers table answer ready area read is =
+    is ∙ (ap (λ (l : List ℕ). shares w.files.table l answer) read ∙ ap (λ (v : UArea). shares w.files.table v.files answer) (area ∙ own_area w s ready))
 
 pub conclude-requires : goal.conclude-requires
 conclude-requires g c =
@@ -56,7 +58,7 @@ conclude-requires g c =
     fork_ready w (after w c.fork_one.new.tree c.fork_one.new.p) c.args.s c.requires.ready c.see.ensures
     (beside w c.fork_one.new.tree c.fork_one.new.p c.fork_one.ensures.mounts) e.does
     c.in-Ok.answer c.in-Ok.is (shared w c.fork_one.new.tree c.share_files.new.table c.fork_one.new.p) refl refl
-    (its_table w c.args.s c.area-u.result _ c.in-Ok.answer c.requires.ready c.area-u.ensures.u c.share_files.ensures) refl refl refl refl refl
+    (its_table w c.args.s (fetched c.area_bytes.result.now) c.files-numbers.result _ c.in-Ok.answer c.requires.ready c.area_bytes.ensures.read c.files-numbers.ensures c.share_files.ensures) refl refl refl refl refl
     e.agree c.requires.user e.marks
 
 pub returns-in-Ok-clause-come : goal.returns-in-Ok-clause-come
@@ -66,7 +68,7 @@ returns-in-Ok-clause-come g c =
     fork_come w (after w c.fork_one.new.tree c.fork_one.new.p) c.args.s c.requires.ready c.see.ensures
     (beside w c.fork_one.new.tree c.fork_one.new.p c.fork_one.ensures.mounts) e.does
     c.in-Ok.answer c.in-Ok.is (shared w c.fork_one.new.tree c.share_files.new.table c.fork_one.new.p) refl refl
-    (its_table w c.args.s c.area-u.result _ c.in-Ok.answer c.requires.ready c.area-u.ensures.u c.share_files.ensures) refl refl refl refl refl
+    (its_table w c.args.s (fetched c.area_bytes.result.now) c.files-numbers.result _ c.in-Ok.answer c.requires.ready c.area_bytes.ensures.read c.files-numbers.ensures c.share_files.ensures) refl refl refl refl refl
     e.agree
     c.conclude.result c.conclude.new.world c.conclude.ensures.come
 
@@ -77,7 +79,7 @@ returns-in-Ok-clause-items g c =
     fork_took w (after w c.fork_one.new.tree c.fork_one.new.p) c.args.s c.requires.ready c.see.ensures
     (beside w c.fork_one.new.tree c.fork_one.new.p c.fork_one.ensures.mounts) e.does
     c.in-Ok.answer c.in-Ok.is (shared w c.fork_one.new.tree c.share_files.new.table c.fork_one.new.p) refl refl
-    (its_table w c.args.s c.area-u.result _ c.in-Ok.answer c.requires.ready c.area-u.ensures.u c.share_files.ensures) refl refl refl refl refl
+    (its_table w c.args.s (fetched c.area_bytes.result.now) c.files-numbers.result _ c.in-Ok.answer c.requires.ready c.area_bytes.ensures.read c.files-numbers.ensures c.share_files.ensures) refl refl refl refl refl
     e.agree _ c.conclude.ensures.items
 
 pub returns-in-Ok-clause-covered : goal.returns-in-Ok-clause-covered

@@ -1,18 +1,8 @@
-use Rattle.std.proofs.Common.{◌≡◌, ◌∙◌, ◌-◌, ℕ, ap, arith}
-use Rattle.abstract_unix.specs.Calls.{waiting_area}
-use Rattle.image_keep.specs.Kept.{with_area, area_of, image_of}
-use Rattle.image_keep.specs.State.{ImagesState}
-use Rattle.u_area.specs.declared.area.UArea.{UArea}
+use Rattle.std.proofs.Common.{◌-◌, arith}
 use Rattle.unix_core.specs.declared.world.World.{World}
 use Rattle.unix_core.proofs.WorldLemmas.{ready_alive}
-use Rattle.unix_core.proofs.WaitLemmas.{wait_unix, wait_board, wait_ready, has_waited, waiting_sizes}
+use Rattle.unix_core.proofs.WaitLemmas.{wait_unix, wait_board, wait_ready, has_waited}
 use Rattle.unix_core.proofs.slots.wait_for_disk.Goals as goal
-
--- what is kept then
-waits_so : (w : World) (s end : ℕ) (old u : UArea) (x : ImagesState) → x.kept ≡ with_area w.procs.images.kept s u → u ≡ waiting_area end old
-    → old ≡ area_of w.procs.images.kept s → x.kept ≡ with_area w.procs.images.kept s (waiting_area end (area_of w.procs.images.kept s))
-waits_so w s end old u x kept is own =
-    kept ∙ ap (with_area w.procs.images.kept s) (is ∙ ap (waiting_area end) own)
 
 pub wait_end-end-requires-clause-within : goal.wait_end-end-requires-clause-within
 wait_end-end-requires-clause-within c = c.requires.waits.within
@@ -23,16 +13,8 @@ wait_end-end-requires-clause-fresh c = c.requires.waits.fresh
 pub wait_end-end-requires-clause-few : goal.wait_end-end-requires-clause-few
 wait_end-end-requires-clause-few c = c.requires.waits.disk
 
-pub area-requires : goal.area-requires
-area-requires c = (ready_alive c.args.world.now c.args.s c.requires.ready).image
-
-pub set_area-requires-clause-image : goal.set_area-requires-clause-image
-set_area-requires-clause-image c = (ready_alive c.args.world.now c.args.s c.requires.ready).image
-
-pub set_area-requires-clause-sizes : goal.set_area-requires-clause-sizes
-set_area-requires-clause-sizes c =
-    waiting_sizes c.wait_end-end.result c.area.result c.waiting-u.result (image_of c.args.world.now.procs.images.kept c.args.s) c.waiting-u.ensures
-    c.area.ensures.sizes
+pub set_call-requires : goal.set_call-requires
+set_call-requires c = (ready_alive c.args.world.now c.args.s c.requires.ready).image
 
 pub add_wait-requires-clause-within : goal.add_wait-requires-clause-within
 add_wait-requires-clause-within c = c.requires.waits.within
@@ -50,24 +32,21 @@ pub returns-clause-unix : goal.returns-clause-unix
 returns-clause-unix c =
     let w : World = c.args.world.now in
     let e = c.add_wait.ensures in
-    wait_unix w c.args.s c.requires.ready c.wait_end-end.result c.wait_end-end.ensures c.set_area.new.self
-    (waits_so w c.args.s c.wait_end-end.result c.area.result c.waiting-u.result c.set_area.new.self c.set_area.ensures c.waiting-u.ensures c.area.ensures.u) c.add_wait.new.self
+    wait_unix w c.args.s c.requires.ready c.wait_end-end.result c.wait_end-end.ensures c.set_call.new.self c.set_call.ensures c.add_wait.new.self
     (λ i. record { passed = e.passed i; disk = e.disk i; pace = e.pace i; since = e.passed i - e.set i })
 
 pub returns-clause-board : goal.returns-clause-board
 returns-clause-board c =
     let w : World = c.args.world.now in
     let e = c.add_wait.ensures in
-    wait_board w c.args.s c.requires.ready c.wait_end-end.result c.wait_end-end.ensures c.set_area.new.self
-    (waits_so w c.args.s c.wait_end-end.result c.area.result c.waiting-u.result c.set_area.new.self c.set_area.ensures c.waiting-u.ensures c.area.ensures.u) c.add_wait.new.self
+    wait_board w c.args.s c.requires.ready c.wait_end-end.result c.wait_end-end.ensures c.set_call.new.self c.set_call.ensures c.add_wait.new.self
     (λ i. record { passed = e.passed i; disk = e.disk i; pace = e.pace i; since = e.passed i - e.set i })
 
 pub returns-clause-ready : goal.returns-clause-ready
 returns-clause-ready c =
     let w : World = c.args.world.now in
     let e = c.add_wait.ensures in
-    wait_ready w c.args.s c.requires.ready c.wait_end-end.result c.wait_end-end.ensures c.set_area.new.self
-    (waits_so w c.args.s c.wait_end-end.result c.area.result c.waiting-u.result c.set_area.new.self c.set_area.ensures c.waiting-u.ensures c.area.ensures.u) c.add_wait.new.self
+    wait_ready w c.args.s c.requires.ready c.wait_end-end.result c.wait_end-end.ensures c.set_call.new.self c.set_call.ensures c.add_wait.new.self
     (λ i. record { passed = e.passed i; disk = e.disk i; pace = e.pace i; since = e.passed i - e.set i })
 
 pub returns-clause-slots : goal.returns-clause-slots

@@ -1,5 +1,5 @@
 use Rattle.image_keep.proofs.StateOf.{kept_is}
-use Rattle.std.proofs.Common.{◌<◌, ◌∙◌, ◌||◌, sym, ap, arith, subst, length}
+use Rattle.std.proofs.Common.{◌<◌, ◌∙◌, ◌||◌, sym, ap, subst, length}
 use Rattle.std.specs.Vec.{with_items}
 use Rattle.std.proofs.lemmas.List.{with_items_is, length-set}
 use Rattle.text_tab.specs.Table.{row_at as text_row}

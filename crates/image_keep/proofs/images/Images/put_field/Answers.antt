@@ -1,5 +1,5 @@
 -- Bytes are put into a u area: the line holds another one there, and all else is as it was.
-use Rattle.std.proofs.Common.{◌≡◌, ◌+◌, ◌∙◌, ap, sym, arith}
+use Rattle.std.proofs.Common.{◌≡◌, ◌∙◌, ap, sym, arith}
 use Rattle.u_area.specs.declared.area.UArea.{UArea}
 use Rattle.image_keep.specs.Kept.{Kept, IsKept}
 use Rattle.image_keep.specs.Inside.{stock_in}

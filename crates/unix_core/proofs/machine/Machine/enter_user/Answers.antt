@@ -9,8 +9,8 @@ use Rattle.unix_core.proofs.WorldLemmas.{ready_alive}
 use Rattle.unix_core.proofs.MachineLemmas.{user_is, known_kernel, calls_kernel}
 use Rattle.unix_core.proofs.machine.Machine.enter_user.Goals as goal
 
-pub area-requires : goal.area-requires
-area-requires c = (ready_alive c.args.self.now.world c.args.s c.requires.ready).image
+pub area_bytes-requires : goal.area_bytes-requires
+area_bytes-requires c = (ready_alive c.args.self.now.world c.args.s c.requires.ready).image
 
 pub stays-requires : goal.stays-requires
 stays-requires c = (ready_alive c.args.self.now.world c.args.s c.requires.ready).image
@@ -18,14 +18,14 @@ stays-requires c = (ready_alive c.args.self.now.world c.args.s c.requires.ready)
 pub begin-requires : goal.begin-requires
 begin-requires c = (ready_alive c.args.self.now.world c.args.s c.requires.ready).image
 
-pub returns-then-area-ne-NOTHING_PENDING-clause-kernel : goal.returns-then-area-ne-NOTHING_PENDING-clause-kernel
-returns-then-area-ne-NOTHING_PENDING-clause-kernel c =
+pub returns-then-pending_call-ne-NOTHING_PENDING-clause-kernel : goal.returns-then-pending_call-ne-NOTHING_PENDING-clause-kernel
+returns-then-pending_call-ne-NOTHING_PENDING-clause-kernel c =
     let w : World = c.args.self.now.world in
     let s = c.args.s in
     subst (λ (x : Stage). IsKernel x c.rest.new.self.world) (sym c.rest.ensures.stage)
     (subst (IsKernel stage.Resting) (sym c.rest.ensures.world)
     (calls_kernel w s c.requires.ready c.requires.settled
-    (user_is w s _ (ready_alive w s c.requires.ready) (ne_eqb _ 0 (λ e. c.if-area-ne-NOTHING_PENDING.true (ap (λ (u : UArea). u.pending) c.area.ensures.u ∙ e)))) c.requires.counted))
+    (user_is w s _ (ready_alive w s c.requires.ready) (ne_eqb _ 0 (λ e. c.if-pending_call-ne-NOTHING_PENDING.true (c.pending_call.ensures ∙ (ap (λ (u : UArea). u.pending) c.area_bytes.ensures.read ∙ e))))) c.requires.counted))
 
 pub returns-then-not-stays-clause-kernel : goal.returns-then-not-stays-clause-kernel
 returns-then-not-stays-clause-kernel c =
@@ -33,11 +33,11 @@ returns-then-not-stays-clause-kernel c =
     let s = c.args.s in
     subst (IsKernel c.begin.new.self.stage) (sym c.begin.ensures.world)
     (known_kernel c.begin.new.self.stage w s c.begin.ensures.known c.requires.ready c.requires.settled
-    (user_is w s _ (ready_alive w s c.requires.ready) (eq-eqb _ 0 (ap (λ (u : UArea). u.pending) (sym c.area.ensures.u) ∙ c.if-area-ne-NOTHING_PENDING.false))) c.requires.counted)
+    (user_is w s _ (ready_alive w s c.requires.ready) (eq-eqb _ 0 (ap (λ (u : UArea). u.pending) (sym c.area_bytes.ensures.read) ∙ (sym c.pending_call.ensures ∙ c.if-pending_call-ne-NOTHING_PENDING.false)))) c.requires.counted)
 
 pub returns-else-not-stays-clause-kernel : goal.returns-else-not-stays-clause-kernel
 returns-else-not-stays-clause-kernel c =
     let w : World = c.args.self.now.world in
     let s = c.args.s in
     known_kernel c.args.self.now.stage w s (c.stays.ensures c.if-not-stays.false) c.requires.ready c.requires.settled
-    (user_is w s _ (ready_alive w s c.requires.ready) (eq-eqb _ 0 (ap (λ (u : UArea). u.pending) (sym c.area.ensures.u) ∙ c.if-area-ne-NOTHING_PENDING.false))) c.requires.counted
+    (user_is w s _ (ready_alive w s c.requires.ready) (eq-eqb _ 0 (ap (λ (u : UArea). u.pending) (sym c.area_bytes.ensures.read) ∙ (sym c.pending_call.ensures ∙ c.if-pending_call-ne-NOTHING_PENDING.false)))) c.requires.counted

@@ -5,19 +5,19 @@ use Rattle.unix_core.proofs.MachineLemmas.{mode_is}
 use Rattle.unix_core.proofs.PutLemmas.{good_alive}
 use Rattle.unix_core.proofs.machine.Machine.mode.Goals as goal
 
-pub area-requires : goal.area-requires
-area-requires c =
+pub area_bytes-requires : goal.area_bytes-requires
+area_bytes-requires c =
     let above : 0 < c.in-Some.s = search rules in
     (good_alive c.args.self.now.world c.in-Some.s c.requires c.in-Some.is above).image
 
-pub returns-then-area-eq-NOTHING_PENDING : goal.returns-then-area-eq-NOTHING_PENDING
-returns-then-area-eq-NOTHING_PENDING c =
+pub returns-then-pending_call-eq-NOTHING_PENDING : goal.returns-then-pending_call-eq-NOTHING_PENDING
+returns-then-pending_call-eq-NOTHING_PENDING c =
     let above : 0 < c.in-Some.s = search rules in
     sym (mode_is c.args.self.now.world c.in-Some.s _ c.requires c.in-Some.is above
-    (eq-eqb _ 0 (ap (λ (u : UArea). u.pending) (sym c.area.ensures.u) ∙ c.if-area-eq-NOTHING_PENDING.true)))
+    (eq-eqb _ 0 (ap (λ (u : UArea). u.pending) (sym c.area_bytes.ensures.read) ∙ (sym c.pending_call.ensures ∙ c.if-pending_call-eq-NOTHING_PENDING.true))))
 
-pub returns-else-area-eq-NOTHING_PENDING : goal.returns-else-area-eq-NOTHING_PENDING
-returns-else-area-eq-NOTHING_PENDING c =
+pub returns-else-pending_call-eq-NOTHING_PENDING : goal.returns-else-pending_call-eq-NOTHING_PENDING
+returns-else-pending_call-eq-NOTHING_PENDING c =
     let above : 0 < c.in-Some.s = search rules in
     sym (mode_is c.args.self.now.world c.in-Some.s _ c.requires c.in-Some.is above
-    (ne_eqb _ 0 (λ e. c.if-area-eq-NOTHING_PENDING.false (ap (λ (u : UArea). u.pending) c.area.ensures.u ∙ e))))
+    (ne_eqb _ 0 (λ e. c.if-pending_call-eq-NOTHING_PENDING.false (c.pending_call.ensures ∙ (ap (λ (u : UArea). u.pending) c.area_bytes.ensures.read ∙ e)))))
