@@ -148,7 +148,7 @@ with_area_texts k s u = record { texts = refl; users = refl }
 pub ruleset stores = (with_image_same, left_image, with_image_alive)
 
 -- a slot's u area is another one
-slot_described : (k : Kept) (s : ℕ) (u : UArea) → keeping (with_area k s u) s ≡ described u (keeping k s)
+pub slot_described : (k : Kept) (s : ℕ) (u : UArea) → keeping (with_area k s u) s ≡ described u (keeping k s)
 unfolding with_area
 slot_described k s u = elim (cases_lt s (length k.slots)) [
   | inl low ↦ keeping_same k s (described u (keeping k s)) low

@@ -55,7 +55,7 @@ set_last (x ∷ y ∷ r) zero w long = absurd (omega (arith, long))
 set_last (x ∷ r) (suc n) w long = ap (λ (l : List ℕ). x ∷ l) (set_last r n w (omega (arith, long)))
 
 -- the last register, with the condition codes
-pc_over : (line : List ℕ) (at : ℕ) (r : List ℕ) (old pc cc : ℕ) → length r ≡ 8 → at + 18 ≤ length line → part line at 18 ≡ state_bytes r old
+pub pc_over : (line : List ℕ) (at : ℕ) (r : List ℕ) (old pc cc : ℕ) → length r ≡ 8 → at + 18 ≤ length line → part line at 18 ≡ state_bytes r old
     → over line (at + 14) (bytes_of (pc ∷ (61440 + cc) ∷ [])) ≡ over line at (state_bytes (slice_set r 7 pc) cc)
 unfolding state_bytes bytes_of
 pc_over line at r old pc cc eight room stated =

@@ -50,7 +50,7 @@ state_long r cc eight =
     let both : length (state_bytes r cc) ≡ length (bytes_of r) + 2 = length-append (bytes_of r) (bytes_of ((61440 + cc) ∷ [])) in
     omega (arith, n, both, eight)
 
-byte_fits : (b : List ℕ) → AreBytes b → (k : ℕ) → slice_index b k < 256
+pub byte_fits : (b : List ℕ) → AreBytes b → (k : ℕ) → slice_index b k < 256
 byte_fits b are k = elim (cases_lt k (length b)) [
   | inl low ↦ All-get_or (λ x. x < 256) b k 0 low are
   | inr past ↦ let none : slice_index b k ≡ 0 = get_or_past b k 0 past in omega (arith, none)
@@ -117,7 +117,7 @@ over_rest line at m n ys long le fits =
     ∙ over-self new (at + m) k (omega (arith, size, le, fits))
 
 -- Registers are put in front of a u area that stands in the line.
-state_over : (line : List ℕ) (at : ℕ) (a : UArea) (r : List ℕ) (cc : ℕ) → length a.r ≡ 8 → length r ≡ 8 → cc < 16 → at + 1024 ≤ length line → part line at 1024 ≡ area_bytes a → over line at (state_bytes r cc) ≡ over line at (area_bytes (with_state a r cc))
+pub state_over : (line : List ℕ) (at : ℕ) (a : UArea) (r : List ℕ) (cc : ℕ) → length a.r ≡ 8 → length r ≡ 8 → cc < 16 → at + 1024 ≤ length line → part line at 1024 ≡ area_bytes a → over line at (state_bytes r cc) ≡ over line at (area_bytes (with_state a r cc))
 unfolding part
 state_over line at a r cc was eight codes fits there =
     let b : List ℕ = part line at 1024 in

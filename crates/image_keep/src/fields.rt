@@ -1,6 +1,6 @@
 //! The u area of an image, read and written where it stands, whole and field by field.
-ghost use Rattle.std.specs.Prelude.{◌≡◌, ◌+◌, ◌<◌, ◌≤◌, [], ◌∷◌, length};
-ghost use Rattle.fs_codec.specs.Bytes.{bytes_of};
+ghost use Rattle.std.specs.Prelude.{◌≡◌, ◌+◌, ◌<◌, ◌≤◌, [], ◌∷◌, ◌++◌, length};
+ghost use Rattle.fs_codec.specs.Bytes.{bytes_of, long_words};
 ghost use Rattle.u_area.specs.Area.{fetched, IsSized, IsStored};
 ghost use Rattle.u_area.specs.Fields.{Becomes, with_register, with_codes, with_ids, with_handler, with_call, with_tick, with_no_times, with_child_times, with_end};
 ghost use Rattle.u_area.specs.declared.area.UArea.{UArea};
@@ -13,11 +13,11 @@ use crate::memory::see_bytes;
 use crate::parts::{place_click, place_of, row_of};
 use crate::running::Fixed;
 use crate::state::{PC, state_bytes, two_words};
-use fs_codec::{put_long, put_words};
+use fs_codec::put_words;
 use pdp_step::Regs;
 use u_area::{
     AREA_SIZE, CALL, DIRECTORY, HANDLERS, IDS, PENDING, PS, REGISTERS, STATUS, TIMES, UArea, UMODE,
-    codes, fetch_bytes, registers,
+    codes, fetch_bytes, own_times, registers,
 };
 use v6_base::Slot;
 
@@ -40,14 +40,56 @@ fn eight_words(words: &[u16; 8]) -> [u8; 16]
     bytes
 }
 
+/// The bytes of twenty words.
+fn twenty_words(words: &[u16; 20]) -> [u8; 40]
+    ensures { result ≡ bytes_of words.now }
+{
+    let mut bytes = [0; 40];
+    put_words(&mut bytes, 0, words);
+    see_bytes(&bytes);
+    bytes
+}
+
+/// The bytes of two long words, each with its high word first.
+fn two_longs(first: u32, second: u32) -> [u8; 8]
+    ensures { result ≡ bytes_of (long_words first ++ long_words second) }
+{
+    let mut bytes = [0; 8];
+    let words = [
+        (first / 65536) as u16,
+        (first % 65536) as u16,
+        (second / 65536) as u16,
+        (second % 65536) as u16,
+    ];
+    put_words(&mut bytes, 0, &words);
+    see_bytes(&bytes);
+    bytes
+}
+
 impl Images {
     // Where in the line of core and the swap area a slot's image begins, with its u area.
     #[inline(always)]
     fn area_start(&self, s: Slot) -> usize
         requires { HasImage self.now.kept s }
-        ensures { IsAreaAt self.now.kept s result }
+        ensures place { IsAreaAt self.now.kept s result }
+        ensures sized { IsSized (area_of self.now.kept s) }
+        ensures sizes { HasSizes (area_of self.now.kept s) (image_of self.now.kept s) }
     {
+        self.memory.see_bytes();
         64 * place_click(self.core, place_of(row_of(&self.rows, s as usize)))
+    }
+
+    // The same of the process of which this is fixed.
+    #[inline(always)]
+    fn fixed_start(&self, fixed: &Fixed) -> usize
+        requires { IsFixed self.now.kept fixed.now }
+        ensures image { HasImage self.now.kept fixed.now.slot }
+        ensures place { IsAreaAt self.now.kept fixed.now.slot result }
+        ensures sized { IsSized (area_of self.now.kept fixed.now.slot) }
+        ensures sizes { HasSizes (area_of self.now.kept fixed.now.slot) (image_of self.now.kept fixed.now.slot) }
+    {
+        self.memory.see_bytes();
+        fixed.starts.image - AREA_SIZE
     }
 
     /// The bytes of the u area of a slot with an image, where they stand in core or in the swap area. The functions of `u_area`
@@ -60,7 +102,6 @@ impl Images {
         ensures stored { IsStored result.now }
         ensures size { length result.now ≡ 1024 }
     {
-        self.memory.see_bytes();
         let at = self.area_start(s);
         self.memory.area_bytes(at)
     }
@@ -85,8 +126,8 @@ impl Images {
         ensures stored { IsStored result.now }
         ensures size { length result.now ≡ 1024 }
     {
-        self.memory.see_bytes();
-        self.memory.area_bytes(fixed.starts.image - AREA_SIZE)
+        let at = self.fixed_start(fixed);
+        self.memory.area_bytes(at)
     }
 
     /// And that u area.
@@ -108,7 +149,7 @@ impl Images {
         requires place { IsAreaAt self.old.kept s at }
         requires within { field + length bytes.now ≤ 1024 }
         requires meaning { (u : UArea) × Becomes (area_of self.old.kept s) field bytes.now u × IsSized u × HasSizes u (image_of self.old.kept s) }
-        ensures kept { (u : UArea) → Becomes (area_of self.old.kept s) field bytes.now u → IsSized u
+        ensures { (u : UArea) → Becomes (area_of self.old.kept s) field bytes.now u → IsSized u
             → self.new.kept ≡ with_area self.old.kept s u }
     {
         let _ = s;
@@ -205,10 +246,15 @@ impl Images {
         requires { HasImage self.old.kept s }
         ensures { self.new.kept ≡ with_area self.old.kept s (with_tick (area_of self.old.kept s) in_kernel) }
     {
-        let field = if in_kernel { TIMES + 2 } else { TIMES };
         let at = self.area_start(s);
-        let ticks = self.memory.word(at + field).wrapping_add(1);
-        self.put_field(s, at, field, &one_word(ticks));
+        let [user, system] = own_times(self.area_bytes(s));
+        if in_kernel {
+            let ticks = system.wrapping_add(1);
+            self.put_field(s, at, TIMES + 2, &one_word(ticks));
+            return;
+        }
+        let ticks = user.wrapping_add(1);
+        self.put_field(s, at, TIMES, &one_word(ticks));
     }
 
     /// A process has used no time, and no child of it has: 12 bytes are written.
@@ -225,11 +271,8 @@ impl Images {
         requires { HasImage self.old.kept s }
         ensures { self.new.kept ≡ with_area self.old.kept s (with_child_times (area_of self.old.kept s) user system) }
     {
-        let mut bytes = [0; 8];
-        put_long(&mut bytes, 0, user);
-        put_long(&mut bytes, 4, system);
         let at = self.area_start(s);
-        self.put_field(s, at, TIMES + 4, &bytes);
+        self.put_field(s, at, TIMES + 4, &two_longs(user, system));
     }
 
     /// A process has ended with a status: it has no directory, and does this where signals come. Two bytes, two and 40 are
@@ -241,9 +284,7 @@ impl Images {
         let at = self.area_start(s);
         self.put_field(s, at, DIRECTORY, &one_word(0));
         self.put_field(s, at, STATUS, &one_word(status));
-        let mut bytes = [0; 40];
-        put_words(&mut bytes, 0, handlers);
-        self.put_field(s, at, HANDLERS, &bytes);
+        self.put_field(s, at, HANDLERS, &twenty_words(handlers));
     }
 
     /// Puts PC and condition codes into the u area of the process of which this is fixed: four bytes are written.
@@ -254,7 +295,7 @@ impl Images {
         ensures kept { self.new.kept ≡ with_area self.old.kept fixed.now.slot (with_pc (area_of self.old.kept fixed.now.slot) pc cc) }
         ensures fixed { IsFixed self.new.kept fixed.now }
     {
-        let at = fixed.starts.image - AREA_SIZE;
+        let at = self.fixed_start(fixed);
         self.put_field(fixed.slot, at, PC, &two_words(pc, UMODE + u16::from(cc)));
     }
 
@@ -266,7 +307,7 @@ impl Images {
         ensures kept { self.new.kept ≡ with_area self.old.kept fixed.now.slot (with_state (area_of self.old.kept fixed.now.slot) r.now cc) }
         ensures fixed { IsFixed self.new.kept fixed.now }
     {
-        let at = fixed.starts.image - AREA_SIZE;
+        let at = self.fixed_start(fixed);
         self.put_field(fixed.slot, at, REGISTERS, &state_bytes(r, cc));
     }
 

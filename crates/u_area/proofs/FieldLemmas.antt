@@ -104,7 +104,7 @@ word_put (x ∷ xs) (suc n) w low =
     ∙ ap (λ (l : List ℕ). x % 256 ∷ x / 256 ∷ l) (word_put xs n w (omega (arith, low)))
 
 -- all bytes of a field
-whole_put : (old new : List ℕ) → length new ≡ length old → over old 0 new ≡ new
+pub whole_put : (old new : List ℕ) → length new ≡ length old → over old 0 new ≡ new
 unfolding over
 whole_put old new same = ap (λ l. new ++ l) (drop_all (0 + length new) old (omega (arith, same))) ∙ append-nil new
 
@@ -116,6 +116,22 @@ register_put u n w sized low =
     let r = sized.r in
     field_put u 0 (2 * n) (2 * n) (bytes_of (w ∷ [])) sized (omega arith) (omega (arith, long, two, low)) (omega arith)
     ∙ ap (λ b. laid 0 (record { at = 0; bytes = b } ∷ drop 1 (fields u))) (word_put u.r n w (omega (arith, r, low)))
+
+-- the first two
+two_put : (xs : List ℕ) (a b : ℕ) → 2 ≤ length xs → over (bytes_of xs) 0 (bytes_of (a ∷ b ∷ [])) ≡ bytes_of (slice_set (slice_set xs 0 a) 1 b)
+unfolding bytes_of over
+two_put [] a b two = absurd (omega (arith, two))
+two_put (x ∷ []) a b two = absurd (omega (arith, two))
+two_put (x ∷ y ∷ xs) a b two = refl
+
+pub results_put : (u : UArea) (r0 r1 : ℕ) → IsSized u → Becomes u 0 (bytes_of (r0 ∷ r1 ∷ [])) (record u { r = slice_set (slice_set u.r 0 r0) 1 r1 })
+unfolding area_bytes
+results_put u r0 r1 sized =
+    let long = words_long u.r 8 sized.r in
+    let four = words_long (r0 ∷ r1 ∷ []) 2 refl in
+    let eight = sized.r in
+    field_put u 0 0 0 (bytes_of (r0 ∷ r1 ∷ [])) sized (omega arith) (omega (arith, long, four)) refl
+    ∙ ap (λ b. laid 0 (record { at = 0; bytes = b } ∷ drop 1 (fields u))) (two_put u.r r0 r1 (omega (arith, eight)))
 
 pub codes_put : (u : UArea) (cc : ℕ) → IsSized u → cc < 16 → Becomes u 16 (cc ∷ []) (with_codes u cc)
 unfolding area_bytes bytes_of over
@@ -224,6 +240,10 @@ length-area u sized =
 -- lists stay as long
 pub sized_register : (u : UArea) (n w : ℕ) → IsSized u → IsSized (with_register u n w)
 sized_register u n w s = record { r = length-set u.r n w ∙ s.r; call = s.call; handlers = s.handlers; files = s.files }
+
+pub sized_results : (u : UArea) (r0 r1 : ℕ) → IsSized u → IsSized (record u { r = slice_set (slice_set u.r 0 r0) 1 r1 })
+sized_results u r0 r1 s =
+    record { r = length-set (slice_set u.r 0 r0) 1 r1 ∙ (length-set u.r 0 r0 ∙ s.r); call = s.call; handlers = s.handlers; files = s.files }
 
 pub sized_handler : (u : UArea) (n w : ℕ) → IsSized u → IsSized (with_handler u n w)
 sized_handler u n w s = record { r = s.r; call = s.call; handlers = length-set u.handlers n w ∙ s.handlers; files = s.files }

@@ -1,0 +1,20 @@
+use Rattle.u_area.specs.declared.area.UArea.{UArea}
+use Rattle.u_area.specs.Fields.{with_codes}
+use Rattle.u_area.proofs.FieldLemmas.{codes_put}
+use Rattle.image_keep.specs.Kept.{area_of}
+use Rattle.image_keep.proofs.images.Images.set_codes.Goals as goal
+
+pub put_field-requires-clause-meaning : goal.put_field-requires-clause-meaning
+put_field-requires-clause-meaning c =
+    let own : UArea = area_of c.args.self.now.kept c.args.s in
+    let sized = c.area_start-at.ensures.sized in
+    let v : UArea = with_codes own c.args.cc in
+    let z = c.area_start-at.ensures.sizes in
+    (v, codes_put own c.args.cc sized c.requires.codes, record { r = sized.r; call = sized.call; handlers = sized.handlers; files = sized.files }, record { text_size = z.text_size; data_size = z.data_size; stack_size = z.stack_size })
+
+pub returns : goal.returns
+returns c =
+    let own : UArea = area_of c.args.self.now.kept c.args.s in
+    let sized = c.area_start-at.ensures.sized in
+    let v : UArea = with_codes own c.args.cc in
+    c.put_field.ensures v (codes_put own c.args.cc sized c.requires.codes) (record { r = sized.r; call = sized.call; handlers = sized.handlers; files = sized.files })
