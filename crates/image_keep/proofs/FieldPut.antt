@@ -1,20 +1,20 @@
 -- Bytes that are put into a u area, for all who put some there: which one it becomes, and where it stands then.
-use Rattle.std.proofs.Common.{◌≡◌, ◌∙◌, ℕ, ◌+◌, ◌<◌, ◌≤◌, List, [], ◌∷◌, length, slice_set, refl, sym, ap, subst, arith}
+use Rattle.std.proofs.Common.{◌≡◌, ◌∙◌, ℕ, ◌+◌, ◌<◌, List, [], ◌∷◌, length, slice_set, sym, ap, subst, arith}
 use Rattle.std.specs.Option.{unwrap_or}
-use Rattle.std.proofs.lemmas.List.{take_all, length-set}
-use Rattle.core_mem.specs.Bytes.{part, over}
+use Rattle.std.proofs.lemmas.List.{length-set}
+use Rattle.core_mem.specs.Bytes.{over}
 use Rattle.fs_codec.specs.Bytes.{bytes_of}
 use Rattle.v6_base.specs.declared.entry.Place.TheVariants.{Core}
 use Rattle.u_area.specs.declared.area.UArea.{UArea}
 use Rattle.u_area.specs.Area.{area_bytes, IsSized}
 use Rattle.u_area.specs.Fields.{Becomes}
 use Rattle.u_area.proofs.FieldLemmas.{length-area, whole_put}
-use Rattle.image_keep.specs.Kept.{Kept, Held, Has, HasImage, HasSizes, Keeping, Alive, keeping, place_in, image_of, area_of, described, with_area}
+use Rattle.image_keep.specs.Kept.{Kept, HasImage, Keeping, Alive, place_in, image_of, area_of, described, with_area}
 use Rattle.image_keep.specs.Fields.{IsAreaAt}
 use Rattle.image_keep.specs.Memory.{place_at}
 use Rattle.image_keep.specs.Running.{with_pc, with_state, state_bytes}
-use Rattle.image_keep.proofs.Frames.{slot_described, with_area_same, with_area_has, with_area_image}
-use Rattle.image_keep.proofs.Registers.{state_over, state_there}
+use Rattle.image_keep.proofs.Frames.{slot_described, area_twice, with_area_same, with_area_has, with_area_image}
+use Rattle.image_keep.proofs.Registers.{front_whole, state_over, state_there}
 use Rattle.image_keep.proofs.RegisterWords.{pc_over}
 
 -- the same bytes at the same place
@@ -26,10 +26,6 @@ pub of_equal : (t u v : UArea) (f : ℕ) (a : List ℕ) → t ≡ u → Becomes 
 of_equal t u v f a e law = ap (λ x. over (area_bytes x) f a) e ∙ law
 
 -- all registers with the codes, and PC with the codes
-front_whole : (b : List ℕ) (n : ℕ) → length b ≡ n → part b 0 n ≡ b
-unfolding part
-front_whole b n long = take_all n b (omega (arith, long))
-
 sized_state : (u : UArea) (r : List ℕ) (cc : ℕ) → length r ≡ 8 → IsSized u → IsSized (with_state u r cc)
 sized_state u r cc eight s = record { r = eight; call = s.call; handlers = s.handlers; files = s.files }
 
@@ -68,3 +64,7 @@ stays k l s at v has starts is = subst (λ x. Stays k x s at v) (sym is) (record
   area = with_area_same k s v has;
   same = with_area_image k s s v;
 })
+
+-- twice over, the last one stays
+pub put_twice : (k l m : Kept) (s : ℕ) (u v : UArea) → l ≡ with_area k s u → m ≡ with_area l s v → m ≡ with_area k s v
+put_twice k l m s u v first second = second ∙ (ap (λ x. with_area x s v) first ∙ area_twice k s u v)

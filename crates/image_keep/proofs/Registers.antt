@@ -12,13 +12,12 @@ use Rattle.fs_codec.specs.Words.{word, words}
 use Rattle.fs_codec.proofs.BytesLemmas.{length-bytes_of, bytes_of_words, bytes_of_word, part_join, part_whole}
 use Rattle.u_area.specs.declared.area.UArea.{UArea}
 use Rattle.u_area.specs.Area.{laid, fields, status_word, area_bytes, fetched, IsSized}
-use Rattle.u_area.proofs.AreaLemmas.{fetched_is, one_area}
+use Rattle.u_area.proofs.AreaLemmas.{fetched_is}
 use Rattle.v6_base.specs.declared.entry.Place.{Place}
 use Rattle.v6_base.specs.declared.entry.Place.TheVariants.{Core, Swap}
 use Rattle.image_keep.specs.declared.starts.Starts.{Starts}
 use Rattle.image_keep.specs.declared.row.Row.{Row}
-use Rattle.image_keep.specs.declared.row.State.TheVariants as state
-use Rattle.image_keep.specs.Kept.{Kept, Keeping, Nothing, Alive, Grave, keeping, HasImage, HasSizes, image_of, area_of, described, with_area}
+use Rattle.image_keep.specs.Kept.{Kept, Keeping, Nothing, Alive, Grave, keeping, HasImage, image_of, area_of, described, with_area}
 use Rattle.image_keep.specs.Memory.{Stock, row_at, place_at, clicks_in, kept_of, IsIn, IsAlive, HoldsBy, IsSound}
 use Rattle.image_keep.specs.Counts.{IsCounted}
 use Rattle.image_keep.specs.Starts.{data_start, AreStarts}
@@ -28,9 +27,9 @@ use Rattle.image_keep.proofs.Moves.{fits_in}
 use Rattle.image_keep.proofs.Own.{with_line, own_sound, area_write, area_kept, area_read, front}
 use Rattle.image_keep.proofs.InPlan.{core_kept}
 use Rattle.image_keep.proofs.Facts.{Facts}
-use Rattle.image_keep.proofs.AreaSet.{AreaSet, known, at_place_of, area_set}
+use Rattle.image_keep.proofs.AreaSet.{AreaSet, known}
 
-front_whole : (b : List ℕ) (n : ℕ) → length b ≡ n → part b 0 n ≡ b
+pub front_whole : (b : List ℕ) (n : ℕ) → length b ≡ n → part b 0 n ≡ b
 unfolding part
 front_whole b n long = take_all n b (omega (arith, long))
 
@@ -67,14 +66,6 @@ state_there line at u eight there =
     ∙ ap (λ b. part b 0 18) (there ∙ front_of_area u eight)
     ∙ part-left (state_bytes u.r u.cc) rest 0 18 (omega (arith, long))
     ∙ front_whole (state_bytes u.r u.cc) 18 long
-
-pub state_eight : (bytes : List ℕ) (at : ℕ) (r : List ℕ) (cc : ℕ) → at + 18 ≤ length bytes → part bytes at 18 ≡ state_bytes r cc → length r ≡ 8
-unfolding state_bytes bytes_of
-state_eight bytes at r cc room there =
-    let n = length-bytes_of r in
-    let both : length (state_bytes r cc) ≡ length (bytes_of r) + 2 = length-append (bytes_of r) (bytes_of ((61440 + cc) ∷ [])) in
-    let long : length (state_bytes r cc) ≡ 18 = ap length (sym there) ∙ length-part bytes at 18 room in
-    omega (arith, n, both, long)
 
 pub state_spelled : (b r : List ℕ) (cc : ℕ) → length b ≡ 18 → AreBytes b → words b 0 8 ≡ r → word b 16 ≡ 61440 + cc → b ≡ state_bytes r cc
 unfolding state_bytes
@@ -167,11 +158,6 @@ stands v k s x view h c a =
     side_by (Core c) i at = let a = i.0 in let b = i.1 in inl (omega (arith, a, b, at))
     side_by (Swap b) i at = inr (omega (arith, at))
 
--- the registers are written inside, in core or in the swap area
-pub state_side : (core at n a : ℕ) → (at + 18 ≤ 64 * core) ⊎ (64 * core ≤ at) → n ≡ 18 → a ≡ 64 * core → (at + n ≤ a) ⊎ (a ≤ at)
-state_side core at n a (inl l) e f = inl (omega (arith, l, e, f))
-state_side core at n a (inr l) e f = inr (omega (arith, l, e, f))
-
 -- Other registers stand there: the u area is another one, and all else is as it was.
 pub state_set : (v : Stock) (k : Kept) (s : ℕ) (x : Starts) (r : List ℕ) (cc : ℕ) (line : List ℕ) → kept_of v ≡ k → IsSound v → IsCounted v.rows v.texts → AreStarts k s x → length r ≡ 8 → cc < 16
     → line ≡ over v.line (x.image - 1024) (state_bytes r cc) → AreaSet v k s (with_state (area_of k s) r cc) line
@@ -196,37 +182,6 @@ state_set v k s x r cc line view h c a eight codes line_is =
       sound = subst (λ i. IsSound (with_line v i)) (sym new) (own_sound v s place (over v.line (place_at v.core place) (area_bytes u)) h f.low (area_write v s place u (area_bytes u) h f.is sized refl long ds ks));
       kept = ap (λ i. kept_of (with_line v i)) new ∙ area_kept v s place u (area_bytes u) h f.is sized refl long ds ks ∙ ap (λ (j : Kept). with_area j s u) view;
     }
-
--- The same where a row tells the place, by its click.
-pub state_front : (v : Stock) (k : Kept) (s click : ℕ) (row : Row) (place : Place) (r : List ℕ) (cc : ℕ) (line : List ℕ) → kept_of v ≡ k → IsSound v → IsCounted v.rows v.texts → HasImage k s → row ≡ row_at v.rows s → row.state ≡ state.Alive place
-    → 64 * click ≡ place_at v.core place → length r ≡ 8 → cc < 16 → line ≡ over v.line (64 * click) (state_bytes r cc) → AreaSet v k s (with_state (area_of k s) r cc) line
-state_front v k s click row place r cc line view h c has at is place_is eight codes line_is =
-    let f : Facts v s place = at_place_of v k s row place view h c has at is in
-    let u : UArea = with_state (area_of k s) r cc in
-    let read = area_read v s place h f.is in
-    let same : read.0.0 ≡ area_of k s = sym (fetched_is _ read.0.0 read.0.1 read.0.2) ∙ sym read.1 ∙ ap (λ j. area_of j s) view in
-    let was : IsSized (area_of k s) = subst IsSized same read.0.1 in
-    let bytes : part v.line (place_at v.core place) 1024 ≡ area_bytes (area_of k s) = read.0.2 ∙ ap area_bytes same in
-    let fits = fits_in v.core (clicks_in (row_at v.rows s)) 0 place f.inside in
-    let z = h.size in
-    let inside : place_at v.core place + 1024 ≤ length v.line = omega (arith, fits, z) in
-    let sized : IsSized u = record { r = eight; call = was.call; handlers = was.handlers; files = was.files } in
-    let long : length (area_bytes u) ≡ 1024 =
-    stated_long (area_of k s) r cc was.r eight codes (ap length (sym bytes) ∙ length-part v.line (place_at v.core place) 1024 inside) in
-    area_set v k s click row place u (area_bytes u) line view h c has at is place_is sized refl long refl refl
-    (line_is
-    ∙ ap (λ i. over v.line i (state_bytes r cc)) place_is
-    ∙ state_over v.line (place_at v.core place) (area_of k s) r cc was.r eight codes inside bytes
-    ∙ ap (λ i. over v.line i (area_bytes u)) (sym place_is))
-
-pub state_sizes : (u : UArea) (r : List ℕ) (cc : ℕ) (m : Image) → HasSizes u m → HasSizes (with_state u r cc) m
-state_sizes u r cc m has = record { text_size = has.text_size; data_size = has.data_size; stack_size = has.stack_size }
-
--- The codes of a u area are four bits.
-pub state_is : (u : UArea) (r : List ℕ) (cc : ℕ) (codes : cc < 16) → record u { r = r; cc = cc; codes = codes } ≡ with_state u r cc
-state_is u r cc codes =
-    let same : cc ≡ cc % 16 = omega (arith, codes) in
-    one_area (record u { r = r; cc = cc; codes = codes }) (with_state u r cc) refl same refl refl refl refl refl refl refl refl refl refl refl refl refl refl refl refl refl
 
 -- what is fixed stays so
 described_start : (core : ℕ) (x : Keeping) (u : UArea) → data_start core (described u x) ≡ data_start core x

@@ -1,5 +1,4 @@
 use Rattle.std.proofs.Common.{◌∙◌, ap}
-use Rattle.image_keep.specs.Kept.{Kept}
 use Rattle.image_keep.specs.declared.row.Row.{Row}
 use Rattle.image_keep.specs.Inside.{stock_in}
 use Rattle.image_keep.specs.Memory.{is_alive}

@@ -1,12 +1,13 @@
-use Rattle.std.proofs.Common.{◌≡◌, ◌∙◌, ℕ, refl, sym, ap, subst, rules}
+use Rattle.std.proofs.Common.{◌≡◌, ℕ, List, [], ◌∷◌, refl, sym, subst, rules}
+use Rattle.fs_codec.specs.Bytes.{bytes_of}
 use Rattle.u_area.specs.declared.area.UArea.{UArea}
 use Rattle.u_area.specs.Area.{IsSized}
-use Rattle.u_area.specs.Fields.{with_end}
+use Rattle.u_area.specs.Fields.{Becomes, with_end}
 use Rattle.u_area.proofs.FieldLemmas.{directory_put, status_put, handlers_put}
 use Rattle.v6_base.specs.Image.{Image}
-use Rattle.image_keep.specs.Kept.{Kept, HasSizes, area_of, image_of, with_area}
-use Rattle.image_keep.proofs.Frames.{area_twice}
-use Rattle.image_keep.proofs.FieldPut.{placed, of_equal, Stays, stays}
+use Rattle.image_keep.specs.Kept.{Kept, HasImage, HasSizes, area_of, image_of, with_area}
+use Rattle.image_keep.specs.Fields.{IsAreaAt}
+use Rattle.image_keep.proofs.FieldPut.{placed, of_equal, Stays, stays, put_twice}
 use Rattle.image_keep.proofs.images.Images.set_ended.Goals as goal
 
 -- without a directory, and with a status
@@ -22,84 +23,105 @@ sized_left u s = record { r = s.r; call = s.call; handlers = s.handlers; files =
 sized_told : (u : UArea) (status : ℕ) → IsSized u → IsSized (told u status)
 sized_told u status s = record { r = s.r; call = s.call; handlers = s.handlers; files = s.files }
 
+-- The directory is left, and then the status is told.
+module _ (k l : Kept) (s at : ℕ) (has : HasImage k s) (starts : IsAreaAt k s at) (sized : IsSized (area_of k s)) (one : List ℕ) (one_is : one ≡ bytes_of (0 ∷ []))
+    (put : (u : UArea) → Becomes (area_of k s) 22 one u → IsSized u → l ≡ with_area k s u) where
+  abbrev own : UArea
+  own = area_of k s
+
+  first_law : Becomes own 22 one (left own)
+  first_law = placed own (left own) 22 22 one (bytes_of (0 ∷ [])) refl one_is (directory_put own 0 sized)
+
+  first_kept : l ≡ with_area k s (left own)
+  first_kept = put (left own) first_law (sized_left own sized)
+
+  first : Stays k l s at (left own)
+  first = stays k l s at (left own) has starts first_kept
+
+  module _ (m : Kept) (status : ℕ) (two : List ℕ) (two_is : two ≡ bytes_of (status ∷ [])) where
+    second_law : Becomes (area_of l s) 60 two (told own status)
+    second_law =
+        of_equal (area_of l s) (left own) (told own status) 60 two first.area
+        (placed (left own) (told own status) 60 60 two (bytes_of (status ∷ [])) refl two_is (status_put (left own) status (sized_left own sized)))
+
+    module _ (again : (u : UArea) → Becomes (area_of l s) 60 two u → IsSized u → m ≡ with_area l s u) where
+      second_kept : m ≡ with_area k s (told own status)
+      second_kept = put_twice k l m s (left own) (told own status) first_kept (again (told own status) second_law (sized_told own status sized))
+
+      second : Stays k m s at (told own status)
+      second = stays k m s at (told own status) has starts second_kept
+
 pub put_field-requires-clause-meaning : goal.put_field-requires-clause-meaning
 put_field-requires-clause-meaning c =
-    let own : UArea = area_of c.args.self.now.kept c.args.s in
+    let u : UArea = area_of c.args.self.now.kept c.args.s in
     let sized = c.area_start-at.ensures.sized in
     let z = c.area_start-at.ensures.sizes in
-    (left own, placed own (left own) 22 22 c.one_word.result _ refl c.one_word.ensures (directory_put own 0 sized), sized_left own sized,
+    (left u, placed u (left u) 22 22 c.one_word.result _ refl c.one_word.ensures (directory_put u 0 sized), sized_left u sized,
     record { text_size = z.text_size; data_size = z.data_size; stack_size = z.stack_size })
 
--- The directory is left.
-first_kept : (c : goal.After-put_field) → c.put_field.new.self.kept ≡ with_area c.args.self.now.kept c.args.s (left (area_of c.args.self.now.kept c.args.s))
-first_kept c =
-    let own : UArea = area_of c.args.self.now.kept c.args.s in
-    let sized = c.area_start-at.ensures.sized in
-    c.put_field.ensures (left own) (placed own (left own) 22 22 c.one_word.result _ refl c.one_word.ensures (directory_put own 0 sized)) (sized_left own sized)
-
-first : (c : goal.After-put_field) → Stays c.args.self.now.kept c.put_field.new.self.kept c.args.s c.area_start-at.result (left (area_of c.args.self.now.kept c.args.s))
-first c = stays c.args.self.now.kept c.put_field.new.self.kept c.args.s c.area_start-at.result (left (area_of c.args.self.now.kept c.args.s)) c.requires c.area_start-at.ensures.place (first_kept c)
-
 pub put_field-requires-2-clause-image : goal.put_field-requires-2-clause-image
-put_field-requires-2-clause-image c = (first (goal.at.put_field-requires-2-clause-image c).After-put_field).image
+put_field-requires-2-clause-image c =
+    (first c.args.self.now.kept c.put_field.new.self.kept c.args.s c.area_start-at.result c.requires c.area_start-at.ensures.place c.area_start-at.ensures.sized
+    c.one_word.result c.one_word.ensures c.put_field.ensures).image
 
 pub put_field-requires-2-clause-place : goal.put_field-requires-2-clause-place
-put_field-requires-2-clause-place c = (first (goal.at.put_field-requires-2-clause-place c).After-put_field).place
+put_field-requires-2-clause-place c =
+    (first c.args.self.now.kept c.put_field.new.self.kept c.args.s c.area_start-at.result c.requires c.area_start-at.ensures.place c.area_start-at.ensures.sized
+    c.one_word.result c.one_word.ensures c.put_field.ensures).place
 
 pub put_field-requires-2-clause-meaning : goal.put_field-requires-2-clause-meaning
 put_field-requires-2-clause-meaning c =
-    let there = first (goal.at.put_field-requires-2-clause-meaning c).After-put_field in
-    let own : UArea = area_of c.args.self.now.kept c.args.s in
-    let sized = c.area_start-at.ensures.sized in
-    let z = c.area_start-at.ensures.sizes in
-    let v : UArea = told own c.args.status in
-    (v, of_equal _ (left own) v 60 _ there.area (placed (left own) v 60 60 c.one_word-2.result _ refl c.one_word-2.ensures (status_put (left own) c.args.status (sized_left own sized))),
-    sized_told own c.args.status sized,
-    subst (λ (m : Image). HasSizes v m) (sym there.same) (record { text_size = z.text_size; data_size = z.data_size; stack_size = z.stack_size }))
-
--- The status is told.
-second_kept : (c : goal.After-put_field-2) → c.put_field-2.new.self.kept ≡ with_area c.args.self.now.kept c.args.s (told (area_of c.args.self.now.kept c.args.s) c.args.status)
-second_kept c =
     let k : Kept = c.args.self.now.kept in
-    let own : UArea = area_of k c.args.s in
-    let sized = c.area_start-at.ensures.sized in
-    let before = (goal.at.After-put_field-2 c).After-put_field in
-    let there = first before in
-    let v : UArea = told own c.args.status in
-    c.put_field-2.ensures v (of_equal _ (left own) v 60 _ there.area (placed (left own) v 60 60 c.one_word-2.result _ refl c.one_word-2.ensures (status_put (left own) c.args.status (sized_left own sized))))
-    (sized_told own c.args.status sized)
-    ∙ (ap (λ (x : Kept). with_area x c.args.s v) (first_kept before) ∙ area_twice k c.args.s (left own) v)
-
-second : (c : goal.After-put_field-2) → Stays c.args.self.now.kept c.put_field-2.new.self.kept c.args.s c.area_start-at.result (told (area_of c.args.self.now.kept c.args.s) c.args.status)
-second c = stays c.args.self.now.kept c.put_field-2.new.self.kept c.args.s c.area_start-at.result (told (area_of c.args.self.now.kept c.args.s) c.args.status) c.requires c.area_start-at.ensures.place (second_kept c)
+    let l : Kept = c.put_field.new.self.kept in
+    let u : UArea = area_of k c.args.s in
+    let at = c.area_start-at.ensures in
+    let z = at.sizes in
+    let there = first k l c.args.s c.area_start-at.result c.requires at.place at.sized c.one_word.result c.one_word.ensures c.put_field.ensures in
+    (told u c.args.status,
+    second_law k l c.args.s c.area_start-at.result c.requires at.place at.sized c.one_word.result c.one_word.ensures c.put_field.ensures
+        k c.args.status c.one_word-2.result c.one_word-2.ensures,
+    sized_told u c.args.status at.sized,
+    subst (λ (m : Image). HasSizes (told u c.args.status) m) (sym there.same) (record { text_size = z.text_size; data_size = z.data_size; stack_size = z.stack_size }))
 
 pub put_field-requires-3-clause-image : goal.put_field-requires-3-clause-image
-put_field-requires-3-clause-image c = (second (goal.at.put_field-requires-3-clause-image c).After-put_field-2).image
+put_field-requires-3-clause-image c =
+    (second c.args.self.now.kept c.put_field.new.self.kept c.args.s c.area_start-at.result c.requires c.area_start-at.ensures.place c.area_start-at.ensures.sized
+    c.one_word.result c.one_word.ensures c.put_field.ensures c.put_field-2.new.self.kept c.args.status c.one_word-2.result c.one_word-2.ensures c.put_field-2.ensures).image
 
 pub put_field-requires-3-clause-place : goal.put_field-requires-3-clause-place
-put_field-requires-3-clause-place c = (second (goal.at.put_field-requires-3-clause-place c).After-put_field-2).place
+put_field-requires-3-clause-place c =
+    (second c.args.self.now.kept c.put_field.new.self.kept c.args.s c.area_start-at.result c.requires c.area_start-at.ensures.place c.area_start-at.ensures.sized
+    c.one_word.result c.one_word.ensures c.put_field.ensures c.put_field-2.new.self.kept c.args.status c.one_word-2.result c.one_word-2.ensures c.put_field-2.ensures).place
 
 pub put_field-requires-3-clause-meaning : goal.put_field-requires-3-clause-meaning
 put_field-requires-3-clause-meaning c =
-    let there = second (goal.at.put_field-requires-3-clause-meaning c).After-put_field-2 in
-    let own : UArea = area_of c.args.self.now.kept c.args.s in
-    let sized = c.area_start-at.ensures.sized in
-    let z = c.area_start-at.ensures.sizes in
-    let mid : UArea = told own c.args.status in
-    let v : UArea = with_end own c.args.status c.args.handlers.now in
-    (v, of_equal _ mid v 64 _ there.area (placed mid v 64 64 c.twenty_words.result _ refl c.twenty_words.ensures (handlers_put mid c.args.handlers.now (sized_told own c.args.status sized) (search rules))),
+    let k : Kept = c.args.self.now.kept in
+    let u : UArea = area_of k c.args.s in
+    let at = c.area_start-at.ensures in
+    let z = at.sizes in
+    let sized = at.sized in
+    let there = second k c.put_field.new.self.kept c.args.s c.area_start-at.result c.requires at.place sized
+        c.one_word.result c.one_word.ensures c.put_field.ensures c.put_field-2.new.self.kept c.args.status c.one_word-2.result c.one_word-2.ensures c.put_field-2.ensures in
+    let mid : UArea = told u c.args.status in
+    let v : UArea = with_end u c.args.status c.args.handlers.now in
+    (v, of_equal _ mid v 64 _ there.area (placed mid v 64 64 c.twenty_words.result _ refl c.twenty_words.ensures (handlers_put mid c.args.handlers.now (sized_told u c.args.status sized) (search rules))),
     record { r = sized.r; call = sized.call; handlers = search rules; files = sized.files },
     subst (λ (m : Image). HasSizes v m) (sym there.same) (record { text_size = z.text_size; data_size = z.data_size; stack_size = z.stack_size }))
 
 pub returns : goal.returns
 returns c =
     let k : Kept = c.args.self.now.kept in
-    let own : UArea = area_of k c.args.s in
-    let sized = c.area_start-at.ensures.sized in
-    let before = (goal.at.returns c).After-put_field-2 in
-    let there = second before in
-    let mid : UArea = told own c.args.status in
-    let v : UArea = with_end own c.args.status c.args.handlers.now in
-    c.put_field-3.ensures v (of_equal _ mid v 64 _ there.area (placed mid v 64 64 c.twenty_words.result _ refl c.twenty_words.ensures (handlers_put mid c.args.handlers.now (sized_told own c.args.status sized) (search rules))))
-    (record { r = sized.r; call = sized.call; handlers = search rules; files = sized.files })
-    ∙ (ap (λ (x : Kept). with_area x c.args.s v) (second_kept before) ∙ area_twice k c.args.s mid v)
+    let l : Kept = c.put_field.new.self.kept in
+    let m : Kept = c.put_field-2.new.self.kept in
+    let u : UArea = area_of k c.args.s in
+    let at = c.area_start-at.ensures in
+    let sized = at.sized in
+    let before = second_kept k l c.args.s c.area_start-at.result c.requires at.place sized
+        c.one_word.result c.one_word.ensures c.put_field.ensures m c.args.status c.one_word-2.result c.one_word-2.ensures c.put_field-2.ensures in
+    let there = second k l c.args.s c.area_start-at.result c.requires at.place sized
+        c.one_word.result c.one_word.ensures c.put_field.ensures m c.args.status c.one_word-2.result c.one_word-2.ensures c.put_field-2.ensures in
+    let mid : UArea = told u c.args.status in
+    let v : UArea = with_end u c.args.status c.args.handlers.now in
+    put_twice k m c.put_field-3.new.self.kept c.args.s mid v before
+    (c.put_field-3.ensures v (of_equal _ mid v 64 _ there.area (placed mid v 64 64 c.twenty_words.result _ refl c.twenty_words.ensures (handlers_put mid c.args.handlers.now (sized_told u c.args.status sized) (search rules))))
+    (record { r = sized.r; call = sized.call; handlers = search rules; files = sized.files }))

@@ -1,4 +1,4 @@
-use Rattle.std.proofs.Common.{◌≡◌, ℕ, length, refl, rules}
+use Rattle.std.proofs.Common.{◌≡◌, length, refl, rules}
 use Rattle.u_area.specs.declared.area.UArea.{UArea}
 use Rattle.image_keep.specs.Kept.{area_of}
 use Rattle.image_keep.specs.Running.{with_state}
