@@ -1,4 +1,4 @@
-use Rattle.std.proofs.Common.{◌≡◌, MatchResult, is_some, sym, ◌∙◌, ap, subst}
+use Rattle.std.proofs.Common.{MatchResult, is_some, sym, ◌∙◌, ap, subst}
 use Rattle.std.specs.Option.{option_map}
 use Rattle.v6_port.specs.Outside.{Outside}
 use Rattle.buf_cache.specs.Blocks.{block_at}
