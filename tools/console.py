@@ -20,7 +20,7 @@ from columns import frame
 from dialogue import (END_OF_FILE, INTERRUPT, LINES, MANY, OVER, QUIT, RETURN, RUNS, SLEEPS, WAITS, Dialogue, DialogueError,
                       Machine, Refused, keys, line_of, shown)
 from files import place_of, read_bytes, replace, same_file, told, uninterrupted
-from processes import Processes, programs_of
+from processes import Processes, programs_of_all
 from program import CORE, TOP, V6, ProgramError, add_version
 from screen import without_echo
 from scriptfile import HEADER, head_of
@@ -352,15 +352,6 @@ ORDERS = {"?": Console.help, "l": Console.list, "u": Console.back, "g": Console.
 
 def lines(count):
     return f"{count} line{'' if count == 1 else 's'}"
-
-
-def programs_of_all(disks):
-    """The programs of a disk, and of a second one, where there is one."""
-    found = programs_of(disks[0])
-    for disk in disks[1:]:
-        for clicks, names in programs_of(disk).items():
-            found[clicks] = found.get(clicks, []) + [f"{name} of the second disk" for name in names]
-    return found
 
 
 def commands_of(data, core, log):

@@ -41,7 +41,9 @@ class Moment:
         return next((slot for slot, row in self.table.rows.items() if row.number == number), None)
 
     def process(self, number):
-        """What the process of this number has after the whole moment, or None where it isn't there or has no image."""
+        """What the process of this number has after the whole moment, or None where it isn't there or has no image, or core isn't known."""
+        if not self.history.run.has_memory:
+            return None
         table = self.whole.table
         row = table.rows.get(self.whole.slot_of(number))
         if row is None or row.place is None:

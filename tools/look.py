@@ -15,8 +15,8 @@ from files import guarded, read_bytes
 from history import History
 from lookcommands import Looker, LookError
 from lookviews import Views
-from moments import MomentError, Run
-from processes import programs_of
+from moments import NO_MEMORY, MomentError, Run
+from processes import programs_of_all
 from program import CORE, V6, ProgramError, add_version
 from proctable import LogFault
 from scriptfile import ScriptError, add_replay, check_head, read_script
@@ -43,15 +43,17 @@ def compare(run, name):
 
 def looker_of(options, folder):
     if not options.replay:
-        check_head(options.script, options.image, options.core)
-    run = Run(options.v6, options.image, options.core, read_script(options.script), folder)
+        check_head(options.script, options.image, options.core, options.eight, options.second)
+    run = Run(options.v6, options.image, options.core, read_script(options.script), folder, options.eight, options.second)
     if options.log:
         compare(run, options.log)
-    disk = read_bytes(options.image)
-    programs = Programs(disk, options.symbols)
+    disks = [read_bytes(name) for name in filter(None, (options.image, options.second))]
+    programs = Programs(disks[0], options.symbols)
     for name in programs.strangers():
         print(f"look.py: {name}: no program, so it has no names", file=sys.stderr)
-    looker = Looker(History(run), Views(programs, programs_of(disk)))
+    looker = Looker(History(run), Views(programs, programs_of_all(disks)))
+    if not run.has_memory:
+        print(f"look.py: {NO_MEMORY}: what it would tell is left out", file=sys.stderr)
     if run.status:
         print(f"look.py: {run.said}: the run is shown up to slot {looker.history.last}", file=sys.stderr)
     return looker
@@ -107,12 +109,17 @@ def options_of(words):
     parser.add_argument("core", type=int, help=f"the size of core, in clicks; {CORE} is the most")
     parser.add_argument("script", help="the script: docs/manual/scripts.md")
     parser.add_argument("-c", dest="commands", action="append", metavar="COMMAND", help="a command, instead of those that are typed")
+    parser.add_argument("--eight", action="store_true", help="with eight lines of a terminal, as `v6 run8`")
+    parser.add_argument("--second", metavar="IMAGE2", help="with a second disk, as `v6 run2`")
     parser.add_argument("--log", metavar="LOG", help="a log that is to be that of this run")
     parser.add_argument("--symbols", metavar="FILE", action="append", default=[], help="a program with names, if the disk's has none")
     parser.add_argument("--v6", metavar="COMMAND", default=V6, help="the program (bin/v6)")
     add_replay(parser)
     add_version(parser)
-    return parser.parse_args(words)
+    options = parser.parse_args(words)
+    if options.eight and options.second:
+        parser.error("--eight and --second: a machine has eight lines, or a second disk")
+    return options
 
 
 def main(words):

@@ -2,12 +2,14 @@
 import re
 
 from looksearch import Event, Search, State
+from moments import FURTHER, NO_MEMORY
 from proctable import FORMS
 from walk import Sought
 
 NUMBER = re.compile("[0-9]+")
 LETTERS = "RrowWsSz"
 REGISTERS = {**{f"r{n}": n for n in range(6)}, "sp": 6, "pc": 7}
+BY_MEMORY = ("call", "pc", "word", "break", "watch")  # what only core tells of
 MOST_WORDS = 4096  # that are shown at once
 HELP = """\
 ps                       the processes
@@ -16,6 +18,7 @@ code [PLACE [COUNT]]     its instructions, round PC or from a place on
 words PLACE [COUNT]      words of its memory
 core, swap, texts        who holds which clicks and blocks; the shared texts
 log [COUNT]              the lines of the log that led here
+term [LINE [COUNT]]      what the terminal, or a line of eight, has shown so far: the last rows of it
 slot N                   to a moment, by its slot
 line [N]                 to a line of the log, or to the next one: ps, core, swap and texts are as it left them
 step [COUNT]             so many slots further; back: so many back
@@ -98,6 +101,8 @@ class Looker:
     def memory_of(self):
         """The number of the process that a command is about, and what it has in memory."""
         number = self.chosen()
+        if not self.history.run.has_memory:
+            raise LookError(NO_MEMORY)
         process = self.moment.process(number)
         if process is None or not process.parts:
             raise LookError(f"process {number} has no memory in slot {self.moment.slots}: " +
@@ -176,6 +181,13 @@ class Looker:
     def do_log(self, count=None):
         return self.views.log(self.moment) if count is None else self.views.last(self.moment, self.number_of(count, "lines"))
 
+    def do_term(self, line="0", count="24"):
+        line, count = self.number_of(line, "a line", FURTHER[-1]), self.number_of(count, "rows")
+        if line and not self.history.run.eight:
+            raise LookError(f"line {line}: the machine has one line, 0")
+        shown = self.history.run.terminal(self.moment.slots, line).decode("ascii", "backslashreplace")
+        return self.of_moment(shown.replace("\r\n", "\n").split("\n")[-count:] if count else [])
+
     # moves
 
     def go(self, slots, at=None):
@@ -251,6 +263,8 @@ class Looker:
         does = getattr(self, "where_" + kind, None)
         if does is None:
             raise LookError(f"{kind}: it's state, place, call, pc, word, break or watch that becomes so")
+        if kind in BY_MEMORY and not self.history.run.has_memory:
+            raise LookError(NO_MEMORY)
         text, here = " ".join([kind, *words]), self.moment
         if forwards and kind in ("pc", "word") and words:
             self.look_on(words[0])
@@ -270,6 +284,8 @@ class Looker:
                 self.address(place)
                 return
             except LookError as error:
+                if not self.history.run.has_memory:
+                    raise
                 fault = error
             slots = Search(self.history, self.moment, True).event(Event("image", number))
             if slots is None:

@@ -92,7 +92,10 @@ class Views:
         return self.programs.of(process, words[0].decode("ascii", "replace") if words else "")
 
     def command(self, moment, number):
-        """The words with which the program of a process was executed, as ps(I) shows them, or the path of its file."""
+        """The words with which the program of a process was executed, as ps(I) shows them, or the path of its file; where core isn't
+        known, in brackets, the programs that are as large."""
+        if not moment.history.run.has_memory:
+            return by_size(moment.table.rows[moment.slot_of(number)], self.sizes)
         process = moment.process(number)
         words = arguments_of(process) if process and process.parts else []
         if words:
@@ -102,6 +105,8 @@ class Views:
 
     def who(self, moment, number):
         """A process with the path of its program, or the name that it was executed by."""
+        if not moment.history.run.has_memory:
+            return Teller(moment.table, self.sizes).who(moment.slot_of(number))
         program = self.program(moment, number)
         name = program.path if program else self.command(moment, number).partition(" ")[0]
         return f"process {number}" + (f" ({name})" if name else "")
@@ -121,6 +126,9 @@ class Views:
         row, process = moment.table.rows[slot], moment.process(number)
         out = [f"process {number} in slot {slot}, a child of process {row.parent}" if number else "the swapper, in slot 0",
                f"state      {self.state(moment, slot)}"]
+        if process is None and slot and row.place and not moment.history.run.has_memory:
+            where = "in core from click" if row.place.where == "at" else "in the swap area from block"
+            return [*out, f"image      {row.size} clicks, {where} {row.place.start} on", f"program    {self.command(moment, number) or 'not known'}"]
         if process is None:
             return out + [f"image      {'the swapper has none' if not slot else NO_IMAGE}"]
         if not process.parts:
@@ -291,6 +299,12 @@ def cells(table, slot, user, command):
     return [table.letter(slot), slot, row.number, row.parent, user, row.priority if row.state == "asleep" else "-", place_of(row),
             row.time, row.size if slot else "-", "-" if row.text is None else row.text, row.channel or "-",
             command if slot else "(the swapper)"]
+
+
+def by_size(row, sizes):
+    """In brackets the programs that are as large as that of a process: docs/tools/console.md."""
+    names = sizes.get(row.program, []) if row.state != "dead" else []
+    return f"({' or '.join(names)})" if names else ""
 
 
 def map_of(table, where, who):

@@ -15,6 +15,8 @@ CLICK, BLOCK, SEGMENT, U_AREA, ADDRESSES = 64, 512, 8192, 1024, 65536
 SWAP_BYTES = (SWAP_LAST - SWAP_FIRST + 1) * BLOCK
 DONE, USAGE = 0, 1  # of the program's statuses: docs/manual/commands.md
 WORKERS = os.cpu_count() or 1
+FURTHER = range(1, 8)  # the lines of a terminal beside the console
+NO_MEMORY = "core isn't known of a run with eight lines or a second disk, since `v6 memory` has one of each"
 ENDS = ("trap", "sleep", "exit")  # words of the lines with which a turn in the kernel ends
 
 
@@ -69,10 +71,11 @@ class Script:
 
 
 class Run:
-    """A run of an image in a core under a script, which can be cut after each of its slots."""
+    """A run of an image in a core under a script, which can be cut after each of its slots; with eight lines or a second image too."""
 
-    def __init__(self, v6, image, core, script, folder):
+    def __init__(self, v6, image, core, script, folder, eight=False, second=None):
         self.v6, self.image, self.core, self.script, self.folder = v6, image, core, Script(script), folder
+        self.eight, self.second, self.has_memory = eight, second, not eight and second is None
         self.files, self.guard = {}, threading.Lock()
         self.lines, self.status, self.said = self.played(script)
         self.log = self.lines + ["end"] * (self.status == DONE)  # all lines of the log's file
@@ -91,11 +94,19 @@ class Run:
             out.write(script)
         if os.path.exists(log):
             os.unlink(log)
-        status, said = call(self.v6, "run", self.image, str(self.core), file, term, log, os.devnull)
+        word = "run8" if self.eight else "run2" if self.second else "run"
+        second = [self.second, os.devnull] if self.second else []
+        status, said = call(self.v6, word, self.image, str(self.core), file, term, log, os.devnull, *second)
         if not os.path.exists(log):
-            raise MomentError(named(with_line(said, script), {"image": self.image}, self.core))
+            raise MomentError(named(with_line(said, script), {"image": self.image, "second": self.second}, self.core))
         lines = read_bytes(log).decode("ascii", "replace").split("\n")[:-1]
         return lines[:-1] if lines and lines[-1] == "end" else lines, status, said
+
+    def terminal(self, slots, line=0):
+        """What a line of the terminal has shown after so many slots, and what comes before the next one."""
+        self.played(self.script.cut(slots, True))
+        (term,) = self.names("term")
+        return read_bytes(f"{term}.{line}" if line else term)
 
     def known(self, more):
         """The moments whose count of lines is known, in their order: (slots, how many lines)."""
@@ -164,6 +175,8 @@ class Run:
 
     def memory(self, slots, more=False):
         """The bytes of core and of the swap area after so many slots."""
+        if not self.has_memory:
+            raise MomentError(NO_MEMORY)
         file, final = self.names("script", "memory")
         with open(file, "wb") as out:
             out.write(self.script.cut(slots, more))

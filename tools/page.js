@@ -109,15 +109,18 @@ class Run {
     return (this.columns.kinds[line - 1] & kind) !== 0;
   }
 
-  /** The moment of a line: its slot, what the terminal has shown after it and before it, and whether it is the line's own, or one that was
-      looked at before. */
+  /** The moment of a line: its slot, and whether it is the line's own, or one that was looked at before. */
   moment(line) {
     const place = this.columns.moments[line - 1];
     if (!this.head.isRun || !place) return null;
-    const { slots, shown, ends } = this.columns;
+    const { slots, ends } = this.columns;
     const end = ends[place - 1];
-    const was = place > 1 ? shown[place - 2] : 0;
-    return { slot: slots[place - 1], shown: shown[place - 1], was, isExact: line <= end, isLast: line >= end, place, end };
+    return { slot: slots[place - 1], isExact: line <= end, isLast: line >= end, place, end };
+  }
+
+  /** How many bytes a terminal has shown at the moment at this place; none before the first. */
+  shownAt(place, which) {
+    return place ? this.columns.shown[(place - 1) * this.head.terminals.length + which] : 0;
   }
 
   /** The first line with which the moment at this place came. */
@@ -249,7 +252,7 @@ class Page {
     const said = [head.said && `The run ends so: ${head.said}.`, head.left && `Left out: ${head.left}.`,
       head.isCut && "The log ends within a run."].filter(Boolean);
     $("note").textContent = said.join(" ");
-    for (const id of ["p-call", "p-process"]) $(id).hidden = !head.isRun;
+    for (const id of ["p-call", "p-process"]) $(id).hidden = !head.hasMemory;
     this.listMarks();
     this.listTerminals();
     document.querySelector("main").hidden = false;
@@ -409,7 +412,7 @@ class Page {
 
   showProcess(moment, isHidden) {
     const { run } = this;
-    if (!run.head.isRun) return;
+    if (!run.head.hasMemory) return;
     const slot = this.chosenSlot();
     const parts = { process: "process", code: "code", stack: "stack", area: "u area" };
     for (const [id, name] of Object.entries(parts)) $(id).textContent = isHidden ? "" : run.shown(`${name} ${slot}`).join("\n");
@@ -431,7 +434,7 @@ class Page {
     const { terminals } = this.run.head;
     const which = Number($("terminal").value || 0);
     const start = terminals.slice(0, which).reduce((sum, one) => sum + one, 0);
-    const known = isHidden ? moment.was : moment && moment.shown;
+    const known = moment && this.run.shownAt(moment.place - (isHidden ? 1 : 0), which);
     const end = start + (moment ? known : this.run.head.isRun ? 0 : terminals[which] || 0);
     const from = Math.max(start, end - MOST_SHOWN);
     $("term").replaceChildren(from > start ? ".. " : "", ...typed(this.run.columns.term.subarray(from, end)));
@@ -439,12 +442,12 @@ class Page {
   }
 
   listTerminals() {
-    const { terminals } = this.run.head;
+    const { terminals, isEight } = this.run.head;
     $("which").hidden = terminals.length < 2;
     $("terminal").replaceChildren(...terminals.map((_, number) => {
       const option = document.createElement("option");
       option.value = number;
-      option.textContent = number + 1;
+      option.textContent = isEight ? `line ${number}` : number + 1;
       return option;
     }));
   }

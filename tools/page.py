@@ -41,22 +41,26 @@ def marks_of(name, last):
 def page_of_run(options):
     """The page of a run that is made here, and that it is whole."""
     from lookviews import Views
-    from pagehtml import html_of_run
-    from pagerun import Recorded, account_of_run
-    from processes import programs_of
+    from pagehtml import WITHOUT, html_of_run
+    from pagerun import Recorded, account_of_lines, account_of_run
+    from processes import programs_of_all
     from scriptfile import check_head, read_script, ticks_of
     from symbols import Programs
 
     if not options.replay:
-        check_head(options.script, options.image, options.core)
+        check_head(options.script, options.image, options.core, options.eight, options.second)
     with tempfile.TemporaryDirectory() as folder:
         script = read_script(options.script)
-        run = Recorded(options.v6, options.image, options.core, script, folder)
-        disk = read_bytes(options.image)
-        programs = Programs(disk, options.symbols)
+        run = Recorded(options.v6, options.image, options.core, script, folder, options.eight, options.second)
+        disks = [read_bytes(name) for name in filter(None, (options.image, options.second))]
+        programs, sizes = Programs(disks[0], options.symbols), programs_of_all(disks)
         for name in programs.strangers():
             print(f"page.py: {name}: no program, so it has no names", file=sys.stderr)
-        account = account_of_run(run, Views(programs, programs_of(disk)), ticks_of(script), options.moments)
+        if run.has_memory:
+            account = account_of_run(run, Views(programs, sizes), ticks_of(script), options.moments)
+        else:
+            print(f"page.py: {WITHOUT}", file=sys.stderr)
+            account = account_of_lines(run, sizes, ticks_of(script), options.moments)
         if run.status:
             print(f"page.py: {run.said}: core is shown up to slot {account.last}", file=sys.stderr)
         if account.left_out():
@@ -89,7 +93,7 @@ def head_of(options, name, account):
 
 
 def make(options):
-    for name in (options.image, options.script, options.log, options.marks):
+    for name in (options.image, options.second, options.script, options.log, options.marks):
         if name and same_file(name, options.output):
             raise PageError(f"{options.output}: the page would take the place of what it is made of")
     if options.output != "-":
@@ -110,6 +114,8 @@ def options_of(words):
     parser.add_argument("--marks", metavar="FILE", help="marks of the run: a line of the log and a sentence, on a line each")
     parser.add_argument("--moments", type=int, default=MOMENTS, metavar="N", help=f"how many moments are looked at, at most ({MOMENTS})")
     parser.add_argument("--symbols", metavar="FILE", action="append", default=[], help="a program with names, if the disk's has none")
+    parser.add_argument("--eight", action="store_true", help="with eight lines of a terminal, as `v6 run8`, without what core holds")
+    parser.add_argument("--second", metavar="IMAGE2", help="with a second disk, as `v6 run2`, without what core holds")
     parser.add_argument("--log", metavar="LOG", help="a page of this log alone, without what core holds")
     parser.add_argument("--term", metavar="FILE", action="append", default=[], help="what a terminal has shown, beside --log")
     parser.add_argument("--disk", metavar="IMAGE", help="names programs by the size of their images on this disk, beside --log")
@@ -122,6 +128,10 @@ def options_of(words):
         parser.error("either IMAGE CORE SCRIPT or --log LOG is wanted")
     if options.image and (options.term or options.disk or options.script_of_log):
         parser.error("--term, --disk and --script stand beside --log alone")
+    if options.log and (options.eight or options.second):
+        parser.error("--eight and --second stand beside IMAGE CORE SCRIPT alone")
+    if options.eight and options.second:
+        parser.error("--eight and --second: a machine has eight lines, or a second disk")
     if options.moments < 2:
         parser.error("--moments: 2 are the fewest")
     return options

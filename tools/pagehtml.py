@@ -8,10 +8,12 @@ from array import array
 
 from logpicture import COLUMNS, LEFT
 from lookviews import HEAD
+from moments import NO_MEMORY
 from pagepack import packed
 
 FOLDER = os.path.dirname(os.path.abspath(__file__))
 ALONE = "a page of a log alone: registers, memory, calls, users and commands aren't in it"
+WITHOUT = f"{NO_MEMORY}: registers, memory, calls, users and commands aren't in this page"
 PAPER = re.compile(r"@page \{[^}]*\}\n|@media print \{.*\}\n")  # what the picture says of paper, which is the page's to say
 
 
@@ -23,15 +25,18 @@ def part(name):
 def html_of_run(account, run, head):
     """The page of a run."""
     looks = account.looks.found
-    moments = {"slots": array("I", [slots for slots, *_ in looks]), "shown": array("I", [run.shown_at(slots) for slots, *_ in looks]),
+    shown = [size for slots, *_ in looks for size in run.shown_at(slots)]
+    moments = {"slots": array("I", [slots for slots, *_ in looks]), "shown": array("I", shown),
                "ends": array("I", [after for _, _, after, _ in looks])}
-    head = {**head, "isRun": True, "last": account.last, "left": account.left_out(), "said": run.said if run.status else ""}
-    return html_of(account, head, moments, [run.term])
+    left = ". ".join(filter(None, ("" if run.has_memory else WITHOUT, account.left_out())))
+    head = {**head, "isRun": True, "hasMemory": run.has_memory, "isEight": run.eight, "last": account.last, "left": left,
+            "said": run.said if run.status else ""}
+    return html_of(account, head, moments, run.terms)
 
 
 def html_of_log(account, terminals, head):
     """The page of a log alone. When a terminal showed what isn't known, so all of it is shown."""
-    return html_of(account, {**head, "isRun": False, "last": 0, "left": ALONE, "said": ""}, {}, terminals)
+    return html_of(account, {**head, "isRun": False, "hasMemory": False, "isEight": False, "last": 0, "left": ALONE, "said": ""}, {}, terminals)
 
 
 def html_of(account, head, moments, terminals):

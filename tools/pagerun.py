@@ -11,8 +11,9 @@ from history import History, Moment
 from log import Story
 from logpicture import Picture
 from logwords import Teller
-from lookviews import cells, map_of, shared_texts
-from moments import WORKERS, Run
+from lookviews import by_size, cells, map_of, shared_texts
+from files import read_bytes
+from moments import FURTHER, WORKERS, Run
 from pagepack import Panels, Texts
 from pagerules import rule_of, told
 from proctable import SLOTS, TICKS_OF_A_SECOND, Table
@@ -30,17 +31,17 @@ MAPS = 150, 75  # the heights of the maps of core and of the swap area
 
 
 class Recorded(Run):
-    """A run that keeps how much the terminal has shown after each cut, and the memories that were asked for last."""
+    """A run that keeps how much each line of the terminal has shown after each cut, and the memories that were asked for last."""
 
     def __init__(self, *words):
         self.shown, self.memories = {}, OrderedDict()
         super().__init__(*words)
-        self.term = self.terminal()
+        self.terms = [read_bytes(name) for name in self.shows()]
 
-    def terminal(self):
-        """What the terminal shows in the run that this thread made last."""
-        with open(self.names("term")[0], "rb") as file:
-            return file.read()
+    def shows(self):
+        """The files of what the terminal shows, line by line, in the run that this thread made last."""
+        (term,) = self.names("term")
+        return [term, *(f"{term}.{line}" for line in FURTHER if self.eight)]
 
     def late(self, slots, more):
         return slots, more and slots in self.script.pauses
@@ -49,11 +50,11 @@ class Recorded(Run):
         is_known = self.late(slots, more) in self.before
         found = super().count(slots, more)
         if not is_known:
-            self.shown[self.late(slots, more)] = os.path.getsize(self.names("term")[0])
+            self.shown[self.late(slots, more)] = [os.path.getsize(name) for name in self.shows()]
         return found
 
     def shown_at(self, slots):
-        """How many bytes the terminal has shown at a moment."""
+        """How many bytes each line of the terminal has shown at a moment."""
         place = self.late(slots, True)
         if place not in self.shown:
             self.before.pop(place, None)
@@ -266,7 +267,8 @@ class Account:
         known = sum(after - before if is_exact else 1 for _, before, after, is_exact in looks)
         if known >= sum(after - before for _, before, after, _ in looks):
             return ""
-        return (f"core, calls and the terminal were looked at in {len(looks)} moments, with {known} of {len(self.log)} lines; the others show "
+        what = "core, calls and the terminal" if self.memory else "the terminal"
+        return (f"{what} {'were' if self.memory else 'was'} looked at in {len(looks)} moments, with {known} of {len(self.log)} lines; the others show "
                 f"the moment before them")
 
     def running(self, row):
@@ -277,7 +279,7 @@ class Account:
         number = self.table.rows[slot].number
         memory = self.memory
         user = memory.users.get(number, "-") if memory else "-"
-        command = memory.commands.get(number, "") if memory else ""
+        command = memory.commands.get(number, "") if memory else by_size(self.table.rows[slot], self.teller.programs)
         return "\t".join(map(str, cells(self.table, slot, user, command)))
 
 
@@ -309,6 +311,20 @@ def account_of_run(run, views, ticks, most):
         for line in range(start, after):
             account.take(run.log[line], number, ended.get(line, call), line in ended)
     for line in range(ahead.lines, len(run.log)):
+        account.take(run.log[line], len(looks.found) - 1)
+    account.looks, account.last = looks, history.last
+    return account
+
+
+def account_of_lines(run, sizes, ticks, most):
+    """The account of a run of which core isn't known: only when the terminal has shown what comes from its moments."""
+    history = History(run)
+    account, looks = Account(run.log, sizes, ticks), Looks(history, most)
+    for number, (_, before, after, is_exact) in enumerate(looks.found):
+        start = before if is_exact else after - 1
+        for line in range(before, after):
+            account.take(run.log[line], number - (line < start))
+    for line in range(looks.found[-1][2], len(run.log)):
         account.take(run.log[line], len(looks.found) - 1)
     account.looks, account.last = looks, history.last
     return account

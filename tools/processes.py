@@ -32,6 +32,15 @@ def programs_of(disk):
     return {clicks: sorted(names) for clicks, names in found.items()}
 
 
+def programs_of_all(disks):
+    """The programs of a disk, and of a second one, where there is one."""
+    found = programs_of(disks[0])
+    for disk in disks[1:]:
+        for clicks, names in programs_of(disk).items():
+            found[clicks] = found.get(clicks, []) + [f"{name} of the second disk" for name in names]
+    return found
+
+
 def is_keys(channel):
     """Whether one who sleeps there waits for a key: on line 0, or on a further one."""
     return channel.partition(b".")[0] == KEYS

@@ -35,9 +35,11 @@ class Read:
         place = self.columns["moments"][line - 1]
         return self.columns["slots"][place - 1] if place else None
 
-    def terminal(self, line):
-        place = self.columns["moments"][line - 1]
-        return bytes(self.columns["term"][: self.columns["shown"][place - 1] if place else 0])
+    def terminal(self, line, which=0):
+        """What a line of the terminal has shown at a line of the log."""
+        place, sizes = self.columns["moments"][line - 1], self.head["terminals"]
+        start, count = sum(sizes[:which]), self.columns["shown"][(place - 1) * len(sizes) + which] if place else 0
+        return bytes(self.columns["term"][start : start + count])
 
 
 def shown(rows):

@@ -1,5 +1,5 @@
 -- What is ready can be called on, and stays ready through every call that keeps what it must.
-use Rattle.std.proofs.Common.{◌≡◌, ◌+◌, ◌*◌, cond, eqb, ◌<◌, ◌≤◌, ◌==◌, ℕ, zero, suc, List, length, replicate, slice_index, Option, None, [], refl, sym, ap, ◌∙◌, subst, arith, if◌then◌else◌, Bool, true, false}
+use Rattle.std.proofs.Common.{◌≡◌, ◌+◌, ◌*◌, cond, eqb, ◌<◌, ◌≤◌, ◌==◌, ℕ, zero, suc, List, length, replicate, slice_index, Option, Some, None, [], refl, sym, ap, ◌∙◌, subst, arith, if◌then◌else◌, Bool, true, false}
 use Rattle.std.specs.Prelude.{count_by}
 use Rattle.std.proofs.lemmas.List.Sums.{count_by-le-length}
 use Rattle.std.proofs.lemmas.Bool.{eqb-true, ne_eqb}
@@ -13,7 +13,7 @@ use Rattle.open_files.specs.Files.{file_at, times, HaveRoom}
 use Rattle.fs_codec.specs.Store.{Store}
 use Rattle.fs_nodes.specs.Disks.{Disks}
 use Rattle.fs_nodes.specs.FileSystem.{FileSystem}
-use Rattle.fs_nodes.specs.Keys.{Stores, counts}
+use Rattle.fs_nodes.specs.Keys.{counts}
 use Rattle.mount_tab.specs.Mounted.{MountTable, is_the}
 use Rattle.fs_tree.specs.Mounting.{AreMounts}
 use Rattle.pipe_ends.specs.declared.ends.Pipe.{Pipe}

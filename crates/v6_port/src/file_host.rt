@@ -121,12 +121,11 @@ impl<R: Files + Print + Drop> Host for FileHost<R> {
     }
 
     fn write(&mut self, port: OutPort, piece: &[u8]) -> Result<usize, Failed> {
-        let number = port.number();
         let Ok(count) = put(&self.rt, &mut self.outputs, port, piece) else {
-            return fault(&mut self.ports, number);
+            return fault(&mut self.ports, port.number());
         };
         if count == 0 && !piece.is_empty() {
-            return fault(&mut self.ports, number);
+            return fault(&mut self.ports, port.number());
         }
         Ok(count)
     }

@@ -1,5 +1,5 @@
-//! Two disks, by hand from docs/manual/inodes.md and names.md: inodes by their keys, a hundred of both that are referred to, new
-//! inodes on the second one, and names that cross to it.
+//! Two disks, by hand from docs/manual/inodes.md and names.md: inodes by their keys, a hundred of both that are referred to,
+//! new inodes on the second one, and names that cross to it.
 ghost use Rattle.std.specs.Prelude.{◌≡◌, ◌≤◌, ◌<◌, ℕ, IsSome, slice_index};
 ghost use Rattle.fs_codec.specs.declared.layout.TheConstants.{DISK_BLOCKS};
 ghost use Rattle.fs_tree.specs.Mounting.{AreMounts};
@@ -146,8 +146,8 @@ fn takes_all(nodes: &mut Nodes, from: u16, end: u16) -> bool {
     true
 }
 
-/// Ninety inodes of the root's disk and ten of the second one are referred to. One more of either is refused, until one has been
-/// given back.
+/// Ninety inodes of the root's disk and ten of the second one are referred to. One more of either is refused, until one has
+/// been given back.
 fn fills(nodes: &mut Nodes) -> bool {
     let first = takes_all(nodes, 29, 119) && nodes.holds(0) && !nodes.holds(1);
     let full = takes_all(nodes, 157, 167) && nodes.holds(1);

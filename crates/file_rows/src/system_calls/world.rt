@@ -104,7 +104,14 @@ fn refer_to_root(nodes: &mut Nodes) -> bool
     ensures root { result ≡ true → 0 < slice_index nodes.new.references 1 }
     ensures store { nodes.new.store ≡ nodes.old.store }
 {
-    nodes.peek(1).is_some() && nodes.refs(1) < 9 && nodes.take(1).is_ok()
+    nodes.see();
+    if nodes.refs(1) > 8 {
+        return false;
+    }
+    match nodes.take(1) {
+        Ok(()) => true,
+        Err(_) => false,
+    }
 }
 
 /// The parts before the first call.

@@ -25,7 +25,8 @@ returns-in_err-second-clause-refused g c =
     let image = c.in_ok-image.image.items in
     error_passed _ _ _ c.from_residual-in_err-second.ensures.1
     (second_refused words image old middle new first.only (match_where_ok _ _ _ _ c.in_ok-image.was first.cause) (value_where_ok _ _ _ c.in_ok-image.was first.good) (value_where_ok _ _ _ c.in_ok-image.was first.bytes)
-    second.only _ (subst (λ l. IsSomeAnd (second_image words.outputs) (λ name. StopsSecond l name _ middle new)) c.deref.ensures.value (match_where_err _ _ _ _ c.in_err-second.was second.cause)))
+    second.only c.in_err-second.field-0.0
+    (subst (λ l. IsSomeAnd (second_image words.outputs) (λ name. StopsSecond l name c.in_err-second.field-0.0 middle new)) c.deref.ensures.value (match_where_err _ _ _ _ c.in_err-second.was second.cause)))
 
 pub returns-in_err-script-clause-refused : goal.returns-in_err-script-clause-refused
 returns-in_err-script-clause-refused g c =

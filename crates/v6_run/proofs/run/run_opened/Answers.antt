@@ -1,9 +1,10 @@
 use Rattle.std.proofs.Common.{◌<◌, true, false, refl, sym, ◌∙◌, subst}
-use Rattle.abstract_unix.specs.Runs.{started, course}
+use Rattle.abstract_unix.specs.Runs.{started, course, shown_by}
 use Rattle.v6_run.specs.Events.{events_of}
 use Rattle.v6_run.specs.Words.{disk_files_value}
 use Rattle.v6_run.specs.Opened.{AreApart}
 use Rattle.v6_run.specs.Opening.{AreThere}
+use Rattle.v6_port.specs.Outside.{Out}
 use Rattle.v6_port.proofs.CauseLemmas.{only_then}
 use Rattle.v6_run.proofs.ResultLemmas.{match_passed}
 use Rattle.v6_run.proofs.LinePorts.{ports_apart, ports_there}
@@ -46,19 +47,23 @@ play-requires-clause-log g c =
 pub returns-in_err-ends-clause-only : goal.returns-in_err-ends-clause-only
 returns-in_err-ends-clause-only g c =
     let files = disk_files_value c.args.files.now in
-    only_played files _ _ _ (only_opened files _ c.requires.outputs _ _ _ c.in_ok-open_outputs.ensures) (shown_on _ _ _ _ c.lines.ensures c.in_err-ends.ensures.only)
+    let b = g.H.Host.outside c.open_outputs.new.host in
+    let last = g.H.Host.outside c.play.new.host in
+    only_played files _ b last (only_opened files _ c.requires.outputs _ _ _ c.in_ok-open_outputs.ensures) (shown_on _ _ b last c.lines.ensures c.in_err-ends.ensures.only)
 
 pub returns-in_err-ends-clause-outcome : goal.returns-in_err-ends-clause-outcome
 returns-in_err-ends-clause-outcome g c =
     let files = disk_files_value c.args.files.now in
+    let b = g.H.Host.outside c.open_outputs.new.host in
+    let last = g.H.Host.outside c.play.new.host in
     let run = course (started c.args.kernel.now.system) (events_of c.args.events.now) in
     let opens = c.in_ok-open_outputs.ensures in
-    let only = only_opened files _ c.requires.outputs _ _ _ opens in
+    let only = only_opened files _ c.requires.outputs _ b _ opens in
     let good = good_opened files _ c.requires.outputs _ _ opens in
     let played = c.in_err-ends.ensures in
     match_passed _ _ _ _ c.from_residual-in_err-ends.ensures.1
-    (stopped_playing files _ _ run (c.requires.lawful (events_of c.args.events.now)) _ _ _ only opens.bytes good (shown_on _ _ _ _ c.lines.ensures played.only)
-    _ (named_on _ _ _ c.lines.ensures played.named) (fronts_on _ _ _ _ _ c.lines.ensures played.fronts) opens.cause played.cause)
+    (stopped_playing files _ _ run (c.requires.lawful (events_of c.args.events.now)) _ _ _ only opens.bytes good (shown_on _ _ b last c.lines.ensures played.only)
+    c.in_err-ends.field-0.0 (named_on _ _ (Out c.in_err-ends.field-0.0) c.lines.ensures played.named) (fronts_on _ _ (shown_by run) b last c.lines.ensures played.fronts) opens.cause played.cause)
 
 pub leave_disks-requires-clause-ended : goal.leave_disks-requires-clause-ended
 leave_disks-requires-clause-ended g c = phase_ended _ _ c.in_ok-ends.ensures.phase
@@ -72,20 +77,24 @@ leave_disks-requires-clause-is_open g c p left =
     let b = g.H.Host.outside c.open_outputs.new.host in
     let played = g.H.Host.outside c.play.new.host in
     left_open files b played played (all_opened files _ c.requires.outputs _ b c.in_ok-open_outputs.ensures) c.in_ok-ends.ensures.is_open p
-    (left_on _ _ _ c.has_second.ensures left)
+    (left_on _ _ (Out p) c.has_second.ensures left)
 
 pub returns-in_err-leave_disks-clause-only : goal.returns-in_err-leave_disks-clause-only
 returns-in_err-leave_disks-clause-only g c =
     let files = disk_files_value c.args.files.now in
+    let b = g.H.Host.outside c.open_outputs.new.host in
+    let last = g.H.Host.outside c.play.new.host in
     let leaves = leaves_on _ _ _ _ _ _ _ c.has_second.ensures c.in_err-leave_disks.ensures.written.2 in
-    only_written files _ _ _ (only_played files _ _ _ (only_opened files _ c.requires.outputs _ _ _ c.in_ok-open_outputs.ensures) (shown_on _ _ _ _ c.lines.ensures c.in_ok-ends.ensures.only)) leaves.only
+    only_written files _ _ _ (only_played files _ b last (only_opened files _ c.requires.outputs _ _ _ c.in_ok-open_outputs.ensures) (shown_on _ _ b last c.lines.ensures c.in_ok-ends.ensures.only)) leaves.only
 
 pub returns-in_err-leave_disks-clause-outcome : goal.returns-in_err-leave_disks-clause-outcome
 returns-in_err-leave_disks-clause-outcome g c =
     let files = disk_files_value c.args.files.now in
+    let b = g.H.Host.outside c.open_outputs.new.host in
+    let last = g.H.Host.outside c.play.new.host in
     let run = course (started c.args.kernel.now.system) (events_of c.args.events.now) in
     let opens = c.in_ok-open_outputs.ensures in
-    let only = only_opened files _ c.requires.outputs _ _ _ opens in
+    let only = only_opened files _ c.requires.outputs _ b _ opens in
     let good = good_opened files _ c.requires.outputs _ _ opens in
     let played = c.in_ok-ends.ensures in
     let left = c.in_err-leave_disks.ensures in
@@ -93,8 +102,8 @@ returns-in_err-leave_disks-clause-outcome g c =
     let fits = run_leaves c.args.kernel.now c.play.new.kernel c.leave_disks.new.kernel run played.system played.rest left.system left.stands left.rest c.requires.root left.form left.written.0 left.written.1 left.apart in
     let fits_other = second_leaves c.args.kernel.now c.play.new.kernel c.leave_disks.new.kernel run played.system played.rest left.system left.stands left.rest left.second_form in
     match_passed _ _ _ _ c.from_residual-in_err-leave_disks.ensures.1
-    (stopped_writing files _ _ run (c.requires.lawful (events_of c.args.events.now)) _ _ _ only opens.bytes good (shown_on _ _ _ _ c.lines.ensures played.only)
-    (all_on _ _ _ _ _ c.lines.ensures played.shown) _ played.ending _ _ fits fits_other _ leaves.only _ leaves opens.cause played.cause)
+    (stopped_writing files _ _ run (c.requires.lawful (events_of c.args.events.now)) _ _ _ only opens.bytes good (shown_on _ _ b last c.lines.ensures played.only)
+    (all_on _ _ (shown_by run) b last c.lines.ensures played.shown) _ played.ending _ _ fits fits_other _ leaves.only _ leaves opens.cause played.cause)
 
 pub finish_outputs-requires-clause-apart : goal.finish_outputs-requires-clause-apart
 finish_outputs-requires-clause-apart g c =
@@ -116,17 +125,21 @@ finish_outputs-requires-clause-is_open g c =
 pub returns-in_err-finish_outputs-clause-only : goal.returns-in_err-finish_outputs-clause-only
 returns-in_err-finish_outputs-clause-only g c =
     let files = disk_files_value c.args.files.now in
+    let b = g.H.Host.outside c.open_outputs.new.host in
+    let last = g.H.Host.outside c.play.new.host in
     let leaves = leaves_on _ _ _ _ _ _ _ c.has_second.ensures c.in_ok-leave_disks.ensures.written.2 in
     let written = only_written files _ _ _
-    (only_played files _ _ _ (only_opened files _ c.requires.outputs _ _ _ c.in_ok-open_outputs.ensures) (shown_on _ _ _ _ c.lines.ensures c.in_ok-ends.ensures.only)) leaves.only in
+    (only_played files _ b last (only_opened files _ c.requires.outputs _ _ _ c.in_ok-open_outputs.ensures) (shown_on _ _ b last c.lines.ensures c.in_ok-ends.ensures.only)) leaves.only in
     only_then _ _ _ _ written (only_shut files _ c.requires.outputs _ _ _ c.in_err-finish_outputs.ensures)
 
 pub returns-in_err-finish_outputs-clause-outcome : goal.returns-in_err-finish_outputs-clause-outcome
 returns-in_err-finish_outputs-clause-outcome g c =
     let files = disk_files_value c.args.files.now in
+    let b = g.H.Host.outside c.open_outputs.new.host in
+    let last = g.H.Host.outside c.play.new.host in
     let run = course (started c.args.kernel.now.system) (events_of c.args.events.now) in
     let opens = c.in_ok-open_outputs.ensures in
-    let only = only_opened files _ c.requires.outputs _ _ _ opens in
+    let only = only_opened files _ c.requires.outputs _ b _ opens in
     let good = good_opened files _ c.requires.outputs _ _ opens in
     let played = c.in_ok-ends.ensures in
     let left = c.in_ok-leave_disks.ensures in
@@ -135,24 +148,28 @@ returns-in_err-finish_outputs-clause-outcome g c =
     let fits = run_leaves c.args.kernel.now c.play.new.kernel c.leave_disks.new.kernel run played.system played.rest left.system left.stands left.rest c.requires.root left.form left.written.0 left.written.1 left.apart in
     let fits_other = second_leaves c.args.kernel.now c.play.new.kernel c.leave_disks.new.kernel run played.system played.rest left.system left.stands left.rest left.second_form in
     match_passed _ _ _ _ c.from_residual-in_err-finish_outputs.ensures.1
-    (stopped_finishing files _ _ run (c.requires.lawful (events_of c.args.events.now)) _ _ _ only opens.bytes good (shown_on _ _ _ _ c.lines.ensures played.only)
-    (all_on _ _ _ _ _ c.lines.ensures played.shown) _ played.ending _ _ fits fits_other _ leaves.only leaves _ finished.bytes _
+    (stopped_finishing files _ _ run (c.requires.lawful (events_of c.args.events.now)) _ _ _ only opens.bytes good (shown_on _ _ b last c.lines.ensures played.only)
+    (all_on _ _ (shown_by run) b last c.lines.ensures played.shown) _ played.ending _ _ fits fits_other _ leaves.only leaves _ finished.bytes _
     (unshut_named files _ c.requires.outputs _ _ _ finished) opens.cause played.cause finished.cause)
 
 pub returns-clause-only : goal.returns-clause-only
 returns-clause-only g c =
     let files = disk_files_value c.args.files.now in
+    let b = g.H.Host.outside c.open_outputs.new.host in
+    let last = g.H.Host.outside c.play.new.host in
     let leaves = leaves_on _ _ _ _ _ _ _ c.has_second.ensures c.in_ok-leave_disks.ensures.written.2 in
     let written = only_written files _ _ _
-    (only_played files _ _ _ (only_opened files _ c.requires.outputs _ _ _ c.in_ok-open_outputs.ensures) (shown_on _ _ _ _ c.lines.ensures c.in_ok-ends.ensures.only)) leaves.only in
+    (only_played files _ b last (only_opened files _ c.requires.outputs _ _ _ c.in_ok-open_outputs.ensures) (shown_on _ _ b last c.lines.ensures c.in_ok-ends.ensures.only)) leaves.only in
     only_then _ _ _ _ written (only_shut files _ c.requires.outputs _ _ _ c.in_ok-finish_outputs.ensures)
 
 pub returns-clause-outcome : goal.returns-clause-outcome
 returns-clause-outcome g c =
     let files = disk_files_value c.args.files.now in
+    let b = g.H.Host.outside c.open_outputs.new.host in
+    let last = g.H.Host.outside c.play.new.host in
     let run = course (started c.args.kernel.now.system) (events_of c.args.events.now) in
     let opens = c.in_ok-open_outputs.ensures in
-    let only = only_opened files _ c.requires.outputs _ _ _ opens in
+    let only = only_opened files _ c.requires.outputs _ b _ opens in
     let good = good_opened files _ c.requires.outputs _ _ opens in
     let played = c.in_ok-ends.ensures in
     let left = c.in_ok-leave_disks.ensures in
@@ -160,6 +177,6 @@ returns-clause-outcome g c =
     let finished = c.in_ok-finish_outputs.ensures in
     let fits = run_leaves c.args.kernel.now c.play.new.kernel c.leave_disks.new.kernel run played.system played.rest left.system left.stands left.rest c.requires.root left.form left.written.0 left.written.1 left.apart in
     let fits_other = second_leaves c.args.kernel.now c.play.new.kernel c.leave_disks.new.kernel run played.system played.rest left.system left.stands left.rest left.second_form in
-    came_to_end files _ _ run (c.requires.lawful (events_of c.args.events.now)) _ _ _ only opens.bytes good (shown_on _ _ _ _ c.lines.ensures played.only)
-    (all_on _ _ _ _ _ c.lines.ensures played.shown) _ played.ending _ _ fits fits_other _ leaves.only leaves _ finished.bytes
+    came_to_end files _ _ run (c.requires.lawful (events_of c.args.events.now)) _ _ _ only opens.bytes good (shown_on _ _ b last c.lines.ensures played.only)
+    (all_on _ _ (shown_by run) b last c.lines.ensures played.shown) _ played.ending _ _ fits fits_other _ leaves.only leaves _ finished.bytes
     (all_shut files _ c.requires.outputs _ _ finished) opens.cause played.cause finished.cause

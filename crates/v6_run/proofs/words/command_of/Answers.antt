@@ -23,26 +23,26 @@ pub returns-in_default : goal.returns-in_default
 returns-in_default c =
     let words = c.args.words.now in
     elim c.in_default.branch [
-      | goal.in_default-via-then-words-lt2 w ↦
+      | goal.in_default-via-then-words-lt6+then-words-lt2 w ↦
           let most : length words < 2 = ltb-true (length words) 2 w.if-words-lt2-1.true in
           no_command words (omega (arith, most)) (omega (arith, most)) (omega (arith, most))
           (omega (arith, most)) (omega (arith, most))
-      | goal.in_default-via-else-words-lt2+else-words-lt3+else-words-lt4+then-words-lt5 w ↦
+      | goal.in_default-via-then-words-lt6+else-words-lt2+else-words-lt3+else-words-lt4+then-words-lt5 w ↦
           let least : 4 ≤ length words = ltb-false (length words) 4 w.if-words-lt4-1.false in
           let most : length words < 5 = ltb-true (length words) 5 w.if-words-lt5-1.true in
           no_command words (omega (arith, least)) (omega (arith, least)) (omega (arith, most))
           (omega (arith, most)) (omega (arith, most))
-      | goal.in_default-via-else-words-lt2+else-words-lt3+else-words-lt4+else-words-lt5+else-words-lt6+then-words-lt7 w ↦
+      | goal.in_default-via-else-words-lt6+then-words-lt7 w ↦
           let least : 6 ≤ length words = ltb-false (length words) 6 w.if-words-lt6-1.false in
           let most : length words < 7 = ltb-true (length words) 7 w.if-words-lt7-1.true in
           no_command words (omega (arith, least)) (omega (arith, least)) (omega (arith, least))
           (omega (arith, most)) (omega (arith, most))
-      | goal.in_default-via-else-words-lt2+else-words-lt3+else-words-lt4+else-words-lt5+else-words-lt6+else-words-lt7+else-words-lt8+then-words-lt9 w ↦
+      | goal.in_default-via-else-words-lt6+else-words-lt7+else-words-lt8+then-words-lt9 w ↦
           let least : 8 ≤ length words = ltb-false (length words) 8 w.if-words-lt8-1.false in
           let most : length words < 9 = ltb-true (length words) 9 w.if-words-lt9-1.true in
           no_command words (omega (arith, least)) (omega (arith, least)) (omega (arith, least))
           (omega (arith, least)) (omega (arith, most))
-      | goal.in_default-via-else-words-lt2+else-words-lt3+else-words-lt4+else-words-lt5+else-words-lt6+else-words-lt7+else-words-lt8+else-words-lt9+else-words-lt10 w ↦
+      | goal.in_default-via-else-words-lt6+else-words-lt7+else-words-lt8+else-words-lt9+else-words-lt10 w ↦
           let least : 10 ≤ length words = ltb-false (length words) 10 w.if-words-lt10-1.false in
           no_command words (omega (arith, least)) (omega (arith, least)) (omega (arith, least))
           (omega (arith, least)) (omega (arith, least))

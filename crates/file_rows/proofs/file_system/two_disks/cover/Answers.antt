@@ -6,7 +6,8 @@ use Rattle.file_rows.proofs.file_system.two_disks.cover.Goals as goal
 
 pub returns-in-Ok-clause-mounts : goal.returns-in-Ok-clause-mounts
 returns-in-Ok-clause-mounts c =
-    covered_mounts c.args.tree.now.mounts c.cover.new.self c.args.tree.now.nodes.store c.args.dir c.in-Ok.ensures.1 c.requires.there
+    covered_mounts c.args.tree.now.mounts c.cover.new.self c.args.tree.now.nodes.store c.args.dir c.in-Ok.ensures.1
+    c.requires.there
 
 pub returns-in-Err-clause-mounts : goal.returns-in-Err-clause-mounts
 returns-in-Err-clause-mounts c =

@@ -1,4 +1,4 @@
-use Rattle.std.proofs.Common.{ap, ◌∙◌}
+use Rattle.std.proofs.Common.{ap}
 use Rattle.mount_tab.specs.Mounted.{MountTable}
 use Rattle.fs_tree.proofs.MountLemmas.{new_mounts}
 use Rattle.file_rows.proofs.ReadyLemmas.{begun}
