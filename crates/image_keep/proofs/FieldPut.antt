@@ -32,9 +32,11 @@ sized_state u r cc eight s = record { r = eight; call = s.call; handlers = s.han
 pub state_put : (u : UArea) (r : List ℕ) (cc : ℕ) → IsSized u → length r ≡ 8 → cc < 16 → Becomes u 0 (state_bytes r cc) (with_state u r cc) × IsSized (with_state u r cc)
 state_put u r cc sized eight codes =
     let long = length-area u sized in
-    let new : IsSized (with_state u r cc) = sized_state u r cc eight sized in
-    (state_over (area_bytes u) 0 u r cc sized.r eight codes (omega (arith, long)) (front_whole (area_bytes u) 1024 long)
-    ∙ whole_put (area_bytes u) (area_bytes (with_state u r cc)) (length-area (with_state u r cc) new ∙ sym long), new)
+    let new : IsSized (with_state u r cc) = sized_state u r cc eight sized in (
+      state_over (area_bytes u) 0 u r cc sized.r eight codes (omega (arith, long)) (front_whole (area_bytes u) 1024 long)
+          ∙ whole_put (area_bytes u) (area_bytes (with_state u r cc)) (length-area (with_state u r cc) new ∙ sym long),
+      new,
+    )
 
 pub pc_put : (u : UArea) (pc cc : ℕ) → IsSized u → cc < 16 → Becomes u 14 (bytes_of (pc ∷ (61440 + cc) ∷ [])) (with_pc u pc cc) × IsSized (with_pc u pc cc)
 pc_put u pc cc sized codes =

@@ -196,7 +196,6 @@ fn attempt_extended(
 
 // The same for those whose source steps before the destination is located. Where one misses, the registers are put back.
 #[inline(always)]
-#[tactic(auto, using(crate::proofs::StandingState::image_same))]
 fn attempt_stepping(
     core: &mut [u8],
     standing: &Standing,
@@ -251,7 +250,6 @@ pub(crate) fn attempt_any(core: &mut [u8], standing: &Standing) -> bool
 
 // The row of a word over any addressing modes. Where it isn't done, the registers are put back.
 #[inline(always)]
-#[tactic(auto, using(crate::proofs::StandingState::image_same))]
 fn attempt_modes(core: &mut [u8], standing: &Standing, pc: usize, word: u32) -> bool
     requires stands { StandsWith core.old standing.now }
     requires word { word < 65536 }

@@ -34,7 +34,7 @@ returns-clause-does g c =
     let told : ℕ = c.time_in.result in
     let same : told ≡ (65536 * get_or own.r 0 0 + get_or own.r 1 0) % 2 ^ 32 = c.time_in.ensures ∙ (λ i. (65536 * first i + second i) % 2 ^ 32) in
     let says : Says c.args.p.now (set_time w c.args.s) (Log (Time told) ∷ Log (Wake Tout) ∷ []) (applied (applied (board c.args.p.now) (Time told)) (Wake Tout))
-        (with_time w told) (Ret c.register-r0.result c.register-r1.result) =
+    (with_time w told) (Ret c.register-r0.result c.register-r1.result) =
     says_lines c.args.p.now (set_time w c.args.s) (Time told) (Wake Tout) (with_time w told) _
     (time_set w c.args.s own refl (sym is ∙ c.if-uid-ne0.false)
     ∙ (ap (λ n. logs (Time n) (logs (Wake Tout) (returns (with_time w n) c.args.s))) (sym same)

@@ -11,10 +11,12 @@ put_field-requires-clause-meaning c =
     let own : UArea = area_of c.args.self.now.kept c.args.s in
     let sized = c.area_start-at.ensures.sized in
     let z = c.area_start-at.ensures.sizes in
-    let ticks : ℕ = (slice_index c.own_times.result 1 + 1) % 65536 in
-    (record own { system_time = ticks }, placed own (record own { system_time = ticks }) 50 50 c.one_word.result _ refl c.one_word.ensures (system_tick_put own ticks sized),
-    record { r = sized.r; call = sized.call; handlers = sized.handlers; files = sized.files },
-    record { text_size = z.text_size; data_size = z.data_size; stack_size = z.stack_size })
+    let ticks : ℕ = (slice_index c.own_times.result 1 + 1) % 65536 in (
+      record own { system_time = ticks },
+      placed own (record own { system_time = ticks }) 50 50 c.one_word.result _ refl c.one_word.ensures (system_tick_put own ticks sized),
+      record { r = sized.r; call = sized.call; handlers = sized.handlers; files = sized.files },
+      record { text_size = z.text_size; data_size = z.data_size; stack_size = z.stack_size },
+    )
 
 pub returns-then-in_kernel : goal.returns-then-in_kernel
 returns-then-in_kernel c =
@@ -33,10 +35,12 @@ put_field-requires-2-clause-meaning c =
     let own : UArea = area_of c.args.self.now.kept c.args.s in
     let sized = c.area_start-at.ensures.sized in
     let z = c.area_start-at.ensures.sizes in
-    let ticks : ℕ = (slice_index c.own_times.result 0 + 1) % 65536 in
-    (record own { user_time = ticks }, placed own (record own { user_time = ticks }) 48 48 c.one_word-2.result _ refl c.one_word-2.ensures (user_tick_put own ticks sized),
-    record { r = sized.r; call = sized.call; handlers = sized.handlers; files = sized.files },
-    record { text_size = z.text_size; data_size = z.data_size; stack_size = z.stack_size })
+    let ticks : ℕ = (slice_index c.own_times.result 0 + 1) % 65536 in (
+      record own { user_time = ticks },
+      placed own (record own { user_time = ticks }) 48 48 c.one_word-2.result _ refl c.one_word-2.ensures (user_tick_put own ticks sized),
+      record { r = sized.r; call = sized.call; handlers = sized.handlers; files = sized.files },
+      record { text_size = z.text_size; data_size = z.data_size; stack_size = z.stack_size },
+    )
 
 pub returns : goal.returns
 returns c =

@@ -13,10 +13,12 @@ pub put_field-requires-clause-meaning : goal.put_field-requires-clause-meaning
 put_field-requires-clause-meaning c =
     let own : UArea = area_of c.args.self.now.kept c.args.s in
     let sized = c.area_start-at.ensures.sized in
-    let z = c.area_start-at.ensures.sizes in
-    (record own { pending = c.args.pending }, pending_put own c.args.pending sized,
-    record { r = sized.r; call = sized.call; handlers = sized.handlers; files = sized.files },
-    record { text_size = z.text_size; data_size = z.data_size; stack_size = z.stack_size })
+    let z = c.area_start-at.ensures.sizes in (
+      record own { pending = c.args.pending },
+      pending_put own c.args.pending sized,
+      record { r = sized.r; call = sized.call; handlers = sized.handlers; files = sized.files },
+      record { text_size = z.text_size; data_size = z.data_size; stack_size = z.stack_size },
+    )
 
 -- after the first byte
 first : (c : goal.After-put_field) → Stays c.args.self.now.kept c.put_field.new.self.kept c.args.s c.area_start-at.result (record (area_of c.args.self.now.kept c.args.s) { pending = c.args.pending })
@@ -41,10 +43,12 @@ put_field-requires-2-clause-meaning c =
     let z = c.area_start-at.ensures.sizes in
     let mid : UArea = record own { pending = c.args.pending } in
     let mid_sized : IsSized mid = record { r = sized.r; call = sized.call; handlers = sized.handlers; files = sized.files } in
-    let v : UArea = with_call own c.args.pending c.args.call.now in
-    (v, of_equal _ mid v 32 _ there.area (placed mid v 32 32 c.eight_words.result _ refl c.eight_words.ensures (call_put mid c.args.call.now mid_sized (search rules))),
-    record { r = sized.r; call = search rules; handlers = sized.handlers; files = sized.files },
-    subst (λ (m : Image). HasSizes v m) (sym there.same) (record { text_size = z.text_size; data_size = z.data_size; stack_size = z.stack_size }))
+    let v : UArea = with_call own c.args.pending c.args.call.now in (
+      v,
+      of_equal _ mid v 32 _ there.area (placed mid v 32 32 c.eight_words.result _ refl c.eight_words.ensures (call_put mid c.args.call.now mid_sized (search rules))),
+      record { r = sized.r; call = search rules; handlers = sized.handlers; files = sized.files },
+      subst (λ (m : Image). HasSizes v m) (sym there.same) (record { text_size = z.text_size; data_size = z.data_size; stack_size = z.stack_size }),
+    )
 
 pub returns : goal.returns
 returns c =

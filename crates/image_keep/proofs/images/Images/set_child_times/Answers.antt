@@ -11,10 +11,12 @@ put_field-requires-clause-meaning c =
     let own : UArea = area_of c.args.self.now.kept c.args.s in
     let sized = c.area_start-at.ensures.sized in
     let v : UArea = with_child_times own c.args.user c.args.system in
-    let z = c.area_start-at.ensures.sizes in
-    (v, placed own v 52 52 c.two_longs.result _ refl c.two_longs.ensures (child_times_put own c.args.user c.args.system sized),
-    record { r = sized.r; call = sized.call; handlers = sized.handlers; files = sized.files },
-    record { text_size = z.text_size; data_size = z.data_size; stack_size = z.stack_size })
+    let z = c.area_start-at.ensures.sizes in (
+      v,
+      placed own v 52 52 c.two_longs.result _ refl c.two_longs.ensures (child_times_put own c.args.user c.args.system sized),
+      record { r = sized.r; call = sized.call; handlers = sized.handlers; files = sized.files },
+      record { text_size = z.text_size; data_size = z.data_size; stack_size = z.stack_size },
+    )
 
 pub returns : goal.returns
 returns c =

@@ -55,9 +55,12 @@ pub put_field-requires-clause-meaning : goal.put_field-requires-clause-meaning
 put_field-requires-clause-meaning c =
     let u : UArea = area_of c.args.self.now.kept c.args.s in
     let sized = c.area_start-at.ensures.sized in
-    let z = c.area_start-at.ensures.sizes in
-    (left u, placed u (left u) 22 22 c.one_word.result _ refl c.one_word.ensures (directory_put u 0 sized), sized_left u sized,
-    record { text_size = z.text_size; data_size = z.data_size; stack_size = z.stack_size })
+    let z = c.area_start-at.ensures.sizes in (
+      left u,
+      placed u (left u) 22 22 c.one_word.result _ refl c.one_word.ensures (directory_put u 0 sized),
+      sized_left u sized,
+      record { text_size = z.text_size; data_size = z.data_size; stack_size = z.stack_size },
+    )
 
 pub put_field-requires-2-clause-image : goal.put_field-requires-2-clause-image
 put_field-requires-2-clause-image c =
@@ -76,12 +79,13 @@ put_field-requires-2-clause-meaning c =
     let u : UArea = area_of k c.args.s in
     let at = c.area_start-at.ensures in
     let z = at.sizes in
-    let there = first k l c.args.s c.area_start-at.result c.requires at.place at.sized c.one_word.result c.one_word.ensures c.put_field.ensures in
-    (told u c.args.status,
-    second_law k l c.args.s c.area_start-at.result c.requires at.place at.sized c.one_word.result c.one_word.ensures c.put_field.ensures
-        k c.args.status c.one_word-2.result c.one_word-2.ensures,
-    sized_told u c.args.status at.sized,
-    subst (λ (m : Image). HasSizes (told u c.args.status) m) (sym there.same) (record { text_size = z.text_size; data_size = z.data_size; stack_size = z.stack_size }))
+    let there = first k l c.args.s c.area_start-at.result c.requires at.place at.sized c.one_word.result c.one_word.ensures c.put_field.ensures in (
+      told u c.args.status,
+      second_law k l c.args.s c.area_start-at.result c.requires at.place at.sized c.one_word.result c.one_word.ensures c.put_field.ensures
+          k c.args.status c.one_word-2.result c.one_word-2.ensures,
+      sized_told u c.args.status at.sized,
+      subst (λ (m : Image). HasSizes (told u c.args.status) m) (sym there.same) (record { text_size = z.text_size; data_size = z.data_size; stack_size = z.stack_size }),
+    )
 
 pub put_field-requires-3-clause-image : goal.put_field-requires-3-clause-image
 put_field-requires-3-clause-image c =
@@ -101,12 +105,14 @@ put_field-requires-3-clause-meaning c =
     let z = at.sizes in
     let sized = at.sized in
     let there = second k c.put_field.new.self.kept c.args.s c.area_start-at.result c.requires at.place sized
-        c.one_word.result c.one_word.ensures c.put_field.ensures c.put_field-2.new.self.kept c.args.status c.one_word-2.result c.one_word-2.ensures c.put_field-2.ensures in
+    c.one_word.result c.one_word.ensures c.put_field.ensures c.put_field-2.new.self.kept c.args.status c.one_word-2.result c.one_word-2.ensures c.put_field-2.ensures in
     let mid : UArea = told u c.args.status in
-    let v : UArea = with_end u c.args.status c.args.handlers.now in
-    (v, of_equal _ mid v 64 _ there.area (placed mid v 64 64 c.twenty_words.result _ refl c.twenty_words.ensures (handlers_put mid c.args.handlers.now (sized_told u c.args.status sized) (search rules))),
-    record { r = sized.r; call = sized.call; handlers = search rules; files = sized.files },
-    subst (λ (m : Image). HasSizes v m) (sym there.same) (record { text_size = z.text_size; data_size = z.data_size; stack_size = z.stack_size }))
+    let v : UArea = with_end u c.args.status c.args.handlers.now in (
+      v,
+      of_equal _ mid v 64 _ there.area (placed mid v 64 64 c.twenty_words.result _ refl c.twenty_words.ensures (handlers_put mid c.args.handlers.now (sized_told u c.args.status sized) (search rules))),
+      record { r = sized.r; call = sized.call; handlers = search rules; files = sized.files },
+      subst (λ (m : Image). HasSizes v m) (sym there.same) (record { text_size = z.text_size; data_size = z.data_size; stack_size = z.stack_size }),
+    )
 
 pub returns : goal.returns
 returns c =
@@ -117,9 +123,9 @@ returns c =
     let at = c.area_start-at.ensures in
     let sized = at.sized in
     let before = second_kept k l c.args.s c.area_start-at.result c.requires at.place sized
-        c.one_word.result c.one_word.ensures c.put_field.ensures m c.args.status c.one_word-2.result c.one_word-2.ensures c.put_field-2.ensures in
+    c.one_word.result c.one_word.ensures c.put_field.ensures m c.args.status c.one_word-2.result c.one_word-2.ensures c.put_field-2.ensures in
     let there = second k l c.args.s c.area_start-at.result c.requires at.place sized
-        c.one_word.result c.one_word.ensures c.put_field.ensures m c.args.status c.one_word-2.result c.one_word-2.ensures c.put_field-2.ensures in
+    c.one_word.result c.one_word.ensures c.put_field.ensures m c.args.status c.one_word-2.result c.one_word-2.ensures c.put_field-2.ensures in
     let mid : UArea = told u c.args.status in
     let v : UArea = with_end u c.args.status c.args.handlers.now in
     put_twice k m c.put_field-3.new.self.kept c.args.s mid v before
