@@ -1,5 +1,5 @@
 -- Bytes that are put into a u area, for all who put some there: which one it becomes, and where it stands then.
-use Rattle.std.proofs.Common.{◌≡◌, ◌∙◌, ℕ, ◌+◌, ◌<◌, List, [], ◌∷◌, length, slice_set, sym, ap, subst, arith}
+use Rattle.std.proofs.Common.{◌≡◌, ◌∙◌, ℕ, ◌+◌, ◌<◌, List, [], ◌∷◌, ◌++◌, length, slice_set, sym, ap, subst, arith}
 use Rattle.std.specs.Option.{unwrap_or}
 use Rattle.std.proofs.lemmas.List.{length-set}
 use Rattle.core_mem.specs.Bytes.{over}
@@ -10,9 +10,10 @@ use Rattle.u_area.specs.Area.{area_bytes, IsSized}
 use Rattle.u_area.specs.Fields.{Becomes}
 use Rattle.u_area.proofs.FieldLemmas.{length-area, whole_put}
 use Rattle.image_keep.specs.Kept.{Kept, HasImage, Keeping, Alive, place_in, image_of, area_of, described, with_area}
-use Rattle.image_keep.specs.Fields.{IsAreaAt}
+use Rattle.image_keep.specs.Fields.{IsAreaAt, IsWritten, AreWritten}
 use Rattle.image_keep.specs.Memory.{place_at}
 use Rattle.image_keep.specs.Running.{with_pc, with_state, state_bytes}
+use Rattle.image_keep.specs.State.{ImagesState}
 use Rattle.image_keep.proofs.Frames.{slot_described, area_twice, with_area_same, with_area_has, with_area_image}
 use Rattle.image_keep.proofs.Registers.{front_whole, state_over, state_there}
 use Rattle.image_keep.proofs.RegisterWords.{pc_over}
@@ -70,3 +71,16 @@ stays k l s at v has starts is = subst (λ x. Stays k x s at v) (sym is) (record
 -- twice over, the last one stays
 pub put_twice : (k l m : Kept) (s : ℕ) (u v : UArea) → l ≡ with_area k s u → m ≡ with_area l s v → m ≡ with_area k s v
 put_twice k l m s u v first second = second ∙ (ap (λ x. with_area x s v) first ∙ area_twice k s u v)
+
+-- what is written is spelled in another way, and something is written after it
+pub spelled : (x y : ImagesState) (s e f : ℕ) (a b : List ℕ) → e ≡ f → a ≡ b → AreWritten x y s e a → AreWritten x y s f b
+spelled x y s e f a b same is all = λ held its.
+    let one = all held its in
+    (one.0, one.1 ∙ (λ i. over (x.core ++ x.swap) (place_at x.kept.core held.place + same i) (is i)))
+
+pub write_on : (x y z : ImagesState) (s at : ℕ) (f g : ℕ → List ℕ → List ℕ) → IsAreaAt x.kept s at → HasImage y.kept s → IsAreaAt y.kept s at → IsWritten x y s f → IsWritten y z s g → IsWritten x z s (λ n line. g n (f n line))
+write_on x y z s at f g here has there one two = λ held its.
+    let a = one held its in
+    let b = two has.0 has.1 in
+    let same : place_at y.kept.core has.0.place ≡ place_at x.kept.core held.place = sym (there has.0 has.1) ∙ here held its in
+    (b.0 ∙ a.0, b.1 ∙ (λ i. g (same i) (a.1 i)))

@@ -1,12 +1,12 @@
 //! The u area of an image, read and written where it stands, whole and field by field.
-ghost use Rattle.std.specs.Prelude.{◌≡◌, ◌+◌, ◌<◌, ◌≤◌, [], ◌∷◌, ◌++◌, length};
+ghost use Rattle.std.specs.Prelude.{◌≡◌, ◌+◌, ◌*◌, ◌<◌, ◌≤◌, [], ◌∷◌, ◌++◌, length, replicate};
 ghost use Rattle.fs_codec.specs.Bytes.{bytes_of, long_words};
-ghost use Rattle.u_area.specs.Area.{fetched, IsSized, IsStored};
+ghost use Rattle.u_area.specs.Area.{fetched, front_bytes, IsSized, IsStored};
 ghost use Rattle.u_area.specs.Fields.{Becomes, with_register, with_codes, with_ids, with_handler, with_call, with_tick, with_no_times, with_child_times, with_end};
 ghost use Rattle.u_area.specs.declared.area.UArea.{UArea};
 ghost use Rattle.image_keep.specs.Kept.{Held, Has, HasImage, HasSizes, IsKept, area_of, image_of, with_area};
-ghost use Rattle.image_keep.specs.Fields.{IsAreaAt, area_there};
-ghost use Rattle.image_keep.specs.Running.{IsFixed, with_pc, with_results, with_state};
+ghost use Rattle.image_keep.specs.Fields.{IsAreaAt, IsWritten, AreWritten, IsTicked, area_there, over_call, over_end};
+ghost use Rattle.image_keep.specs.Running.{IsFixed, with_pc, with_results, with_state, state_bytes};
 
 use crate::images::Images;
 use crate::memory::see_bytes;
@@ -149,8 +149,9 @@ impl Images {
         requires place { IsAreaAt self.old.kept s at }
         requires within { field + length bytes.now ≤ 1024 }
         requires meaning { (u : UArea) × Becomes (area_of self.old.kept s) field bytes.now u × IsSized u × HasSizes u (image_of self.old.kept s) }
-        ensures { (u : UArea) → Becomes (area_of self.old.kept s) field bytes.now u → IsSized u
+        ensures kept { (u : UArea) → Becomes (area_of self.old.kept s) field bytes.now u → IsSized u
             → self.new.kept ≡ with_area self.old.kept s u }
+        ensures written { AreWritten self.old self.new s field bytes.now }
     {
         let _ = s;
         self.memory.see_bytes();
@@ -162,7 +163,8 @@ impl Images {
     pub fn set_area(&mut self, s: Slot, u: &UArea)
         requires image { HasImage self.old.kept s }
         requires sizes { HasSizes u.now (image_of self.old.kept s) }
-        ensures { self.new.kept ≡ with_area self.old.kept s u.now }
+        ensures kept { self.new.kept ≡ with_area self.old.kept s u.now }
+        ensures written { AreWritten self.old self.new s 0 (front_bytes u.now) }
     {
         let front = u.front();
         let at = self.area_start(s);
@@ -173,7 +175,8 @@ impl Images {
     #[inline(always)]
     pub fn set_results(&mut self, s: Slot, r0: u16, r1: u16)
         requires { HasImage self.old.kept s }
-        ensures { self.new.kept ≡ with_area self.old.kept s (with_results (area_of self.old.kept s) r0 r1) }
+        ensures kept { self.new.kept ≡ with_area self.old.kept s (with_results (area_of self.old.kept s) r0 r1) }
+        ensures written { AreWritten self.old self.new s 0 (bytes_of (r0 ∷ r1 ∷ [])) }
     {
         let at = self.area_start(s);
         self.put_field(s, at, REGISTERS, &two_words(r0, r1));
@@ -183,7 +186,8 @@ impl Images {
     pub fn set_registers(&mut self, s: Slot, r: &[u16; 8], cc: u8)
         requires image { HasImage self.old.kept s }
         requires codes { cc < 16 }
-        ensures { self.new.kept ≡ with_area self.old.kept s (with_state (area_of self.old.kept s) r.now cc) }
+        ensures kept { self.new.kept ≡ with_area self.old.kept s (with_state (area_of self.old.kept s) r.now cc) }
+        ensures written { AreWritten self.old self.new s 0 (state_bytes r.now cc) }
     {
         let at = self.area_start(s);
         self.put_field(s, at, REGISTERS, &state_bytes(r, cc));
@@ -194,7 +198,8 @@ impl Images {
     pub fn set_register(&mut self, s: Slot, n: usize, value: u16)
         requires image { HasImage self.old.kept s }
         requires number { n < 8 }
-        ensures { self.new.kept ≡ with_area self.old.kept s (with_register (area_of self.old.kept s) n value) }
+        ensures kept { self.new.kept ≡ with_area self.old.kept s (with_register (area_of self.old.kept s) n value) }
+        ensures written { AreWritten self.old self.new s (2 * n) (bytes_of (value ∷ [])) }
     {
         let at = self.area_start(s);
         self.put_field(s, at, REGISTERS + 2 * n, &one_word(value));
@@ -205,7 +210,8 @@ impl Images {
     pub fn set_codes(&mut self, s: Slot, cc: u8)
         requires image { HasImage self.old.kept s }
         requires codes { cc < 16 }
-        ensures { self.new.kept ≡ with_area self.old.kept s (with_codes (area_of self.old.kept s) cc) }
+        ensures kept { self.new.kept ≡ with_area self.old.kept s (with_codes (area_of self.old.kept s) cc) }
+        ensures written { AreWritten self.old self.new s 16 (cc ∷ []) }
     {
         let at = self.area_start(s);
         self.put_field(s, at, PS, &[cc]);
@@ -214,7 +220,8 @@ impl Images {
     /// Puts a user, a group, a real user and a real group there: four bytes are written.
     pub fn set_ids(&mut self, s: Slot, ids: [u8; 4])
         requires { HasImage self.old.kept s }
-        ensures { self.new.kept ≡ with_area self.old.kept s (with_ids (area_of self.old.kept s) ids) }
+        ensures kept { self.new.kept ≡ with_area self.old.kept s (with_ids (area_of self.old.kept s) ids) }
+        ensures written { AreWritten self.old self.new s 18 ids }
     {
         let at = self.area_start(s);
         self.put_field(s, at, IDS, &ids);
@@ -224,7 +231,8 @@ impl Images {
     pub fn set_handler(&mut self, s: Slot, sig: usize, handler: u16)
         requires image { HasImage self.old.kept s }
         requires number { sig < 20 }
-        ensures { self.new.kept ≡ with_area self.old.kept s (with_handler (area_of self.old.kept s) sig handler) }
+        ensures kept { self.new.kept ≡ with_area self.old.kept s (with_handler (area_of self.old.kept s) sig handler) }
+        ensures written { AreWritten self.old self.new s (64 + 2 * sig) (bytes_of (handler ∷ [])) }
     {
         let at = self.area_start(s);
         self.put_field(s, at, HANDLERS + 2 * sig, &one_word(handler));
@@ -233,7 +241,8 @@ impl Images {
     /// Puts a call there with which the process is to go on, or none, and what is kept of it: 17 bytes are written.
     pub fn set_call(&mut self, s: Slot, pending: u8, call: &[u16; 8])
         requires { HasImage self.old.kept s }
-        ensures { self.new.kept ≡ with_area self.old.kept s (with_call (area_of self.old.kept s) pending call.now) }
+        ensures kept { self.new.kept ≡ with_area self.old.kept s (with_call (area_of self.old.kept s) pending call.now) }
+        ensures written { IsWritten self.old self.new s (over_call pending call.now) }
     {
         let at = self.area_start(s);
         self.put_field(s, at, PENDING, &[pending]);
@@ -244,7 +253,8 @@ impl Images {
     #[inline(always)]
     pub fn add_tick(&mut self, s: Slot, in_kernel: bool)
         requires { HasImage self.old.kept s }
-        ensures { self.new.kept ≡ with_area self.old.kept s (with_tick (area_of self.old.kept s) in_kernel) }
+        ensures kept { self.new.kept ≡ with_area self.old.kept s (with_tick (area_of self.old.kept s) in_kernel) }
+        ensures written { IsTicked self.old self.new s in_kernel }
     {
         let at = self.area_start(s);
         let [user, system] = own_times(self.area_bytes(s));
@@ -260,7 +270,8 @@ impl Images {
     /// A process has used no time, and no child of it has: 12 bytes are written.
     pub fn clear_times(&mut self, s: Slot)
         requires { HasImage self.old.kept s }
-        ensures { self.new.kept ≡ with_area self.old.kept s (with_no_times (area_of self.old.kept s)) }
+        ensures kept { self.new.kept ≡ with_area self.old.kept s (with_no_times (area_of self.old.kept s)) }
+        ensures written { AreWritten self.old self.new s 48 (replicate 12 0) }
     {
         let at = self.area_start(s);
         self.put_field(s, at, TIMES, &[0; 12]);
@@ -269,7 +280,8 @@ impl Images {
     /// Gives a process other times of its children: eight bytes are written.
     pub fn set_child_times(&mut self, s: Slot, user: u32, system: u32)
         requires { HasImage self.old.kept s }
-        ensures { self.new.kept ≡ with_area self.old.kept s (with_child_times (area_of self.old.kept s) user system) }
+        ensures kept { self.new.kept ≡ with_area self.old.kept s (with_child_times (area_of self.old.kept s) user system) }
+        ensures written { AreWritten self.old self.new s 52 (bytes_of (long_words user ++ long_words system)) }
     {
         let at = self.area_start(s);
         self.put_field(s, at, TIMES + 4, &two_longs(user, system));
@@ -279,7 +291,8 @@ impl Images {
     /// written.
     pub fn set_ended(&mut self, s: Slot, status: u16, handlers: &[u16; 20])
         requires { HasImage self.old.kept s }
-        ensures { self.new.kept ≡ with_area self.old.kept s (with_end (area_of self.old.kept s) status handlers.now) }
+        ensures kept { self.new.kept ≡ with_area self.old.kept s (with_end (area_of self.old.kept s) status handlers.now) }
+        ensures written { IsWritten self.old self.new s (over_end status handlers.now) }
     {
         let at = self.area_start(s);
         self.put_field(s, at, DIRECTORY, &one_word(0));
@@ -293,6 +306,7 @@ impl Images {
         requires fixed { IsFixed self.old.kept fixed.now }
         requires codes { cc < 16 }
         ensures kept { self.new.kept ≡ with_area self.old.kept fixed.now.slot (with_pc (area_of self.old.kept fixed.now.slot) pc cc) }
+        ensures written { AreWritten self.old self.new fixed.now.slot 14 (bytes_of (pc ∷ (61440 + cc) ∷ [])) }
         ensures fixed { IsFixed self.new.kept fixed.now }
     {
         let at = self.fixed_start(fixed);

@@ -62,11 +62,11 @@ pub set_handler-requires-clause-image : goal.set_handler-requires-clause-image
 set_handler-requires-clause-image c =
     has_stated c.args.world.now.procs.images.kept c.space-space.result.images.now.kept c.deliver-told.new.space.images.now.kept c.args.s c.space-space.result.slot c.deliver-told.new.space.slot c.args.sig
     _ _ c.area-u.result c.deliver-told.new.u c.requires.image c.area-u.ensures.u (same_kept c.space-space.ensures.images) c.space-space.ensures.slot
-    c.deliver-told.ensures.rest c.deliver-told.ensures.area c.deliver-told.ensures.image c.set_registers.new.self.kept c.set_registers.ensures
+    c.deliver-told.ensures.rest c.deliver-told.ensures.area c.deliver-told.ensures.image c.set_registers.new.self.kept c.set_registers.ensures.kept
 
 pub returns-clause-images : goal.returns-clause-images
 returns-clause-images c =
     told_kept c.args.world.now.procs.images.kept c.space-space.result.images.now.kept c.deliver-told.new.space.images.now.kept c.args.s c.space-space.result.slot c.deliver-told.new.space.slot c.args.sig
     _ _ c.area-u.result c.deliver-told.new.u c.requires.image c.area-u.ensures.u (same_kept c.space-space.ensures.images) c.space-space.ensures.slot
-    c.deliver-told.ensures.rest c.deliver-told.ensures.area c.deliver-told.ensures.image c.set_registers.new.self.kept c.set_registers.ensures
-    c.set_handler.new.self.kept c.from-sig.result c.from-sig.ensures c.set_handler.ensures
+    c.deliver-told.ensures.rest c.deliver-told.ensures.area c.deliver-told.ensures.image c.set_registers.new.self.kept c.set_registers.ensures.kept
+    c.set_handler.new.self.kept c.from-sig.result c.from-sig.ensures c.set_handler.ensures.kept

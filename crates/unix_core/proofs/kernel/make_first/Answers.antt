@@ -42,7 +42,7 @@ pub returns-clause-kept : goal.returns-clause-kept
 returns-clause-kept c =
     first_made c.args.procs.now.images.kept c.requires.empty c.requires.least c.replace.new.self.kept 1 0 refl refl
     (made_at c.args.procs.now.images.kept c.requires.empty c.requires.least c.replace.new.self.kept c.replace.ensures.kept)
-    c.put_program.new.procs.images.kept c.put_program.ensures.kept c.area-u.result _ c.set_area.new.self.kept c.area-u.ensures.u c.set_area.ensures
+    c.put_program.new.procs.images.kept c.put_program.ensures.kept c.area-u.result _ c.set_area.new.self.kept c.area-u.ensures.u c.set_area.ensures.kept
 
 pub returns-clause-others : goal.returns-clause-others
 returns-clause-others c = ap (λ (p : Procs). record p { images = c.set_area.new.self }) c.put_program.ensures.others

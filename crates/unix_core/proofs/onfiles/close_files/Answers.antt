@@ -55,5 +55,5 @@ returns c =
       items = c.close_all.ensures.items row image;
       kept = c.close_all.ensures.kept row image;
     }) w.procs.rows c.set_area.new.self c.clear.ensures c.close_all.ensures.frame c.see_numbers.ensures
-    (sym (row_back w.procs.rows c.args.s)) (c.set_area.ensures ∙ area_alone w.procs.images.kept c.args.s c.close_all.new.u) in
+    (sym (row_back w.procs.rows c.args.s)) (c.set_area.ensures.kept ∙ area_alone w.procs.images.kept c.args.s c.close_all.new.u) in
     record { unix = done.unix; shown = done.shown; rest = search rules; slots = search rules }

@@ -105,5 +105,5 @@ returns c =
     (handed_pends (unix_of w) c.args.s c.requires.ready.good.pending (slot_is w c.args.s c.requires.ready) (is_living w c.args.s c.requires.ready)))
     c.clear.new.self c.resume_file-answer.new.trace c.resume_file-answer.new.f c.resume_file-answer.new.u c.resume_file-answer.new.row _ c.resume_file-answer.ensures.does
     c.set_row.new.self c.set_area.new.self c.clear.ensures c.resume_file-answer.ensures.frame c.see_numbers.ensures c.set_row.ensures
-    (c.set_area.ensures ∙ ap (λ k. with_area k c.args.s c.resume_file-answer.new.u) back) in
+    (c.set_area.ensures.kept ∙ ap (λ k. with_area k c.args.s c.resume_file-answer.new.u) back) in
     record { answer = done.answer; unix = done.unix; shown = done.shown; rest = search rules; slots = search rules }

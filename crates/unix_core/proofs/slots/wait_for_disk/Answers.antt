@@ -32,21 +32,21 @@ pub returns-clause-unix : goal.returns-clause-unix
 returns-clause-unix c =
     let w : World = c.args.world.now in
     let e = c.add_wait.ensures in
-    wait_unix w c.args.s c.requires.ready c.wait_end-end.result c.wait_end-end.ensures c.set_call.new.self c.set_call.ensures c.add_wait.new.self
+    wait_unix w c.args.s c.requires.ready c.wait_end-end.result c.wait_end-end.ensures c.set_call.new.self c.set_call.ensures.kept c.add_wait.new.self
     (λ i. record { passed = e.passed i; disk = e.disk i; pace = e.pace i; since = e.passed i - e.set i })
 
 pub returns-clause-board : goal.returns-clause-board
 returns-clause-board c =
     let w : World = c.args.world.now in
     let e = c.add_wait.ensures in
-    wait_board w c.args.s c.requires.ready c.wait_end-end.result c.wait_end-end.ensures c.set_call.new.self c.set_call.ensures c.add_wait.new.self
+    wait_board w c.args.s c.requires.ready c.wait_end-end.result c.wait_end-end.ensures c.set_call.new.self c.set_call.ensures.kept c.add_wait.new.self
     (λ i. record { passed = e.passed i; disk = e.disk i; pace = e.pace i; since = e.passed i - e.set i })
 
 pub returns-clause-ready : goal.returns-clause-ready
 returns-clause-ready c =
     let w : World = c.args.world.now in
     let e = c.add_wait.ensures in
-    wait_ready w c.args.s c.requires.ready c.wait_end-end.result c.wait_end-end.ensures c.set_call.new.self c.set_call.ensures c.add_wait.new.self
+    wait_ready w c.args.s c.requires.ready c.wait_end-end.result c.wait_end-end.ensures c.set_call.new.self c.set_call.ensures.kept c.add_wait.new.self
     (λ i. record { passed = e.passed i; disk = e.disk i; pace = e.pace i; since = e.passed i - e.set i })
 
 pub returns-clause-slots : goal.returns-clause-slots

@@ -1,10 +1,11 @@
 -- Bytes are put into a u area: the line holds another one there, and all else is as it was.
-use Rattle.std.proofs.Common.{◌≡◌, ◌∙◌, ap, sym, arith}
+use Rattle.std.proofs.Common.{◌≡◌, ◌∙◌, ◌+◌, length, ap, sym, arith}
 use Rattle.u_area.specs.declared.area.UArea.{UArea}
 use Rattle.image_keep.specs.Kept.{Kept, IsKept}
+use Rattle.core_mem.specs.Bytes.{over}
 use Rattle.image_keep.specs.Inside.{stock_in}
 use Rattle.image_keep.specs.Line.{line_of}
-use Rattle.image_keep.proofs.StateOf.{kept_is}
+use Rattle.image_keep.proofs.StateOf.{kept_is, core_is, line_is}
 use Rattle.image_keep.proofs.AreaSet.{AreaSet, area_here, field_side, field_set, one_spelled}
 use Rattle.image_keep.proofs.KeptForm.{kept_holds}
 use Rattle.image_keep.proofs.Told.{area_sizes, area_told}
@@ -39,8 +40,8 @@ invariant_of-self c =
       told = area_told _ _ k c.args.s u (kept_is c.self.view_is) done.kept holds c.requires.meaning.3 c.self.invariant.told;
     }
 
-pub returns : goal.returns
-returns c = λ u becomes sized.
+pub returns-clause-kept : goal.returns-clause-kept
+returns-clause-kept c = λ u becomes sized.
     let k : Kept = c.args.self.now.kept in
     let its : UArea = c.requires.meaning.0 in
     let holds : IsKept k = kept_holds (stock_in c.self.inside) k (kept_is c.self.view_is) c.self.invariant.sound c.self.invariant.table c.self.invariant.told c.see_bytes.ensures in
@@ -48,3 +49,9 @@ returns c = λ u becomes sized.
     let sizes = area_sizes k c.args.s its holds c.requires.image c.requires.meaning.3 in
     (field_set (stock_in c.self.inside) c.args.self.now.kept c.args.s c.args.at c.args.field u c.args.bytes.now (line_of c.put.new.self) (kept_is c.self.view_is) c.self.invariant.sound c.self.invariant.counted c.requires.image c.requires.place
     becomes sized c.requires.within (ap (λ (w : UArea). w.data_size) same ∙ sizes.1) (ap (λ (w : UArea). w.stack_size) same ∙ sizes.2) c.put.ensures.bytes).kept
+
+pub returns-clause-written : goal.returns-clause-written
+returns-clause-written c = λ held its. (
+  c.put.ensures.core ∙ ap length (core_is c.self.view_is),
+  c.put.ensures.bytes ∙ (λ i. over (line_is c.self.view_is i) (c.requires.place held its i + c.args.field) c.args.bytes.now),
+)

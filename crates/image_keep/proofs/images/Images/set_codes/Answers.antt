@@ -12,9 +12,12 @@ put_field-requires-clause-meaning c =
     let z = c.area_start-at.ensures.sizes in
     (v, codes_put own c.args.cc sized c.requires.codes, record { r = sized.r; call = sized.call; handlers = sized.handlers; files = sized.files }, record { text_size = z.text_size; data_size = z.data_size; stack_size = z.stack_size })
 
-pub returns : goal.returns
-returns c =
+pub returns-clause-kept : goal.returns-clause-kept
+returns-clause-kept c =
     let own : UArea = area_of c.args.self.now.kept c.args.s in
     let sized = c.area_start-at.ensures.sized in
     let v : UArea = with_codes own c.args.cc in
-    c.put_field.ensures v (codes_put own c.args.cc sized c.requires.codes) (record { r = sized.r; call = sized.call; handlers = sized.handlers; files = sized.files })
+    c.put_field.ensures.kept v (codes_put own c.args.cc sized c.requires.codes) (record { r = sized.r; call = sized.call; handlers = sized.handlers; files = sized.files })
+
+pub returns-clause-written : goal.returns-clause-written
+returns-clause-written c = c.put_field.ensures.written

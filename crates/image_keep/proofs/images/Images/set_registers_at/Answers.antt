@@ -25,7 +25,7 @@ returns-clause-kept c =
     let v : UArea = with_state own c.args.r.now c.args.cc in
     let eight : length c.args.r.now ≡ 8 = search rules in
     let all = state_put own c.args.r.now c.args.cc sized eight c.requires.codes in
-    c.put_field.ensures v (placed own v 0 0 c.state_bytes.result _ refl c.state_bytes.ensures all.0) (all.1)
+    c.put_field.ensures.kept v (placed own v 0 0 c.state_bytes.result _ refl c.state_bytes.ensures all.0) (all.1)
 
 pub returns-clause-fixed : goal.returns-clause-fixed
 returns-clause-fixed c =

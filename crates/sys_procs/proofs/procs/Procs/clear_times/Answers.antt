@@ -15,7 +15,7 @@ new_area c = with_no_times (process_here c.args.self.now c.args.s).u
 kept : (c : goal.After-clear_times) → c.clear_times.new.self.kept ≡ with_area c.args.self.now.images.kept c.args.s (new_area c)
 kept c =
     let p : Procs = c.args.self.now in
-    c.clear_times.ensures ∙ ap (λ (u : UArea). with_area p.images.kept c.args.s (with_no_times u)) (area_here p c.args.s c.requires.alive)
+    c.clear_times.ensures.kept ∙ ap (λ (u : UArea). with_area p.images.kept c.args.s (with_no_times u)) (area_here p c.args.s c.requires.alive)
 
 put : (c : goal.After-clear_times) → SameKept (record c.args.self.now { images = c.clear_times.new.self })
     (record c.args.self.now { images = record c.args.self.now.images { kept = with_area c.args.self.now.images.kept c.args.s (new_area c) } })

@@ -23,7 +23,7 @@ set_area-requires-clause-sizes c =
 
 put : (c : goal.After-set_area) → SameKept (record c.args.self.now { images = c.set_area.new.self })
     (record c.args.self.now { images = record c.args.self.now.images { kept = with_area c.args.self.now.images.kept c.args.s c.args.u.now } })
-put c = record { rows = refl; table = refl; kept = c.set_area.ensures; switches = refl }
+put c = record { rows = refl; table = refl; kept = c.set_area.ensures.kept; switches = refl }
 
 pub returns-clause-state : goal.returns-clause-state
 returns-clause-state c = put_state c.args.self.now _ c.args.s c.args.u.now c.requires.alive c.see_kept.ensures.slots (put c)

@@ -15,7 +15,7 @@ new_area c = with_call (process_here c.args.self.now c.args.s).u c.args.pending 
 kept : (c : goal.After-set_call) → c.set_call.new.self.kept ≡ with_area c.args.self.now.images.kept c.args.s (new_area c)
 kept c =
     let p : Procs = c.args.self.now in
-    c.set_call.ensures ∙ ap (λ (u : UArea). with_area p.images.kept c.args.s (with_call u c.args.pending c.args.call.now)) (area_here p c.args.s c.requires.alive)
+    c.set_call.ensures.kept ∙ ap (λ (u : UArea). with_area p.images.kept c.args.s (with_call u c.args.pending c.args.call.now)) (area_here p c.args.s c.requires.alive)
 
 put : (c : goal.After-set_call) → SameKept (record c.args.self.now { images = c.set_call.new.self })
     (record c.args.self.now { images = record c.args.self.now.images { kept = with_area c.args.self.now.images.kept c.args.s (new_area c) } })

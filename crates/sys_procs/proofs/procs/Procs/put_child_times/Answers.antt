@@ -15,7 +15,7 @@ new_area c = with_child_times (process_here c.args.self.now c.args.s).u c.args.u
 kept : (c : goal.After-set_child_times) → c.set_child_times.new.self.kept ≡ with_area c.args.self.now.images.kept c.args.s (new_area c)
 kept c =
     let p : Procs = c.args.self.now in
-    c.set_child_times.ensures ∙ ap (λ (u : UArea). with_area p.images.kept c.args.s (with_child_times u c.args.user c.args.system)) (area_here p c.args.s c.requires.alive)
+    c.set_child_times.ensures.kept ∙ ap (λ (u : UArea). with_area p.images.kept c.args.s (with_child_times u c.args.user c.args.system)) (area_here p c.args.s c.requires.alive)
 
 put : (c : goal.After-set_child_times) → SameKept (record c.args.self.now { images = c.set_child_times.new.self })
     (record c.args.self.now { images = record c.args.self.now.images { kept = with_area c.args.self.now.images.kept c.args.s (new_area c) } })

@@ -15,7 +15,7 @@ new_area c = with_end (process_here c.args.self.now c.args.s).u c.args.status c.
 kept : (c : goal.After-set_ended) → c.set_ended.new.self.kept ≡ with_area c.args.self.now.images.kept c.args.s (new_area c)
 kept c =
     let p : Procs = c.args.self.now in
-    c.set_ended.ensures ∙ ap (λ (u : UArea). with_area p.images.kept c.args.s (with_end u c.args.status c.args.handlers.now)) (area_here p c.args.s c.requires.alive)
+    c.set_ended.ensures.kept ∙ ap (λ (u : UArea). with_area p.images.kept c.args.s (with_end u c.args.status c.args.handlers.now)) (area_here p c.args.s c.requires.alive)
 
 put : (c : goal.After-set_ended) → SameKept (record c.args.self.now { images = c.set_ended.new.self })
     (record c.args.self.now { images = record c.args.self.now.images { kept = with_area c.args.self.now.images.kept c.args.s (new_area c) } })

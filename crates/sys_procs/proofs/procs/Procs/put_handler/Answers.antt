@@ -15,7 +15,7 @@ new_area c = with_handler (process_here c.args.self.now c.args.s).u c.args.sig c
 kept : (c : goal.After-set_handler) → c.set_handler.new.self.kept ≡ with_area c.args.self.now.images.kept c.args.s (new_area c)
 kept c =
     let p : Procs = c.args.self.now in
-    c.set_handler.ensures ∙ ap (λ (u : UArea). with_area p.images.kept c.args.s (with_handler u c.args.sig c.args.handler)) (area_here p c.args.s c.requires.alive)
+    c.set_handler.ensures.kept ∙ ap (λ (u : UArea). with_area p.images.kept c.args.s (with_handler u c.args.sig c.args.handler)) (area_here p c.args.s c.requires.alive)
 
 put : (c : goal.After-set_handler) → SameKept (record c.args.self.now { images = c.set_handler.new.self })
     (record c.args.self.now { images = record c.args.self.now.images { kept = with_area c.args.self.now.images.kept c.args.s (new_area c) } })

@@ -15,7 +15,7 @@ new_area c = with_ids (process_here c.args.self.now c.args.s).u c.args.ids
 kept : (c : goal.After-set_ids) → c.set_ids.new.self.kept ≡ with_area c.args.self.now.images.kept c.args.s (new_area c)
 kept c =
     let p : Procs = c.args.self.now in
-    c.set_ids.ensures ∙ ap (λ (u : UArea). with_area p.images.kept c.args.s (with_ids u c.args.ids)) (area_here p c.args.s c.requires.alive)
+    c.set_ids.ensures.kept ∙ ap (λ (u : UArea). with_area p.images.kept c.args.s (with_ids u c.args.ids)) (area_here p c.args.s c.requires.alive)
 
 put : (c : goal.After-set_ids) → SameKept (record c.args.self.now { images = c.set_ids.new.self })
     (record c.args.self.now { images = record c.args.self.now.images { kept = with_area c.args.self.now.images.kept c.args.s (new_area c) } })

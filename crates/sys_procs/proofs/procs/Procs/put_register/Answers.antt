@@ -15,7 +15,7 @@ new_area c = with_register (process_here c.args.self.now c.args.s).u c.args.n c.
 kept : (c : goal.After-set_register) → c.set_register.new.self.kept ≡ with_area c.args.self.now.images.kept c.args.s (new_area c)
 kept c =
     let p : Procs = c.args.self.now in
-    c.set_register.ensures ∙ ap (λ (u : UArea). with_area p.images.kept c.args.s (with_register u c.args.n c.args.value)) (area_here p c.args.s c.requires.alive)
+    c.set_register.ensures.kept ∙ ap (λ (u : UArea). with_area p.images.kept c.args.s (with_register u c.args.n c.args.value)) (area_here p c.args.s c.requires.alive)
 
 put : (c : goal.After-set_register) → SameKept (record c.args.self.now { images = c.set_register.new.self })
     (record c.args.self.now { images = record c.args.self.now.images { kept = with_area c.args.self.now.images.kept c.args.s (new_area c) } })

@@ -25,39 +25,39 @@ pub returns-in-User-clause-good : goal.returns-in-User-clause-good
 returns-in-User-clause-good c =
     let m = c.args.self.now in
     let other = c.if-s-eq0.false in
-    charge_good User m.world c.in-Some.s c.requires c.in-Some.is (omega (arith, other)) (timed_area User (area_of m.world.procs.images.kept c.in-Some.s)) refl c.add_tick.new.self c.add_tick.ensures
+    charge_good User m.world c.in-Some.s c.requires c.in-Some.is (omega (arith, other)) (timed_area User (area_of m.world.procs.images.kept c.in-Some.s)) refl c.add_tick.new.self c.add_tick.ensures.kept
 
 pub returns-in-User-clause-unix : goal.returns-in-User-clause-unix
 returns-in-User-clause-unix c =
     let m = c.args.self.now in
     let other = c.if-s-eq0.false in
     subst (λ (x : Mode). unix_of (with_images m.world c.add_tick.new.self) ≡ charged (unix_of m.world) x m.world.procs.table.running) (sym c.in-User.is)
-    (charge_unix User m.world c.in-Some.s c.requires c.in-Some.is (omega (arith, other)) (timed_area User (area_of m.world.procs.images.kept c.in-Some.s)) refl c.add_tick.new.self c.add_tick.ensures)
+    (charge_unix User m.world c.in-Some.s c.requires c.in-Some.is (omega (arith, other)) (timed_area User (area_of m.world.procs.images.kept c.in-Some.s)) refl c.add_tick.new.self c.add_tick.ensures.kept)
 
 pub returns-in-User-clause-board : goal.returns-in-User-clause-board
 returns-in-User-clause-board c =
     let m = c.args.self.now in
     let other = c.if-s-eq0.false in
-    charge_board User m.world c.in-Some.s c.requires c.in-Some.is (omega (arith, other)) (timed_area User (area_of m.world.procs.images.kept c.in-Some.s)) refl c.add_tick.new.self c.add_tick.ensures
+    charge_board User m.world c.in-Some.s c.requires c.in-Some.is (omega (arith, other)) (timed_area User (area_of m.world.procs.images.kept c.in-Some.s)) refl c.add_tick.new.self c.add_tick.ensures.kept
 
 pub returns-in-Kernel-clause-good : goal.returns-in-Kernel-clause-good
 returns-in-Kernel-clause-good c =
     let m = c.args.self.now in
     let other = c.if-s-eq0.false in
-    charge_good Kernel m.world c.in-Some.s c.requires c.in-Some.is (omega (arith, other)) (timed_area Kernel (area_of m.world.procs.images.kept c.in-Some.s)) refl c.add_tick-in-Kernel.new.self c.add_tick-in-Kernel.ensures
+    charge_good Kernel m.world c.in-Some.s c.requires c.in-Some.is (omega (arith, other)) (timed_area Kernel (area_of m.world.procs.images.kept c.in-Some.s)) refl c.add_tick-in-Kernel.new.self c.add_tick-in-Kernel.ensures.kept
 
 pub returns-in-Kernel-clause-unix : goal.returns-in-Kernel-clause-unix
 returns-in-Kernel-clause-unix c =
     let m = c.args.self.now in
     let other = c.if-s-eq0.false in
     subst (λ (x : Mode). unix_of (with_images m.world c.add_tick-in-Kernel.new.self) ≡ charged (unix_of m.world) x m.world.procs.table.running) (sym c.in-Kernel.is)
-    (charge_unix Kernel m.world c.in-Some.s c.requires c.in-Some.is (omega (arith, other)) (timed_area Kernel (area_of m.world.procs.images.kept c.in-Some.s)) refl c.add_tick-in-Kernel.new.self c.add_tick-in-Kernel.ensures)
+    (charge_unix Kernel m.world c.in-Some.s c.requires c.in-Some.is (omega (arith, other)) (timed_area Kernel (area_of m.world.procs.images.kept c.in-Some.s)) refl c.add_tick-in-Kernel.new.self c.add_tick-in-Kernel.ensures.kept)
 
 pub returns-in-Kernel-clause-board : goal.returns-in-Kernel-clause-board
 returns-in-Kernel-clause-board c =
     let m = c.args.self.now in
     let other = c.if-s-eq0.false in
-    charge_board Kernel m.world c.in-Some.s c.requires c.in-Some.is (omega (arith, other)) (timed_area Kernel (area_of m.world.procs.images.kept c.in-Some.s)) refl c.add_tick-in-Kernel.new.self c.add_tick-in-Kernel.ensures
+    charge_board Kernel m.world c.in-Some.s c.requires c.in-Some.is (omega (arith, other)) (timed_area Kernel (area_of m.world.procs.images.kept c.in-Some.s)) refl c.add_tick-in-Kernel.new.self c.add_tick-in-Kernel.ensures.kept
 
 pub returns-in-Idle-clause-good : goal.returns-in-Idle-clause-good
 returns-in-Idle-clause-good c =

@@ -9,6 +9,6 @@ set_area-requires-clause-image c = (c.has_image.ensures c.if-not-has_image.false
 
 pub invariant_of-self : goal.invariant_of-self
 invariant_of-self c = record {
-  tied = tied_area c.args.self.now.kinds c.args.self.now.images.kept c.set_area.new.self.kept c.args.s _ c.args.self.now.tied c.set_area.ensures;
-  plain = plain_area c.args.self.now.images.kept c.set_area.new.self.kept c.args.s _ c.args.self.now.plain c.set_area.ensures;
+  tied = tied_area c.args.self.now.kinds c.args.self.now.images.kept c.set_area.new.self.kept c.args.s _ c.args.self.now.tied c.set_area.ensures.kept;
+  plain = plain_area c.args.self.now.images.kept c.set_area.new.self.kept c.args.s _ c.args.self.now.plain c.set_area.ensures.kept;
 }
