@@ -178,5 +178,3 @@ state_rest core new at b k m room long new_is off = ap (λ c. part c k m) new_is
 pub state_back : (core now new : List ℕ) (at : ℕ) → at + 18 ≤ length now → length now ≡ length core → at + 18 ≤ length core → IsStated core at → new ≡ over now at (part core at 18) → (registers_at new at ≡ registers_at core at) × (codes_at new at ≡ codes_at core at)
 state_back core now new at room size room_old is new_is =
     state_read new at (registers_at core at) (codes_at core at) (length-words core at 8) (codes_low core at) (state_put now new at (part core at 18) (registers_at core at) (codes_at core at) room (length-part core at 18 room_old) is new_is)
-
-pub ruleset states = (state_put, state_size, state_rest)

@@ -1,7 +1,6 @@
 -- A process that has ended and its parent's wait: what is kept of it, what becomes of its slot, and the row of wait(II).
 use Rattle.std.proofs.Common.{◌≡◌, ◌∙◌, ℕ, ◌+◌, ◌*◌, ◌/◌, ◌%◌, ◌^◌, ◌<◌, Bool, true, false, ◌&&◌, cond, List, [], ◌∷◌, length, get_or, take, set, Option, Some, None, IsSome, refl, sym, ap, subst, arith}
 use Rattle.std.specs.Option.{unwrap_or}
-use Rattle.std.proofs.Math.Bridge.{le_prop}
 use Rattle.std.proofs.Math.Nat.{mod-add-mod}
 use Rattle.std.proofs.lemmas.List.{length-set, get_or-take, get_or-set_same, get_or-set_other}
 use Rattle.v6_base.specs.declared.entry.Chan.TheVariants.{Wait}
@@ -74,12 +73,6 @@ tells half u sized e = subst (λ h. TellsOf h u) (sym e) (half_tells u sized)
 -- Times are added modulo 2^32, one after the other.
 pub added : (own a b x y : ℕ) → a ≡ x → b ≡ y → ((own + a) % 4294967296 + b) % 4294967296 ≡ (own + x + y) % 2 ^ 32
 added own a b x y e f = mod-add-mod (own + a) 4294967296 b ∙ (λ i. (own + e i + f i) % 4294967296)
-
-pub times_added : (own : UArea) (a b x y : ℕ) (codes : own.cc < 16) → a ≡ x → b ≡ y
-    → ◌≡◌ {A = UArea} (record own { child_user = a; child_system = b; codes = codes }) (record own { child_user = x; child_system = y })
-times_added own a b x y codes e f =
-    ap (λ (p : own.cc < 16). record own { child_user = a; child_system = b; codes = p }) (le_prop codes own.codes)
-    ∙ (λ i. record own { child_user = e i; child_system = f i })
 
 pub is_buried : (m : Option Member) (row : TableRow) (x : Keeping) (u : UArea) (block : ℕ) → Agrees m row x → x ≡ Grave u block → (it : Member) × (m ≡ Some it)
 is_buried m row x u block a e = by m refl

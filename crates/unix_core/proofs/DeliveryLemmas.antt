@@ -1,27 +1,20 @@
 -- A process has been told of a signal, and goes on with its routine, where it has one.
-use Rattle.std.proofs.Common.{◌≡◌, ◌∙◌, ◌+◌, ◌%◌, ◌/◌, ◌==◌, ℕ, Bool, true, false, cond, if◌then◌else◌, List, length, get_or, set, slice_index, Option, Some, inl, inr, refl, sym, ap, subst, arith}
-use Rattle.std.specs.Prelude.{Result, Ok, Err}
+use Rattle.std.proofs.Common.{◌≡◌, ◌∙◌, ◌%◌, ◌==◌, ℕ, Bool, true, false, cond, if◌then◌else◌, List, length, get_or, set, Option, Some, inl, inr, refl, sym, ap, subst, arith}
 use Rattle.std.proofs.lemmas.Bool.{eq-eqb, cases_lt}
 use Rattle.std.proofs.lemmas.List.{set-set, set-get_or, set_past, get_or_past, get_or-set_same}
 use Rattle.v6_base.specs.Image.{Image}
-use Rattle.v6_base.specs.Access.{then_do, store_byte, store_word, image_after}
-use Rattle.v6_base.specs.declared.space.Trap.{Trap}
-use Rattle.v6_base.specs.declared.space.Trap.TheVariants.{Odd}
-use Rattle.v6_base.proofs.Copies.{SameLengths, same_lengths, then_lengths, store_lengths}
 use Rattle.u_area.specs.declared.area.UArea.{UArea}
-use Rattle.u_area.specs.Area.{status_word}
 use Rattle.u_area.specs.Fields.{with_handler}
 use Rattle.u_area.proofs.AreaLemmas.{one_area}
-use Rattle.image_keep.specs.Kept.{Kept, HasSizes, area_of, image_of, with_area, with_image}
+use Rattle.image_keep.specs.Kept.{Kept, area_of, image_of, with_area, with_image}
 use Rattle.image_keep.specs.Kept as kept
 use Rattle.image_keep.specs.Running.{with_state}
 use Rattle.image_keep.specs.State.{ImagesState}
 use Rattle.sig_core.specs.declared.psig.Delivered.TheVariants.{Caught, Ends}
 use Rattle.sig_core.specs.Signals.{handler_of}
-use Rattle.sig_core.specs.Delivery.{Delivery, makes_core, below_stack, with_word_at, stays_set, handlers_after, caught, pushed, delivery}
+use Rattle.sig_core.specs.Delivery.{Delivery, makes_core, stays_set, handlers_after, caught, pushed, delivery}
 use Rattle.sys_procs.specs.Process as one
 use Rattle.sys_procs.specs.Process.{Process}
-use Rattle.sys_procs.proofs.Alive.{SameSizes}
 use Rattle.sys_procs.proofs.MemoryLemmas.{image_here}
 use Rattle.abstract_unix.specs.Unix.{process_of, with_process}
 use Rattle.abstract_unix.specs.Delivery.{interrupted}
@@ -31,27 +24,8 @@ use Rattle.unix_core.proofs.WorldLemmas.{ready_alive}
 use Rattle.unix_core.proofs.AreaLemmas.{own_area, area_unix, area_board, area_ready}
 use Rattle.unix_core.proofs.PutLemmas.{IsLikeArea, with_images, with_kept}
 use Rattle.unix_core.proofs.LoanLemmas.{area_back, area_alone}
-use Rattle.unix_core.proofs.LoanBack.{sizes_kept}
 use Rattle.unix_core.proofs.TurnSteps.{memory_ready}
 use Rattle.unix_core.proofs.MemoryPut.{with_memory, memory_unix, memory_board, memory_process}
-
--- A word that is stored, or refused, leaves the sizes of an image.
-word_lengths : (m : Image) (v x : ℕ) → SameLengths m (image_after m (store_word m v x))
-unfolding store_word
-word_lengths m v x = by (v % 2 == 1)
-  where
-    next : (half : Image) → SameLengths m half → (r : Result Image Trap) → SameLengths half (image_after half r) → SameLengths m (image_after m r)
-    next half same (Ok new) later = then_lengths m half new new same later refl
-    next half same (Err trap) later = same_lengths m
-
-    second : (r : Result Image Trap) → SameLengths m (image_after m r)
-        → SameLengths m (image_after m (then_do r (λ half. store_byte half (v + 1) (x / 256))))
-    second (Ok half) same = next half same (store_byte half (v + 1) (x / 256)) (store_lengths half (v + 1) (x / 256))
-    second (Err trap) same = same_lengths m
-
-    by : (b : Bool) → SameLengths m (image_after m (if b then Err Odd else then_do (store_byte m v (x % 256)) (λ half. store_byte half (v + 1) (x / 256))))
-    by true = same_lengths m
-    by false = second (store_byte m v (x % 256)) (store_lengths m v (x % 256))
 
 -- What a delivery leaves as it is.
 module _ (u : UArea) (sig : ℕ) (m : Image) where
@@ -66,30 +40,9 @@ module _ (u : UArea) (sig : ℕ) (m : Image) where
       by true = record { clicks = refl; files = refl; dir = refl; pending = refl; call = refl }
       by false = record { clicks = refl; files = refl; dir = refl; pending = refl; call = refl }
 
-  pub delivered_sizes : SameSizes (delivery u sig m).area u
-  delivered_sizes = by (handler_of u sig == 0)
-    where
-      by : (b : Bool) → SameSizes (by_handler b).area u
-      by true = record { text = refl; «data» = refl; stack = refl }
-      by false = record { text = refl; «data» = refl; stack = refl }
-
-  pub delivered_lengths : SameLengths m (delivery u sig m).image
-  delivered_lengths = by (handler_of u sig == 0)
-    where
-      first : Image
-      first = with_word_at m (below_stack u 2) (status_word u)
-
-      by : (b : Bool) → SameLengths m (by_handler b).image
-      by true = same_lengths m
-      by false =
-          then_lengths m first _ _ (word_lengths m (below_stack u 2) (status_word u)) (word_lengths first (below_stack u 4) (slice_index u.r 7)) refl
-
   -- without a routine the process ends, and nothing has changed
   pub delivered_none : handler_of u sig ≡ 0 → delivery u sig m ≡ record { area = u; image = m; answer = Ends (makes_core sig) }
   delivered_none zero = ap by_handler (eq-eqb (handler_of u sig) 0 zero)
-
-pub told_sizes : (u : UArea) (sig : ℕ) (m : Image) → HasSizes u m → HasSizes (delivery u sig m).area (delivery u sig m).image
-told_sizes u sig m has = sizes_kept u (delivery u sig m).area m (delivery u sig m).image has (delivered_sizes u sig m) (delivered_lengths u sig m)
 
 -- Of a u area that was told of a signal the registers and what that signal does are other ones at most.
 zero_put : (l : List ℕ) (i : ℕ) → get_or (set l i 0) i 0 ≡ 0
@@ -111,7 +64,7 @@ told_area u sig m = by (handler_of u sig == 0)
     same : u.cc % 16 ≡ u.cc
     same = let c = u.codes in omega (arith, c)
 
-    by : (b : Bool) → let v : UArea = cond b u (caught u sig) in with_handler (with_state u v.r v.cc) sig (get_or v.handlers sig 0) ≡ v
+    by : (b : Bool) → let v : UArea = (by_handler u sig m b).area in with_handler (with_state u v.r v.cc) sig (get_or v.handlers sig 0) ≡ v
     by true = one_area (with_handler (with_state u u.r u.cc) sig (get_or u.handlers sig 0)) u refl same
         refl refl refl refl refl refl refl refl refl refl refl refl refl refl refl (set-get_or u.handlers sig 0) refl
     by false = one_area (with_handler (with_state u (caught u sig).r u.cc) sig (get_or (handlers_after u sig) sig 0)) (caught u sig) refl same
