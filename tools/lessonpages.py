@@ -108,8 +108,8 @@ def title_of(text):
 def make(folder, run, made, options):
     """The page of one run, by page.py."""
     image, core, script, *second = run
-    words = [folder.path(image), str(core), folder.path(script), *(f"--second={folder.path(name)}" for name in second), "--replay", "--title", made[1], "--v6", options.v6,
-             "--moments", str(options.moments), "-o", os.path.join(options.output, made[0])]
+    words = [folder.path(image), str(core), folder.path(script), *(f"--second={folder.path(name)}" for name in second), "--replay",
+             "--title", made[1], "--v6", options.v6, "--moments", str(options.moments), "-o", os.path.join(options.output, made[0])]
     if page.main(words):
         raise LessonError(f"{made[0]}: the page wasn't made")
 
