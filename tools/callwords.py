@@ -7,10 +7,10 @@ SYS, NUMBER, INDIRECT = 0o104400, 0o77, 0
 SHOWN = 32  # bytes of a text that are shown
 MOST_ARGUMENTS = 16  # words of a list of arguments that are shown
 NAMES = {number: name for name, number in CALLS.items()}
-ERRORS = {1: "EPERM", 2: "ENOENT", 3: "ESRCH", 4: "EINTR", 5: "EIO", 6: "ENXIO", 7: "E2BIG", 8: "ENOEXEC", 9: "EBADF", 10: "ECHILD",
-          11: "EAGAIN", 12: "ENOMEM", 13: "EACCES", 15: "ENOTBLK", 16: "EBUSY", 17: "EEXIST", 18: "EXDEV", 19: "ENODEV",
-          20: "ENOTDIR", 21: "EISDIR", 22: "EINVAL", 23: "ENFILE", 24: "EMFILE", 25: "ENOTTY", 26: "ETXTBSY", 27: "EFBIG", 28: "ENOSPC", 29: "ESPIPE", 30: "EROFS",
-          31: "EMLINK", 32: "EPIPE"}
+ERRORS = {1: "EPERM", 2: "ENOENT", 3: "ESRCH", 4: "EINTR", 5: "EIO", 6: "ENXIO", 7: "E2BIG", 8: "ENOEXEC", 9: "EBADF",
+          10: "ECHILD", 11: "EAGAIN", 12: "ENOMEM", 13: "EACCES", 15: "ENOTBLK", 16: "EBUSY", 17: "EEXIST", 18: "EXDEV",
+          19: "ENODEV", 20: "ENOTDIR", 21: "EISDIR", 22: "EINVAL", 23: "ENFILE", 24: "EMFILE", 25: "ENOTTY", 26: "ETXTBSY",
+          27: "EFBIG", 28: "ENOSPC", 29: "ESPIPE", 30: "EROFS", 31: "EMLINK", 32: "EPIPE"}
 # What a call gets in R0, before the words after it, and those words: a number in decimal (d), signed (s) or octal (o), the
 # address of a name (n), of a list of arguments (l), of bytes whose count is the next word (b), or of a place for an answer (a).
 FORMS = {

@@ -8,6 +8,7 @@ if __name__ == "__main__":
 import argparse
 import datetime
 import os
+import re
 import sys
 import tempfile
 
@@ -19,25 +20,45 @@ from program import V6, ProgramError, add_version, call
 from repair import Repair, grow
 from survey import Survey, behind_end, damaged, walk
 from tree import KINDS, MOST_TIME, PERMISSIONS, Item, above, apply_table, number, own, place_all, plain_name, row, scan
-from volume import BLOCK, BLOCKS, DIRECTORY, PACK, PLAIN, ROOT, DiskError, Volume, check_name, components, plural, shown
+from volume import BLOCK, BLOCKS, DIRECTORY, PACK, PLAIN, ROOT, SWAP, DiskError, Volume, check_name, components, plural, shown
 
+NO_SWAP = re.compile("file system of [0-9]+ blocks leaves no swap")
 MOST = PACK * BLOCK + 1  # what is read of a disk: one that is longer is too long
 
 
 # the file of the disk
 
 
-def check(v6, image, name):
-    """Asks `v6 check` for the disk's first fault."""
-    status, said = call(v6, "check", "/dev/stdin", data=image)
+def fault_of(options, image):
+    """The status and the line of v6 about a disk: `v6 check` tells its first fault. Of a pack it is `v6 run2` that does, of the second
+    disk beside one that is made for it, in a run without a slot."""
+    if not options.pack:
+        return call(options.v6, "check", "/dev/stdin", data=image)
+    with tempfile.TemporaryDirectory() as folder:
+        first, script, nowhere = os.path.join(folder, "first"), os.path.join(folder, "script"), os.devnull
+        replace(script, b"")
+        status, said = call(options.v6, "make", "0", first)
+        if not status:
+            words = first, "64", script, nowhere, nowhere, nowhere, "/dev/stdin", nowhere
+            status, said = call(options.v6, "run2", *words, data=image)
+    return status, said
+
+
+def check(options, image, name):
+    """Asks v6 for the disk's first fault."""
+    status, said = fault_of(options, image)
     if status:
         raise DiskError(f"{name}: {said}")
+
+
+def most_blocks(options):
+    return PACK if options.pack else SWAP
 
 
 def open_disk(options):
     """The volume of the disk, which v6 has accepted as it was read."""
     options.image = read_bytes(options.disk, MOST)
-    check(options.v6, options.image, options.disk)
+    check(options, options.image, options.disk)
     return uncut(Volume(options.image), options.disk)
 
 
@@ -57,7 +78,7 @@ def open_for_reading(options):
     if options.damaged:
         return damaged(image)
     try:
-        check(options.v6, image, options.disk)
+        check(options, image, options.disk)
     except DiskError as error:
         volume = damaged(image)
         if not str(error).endswith(f"file system of {volume.fsize} blocks leaves no swap") or volume.fsize > PACK:
@@ -72,7 +93,7 @@ def open_for_reading(options):
 def save(options, volume, short=False):
     """Writes the disk beside its place, has it checked there, and puts it there, where the disk is still what was read."""
     def look(name):
-        check(options.v6, read_bytes(name), options.disk)
+        check(options, read_bytes(name), options.disk)
         if options.image is not None and read_bytes(options.disk, MOST) != options.image:
             raise DiskError(f"{options.disk}: it has changed since it was read")
 
@@ -346,7 +367,7 @@ def new(options):
     sizes = (apply_table(root, options.table) if options.table else None) or (4000, 960, 0)
     given = (options.blocks, options.inodes, options.time)
     blocks, inodes, time = (old if one is None else one for one, old in zip(given, sizes))
-    volume = Volume.empty(blocks, inodes, time)
+    volume = Volume.empty(blocks, inodes, time, most_blocks(options))
     own(volume, ROOT, root)
     place_all(volume, ROOT, b"/", root, time)
     volume.length = blocks * BLOCK
@@ -471,7 +492,7 @@ def change_owner(options):
 def grow_disk(options):
     volume = open_disk(options)
     blocks = options.blocks if options.blocks is not None else volume.fsize
-    grow(volume, blocks, -(-options.inodes // 16) if options.inodes is not None else volume.isize)
+    grow(volume, blocks, -(-options.inodes // 16) if options.inodes is not None else volume.isize, most_blocks(options))
     save(options, volume)
 
 
@@ -479,13 +500,13 @@ def check_disk(options):
     """Tells all faults, and where the one lies for which v6 refuses the disk; the status is 1 where there is any."""
     image = read_bytes(options.disk, MOST)
     survey = Survey(image)
-    lines = survey.report()
+    lines = [text for text in survey.report() if not (options.pack and NO_SWAP.fullmatch(text))]
     for text in lines:
         print(f"{options.disk}: {text}")
-    status, said = call(options.v6, "check", "/dev/stdin", data=image)
+    status, said = fault_of(options, image)
     if status:
         print(f"{options.disk}: v6 refuses it: {said}")
-        for text in FaultPlace(survey).lines(said.removeprefix("image: ")):
+        for text in FaultPlace(survey).lines(said.removeprefix("second ").removeprefix("image: ")):
             print(f"{options.disk}: {text}")
     return int(bool(lines or status))
 
@@ -496,8 +517,8 @@ def repair_disk(options):
     if same_file(options.disk, options.new):
         raise DiskError(f"{options.new}: the damaged disk itself, which is kept")
     repair = Repair(read_bytes(options.disk, MOST))
-    image = repair.image()
-    replace(options.new, image, look=lambda name: check(options.v6, read_bytes(name), options.new))
+    image = repair.image(most_blocks(options))
+    replace(options.new, image, look=lambda name: check(options, read_bytes(name), options.new))
     for text in repair.lost:
         print(f"{options.disk}: lost: {text}")
     kept = sum(item is not None for item in repair.items.values())
@@ -545,6 +566,7 @@ REPLACE = {"replace": (bool, "in the place of a disk that is there")}
 def options_of(words):
     parser = argparse.ArgumentParser(prog="disk.py", description="Disks of the Sixth Edition: docs/tools/disk.md")
     parser.add_argument("--v6", metavar="COMMAND", default=V6, help="the program that checks disks (bin/v6)")
+    parser.add_argument("--pack", action="store_true", help=f"a second disk, of up to {PACK} blocks, from which no system runs")
     add_version(parser)
     add = Commands(parser).add
     listing = add("list", list_disk, "lists what is on a disk", **DAMAGED)

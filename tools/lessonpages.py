@@ -22,6 +22,7 @@ BLOCK = re.compile(r"^```\n(\$ .*?)^```$", re.M | re.S)
 RUN = re.compile(r"bin/v6 run (?P<image>\S+) (?P<core>\d+) (?P<script>\w\S*) ")
 PLAYED = re.compile(r"tools/run\.py (?P<image>\S+) (?P<script>\S+) --core (?P<core>\d+)")
 TYPED = re.compile(r"tools/console\.py (?P<image>\S+) ")
+SCRIPT, SECOND = (re.compile(rf" --{word} (\S+)") for word in ("script", "second"))  # of a command with which lines are typed
 OTHERS = "README", "answers"  # pages that are no lessons
 PICTURE = re.compile(r"!\[[^]]*\]\(([a-z]+\.svg)\)")
 
@@ -47,11 +48,13 @@ def commands(text):
 
 
 def runs_of(command, number):
-    """A command with which lines are typed also keeps them in a script; and of each run of a command its image, core and script."""
-    typed = TYPED.search(command)
+    """A command with which lines are typed also keeps them in a script; and of each run of a command its image, core and script, and its
+    second image, where it has one."""
+    typed, script, second = TYPED.search(command), SCRIPT.search(command), SECOND.search(command)
     if typed:
-        script = f"typed.{number}"
-        return TYPED.sub(lambda one: f"{one[0]}--script {script} ", command), [(typed["image"], CORE, script)]
+        name = script[1] if script else f"typed.{number}"
+        kept = command if script else TYPED.sub(lambda one: f"{one[0]}--script {name} ", command)
+        return kept, [(typed["image"], CORE, name, *([second[1]] if second else []))]
     found = [*RUN.finditer(command), *PLAYED.finditer(command)]
     return command, [(one["image"], int(one["core"]), one["script"]) for one in found]
 
@@ -89,11 +92,11 @@ def pages_of(lesson, options):
         for number, (command, _) in enumerate(commands(text)):
             command, runs = runs_of(command, number)
             folder.play(command)
-            for image, core, script in runs:
-                if os.path.exists(folder.path(script)):
+            for run in runs:
+                if os.path.exists(folder.path(run[2])):
                     count += 1
                     one = f"{lesson}-{count}.html", f"run {count}"
-                    make(folder, (image, core, script), (one[0], f"{title_of(text)}: {one[1]}"), options)
+                    make(folder, run, (one[0], f"{title_of(text)}: {one[1]}"), options)
                     made.setdefault(number, []).append(one)
     return made
 
@@ -104,9 +107,9 @@ def title_of(text):
 
 def make(folder, run, made, options):
     """The page of one run, by page.py."""
-    image, core, script = run
-    words = [folder.path(image), str(core), folder.path(script), "--replay", "--title", made[1], "--v6", options.v6,
-             "--moments", str(options.moments), "-o", os.path.join(options.output, made[0])]
+    image, core, script, *second = run
+    words = [folder.path(image), str(core), folder.path(script), *(f"--second={folder.path(name)}" for name in second), "--replay",
+             "--title", made[1], "--v6", options.v6, "--moments", str(options.moments), "-o", os.path.join(options.output, made[0])]
     if page.main(words):
         raise LessonError(f"{made[0]}: the page wasn't made")
 

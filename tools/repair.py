@@ -12,12 +12,12 @@ MOST_INODES = 65535
 # more room
 
 
-def grow(volume, blocks, isize):
+def grow(volume, blocks, isize, most=SWAP):
     """Gives a file system more blocks, and more blocks of inodes. What stands in their place moves."""
     if blocks < volume.fsize or isize < volume.isize:
         raise DiskError(f"it has {volume.fsize} blocks and {16 * volume.isize} inodes, and can't become smaller")
-    if blocks > SWAP or 16 * isize > MOST_INODES:
-        raise DiskError(f"at most {SWAP} blocks and {MOST_INODES} inodes")
+    if blocks > most or 16 * isize > MOST_INODES:
+        raise DiskError(f"at most {most} blocks and {MOST_INODES} inodes")
     wanted = set(range(volume.isize + 2, isize + 2))
     free = [block for block in [*volume.free_blocks(), *range(volume.fsize, blocks)] if block not in wanted]
     inodes = [number for number in range(1, 16 * volume.isize + 1) if volume.is_used(number)]
@@ -139,11 +139,11 @@ class Repair:
             if item.below is not None:
                 self.fill(item, number, b"#" + name)
 
-    def image(self):
-        """The bytes of the good disk."""
+    def image(self, most=SWAP):
+        """The bytes of the good disk, which has so many blocks at most."""
         old = self.volume
-        blocks = min(old.fsize, SWAP)
-        volume = Volume.empty(blocks, 16 * max(old.isize, 1), old.time)
+        blocks = min(old.fsize, most)
+        volume = Volume.empty(blocks, 16 * max(old.isize, 1), old.time, most)
         own(volume, ROOT, self.root)
         place_all(volume, ROOT, b"/", self.root, old.time)
         volume.change(0, 0, old.block(0))

@@ -118,12 +118,12 @@ class Volume:
         self.free = None  # how many blocks are free, where that was counted
 
     @staticmethod
-    def empty(blocks, inodes, time):
+    def empty(blocks, inodes, time, most=SWAP):
         """A new disk with an empty root, on which the lowest free block is taken first."""
         isize = -(-inodes // 16)
-        if not (isize >= 1 and isize + 3 <= blocks <= SWAP):
+        if not (isize >= 1 and isize + 3 <= blocks <= most):
             raise DiskError(f"a disk of {blocks} blocks and {inodes} inodes can't be made: these inodes and a root need "
-                            f"{max(isize, 1) + 3} blocks, and there are at most {SWAP}")
+                            f"{max(isize, 1) + 3} blocks, and there are at most {most}")
         super_block = SUPER.pack(isize, blocks, *[0] * 206, time >> 16, time & 0xFFFF)
         volume = Volume(bytes(BLOCK) + super_block + bytes(BLOCK - SUPER.size))
         for block in range(blocks - 1, isize + 1, -1):

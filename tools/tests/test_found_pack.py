@@ -52,6 +52,14 @@ class FoundPack(Case):
         self.assertEqual((status, said), (0, ""))
         self.assertEqual(term, b"# /ETC/MOUNT /DEV/RK1 /USR\r\nMOUNT: NO SUCH DEVICE OR ADDRESS\r\n# /ETC/MOUNT\r\n# ")
 
+    def test_calls(self):
+        """trace.py knows the two calls and their errors: here with one disk."""
+        script = self.put("script", b"run 10000\ntype /etc/mount /dev/rk1 /usr; /etc/mount /dev/null /usr; /etc/umount /dev/null\nrun 20000\n")
+        status, told, _ = self.call(tool("trace").main, "--v6", V6, IMAGE, "3968", script)
+        self.assertEqual(status, 0)
+        for call in ('mount("/dev/rk1", "/usr", 0) = ENXIO', 'mount("/dev/null", "/usr", 0) = ENOTBLK', 'umount("/dev/null") = ENOTBLK'):
+            self.assertIn(f"] {call}\n", told)
+
     def test_what_is_refused(self):
         """By mount(II) and umount(II): each error that these two can give, but those of the path names."""
         shown, _ = self.typed("/etc/mount /dev/rk2 /usr\n/etc/mount /dev/rk1 /no\n/etc/mount /dev/rk1 /bin/sh\n/etc/mount /dev/rk1 /\n"

@@ -57,6 +57,19 @@ class Lessons(Case):
         self.assertEqual(runs_of("echo ls | tools/console.py image --disk after >term", 3),
                          ("echo ls | tools/console.py image --script typed.3 --disk after >term", [("image", 3968, "typed.3")]))
 
+        typed = "tools/console.py a --second b --script c <typed"
+        self.assertEqual(runs_of(typed, 3), (typed, [("a", 3968, "c", "b")]))
+
+    def test_a_lesson_of_two_disks(self):
+        """Its pages are made without what core holds, and the terminal is the lesson's."""
+        out = self.path("out")
+        self.assertEqual(self.call(lesson_pages.main, "-o", out, "--moments", "8", "mount")[:2], (0, ""))
+        self.assertEqual(sorted(os.listdir(out))[2:], ["mount-1.html", "mount-2.html", "mount-3.html", "mount.html", "mount.svg"])
+        found = Read(read(os.path.join(out, "mount-1.html")))
+        shown = read(os.path.join(lesson_pages.LIONS, "mount.md")).decode().split("<typed; echo\n")[1].split("```")[0]
+        self.assertEqual((found.head["hasMemory"], found.terminal(found.head["lines"]).decode().replace("\r\n", "\n")),
+                         (False, shown.removesuffix("\n")))
+
     def test_every_lesson_has_a_run(self):
         for lesson in lesson_pages.lessons():
             text = read(os.path.join(lesson_pages.LIONS, lesson + ".md")).decode()

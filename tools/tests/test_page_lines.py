@@ -39,7 +39,10 @@ class Lines(Case):
         self.assertEqual(table_of(panels, ROW), looker.lines_of("ps")[1:])
         for name in ("core", "swap", "texts"):
             self.assertEqual([row for row in panels[name] if row], looker.lines_of(name))
-        if found.slot(line) is not None:
+        place, slots = found.columns["moments"][line - 1], looker.moment.slots
+        if place:
+            is_exact = line <= found.columns["ends"][place - 1]
+            self.assertTrue(found.slot(line) == slots if is_exact else found.slot(line) < slots, (line, found.slot(line), slots))
             for which in range(terminals):
                 self.assertEqual(found.terminal(line, which), looker.history.run.terminal(found.slot(line), which), (line, which))
 

@@ -5,6 +5,7 @@ use run_fixtures::{
 };
 use std::alloc::{AllocError, Global};
 use std::test::Fail;
+use unix_core::SecondFault;
 use v6_port::{InPort, OutPort};
 use v6_run::{ImageFault, PanicKind, ScriptFault, Status};
 
@@ -121,7 +122,7 @@ fn other_commands_whose_files_fail_end_as_the_manual_says(rt: HostRuntime) -> Re
 }
 
 /// The numbers that a program exits with.
-const NUMBERS: [(Status, u8); 12] = [
+const NUMBERS: [(Status, u8); 13] = [
     (Status::Done, 0),
     (Status::Usage, 1),
     (Status::ReadFault(InPort::Script), 2),
@@ -133,6 +134,7 @@ const NUMBERS: [(Status, u8); 12] = [
     (Status::NoMemory, 8),
     (Status::Unlawful(1), 9),
     (Status::BadLog(1), 10),
+    (Status::SecondFault(SecondFault::Nodes(65_536)), 12),
     (Status::LogTooLong, 13),
 ];
 
