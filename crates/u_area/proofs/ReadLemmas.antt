@@ -10,14 +10,21 @@ word_nth b at n k low = sym (word_of_words b at n k low)
 
 pub ruleset nths = (word_nth)
 
--- n bytes, one by one
-pub each : ℕ → ℕ → List ℕ → List ℕ
-each at zero b = []
-each at (suc n) b = slice_index b at ∷ each (at + 1) n b
+-- n bytes, one by one, from the one k behind a place on
+pub each : ℕ → ℕ → ℕ → List ℕ → List ℕ
+each at k zero b = []
+each at k (suc n) b = slice_index b (at + k) ∷ each at (suc k) n b
 
-pub part_each : (n at : ℕ) (b : List ℕ) → at + n ≤ length b → part at n b ≡ each at n b
+each_on : (n at k : ℕ) (b : List ℕ) → at + k + n ≤ length b → part (at + k) n b ≡ each at k n b
 unfolding part
-part_each zero at b fits = refl
-part_each (suc n) at b fits =
+each_on zero at k b fits = refl
+each_on (suc n) at k b fits =
     let more : n + 1 ≡ suc n = omega arith in
-    sym (ap (λ m. part at m b) more) ∙ sym (part_cons at n b (omega (arith, fits))) ∙ ap (λ (l : List ℕ). slice_index b at ∷ l) (part_each n (at + 1) b (omega (arith, fits)))
+    let next : at + k + 1 ≡ at + suc k = omega arith in
+    sym (ap (λ m. part (at + k) m b) more) ∙ sym (part_cons (at + k) n b (omega (arith, fits)))
+    ∙ ap (λ (l : List ℕ). slice_index b (at + k) ∷ l) (ap (λ i. part i n b) next ∙ each_on n at (suc k) b (omega (arith, fits)))
+
+pub part_each : (n at : ℕ) (b : List ℕ) → at + n ≤ length b → part at n b ≡ each at 0 n b
+part_each n at b fits =
+    let first : at ≡ at + 0 = omega arith in
+    ap (λ i. part i n b) first ∙ each_on n at 0 b (omega (arith, fits))
