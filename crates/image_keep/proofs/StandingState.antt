@@ -158,8 +158,6 @@ codes_byte core at is =
     let low = codes_low core at in
     sym (byte_of_part core at 18 16 (omega arith)) ∙ ap (λ l. slice_index l 16) is ∙ byte_at (bytes_of r) (bytes_of ((61440 + cc) ∷ [])) 16 long ∙ omega (arith, low)
 
-pub ruleset reads = (register_nth, codes_byte)
-
 -- registers and codes are put there together
 pub state_put : (core new : List ℕ) (at : ℕ) (b r : List ℕ) (cc : ℕ) → at + 18 ≤ length core → length b ≡ 18 → b ≡ state_bytes r cc → new ≡ over core at b → part new at 18 ≡ state_bytes r cc
 state_put core new at b r cc room long is new_is = ap (λ c. part c at 18) new_is ∙ part-over_same core at b 18 long room ∙ is

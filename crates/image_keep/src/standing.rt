@@ -277,7 +277,6 @@ pub(crate) fn store_byte(core: &mut [u8], f: &Standing, place: usize, value: u8)
 
 /// What a register of a process holds, in front of its u area, which stands there.
 #[inline(always)]
-#[tactic(auto, using(crate::proofs::StandingState::reads))]
 pub(crate) fn reg(core: &[u8], at: usize, n: usize) -> u16
     requires inside { at + 18 ≤ length core.now }
     requires number { n < 8 }
@@ -288,7 +287,6 @@ pub(crate) fn reg(core: &[u8], at: usize, n: usize) -> u16
 
 /// PC of a process. Its u area is in core, also where the process isn't at hand.
 #[inline(always)]
-#[tactic(auto, using(crate::proofs::StandingState::reads))]
 pub(crate) fn pc_of(core: &[u8], f: &Standing) -> usize
     requires inside { f.now.area + 18 ≤ length core.now }
     requires nil { f.now.nil ≡ 0 }
@@ -299,7 +297,6 @@ pub(crate) fn pc_of(core: &[u8], f: &Standing) -> usize
 
 /// The condition codes of a process, in front of its u area, which stands there.
 #[inline(always)]
-#[tactic(auto, using(crate::proofs::StandingState::reads))]
 pub(crate) fn codes(core: &[u8], at: usize) -> u8
     requires inside { at + 18 ≤ length core.now }
     requires stated { IsStated core.now at }
