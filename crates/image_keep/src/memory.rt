@@ -98,6 +98,16 @@ fn read_out(all: &[u8], at: usize, n: usize, out: &mut [u8])
     out.copy_from_slice(&all[at..at + n]);
 }
 
+/// The bytes of a u area from a place on.
+#[inline(always)]
+#[tactic(auto, unfolding(core_mem::specs::Bytes::part))]
+fn area_in(all: &[u8], at: usize) -> &[u8]
+    requires { at + 1024 ≤ length all.now }
+    ensures { result.now ≡ part all.now at 1024 }
+{
+    &all[at..at + AREA_SIZE]
+}
+
 /// The word of two neighbours.
 #[inline(always)]
 pub(crate) fn word_in(all: &[u8], at: usize) -> u16
@@ -398,9 +408,9 @@ impl Memory {
     {
         let cut = 64 * usize::from(self.clicks);
         if at < cut {
-            &self.core.as_slice()[at..at + AREA_SIZE]
+            area_in(self.core.as_slice(), at)
         } else {
-            &self.swap[at - cut..at - cut + AREA_SIZE]
+            area_in(&self.swap, at - cut)
         }
     }
 
