@@ -35,9 +35,11 @@ above : (fs : List Field) (from i : ℕ) → Rises from fs → i < length fs →
 above [] from i rises low = absurd (omega (arith, low))
 above (f ∷ fs) from zero rises low = rises.0
 above (f ∷ fs) from (suc i) rises low =
-    let here = rises.0 in
-    let later = above fs (f.at + length f.bytes) i rises.1 (omega (arith, low)) in
-    omega (arith, here, later)
+    let here : from ≤ f.at = rises.0 in
+    let few : i < length fs = omega (arith, low) in
+    let behind : f.at + length f.bytes ≤ (nth i fs).at = above fs (f.at + length f.bytes) i rises.1 few in
+    let all : from ≤ (nth i fs).at = omega (arith, here, behind) in
+    all
 
 first : (f : Field) (fs : List Field) (from j p : ℕ) (new : List ℕ) → from ≤ f.at → j + length new ≤ length f.bytes → p ≡ f.at - from + j → over (laid from (f ∷ fs)) p new ≡ laid from (record { at = f.at; bytes = over f.bytes j new } ∷ fs)
 unfolding laid
@@ -64,10 +66,15 @@ step f fs gs from p new le past rest = later f fs from p new le past ∙ ap (λ 
 
 put : (fs : List Field) (from i j p : ℕ) (new : List ℕ) → Rises from fs → i < length fs → j + length new ≤ length (nth i fs).bytes → p ≡ (nth i fs).at + j → over (laid from fs) (p - from) new ≡ laid from (changed i j new fs)
 put [] from i j p new rises low fits place = absurd (omega (arith, low))
-put (f ∷ fs) from zero j p new rises low fits place = (let le = rises.0 in first f fs from j (p - from) new le fits (omega (arith, le, place)))
+put (f ∷ fs) from zero j p new rises low fits place =
+    let le : from ≤ f.at = rises.0 in
+    let here : p ≡ f.at + j = place in
+    first f fs from j (p - from) new le fits (omega (arith, le, here))
 put (f ∷ fs) from (suc i) j p new rises low fits place =
-    let under = above fs (f.at + length f.bytes) i rises.1 (omega (arith, low)) in
-    step f fs (changed i j new fs) from p new rises.0 (omega (arith, under, place)) (put fs (f.at + length f.bytes) i j p new rises.1 (omega (arith, low)) fits place)
+    let few : i < length fs = omega (arith, low) in
+    let under : f.at + length f.bytes ≤ (nth i fs).at = above fs (f.at + length f.bytes) i rises.1 few in
+    let here : p ≡ (nth i fs).at + j = place in
+    step f fs (changed i j new fs) from p new rises.0 (omega (arith, under, here)) (put fs (f.at + length f.bytes) i j p new rises.1 few fits place)
 
 words_long : (xs : List ℕ) (n : ℕ) → length xs ≡ n → length (bytes_of xs) ≡ 2 * n
 words_long xs n h = length-bytes_of xs ∙ ap (λ k. 2 * k) h
@@ -83,7 +90,18 @@ rises u sized =
     let spent = words_long (times u) 6 refl in
     let status = words_long (u.status ∷ []) 1 refl in
     let handlers = words_long u.handlers 20 sized.handlers in
-    (omega arith, omega (arith, r), omega (arith, ps), omega arith, omega (arith, dir), omega (arith, sizes), omega arith, omega (arith, call), omega (arith, spent), omega (arith, status), omega (arith, handlers), tt)
+    let a : 0 ≤ 0 = omega arith in
+    let b : 0 + length (bytes_of u.r) ≤ 16 = omega (arith, r) in
+    let c : 16 + length (bytes_of (status_word u ∷ [])) ≤ 18 = omega (arith, ps) in
+    let d : 18 + 4 ≤ 22 = omega arith in
+    let e : 22 + length (bytes_of (u.dir ∷ [])) ≤ 24 = omega (arith, dir) in
+    let f : 24 + length (bytes_of (u.text_size ∷ u.data_size ∷ u.stack_size ∷ [])) ≤ 30 = omega (arith, sizes) in
+    let g : 30 + 1 ≤ 32 = omega arith in
+    let h : 32 + length (bytes_of u.call) ≤ 48 = omega (arith, call) in
+    let i : 48 + length (bytes_of (times u)) ≤ 60 = omega (arith, spent) in
+    let j : 60 + length (bytes_of (u.status ∷ [])) ≤ 64 = omega (arith, status) in
+    let k : 64 + length (bytes_of u.handlers) ≤ 104 = omega (arith, handlers) in
+    (a, b, c, d, e, f, g, h, i, j, k, tt)
 
 -- The bytes of one field of an area are others.
 field_put : (u : UArea) (i j p : ℕ) (new : List ℕ) → IsSized u → i < 11 → j + length new ≤ length (nth i (fields u)).bytes → p ≡ (nth i (fields u)).at + j → over (area_bytes u) p new ≡ laid 0 (changed i j new (fields u))
@@ -114,7 +132,8 @@ register_put u n w sized low =
     let long = words_long u.r 8 sized.r in
     let two = words_long (w ∷ []) 1 refl in
     let r = sized.r in
-    field_put u 0 (2 * n) (2 * n) (bytes_of (w ∷ [])) sized (omega arith) (omega (arith, long, two, low)) (omega arith)
+    let fits : 2 * n + length (bytes_of (w ∷ [])) ≤ length (bytes_of u.r) = omega (arith, long, two, low) in
+    field_put u 0 (2 * n) (2 * n) (bytes_of (w ∷ [])) sized (omega arith) fits refl
     ∙ ap (λ b. laid 0 (record { at = 0; bytes = b } ∷ drop 1 (fields u))) (word_put u.r n w (omega (arith, r, low)))
 
 -- the first two
@@ -130,7 +149,8 @@ results_put u r0 r1 sized =
     let long = words_long u.r 8 sized.r in
     let four = words_long (r0 ∷ r1 ∷ []) 2 refl in
     let eight = sized.r in
-    field_put u 0 0 0 (bytes_of (r0 ∷ r1 ∷ [])) sized (omega arith) (omega (arith, long, four)) refl
+    let fits : 0 + length (bytes_of (r0 ∷ r1 ∷ [])) ≤ length (bytes_of u.r) = omega (arith, long, four) in
+    field_put u 0 0 0 (bytes_of (r0 ∷ r1 ∷ [])) sized (omega arith) fits refl
     ∙ ap (λ b. laid 0 (record { at = 0; bytes = b } ∷ drop 1 (fields u))) (two_put u.r r0 r1 (omega (arith, eight)))
 
 pub codes_put : (u : UArea) (cc : ℕ) → IsSized u → cc < 16 → Becomes u 16 (cc ∷ []) (with_codes u cc)
@@ -139,7 +159,8 @@ codes_put u cc sized low =
     let old = u.codes in
     let first : cc ≡ (61440 + cc % 16) % 256 = omega (arith, low) in
     let second : (61440 + u.cc) / 256 ≡ (61440 + cc % 16) / 256 = omega (arith, old) in
-    field_put u 1 0 16 (cc ∷ []) sized (omega arith) (omega arith) refl
+    let fits : 0 + 1 ≤ 2 = omega arith in
+    field_put u 1 0 16 (cc ∷ []) sized (omega arith) fits refl
     ∙ ap (λ b. laid 0 (take 1 (fields u) ++ (record { at = 16; bytes = b } ∷ drop 2 (fields u)))) (λ i. first i ∷ second i ∷ [])
 
 -- four of a list
@@ -154,19 +175,22 @@ four_of (a ∷ b ∷ c ∷ d ∷ e ∷ xs) n = absurd (omega (arith, n))
 pub ids_put : (u : UArea) (ids : List ℕ) → IsSized u → length ids ≡ 4 → Becomes u 18 ids (with_ids u ids)
 unfolding area_bytes
 ids_put u ids sized four =
-    field_put u 2 0 18 ids sized (omega arith) (omega (arith, four)) refl
+    let fits : 0 + length ids ≤ 4 = omega (arith, four) in
+    field_put u 2 0 18 ids sized (omega arith) fits refl
     ∙ ap (λ b. laid 0 (take 2 (fields u) ++ (record { at = 18; bytes = b } ∷ drop 3 (fields u)))) (whole_put (u.uid ∷ u.gid ∷ u.ruid ∷ u.rgid ∷ []) ids four ∙ four_of ids four)
 
 pub directory_put : (u : UArea) (w : ℕ) → IsSized u → Becomes u 22 (bytes_of (w ∷ [])) (record u { dir = w })
 unfolding area_bytes bytes_of
 directory_put u w sized =
-    field_put u 3 0 22 (bytes_of (w ∷ [])) sized (omega arith) (omega arith) refl
+    let fits : 0 + 2 ≤ 2 = omega arith in
+    field_put u 3 0 22 (bytes_of (w ∷ [])) sized (omega arith) fits refl
     ∙ ap (λ b. laid 0 (take 3 (fields u) ++ (record { at = 22; bytes = b } ∷ drop 4 (fields u)))) (whole_put (bytes_of (u.dir ∷ [])) (bytes_of (w ∷ [])) refl)
 
 pub pending_put : (u : UArea) (pending : ℕ) → IsSized u → Becomes u 30 (pending ∷ []) (record u { pending = pending })
 unfolding area_bytes
 pending_put u pending sized =
-    field_put u 5 0 30 (pending ∷ []) sized (omega arith) (omega arith) refl
+    let fits : 0 + 1 ≤ 1 = omega arith in
+    field_put u 5 0 30 (pending ∷ []) sized (omega arith) fits refl
     ∙ ap (λ b. laid 0 (take 5 (fields u) ++ (record { at = 30; bytes = b } ∷ drop 6 (fields u)))) (whole_put (u.pending ∷ []) (pending ∷ []) refl)
 
 pub call_put : (u : UArea) (call : List ℕ) → IsSized u → length call ≡ 8 → Becomes u 32 (bytes_of call) (record u { call = call })
@@ -174,33 +198,41 @@ unfolding area_bytes
 call_put u call sized eight =
     let old = words_long u.call 8 sized.call in
     let new = words_long call 8 eight in
-    field_put u 6 0 32 (bytes_of call) sized (omega arith) (omega (arith, old, new)) refl
+    let fits : 0 + length (bytes_of call) ≤ length (bytes_of u.call) = omega (arith, old, new) in
+    field_put u 6 0 32 (bytes_of call) sized (omega arith) fits refl
     ∙ ap (λ b. laid 0 (take 6 (fields u) ++ (record { at = 32; bytes = b } ∷ drop 7 (fields u)))) (whole_put (bytes_of u.call) (bytes_of call) (omega (arith, old, new)))
 
 pub user_tick_put : (u : UArea) (w : ℕ) → IsSized u → Becomes u 48 (bytes_of (w ∷ [])) (record u { user_time = w })
 unfolding area_bytes bytes_of
 user_tick_put u w sized =
-    field_put u 7 0 48 (bytes_of (w ∷ [])) sized (omega arith) (omega arith) refl
-    ∙ ap (λ b. laid 0 (take 7 (fields u) ++ (record { at = 48; bytes = b } ∷ drop 8 (fields u)))) (word_put (times u) 0 w (omega arith))
+    let fits : 0 + 2 ≤ 12 = omega arith in
+    let low : 0 < 6 = omega arith in
+    field_put u 7 0 48 (bytes_of (w ∷ [])) sized (omega arith) fits refl
+    ∙ ap (λ b. laid 0 (take 7 (fields u) ++ (record { at = 48; bytes = b } ∷ drop 8 (fields u)))) (word_put (times u) 0 w low)
 
 pub system_tick_put : (u : UArea) (w : ℕ) → IsSized u → Becomes u 50 (bytes_of (w ∷ [])) (record u { system_time = w })
 unfolding area_bytes bytes_of
 system_tick_put u w sized =
-    field_put u 7 2 50 (bytes_of (w ∷ [])) sized (omega arith) (omega arith) refl
-    ∙ ap (λ b. laid 0 (take 7 (fields u) ++ (record { at = 48; bytes = b } ∷ drop 8 (fields u)))) (word_put (times u) 1 w (omega arith))
+    let fits : 2 + 2 ≤ 12 = omega arith in
+    let low : 1 < 6 = omega arith in
+    field_put u 7 2 50 (bytes_of (w ∷ [])) sized (omega arith) fits refl
+    ∙ ap (λ b. laid 0 (take 7 (fields u) ++ (record { at = 48; bytes = b } ∷ drop 8 (fields u)))) (word_put (times u) 1 w low)
 
 pub no_times_put : (u : UArea) → IsSized u → Becomes u 48 (replicate 12 0) (with_no_times u)
 unfolding area_bytes bytes_of over
-no_times_put u sized = field_put u 7 0 48 (replicate 12 0) sized (omega arith) (omega arith) refl
+no_times_put u sized = (let fits : 0 + 12 ≤ 12 = omega arith in field_put u 7 0 48 (replicate 12 0) sized (omega arith) fits refl)
 
 pub child_times_put : (u : UArea) (user system : ℕ) → IsSized u → Becomes u 52 (bytes_of (long_words user ++ long_words system)) (with_child_times u user system)
 unfolding area_bytes bytes_of over
-child_times_put u user system sized = field_put u 7 4 52 (bytes_of (long_words user ++ long_words system)) sized (omega arith) (omega arith) refl
+child_times_put u user system sized =
+    let fits : 4 + 8 ≤ 12 = omega arith in
+    field_put u 7 4 52 (bytes_of (long_words user ++ long_words system)) sized (omega arith) fits refl
 
 pub status_put : (u : UArea) (w : ℕ) → IsSized u → Becomes u 60 (bytes_of (w ∷ [])) (record u { status = w })
 unfolding area_bytes bytes_of
 status_put u w sized =
-    field_put u 8 0 60 (bytes_of (w ∷ [])) sized (omega arith) (omega arith) refl
+    let fits : 0 + 2 ≤ 2 = omega arith in
+    field_put u 8 0 60 (bytes_of (w ∷ [])) sized (omega arith) fits refl
     ∙ ap (λ b. laid 0 (take 8 (fields u) ++ (record { at = 60; bytes = b } ∷ drop 9 (fields u)))) (whole_put (bytes_of (u.status ∷ [])) (bytes_of (w ∷ [])) refl)
 
 pub handler_put : (u : UArea) (n w : ℕ) → IsSized u → n < 20 → Becomes u (64 + 2 * n) (bytes_of (w ∷ [])) (with_handler u n w)
@@ -209,7 +241,8 @@ handler_put u n w sized low =
     let long = words_long u.handlers 20 sized.handlers in
     let two = words_long (w ∷ []) 1 refl in
     let many = sized.handlers in
-    field_put u 9 (2 * n) (64 + 2 * n) (bytes_of (w ∷ [])) sized (omega arith) (omega (arith, long, two, low)) refl
+    let fits : 2 * n + length (bytes_of (w ∷ [])) ≤ length (bytes_of u.handlers) = omega (arith, long, two, low) in
+    field_put u 9 (2 * n) (64 + 2 * n) (bytes_of (w ∷ [])) sized (omega arith) fits refl
     ∙ ap (λ b. laid 0 (take 9 (fields u) ++ (record { at = 64; bytes = b } ∷ drop 10 (fields u)))) (word_put u.handlers n w (omega (arith, many, low)))
 
 pub handlers_put : (u : UArea) (handlers : List ℕ) → IsSized u → length handlers ≡ 20 → Becomes u 64 (bytes_of handlers) (record u { handlers = handlers })
@@ -217,7 +250,8 @@ unfolding area_bytes
 handlers_put u handlers sized many =
     let old = words_long u.handlers 20 sized.handlers in
     let new = words_long handlers 20 many in
-    field_put u 9 0 64 (bytes_of handlers) sized (omega arith) (omega (arith, old, new)) refl
+    let fits : 0 + length (bytes_of handlers) ≤ length (bytes_of u.handlers) = omega (arith, old, new) in
+    field_put u 9 0 64 (bytes_of handlers) sized (omega arith) fits refl
     ∙ ap (λ b. laid 0 (take 9 (fields u) ++ (record { at = 64; bytes = b } ∷ drop 10 (fields u)))) (whole_put (bytes_of u.handlers) (bytes_of handlers) (omega (arith, old, new)))
 
 -- an area whose front is put over another one is that area
