@@ -331,6 +331,7 @@ fn fork<T: Trace>(world: &mut World, s: Slot, trace: &mut T) -> Ending
     let numbers = files(world.procs.images.area_bytes(s));
     world.files.tree.nodes.see();
     see_table(&world.files.table);
+    see_kept(&world.procs.images);
     match fork_one(&mut world.procs, &mut world.files.tree, s, [0; 4], trace) {
         Ok(answer) => {
             share_files(&mut world.files.table, &numbers, answer);

@@ -31,7 +31,7 @@ pub area_bytes-requires : goal.area_bytes-requires
 area_bytes-requires g c = c.requires.ready.good.running c.args.s c.requires.ready.runs c.requires.ready.user
 
 pub fork_one-requires : goal.fork_one-requires
-fork_one-requires g c = ready_calls c.args.world.now c.args.s c.requires.ready c.see_table.ensures c.area-u.ensures.holds
+fork_one-requires g c = ready_calls c.args.world.now c.args.s c.requires.ready c.see_table.ensures c.see_kept.ensures
 
 pub share_files-requires-clause-open : goal.share_files-requires-clause-open
 share_files-requires-clause-open g c =
