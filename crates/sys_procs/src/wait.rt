@@ -8,7 +8,7 @@ ghost use Rattle.image_keep.specs.Kept.{with_keeping, HasGrave, IsKept, Nothing}
 ghost use Rattle.pick_rules.specs.Table.{IsTable, empty_row, with_row};
 ghost use Rattle.pick_rules.specs.Apply.{applied};
 ghost use Rattle.proc_tab.specs.Processes.{AreProcesses};
-ghost use Rattle.sys_procs.specs.World.{without_process};
+ghost use Rattle.sys_procs.specs.World.{change, without_process};
 ghost use Rattle.sys_procs.specs.Wait.{with_times_of, buries, wait_child};
 ghost use Rattle.sys_procs.specs.Handed.{AreProcs, Calls, IsAlive, board, handed, process_here};
 ghost use Rattle.sys_procs.specs.Done.{HasDone};
