@@ -239,12 +239,6 @@ module _ (a : Inside) (k : Kept) (f : Fixed) (view : kept_in a ≡ k) (h : AreIm
         }
 
     module _ (some : 0 < f.standing.code_len) where
-      r : List ℕ
-      r = registers_at b.memory.core f.standing.area
-
-      cc : ℕ
-      cc = codes_at b.memory.core f.standing.area
-
       wide : StandsIn (length b.memory.core) f.standing
       wide = subst (λ n. StandsIn n f.standing) (sym did.size) (inside some)
 

@@ -16,6 +16,6 @@ pub returns-clause-kept : goal.returns-clause-kept
 returns-clause-kept c =
     let own : UArea = area_of c.args.images.now.kept c.args.fixed.now.slot in
     let pc : c.register.result ≡ slice_index own.r 7 = c.register.ensures ∙ ap (λ (u : UArea). slice_index u.r 7) c.area_bytes_at-area.ensures.read in
-    let cc : c.codes-cc.result ≡ own.cc = c.codes-cc.ensures ∙ ap (λ (u : UArea). u.cc) c.area_bytes_at-area.ensures.read in
+    let was : c.codes-cc.result ≡ own.cc = c.codes-cc.ensures ∙ ap (λ (u : UArea). u.cc) c.area_bytes_at-area.ensures.read in
     c.set_pc_at.ensures.kept
-    ∙ (λ i. with_area c.args.images.now.kept c.args.fixed.now.slot (with_pc own ((pc i + 2 * c.from.ensures i) % 65536) (cc i - cc i % 2)))
+    ∙ (λ i. with_area c.args.images.now.kept c.args.fixed.now.slot (with_pc own ((pc i + 2 * c.from.ensures i) % 65536) (was i - was i % 2)))
