@@ -96,7 +96,7 @@ class Lines(Case):
             self.assertEqual((status, said.splitlines()[-1]), (2, f"page.py: error: {why}"))
         for words, why in (((image, "3968", script, "--second", pack, "-o", pack), f"{pack}: the page would take the place of what it is made of"),
                            ((image, "3968", script, "-o", out), f"{script} was typed beside a second disk: --replay plays it all the same")):
-            self.assertEqual(self.call(page_main, "--v6", V6, *words)[::2], (1, f"page.py: {why}\n"))
+            self.assertEqual(self.call(page_main, "--v6", V6, "--moments", "2", *words)[::2], (1, f"page.py: {why}\n"))
         self.assertFalse(os.path.exists(out))
 
 

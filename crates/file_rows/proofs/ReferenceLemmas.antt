@@ -1,6 +1,5 @@
--- References of which none are many, and the root's disk, which is always there.
-use Rattle.std.proofs.Common.{◌≢◌, ◌-◌, ◌≤◌, ℕ, zero, suc, List, [], ◌∷◌, slice_index, slice_set, Option, IsSome, refl, arith}
-use Rattle.fs_codec.specs.Store.{Store}
+-- References of which none are many.
+use Rattle.std.proofs.Common.{◌≡◌, ◌+◌, ◌-◌, ◌≤◌, ℕ, zero, suc, Bool, true, false, if◌then◌else◌, List, [], ◌∷◌, slice_index, slice_set, arith}
 
 -- one of them is set
 set_few : (r : List ℕ) (k i v n : ℕ) → ((j : ℕ) → slice_index r j ≤ n) → v ≤ n → slice_index (slice_set r k v) i ≤ n
@@ -15,6 +14,8 @@ pub lowered : (r : List ℕ) (k n : ℕ) → ((j : ℕ) → slice_index r j ≤ 
     → slice_index (slice_set r k (slice_index r k - 1)) i ≤ n
 lowered r k n few i = let here = few k in set_few r k i (slice_index r k - 1) n few (omega (arith, here))
 
--- a call for the root's disk asks for no other
-pub root_there : (second : Option Store) → 0 ≢ 0 → IsSome second
-root_there second other = absurd (other refl)
+-- two references more, of which one goes
+pub one_left : (b : Bool) (old more new : ℕ) → more ≡ old + (if b then 2 else 0) → new + (if b then 1 else 0) ≡ more
+    → new ≡ old + (if b then 1 else 0)
+one_left true old more new two less = omega (arith, two, less)
+one_left false old more new two less = omega (arith, two, less)

@@ -173,6 +173,20 @@ fn unshare(tree: &mut Tree, ino: u16) -> bool
     true
 }
 
+/// Refers to an inode, marks it, and takes the mark away.
+fn share_once(tree: &mut Tree, ino: u16) -> bool
+    requires few { (i : ℕ) → slice_index tree.old.nodes.references i ≤ 2 }
+    ensures references { result ≡ true → (i : ℕ) → slice_index tree.new.nodes.references i
+        ≡ slice_index tree.old.nodes.references i + (if ino == i then 1 else 0) }
+    ensures counts { counts tree.new.nodes.store ≡ counts tree.old.nodes.store }
+    ensures mounts { tree.new.mounts ≡ tree.old.mounts }
+{
+    if !share(tree, ino) {
+        return false;
+    }
+    unshare(tree, ino)
+}
+
 /// The first step that does not hold while an inode is marked.
 fn failure_while(alloc: Global, ino: u16, steps: &[Step]) -> Result<Option<usize>, AllocError> {
     let Some(mut w) = begin(alloc, &[], 0)? else {
@@ -189,7 +203,7 @@ fn failure_after(alloc: Global, ino: u16, steps: &[Step]) -> Result<Option<usize
     let Some(mut w) = begin(alloc, &[], 0)? else {
         return Ok(Some(usize::MAX));
     };
-    if !share(&mut w.files.tree, ino) || !unshare(&mut w.files.tree, ino) {
+    if !share_once(&mut w.files.tree, ino) {
         return Ok(Some(usize::MAX));
     }
     Ok(first_of(&mut w, steps))
