@@ -93,15 +93,17 @@ image_beside core new f at s is rest = image_same core new f s (subst (λ n. (k 
 
 -- What stands there is read as the registers and codes that were written.
 pub state_read : (core : List ℕ) (at : ℕ) (r : List ℕ) (cc : ℕ) → length r ≡ 8 → cc < 16 → part core at 18 ≡ state_bytes r cc → (registers_at core at ≡ r) × (codes_at core at ≡ cc)
-unfolding part front state_bytes
+unfolding part front state_bytes bytes_of
 state_read core at r cc eight low is =
     let n = length-bytes_of r in
+    let e : at + 0 ≡ at = omega arith in
     let long : length (bytes_of r) ≡ 16 = omega (arith, n, eight) in
     let first : front at 16 core ≡ bytes_of r =
-    sym (part-part core at 18 0 16 (omega arith)) ∙ ap (λ l. part l 0 16) is ∙ part-left (bytes_of r) (bytes_of ((61440 + cc) ∷ [])) 0 16 (omega (arith, long)) ∙ take_all 16 (bytes_of r) (omega (arith, long)) in
+    ap (λ i. part core i 16) (sym e) ∙ sym (part-part core at 18 0 16 (omega arith)) ∙ ap (λ l. part l 0 16) is ∙ part-left (bytes_of r) (bytes_of ((61440 + cc) ∷ [])) 0 16 (omega (arith, long)) ∙ take_all 16 (bytes_of r) (omega (arith, long)) in
     let second : front (at + 16) 2 core ≡ bytes_of ((61440 + cc) ∷ []) =
     sym (part-part core at 18 16 2 (omega arith)) ∙ ap (λ l. part l 16 2) is ∙ part-right (bytes_of r) (bytes_of ((61440 + cc) ∷ [])) 16 0 2 (omega (arith, long)) in
-    let status : word core (at + 16) ≡ 61440 + cc = word_of_bytes core ((61440 + cc) ∷ []) (at + 16) 1 0 second (omega arith) in
+    let same : at + 16 + 2 * 0 ≡ at + 16 = omega arith in
+    let status : word core (at + 16) ≡ 61440 + cc = ap (λ i. word core i) (sym same) ∙ word_of_bytes core ((61440 + cc) ∷ []) (at + 16) 1 0 second (omega arith) in
     (words_of_bytes core r at 8 eight first, omega (arith, status, low))
 
 pub stated_of : (core : List ℕ) (at : ℕ) (r : List ℕ) (cc : ℕ) → length r ≡ 8 → cc < 16 → part core at 18 ≡ state_bytes r cc → IsStated core at
@@ -156,7 +158,8 @@ codes_byte core at is =
     let eight = length-words core at 8 in
     let long : length (bytes_of r) ≡ 16 = omega (arith, n, eight) in
     let low = codes_low core at in
-    sym (byte_of_part core at 18 16 (omega arith)) ∙ ap (λ l. slice_index l 16) is ∙ byte_at (bytes_of r) (bytes_of ((61440 + cc) ∷ [])) 16 long ∙ omega (arith, low)
+    let last : (61440 + cc) % 256 ≡ cc = omega (arith, low) in
+    sym (byte_of_part core at 18 16 (omega arith)) ∙ ap (λ l. slice_index l 16) is ∙ byte_at (bytes_of r) (bytes_of ((61440 + cc) ∷ [])) 16 long ∙ last
 
 -- registers and codes are put there together
 pub state_put : (core new : List ℕ) (at : ℕ) (b r : List ℕ) (cc : ℕ) → at + 18 ≤ length core → length b ≡ 18 → b ≡ state_bytes r cc → new ≡ over core at b → part new at 18 ≡ state_bytes r cc

@@ -13,20 +13,20 @@ use Rattle.u_area.proofs.PartLemmas.{back_of}
 use Rattle.u_area.proofs.AreaLemmas.{front_widened, length-front}
 
 -- fields at places that rise
-Rises : ℕ → List Field → Type 0
+abbrev Rises : ℕ → List Field → Type 0
 Rises from [] = Unit {0}
 Rises from (f ∷ fs) = (from ≤ f.at) × Rises (f.at + length f.bytes) fs
 
-no_field : Field
+abbrev no_field : Field
 no_field = record { at = 0; bytes = [] }
 
-nth : ℕ → List Field → Field
+abbrev nth : ℕ → List Field → Field
 nth i [] = no_field
 nth zero (f ∷ fs) = f
 nth (suc i) (f ∷ fs) = nth i fs
 
 -- bytes put over those of one field
-changed : ℕ → ℕ → List ℕ → List Field → List Field
+abbrev changed : ℕ → ℕ → List ℕ → List Field → List Field
 changed i j new [] = []
 changed zero j new (f ∷ fs) = record { at = f.at; bytes = over f.bytes j new } ∷ fs
 changed (suc i) j new (f ∷ fs) = f ∷ changed i j new fs
@@ -116,10 +116,10 @@ unfolding bytes_of over
 word_put [] n w low = absurd (omega (arith, low))
 word_put (x ∷ xs) zero w low = refl
 word_put (x ∷ xs) (suc n) w low =
-    let e : 2 * suc n ≡ suc (suc (2 * n)) = omega arith in
-    let new : List ℕ = w % 256 ∷ w / 256 ∷ [] in
-    ap (λ k. over (x % 256 ∷ x / 256 ∷ bytes_of xs) k new) e
-    ∙ ap (λ (l : List ℕ). x % 256 ∷ x / 256 ∷ l) (word_put xs n w (omega (arith, low)))
+    let e : 2 * suc n ≡ 2 + 2 * n = omega arith in
+    let head : List ℕ = x % 256 ∷ x / 256 ∷ [] in
+    sym (over-right head (bytes_of xs) (2 * suc n) (2 * n) (bytes_of (w ∷ [])) e)
+    ∙ ap (λ (l : List ℕ). head ++ l) (word_put xs n w (omega (arith, low)))
 
 -- all bytes of a field
 pub whole_put : (old new : List ℕ) → length new ≡ length old → over old 0 new ≡ new
@@ -133,7 +133,8 @@ register_put u n w sized low =
     let two = words_long (w ∷ []) 1 refl in
     let r = sized.r in
     let fits : 2 * n + length (bytes_of (w ∷ [])) ≤ length (bytes_of u.r) = omega (arith, long, two, low) in
-    field_put u 0 (2 * n) (2 * n) (bytes_of (w ∷ [])) sized (omega arith) fits refl
+    let place : 2 * n ≡ 0 + 2 * n = omega arith in
+    field_put u 0 (2 * n) (2 * n) (bytes_of (w ∷ [])) sized (omega arith) fits place
     ∙ ap (λ b. laid 0 (record { at = 0; bytes = b } ∷ drop 1 (fields u))) (word_put u.r n w (omega (arith, r, low)))
 
 -- the first two

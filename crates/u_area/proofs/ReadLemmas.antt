@@ -11,7 +11,7 @@ word_nth b at n k low = sym (word_of_words b at n k low)
 pub ruleset nths = (word_nth)
 
 -- n bytes, one by one, from the one k behind a place on
-pub each : ℕ → ℕ → ℕ → List ℕ → List ℕ
+abbrev pub each : ℕ → ℕ → ℕ → List ℕ → List ℕ
 each at k zero b = []
 each at k (suc n) b = slice_index b (at + k) ∷ each at (suc k) n b
 

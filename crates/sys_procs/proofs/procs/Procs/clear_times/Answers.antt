@@ -9,7 +9,7 @@ use Rattle.sys_procs.proofs.Alive.{area_here}
 use Rattle.sys_procs.proofs.PutAreas.{put_state, put_process, put_board, put_alive}
 use Rattle.sys_procs.proofs.procs.Procs.clear_times.Goals as goal
 
-new_area : (c : goal.After-clear_times) → UArea
+abbrev new_area : (c : goal.After-clear_times) → UArea
 new_area c = with_no_times (process_here c.args.self.now c.args.s).u
 
 kept : (c : goal.After-clear_times) → c.clear_times.new.self.kept ≡ with_area c.args.self.now.images.kept c.args.s (new_area c)

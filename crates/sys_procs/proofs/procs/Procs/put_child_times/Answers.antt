@@ -9,7 +9,7 @@ use Rattle.sys_procs.proofs.Alive.{area_here}
 use Rattle.sys_procs.proofs.PutAreas.{put_state, put_process, put_board, put_alive}
 use Rattle.sys_procs.proofs.procs.Procs.put_child_times.Goals as goal
 
-new_area : (c : goal.After-set_child_times) → UArea
+abbrev new_area : (c : goal.After-set_child_times) → UArea
 new_area c = with_child_times (process_here c.args.self.now c.args.s).u c.args.user c.args.system
 
 kept : (c : goal.After-set_child_times) → c.set_child_times.new.self.kept ≡ with_area c.args.self.now.images.kept c.args.s (new_area c)

@@ -9,7 +9,7 @@ use Rattle.sys_procs.proofs.Alive.{area_here}
 use Rattle.sys_procs.proofs.PutAreas.{put_state, put_process, put_board, put_alive}
 use Rattle.sys_procs.proofs.procs.Procs.put_register.Goals as goal
 
-new_area : (c : goal.After-set_register) → UArea
+abbrev new_area : (c : goal.After-set_register) → UArea
 new_area c = with_register (process_here c.args.self.now c.args.s).u c.args.n c.args.value
 
 kept : (c : goal.After-set_register) → c.set_register.new.self.kept ≡ with_area c.args.self.now.images.kept c.args.s (new_area c)
