@@ -92,6 +92,7 @@ class Ports(Case):
     def test_all_is_well(self):
         """The files as they are made are good, so that each fault comes from the one that isn't."""
         for command in COMMANDS:
+            self.put("FINAL2", SENTINEL)
             status, report = self.v6(command)
             self.assertEqual((status, report), (0, "ok 7 nodes 0 free\n" if command == CHECK else ""))
             if command != CHECK:

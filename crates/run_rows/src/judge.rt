@@ -16,7 +16,7 @@ use v6_run::Status;
 const ROOMS: Rooms = Rooms {
     term: 65_536,
     log: 4_194_304,
-    report: 200,
+    report: 256,
 };
 
 /// Room for what a line beside the console shows.

@@ -58,9 +58,9 @@ static ROWS: [Row; 23] = [
     ),
     (
         &[],
-        Enter(9, 32, 0x0102),
+        Enter(9, 32, 128),
         Ok(()),
-        &[(8224, 0x0102), (8226, 0x656e), (1286, 48)],
+        &[(8224, 128), (8226, 0x656e), (1286, 48)],
     ),
     // Five bytes past the end of the entries go.
     (
