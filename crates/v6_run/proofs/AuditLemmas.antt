@@ -7,7 +7,6 @@ use Rattle.v6_port.specs.declared.host.Failed.{Failed}
 use Rattle.v6_port.specs.declared.host.InPort.{InPort}
 use Rattle.v6_port.specs.declared.host.InPort.TheVariants as in_port
 use Rattle.v6_port.specs.declared.host.OutPort.{OutPort}
-use Rattle.v6_port.specs.declared.host.OutPort.TheVariants as out_port
 use Rattle.v6_port.specs.Outside.{In, Out, same, PortState, Outside, Tells, OnlyAt}
 use Rattle.v6_port.specs.Calls.{is_given, Reads, OpensRead}
 use Rattle.v6_port.specs.Causes.{SameCounts, Calm, FaultAt}

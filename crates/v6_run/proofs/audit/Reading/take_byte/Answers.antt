@@ -1,4 +1,4 @@
-use Rattle.std.proofs.Common.{◌≡◌, false, ◌∙◌, ◌+◌, ◌<◌, ◌==◌, ◌++◌, ◌∷◌, [], List, ℕ, OnOk, IfErr, length, refl, sym, subst, arith, inr}
+use Rattle.std.proofs.Common.{◌≡◌, false, ◌∙◌, ◌+◌, ◌<◌, ◌==◌, ◌++◌, ◌∷◌, [], List, ℕ, OnOk, IfErr, length, refl, sym, subst, inr}
 use Rattle.std.proofs.lemmas.Bool.{eqb-true}
 use Rattle.v6_run.specs.Audit.{HasRead, IsAtFault}
 use Rattle.v6_run.proofs.AuditLemmas.{below_full}
