@@ -39,7 +39,7 @@ pub struct Rooms {
 pub const ROOMS: Rooms = Rooms {
     term: 4096,
     log: 65_536,
-    report: 200,
+    report: 256,
 };
 
 /// A host with an image, a script and an empty file, with so much room, and with room for a disk.
