@@ -101,7 +101,7 @@ rises u sized =
     let i : 48 + length (bytes_of (times u)) ≤ 60 = omega (arith, spent) in
     let j : 60 + length (bytes_of (u.status ∷ [])) ≤ 64 = omega (arith, status) in
     let k : 64 + length (bytes_of u.handlers) ≤ 104 = omega (arith, handlers) in
-    (a, b, c, d, e, f, g, h, i, j, k, tt)
+    (a, (b, (c, (d, (e, (f, (g, (h, (i, (j, (k, tt)))))))))))
 
 -- The bytes of one field of an area are others.
 field_put : (u : UArea) (i j p : ℕ) (new : List ℕ) → IsSized u → i < 11 → j + length new ≤ length (nth i (fields u)).bytes → p ≡ (nth i (fields u)).at + j → over (area_bytes u) p new ≡ laid 0 (changed i j new (fields u))
