@@ -24,8 +24,8 @@ byte_of_part b at n k h = get_or-take n (drop at b) k 0 h ∙ get_or-drop at b k
 
 byte_at : (xs ys : List ℕ) (n : ℕ) → length xs ≡ n → slice_index (xs ++ ys) n ≡ slice_index ys 0
 byte_at xs ys n long =
-    let none : n - length xs ≡ 0 = omega (arith, long) in
-    get_or-append_right xs ys n 0 (omega (arith, long)) ∙ ap (slice_index ys) none
+    let none : n - n ≡ 0 = omega arith in
+    get_or-append_right xs ys n n 0 long (omega arith) ∙ ap (slice_index ys) none
 
 -- a word of the bytes of words
 bytes_set : (r t : List ℕ) (n w : ℕ) → n < length r → word_set (bytes_of r ++ t) (2 * n) w ≡ bytes_of (set r n w) ++ t
