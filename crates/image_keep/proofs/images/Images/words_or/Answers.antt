@@ -1,5 +1,6 @@
 use Rattle.std.proofs.Common.{◌∙◌, ℕ, List, length, sym, ap, subst}
 use Rattle.v6_base.specs.Image.{Image}
+use Rattle.pdp_step.specs.Machine.{Machine}
 use Rattle.image_keep.specs.Running.{words_or}
 use Rattle.image_keep.specs.Standing.{standing_image, StandsIn}
 use Rattle.image_keep.proofs.StateOf.{kept_is}
@@ -17,4 +18,4 @@ returns-in-Some c =
     c.in-Some.ensures.words c.args.other
     ∙ ap (λ (a : ℕ). words_or (standing_image c.core_bytes.result.now c.args.fixed.now.standing) a c.args.other) c.from.ensures
     ∙ ap (λ (l : List ℕ). words_or (standing_image l c.args.fixed.now.standing) c.args.at c.args.other) c.core_bytes.ensures
-    ∙ ap (λ (m : Image). words_or m c.args.at c.args.other) (there.image c.in-Some.ensures.near)
+    ∙ ap (λ (m : Image). words_or m c.args.at c.args.other) (ap (λ (n : Machine). n.image) (there.machine c.in-Some.ensures.near))
