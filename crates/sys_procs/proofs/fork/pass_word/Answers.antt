@@ -11,4 +11,4 @@ returns-clause-state c = λ fs.
     let own : Process = process_here c.args.p.now c.args.s in
     c.put_register.ensures.state fs
     ∙ ap (λ (n : ℕ). with_process (handed c.args.p.now fs) c.args.s (record own { u = with_register own.u 7 ((n + 2) % 65536) }))
-    (c.register.ensures ∙ ap (λ (u : UArea). get_or u.r 7 0) c.area_bytes.ensures.read)
+    (c.register-pc.ensures ∙ ap (λ (u : UArea). get_or u.r 7 0) c.area_bytes.ensures.read)

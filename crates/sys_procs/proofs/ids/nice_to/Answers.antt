@@ -39,7 +39,7 @@ returns-then-uid-eq0-clause-does g c =
     let own : UArea = (process_of w c.args.s).u in
     let first : c.register-r0.result ≡ get_or own.r 0 0 = c.register-r0.ensures ∙ ap (λ (u : UArea). get_or u.r 0 0) c.area_bytes-area.ensures.read in
     let second : c.register-r1.result ≡ get_or own.r 1 0 = c.register-r1.ensures ∙ ap (λ (u : UArea). get_or u.r 1 0) c.area_bytes-area.ensures.read in
-    let uid : get_or c.ids-uid.result 0 0 ≡ own.uid = ap (λ (l : List ℕ). get_or l 0 0) c.ids-uid.ensures ∙ ap (λ (u : UArea). u.uid) c.area_bytes-area.ensures.read in
+    let uid : get_or c.ids.result 0 0 ≡ own.uid = ap (λ (l : List ℕ). get_or l 0 0) c.ids.ensures ∙ ap (λ (u : UArea). u.uid) c.area_bytes-area.ensures.read in
     let low = c.low_nice.result in
     let fits : FitsSigned w8 low = search rules in
     let same : to_z w8 (of_z w8 low) ≡ low = to_z-of_z w8 low fits in
@@ -57,7 +57,7 @@ returns-clause-does g c =
     let w : World = handed c.args.p.now c.args.tree.now.nodes in
     let own : UArea = (process_of w c.args.s).u in
     let first : c.register-r0.result ≡ get_or own.r 0 0 = c.register-r0.ensures ∙ ap (λ (u : UArea). get_or u.r 0 0) c.area_bytes-area.ensures.read in
-    let uid : get_or c.ids-uid.result 0 0 ≡ own.uid = ap (λ (l : List ℕ). get_or l 0 0) c.ids-uid.ensures ∙ ap (λ (u : UArea). u.uid) c.area_bytes-area.ensures.read in
+    let uid : get_or c.ids.result 0 0 ≡ own.uid = ap (λ (l : List ℕ). get_or l 0 0) c.ids.ensures ∙ ap (λ (u : UArea). u.uid) c.area_bytes-area.ensures.read in
     let says : Says c.args.p.now (nice_to w c.args.s) (Log (Nice c.args.s (pos 0)) ∷ []) (applied (board c.args.p.now) (Nice c.args.s (pos 0))) w (Fail EPERM) =
     says_line c.args.p.now (nice_to w c.args.s) (Nice c.args.s (pos 0)) w (Fail EPERM)
     (nice_refused w c.args.s own refl (subst (λ n. 32768 ≤ n) first c.if-r0-lt32768.false) (subst (λ n. n ≢ 0) uid c.if-uid-eq0.false)) in

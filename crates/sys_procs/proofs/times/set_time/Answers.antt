@@ -20,7 +20,7 @@ pub returns-then-uid-ne0-clause-does : goal.returns-then-uid-ne0-clause-does
 returns-then-uid-ne0-clause-does g c =
     let w : World = handed c.args.p.now c.args.tree.now.nodes in
     let own : UArea = (process_of w c.args.s).u in
-    let is : get_or c.ids-uid.result 0 0 ≡ own.uid = ap (λ (l : List ℕ). get_or l 0 0) c.ids-uid.ensures ∙ ap (λ (u : UArea). u.uid) c.area_bytes-area.ensures.read in
+    let is : get_or c.ids.result 0 0 ≡ own.uid = ap (λ (l : List ℕ). get_or l 0 0) c.ids.ensures ∙ ap (λ (u : UArea). u.uid) c.area_bytes-area.ensures.read in
     done_none w (Fail EPERM) (time_refused w c.args.s own refl (subst (λ n. n ≢ 0) is c.if-uid-ne0.true)) refl refl refl
 
 -- the time as the two registers give it
@@ -28,7 +28,7 @@ pub returns-clause-does : goal.returns-clause-does
 returns-clause-does g c =
     let w : World = handed c.args.p.now c.args.tree.now.nodes in
     let own : UArea = (process_of w c.args.s).u in
-    let is : get_or c.ids-uid.result 0 0 ≡ own.uid = ap (λ (l : List ℕ). get_or l 0 0) c.ids-uid.ensures ∙ ap (λ (u : UArea). u.uid) c.area_bytes-area.ensures.read in
+    let is : get_or c.ids.result 0 0 ≡ own.uid = ap (λ (l : List ℕ). get_or l 0 0) c.ids.ensures ∙ ap (λ (u : UArea). u.uid) c.area_bytes-area.ensures.read in
     let first : c.register-r0.result ≡ get_or own.r 0 0 = c.register-r0.ensures ∙ ap (λ (u : UArea). get_or u.r 0 0) c.area_bytes-area.ensures.read in
     let second : c.register-r1.result ≡ get_or own.r 1 0 = c.register-r1.ensures ∙ ap (λ (u : UArea). get_or u.r 1 0) c.area_bytes-area.ensures.read in
     let told : ℕ = c.time_in.result in
