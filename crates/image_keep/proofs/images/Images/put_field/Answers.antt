@@ -11,6 +11,15 @@ use Rattle.image_keep.proofs.KeptForm.{kept_holds}
 use Rattle.image_keep.proofs.Told.{area_sizes, area_told}
 use Rattle.image_keep.proofs.images.Images.put_field.Goals as goal
 
+pub overflow_add-at : goal.overflow_add-at
+overflow_add-at c =
+    let here = area_here (stock_in c.self.inside) c.args.self.now.kept c.args.s c.args.at (kept_is c.self.view_is) c.self.invariant.sound c.self.invariant.counted c.requires.image c.requires.place in
+    let inside = here.inside in
+    let size = c.self.invariant.sound.size in
+    let most = c.self.invariant.sound.most in
+    let within = c.requires.within in
+    omega (arith, inside, size, most, within)
+
 pub put-requires-clause-place : goal.put-requires-clause-place
 put-requires-clause-place c =
     let here = area_here (stock_in c.self.inside) c.args.self.now.kept c.args.s c.args.at (kept_is c.self.view_is) c.self.invariant.sound c.self.invariant.counted c.requires.image c.requires.place in

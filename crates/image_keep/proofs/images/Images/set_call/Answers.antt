@@ -9,6 +9,7 @@ use Rattle.v6_base.specs.Image.{Image}
 use Rattle.image_keep.specs.Kept.{Kept, HasSizes, area_of, with_area}
 use Rattle.image_keep.proofs.Frames.{area_twice}
 use Rattle.image_keep.proofs.FieldPut.{placed, of_equal, Stays, stays, spelled, write_on}
+use Rattle.image_keep.proofs.images.Images.set_call.Goals.{After-put_field}
 use Rattle.image_keep.proofs.images.Images.set_call.Goals as goal
 
 pub put_field-requires-clause-meaning : goal.put_field-requires-clause-meaning
@@ -23,7 +24,7 @@ put_field-requires-clause-meaning c =
     )
 
 -- after the first byte
-first : (c : goal.After-put_field) → Stays c.args.self.now.kept c.put_field.new.self.kept c.args.s c.area_start-at.result (record (area_of c.args.self.now.kept c.args.s) { pending = c.args.pending })
+first : (c : After-put_field) → Stays c.args.self.now.kept c.put_field.new.self.kept c.args.s c.area_start-at.result (record (area_of c.args.self.now.kept c.args.s) { pending = c.args.pending })
 first c =
     let own : UArea = area_of c.args.self.now.kept c.args.s in
     let sized = c.area_start-at.ensures.sized in
