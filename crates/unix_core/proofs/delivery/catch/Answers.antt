@@ -60,7 +60,7 @@ returns-in-Ok-clause-come g c =
     let k : ImagesState = c.tell-caught.new.world.procs.images in
     let grown = grows_ready w now s _ c.requires.ready c.see.ensures stays e.does c.in-Ok.field-0 c.in-Ok.is e.agree e.marks in
     subst (λ x. HasCome (board_in w) (catches (unix_of w) s sig) Trapped x) (sym t.others)
-    (caught_come w now s _ sig c.requires.ready c.see.ensures stays (address w s (fetched c.area_bytes.result.now) c.register.result c.requires.ready c.area_bytes.ensures.read c.register.ensures) e.does c.in-Ok.field-0 c.in-Ok.is
+    (caught_come w now s _ sig c.requires.ready c.see.ensures stays (address w s (fetched c.area_bytes.result.now) c.register-sp.result c.requires.ready c.area_bytes.ensures.read c.register-sp.ensures) e.does c.in-Ok.field-0 c.in-Ok.is
     (with_images now k) (told_unix now s grown t.holds sig k t.images) (told_board now s grown t.holds sig k t.images))
 
 pub returns-in-Ok-clause-ready : goal.returns-in-Ok-clause-ready
@@ -77,7 +77,7 @@ pub returns-in-Ok-clause-items : goal.returns-in-Ok-clause-items
 returns-in-Ok-clause-items g c =
     let w : World = c.args.world.now in
     caught_took w (after w c.grow.new.tree c.grow.new.p) c.args.s _ c.args.sig c.requires.ready c.see.ensures (beside w c.grow.new.tree c.grow.new.p c.grow.ensures.mounts)
-    (address w c.args.s (fetched c.area_bytes.result.now) c.register.result c.requires.ready c.area_bytes.ensures.read c.register.ensures) c.grow.ensures.does c.in-Ok.field-0 c.in-Ok.is
+    (address w c.args.s (fetched c.area_bytes.result.now) c.register-sp.result c.requires.ready c.area_bytes.ensures.read c.register-sp.ensures) c.grow.ensures.does c.in-Ok.field-0 c.in-Ok.is
 
 pub returns-in-Ok-clause-rest : goal.returns-in-Ok-clause-rest
 returns-in-Ok-clause-rest g c =
@@ -87,7 +87,7 @@ pub returns-in-Err-clause-come : goal.returns-in-Err-clause-come
 returns-in-Err-clause-come g c =
     let w : World = c.args.world.now in
     catch_stops w (after w c.grow.new.tree c.grow.new.p) c.args.s _ c.args.sig c.requires.ready c.see.ensures (beside w c.grow.new.tree c.grow.new.p c.grow.ensures.mounts)
-    (address w c.args.s (fetched c.area_bytes.result.now) c.register.result c.requires.ready c.area_bytes.ensures.read c.register.ensures) c.grow.ensures.does c.in-Err.kind c.in-Err.is
+    (address w c.args.s (fetched c.area_bytes.result.now) c.register-sp.result c.requires.ready c.area_bytes.ensures.read c.register-sp.ensures) c.grow.ensures.does c.in-Err.kind c.in-Err.is
 
 pub returns-in-Err-clause-ready : goal.returns-in-Err-clause-ready
 returns-in-Err-clause-ready g c goes = over_then c.in-Err.kind goes
@@ -96,7 +96,7 @@ pub returns-in-Err-clause-items : goal.returns-in-Err-clause-items
 returns-in-Err-clause-items g c =
     let w : World = c.args.world.now in
     catch_cut w (after w c.grow.new.tree c.grow.new.p) c.args.s _ c.args.sig c.requires.ready c.see.ensures (beside w c.grow.new.tree c.grow.new.p c.grow.ensures.mounts)
-    (address w c.args.s (fetched c.area_bytes.result.now) c.register.result c.requires.ready c.area_bytes.ensures.read c.register.ensures) c.grow.ensures.does c.in-Err.kind c.in-Err.is
+    (address w c.args.s (fetched c.area_bytes.result.now) c.register-sp.result c.requires.ready c.area_bytes.ensures.read c.register-sp.ensures) c.grow.ensures.does c.in-Err.kind c.in-Err.is
 
 pub see_covered-requires : goal.see_covered-requires
 see_covered-requires g c = c.grow.ensures.agree

@@ -6,12 +6,13 @@ use Rattle.abstract_unix.specs.Calls.{is_of_disk}
 use Rattle.unix_core.proofs.WorldLemmas.{ready_alive}
 use Rattle.unix_core.proofs.DiskReads.{entry_open, file_there, open_of_disk, closed_no_disk}
 use Rattle.unix_core.proofs.process.names_disk.Goals as goal
+use Rattle.unix_core.proofs.process.names_disk.Goals.{After-get}
 
 pub area_bytes-area-requires : goal.area_bytes-area-requires
 area_bytes-area-requires c = (ready_alive c.args.world.now c.args.s c.requires).image
 
 -- the number in R0, as it is asked for
-named : (c : goal.After-get) → slice_index c.files.result c.register.result ≡ slice_index (fetched c.area_bytes-area.result.now).files (slice_index (fetched c.area_bytes-area.result.now).r 0)
+named : (c : After-get) → slice_index c.files.result c.register.result ≡ slice_index (fetched c.area_bytes-area.result.now).files (slice_index (fetched c.area_bytes-area.result.now).r 0)
 named c = λ i. slice_index (c.files.ensures i) (c.register.ensures i)
 
 pub file-file-requires : goal.file-file-requires
