@@ -6,6 +6,8 @@ import unittest
 
 import expressions
 from common import TOOLS, TOP, V6, Case, read, tool, v6
+from lessonpages import commands
+from pages import Runs
 
 import symbols
 
@@ -207,15 +209,32 @@ class Examples(Program):
         page = read(os.path.join(EXAMPLE, "README.md")).decode()
         self.assertEqual((done.returncode, done.stderr), (0, ""))
         self.assertIn(f"```\n{done.stdout}```\n", page)
-        for name in ("forth", "grep", "sort", "tell", "wc"):
+        for name in ("forth", "grep", "sort", "tell", "wc", "words"):
             self.assertRegex(page, rf"\| `{name}.*\| {os.path.getsize(os.path.join(EXAMPLE, 'bin', name)):,} \|\n")
 
     @wants_compiler
     def test_built(self):
         """The programs that are kept are what the compiler makes of their sources."""
-        for name in ("forth", "grep", "sort", "tell", "wc"):
-            self.assertEqual(self.call(cc.main, "-o", self.path(name), os.path.join(EXAMPLE, "src", name + ".c")), (0, "", ""))
+        done = subprocess.run([os.path.join(EXAMPLE, "build.sh"), self.folder], capture_output=True, text=True)
+        self.assertEqual((done.returncode, done.stdout, done.stderr), (0, "", ""))
+        self.assertEqual(sorted(os.listdir(self.folder)), sorted(os.listdir(os.path.join(EXAMPLE, "bin"))))
+        for name in os.listdir(self.folder):
             self.assertEqual(read(self.path(name)), read(os.path.join(EXAMPLE, "bin", name)), name)
+
+
+class Fault(Runs):
+    def test_page(self):
+        """The commands by which docs/tools/c.md finds a fault come to what it shows. Without the compiler the program that is kept is
+        looked at, and it isn't mended."""
+        part = read(os.path.join(TOP, "docs", "tools", "c.md")).decode().split("\n## A fault, found backwards\n")[1].split("\n## ")[0]
+        (compiled, nothing), *found = commands(part)
+        mended = next(number for number, (command, _) in enumerate(found) if "cc.py" in command)
+        if HERE:
+            found = [(compiled, nothing), *found]
+        else:
+            found = [("cp examples/c/bin/words words", ""), *found[:mended]]
+        for command, shown in found:
+            self.assertEqual(self.play(command), (0, shown), command)
 
 
 class Programs(Program):
