@@ -1,6 +1,7 @@
 """cc.py, its library, and the programs of examples/c. What the programs must print is by hand, or as Python reckons it."""
 import os
 import random
+import shutil
 import subprocess
 import unittest
 
@@ -78,11 +79,21 @@ class WithoutCompiler(Program):
             self.assertIn("it.tar.gz: FAILED", done.stdout)
             self.assertEqual(os.listdir(self.folder), ["it.tar.gz"])
 
+    def tools(self, *names):
+        """A folder with what the scripts call, and with these names, which do nothing."""
+        os.mkdir(self.path("some"))
+        for name in ("dirname", "mktemp", "realpath", "rm", "cat", "sha256sum"):
+            os.symlink(shutil.which(name), self.path(f"some/{name}"))
+        for name in names:
+            self.put(f"some/{name}", b"#!/bin/sh\n")
+            os.chmod(self.path(f"some/{name}"), 0o755)
+        return {**os.environ, "PATH": self.path("some")}
+
     def test_no_archive(self):
         """Where apt has no such package, the lines to copy are told, and no sum of a file that isn't there."""
-        self.put("apt-get", b"#!/bin/sh\necho 'E: You must put some deb-src URIs in your sources.list' >&2\nexit 100\n")
-        os.chmod(self.path("apt-get"), 0o755)
-        path = {**os.environ, "PATH": self.folder + ":" + os.environ["PATH"]}
+        path = self.tools("make", "patch", "cc", "c++", "bison", "flex", "xz")
+        self.put("some/apt-get", b"#!/bin/sh\necho 'E: You must put some deb-src URIs in your sources.list' >&2\nexit 100\n")
+        os.chmod(self.path("some/apt-get"), 0o755)
         for script, told in (("build.sh", "\n    echo 'deb-src http://deb.debian.org/debian bookworm main' >/etc/apt/sources.list.d/v6-cc"
                                           ".list\n    apt-get update\n"), ("build-gcc.sh", "build-gcc.sh: the package hasn't come: ")):
             script = os.path.join(TOOLS, "c", script)
@@ -92,6 +103,14 @@ class WithoutCompiler(Program):
             done = subprocess.run([script, "-a", self.path("none"), self.path("made")], capture_output=True, text=True)
             self.assertEqual((done.returncode, done.stdout), (1, ""))
             self.assertEqual(done.stderr, f"{os.path.basename(script)}: {self.path('none')}: No such file\n")
+
+    def test_what_building_needs(self):
+        """All that is missing is told at once, before anything is fetched."""
+        path = self.tools("patch", "cc")
+        for script, wanted in (("build.sh", "make bison flex"), ("build-gcc.sh", "make c++ flex xz")):
+            done = subprocess.run([os.path.join(TOOLS, "c", script), self.path("made")], capture_output=True, text=True, env=path)
+            self.assertEqual((done.returncode, done.stdout), (1, ""))
+            self.assertEqual(done.stderr, f"{script}: these are wanted, and not found: {wanted}\n")
 
     def test_arguments_and_status(self):
         """main has their number and their addresses, and what it gives is the status."""
