@@ -12,8 +12,7 @@ import unittest.mock
 from common import TOP, Case, read, tool, v6
 
 install = tool("install")
-ENVIRONMENT = {**{key: value for key, value in os.environ.items() if key != "V6"},
-               "PATH": f"{os.path.dirname(sys.executable)}:{os.environ['PATH']}"}
+ENVIRONMENT = {key: value for key, value in os.environ.items() if key != "V6"}
 
 
 class Words(Case):
