@@ -103,6 +103,8 @@ class Searches(Case):
         image, script = self.disk(os.path.join(TOP, "docs", "lions", "src", "pair.s")), self.put("script", b"run 60\ntype one\nrun 60\n")
         self.assertEqual(self.shown(image, script, "until word which+2 of 1", "since word which+2 of 1"),
                          (["  from pc 000030, in its call read"], "look.py: word which+2: not found before slot 61\n"))
+        lines, _ = self.shown(image, script, "slot 20", "watch which+2 of 2", "watch which+2 of 1", "watch which+4 of 1", "until watch")
+        self.assertEqual([line for line in lines if "from" in line], ["  from pc 000030, in its call read"])  # of process 1, once
 
     def test_a_process_that_comes_later(self):
         """A search and a break look on for it, and the moment stays where it never comes."""
