@@ -114,6 +114,12 @@ class Searches(Case):
         self.assertEqual(self.shown(image, script, "until pc 040 of 3", "break 040 of 3"),
                          ([], 2 * "look.py: process 3 isn't there in slot 0, and never in this run\n"))
 
+    def test_where_another_runs_then(self):
+        """Process 1 comes to `after` by its read, which waits, so that process 2 runs: the place that is told is that of process 1."""
+        source = read(os.path.join(TOP, "docs", "lions", "src", "pair.s")).replace(b"\tinc\tr0", b"after:\tinc\tr0")
+        image, script = self.disk(self.put("pair.s", source)), self.put("script", b"run 60\n")
+        self.assertEqual(self.shown(image, script, "slot 2", "until pc after"), (["  pc 000030: after"], ""))
+
     def test_a_name_of_another_program(self):
         """It is said which programs of the disk have it, where they are few."""
         image, script = self.disk(self.put("counts.s", COUNTS)), self.put("script", b"run 20\n")
