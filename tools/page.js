@@ -587,7 +587,8 @@ class Page {
       and arrows where there is more than has room. */
   isTaken({ target, key }) {
     if (target === $("cursor")) return key.length > 1;
-    return /^(INPUT|SELECT)$/.test(target.tagName) || key.startsWith("Arrow") && target !== document.body && target.scrollWidth > target.clientWidth;
+    const isFull = target.scrollWidth > target.clientWidth && ![document.body, $("paper")].includes(target);
+    return /^(INPUT|SELECT)$/.test(target.tagName) || isFull && key.startsWith("Arrow");
   }
 
   key(event) {

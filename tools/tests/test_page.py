@@ -216,6 +216,14 @@ class Runs(Made):
                 self.assertIn(one, found.at(line)["rule"][0], line)
         self.assertTrue(found.at(273)["book"][0].startswith("sched (1940) of slp.c; here swap_sched"))
 
+    def test_rules_name_processes(self):
+        """A rule speaks of slots; where the process in one has another number, this stands beside it."""
+        log = b"boot 60 7\nsleep 0 -100 runout\ngo 1\nfork 1 2 at 18\nexit 2 swap 4000\nreap 2\nfork 1 2 swap 4000\nsleep 1 40 wait.1\ngo 0\nin 2 18\n"
+        self.call(page.main, "--log", self.put("log", log), "-o", self.path("page.html"))
+        found = Read(read(self.path("page.html")))
+        self.assertIn("Here: slot 2 (process 3) has been out of core for longest, 0 seconds (1)", found.at(10)["rule"][0])
+        self.assertIn("is -100, that of slot 0.", found.at(9)["rule"][0])
+
     def test_few_moments(self):
         """Where fewer moments are looked at than have lines, the page says so; what it shows of each is right."""
         words = self.crowd()
@@ -257,7 +265,7 @@ class Runs(Made):
         self.assertEqual(os.system(f"{V6} run {image} {core} {script} {self.path('term')} {log} {self.path('final')}"), 0)
         self.assertEqual(self.call(log_main, "draw", "--script", script, "-o", self.path("drawn.svg"), log), (0, "", ""))
         found, _ = self.made("--log", log, "--script", script)
-        paper = re.search(r'<div id="paper">\n(.*?)</div>', found.html, re.S)[1]
+        paper = re.search(r'<div id="paper"[^>]*>\n(.*?)</div>', found.html, re.S)[1]
         lanes, maps = re.compile(r"(?s)<text .*?(?=<text[^>]*>core: )"), re.compile("<title>([^<]*: [0-9]+ to [0-9]+)</title>")
         drawn = read(self.path("drawn.svg")).decode()
         self.assertEqual(lanes.search(paper)[0], lanes.search(drawn)[0])
