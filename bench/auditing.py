@@ -8,27 +8,24 @@ of lines. Without a LOG it counts those of random programs of bench/processes.py
 the swap area, and those in a small core, where a swapper is at work.
 """
 import os
-import subprocess
 import sys
 import tempfile
 
+from counted import counted
 from file_calls import by_command
 from processes import Case, ExecCase, FullCase, PipeCase, SignalCase, in_small_core
 
 KINDS = {"plain": Case, "execs": ExecCase, "pipes": PipeCase, "signals": SignalCase, "full": FullCase,
          "small": in_small_core(Case), "small execs": in_small_core(ExecCase)}
 SEEDS = range(1000, 1004)
+# the statuses of an audit that came to its end
+LAWFUL_OR_NOT = (0, 9)
 
 
-def count(command, log, folder):
+def count(command, log):
     """What the audit of a file takes, and how many lines it has."""
-    out = os.path.join(folder, "callgrind")
-    run = ["valgrind", "--tool=callgrind", f"--callgrind-out-file={out}", command, "audit", log]
-    subprocess.run(run, stdout=subprocess.DEVNULL, stderr=subprocess.DEVNULL, check=False)
-    with open(out, encoding="ascii") as file:
-        took = next(int(line.split()[1]) for line in file if line.startswith(("summary:", "totals:")))
     with open(log, "rb") as file:
-        return took, file.read().count(b"\n")
+        return counted([command, "audit", log], ends=LAWFUL_OR_NOT), file.read().count(b"\n")
 
 
 def logs_of(command, kind, folder):
@@ -41,10 +38,10 @@ def logs_of(command, kind, folder):
 
 def tell(command, name, logs, folder):
     """Each log is counted before the next is made."""
-    nothing, _ = count(command, os.devnull, folder)
+    nothing, _ = count(command, os.devnull)
     took = lines = 0
     for log in logs:
-        more, of = count(command, log, folder)
+        more, of = count(command, log)
         took, lines = took + more - nothing, lines + of
     print(f"{took / lines:8.1f}  a line of {name} ({lines} lines)", flush=True)
 

@@ -17,13 +17,12 @@ what is left.
 The reference is that of file_calls.py.
 """
 import collections
-import os
 import random
 import re
-import shlex
 import sys
 import tempfile
 
+import comparing
 from file_calls import built_differences, by_command, by_reference, log_differences, reference
 from random_console import KEEP, TELL, init_of, random_program, said
 from random_disk import Tree
@@ -51,11 +50,7 @@ class Case:
         return "\n".join([*lines, "", "the disk", *self.tree.listing()]) + "\n"
 
     def write(self, folder):
-        os.makedirs(folder, exist_ok=True)
-        texts = {"core": f"{self.core}\n".encode(), "listing": self.listing().encode()}
-        for name, data in {"image": self.image, "script": self.script.bytes(), **texts}.items():
-            with open(f"{folder}/{name}", "wb") as file:
-                file.write(data)
+        comparing.write_case(folder, self)
 
 
 # differences
@@ -115,10 +110,10 @@ def count(case, want, log, counts):
 
 # words
 
-def compare(command, runs, first):
+def compare(command, runs, first, kind):
     counts, differ = collections.Counter(), 0
     for seed in range(first, first + runs):
-        case = Case(seed)
+        case = kind(seed)
         found, want, log = differences(command, case)
         differ += bool(found)
         for line in found[:8]:
@@ -130,17 +125,17 @@ def compare(command, runs, first):
     return bool(differ)
 
 
-def smallest(command, seed, folder):
+def smallest(command, seed, folder, kind):
     """Leaves out more and more lines of the script, first many and then single ones, as long as there is a
     difference."""
-    case = Case(seed)
+    case = kind(seed)
     if not differences(command, case)[0]:
         sys.exit(f"seed {seed}: no difference")
     size = len(case.script.lines)
     while size:
         at = 0
         while at < len(case.script.lines):
-            fewer = Case(seed, case.script.without(at, at + size))
+            fewer = kind(seed, case.script.without(at, at + size))
             if fewer.script.lines and differences(command, fewer)[0]:
                 case = fewer
             else:
@@ -151,19 +146,7 @@ def smallest(command, seed, folder):
 
 
 def main(words):
-    if words and words[0] in ("compare", "alone", "smallest") and "ABSTRACT_UNIX" not in os.environ:
-        sys.exit("ABSTRACT_UNIX: the folder of the reference")
-    match words:
-        case ["make", seed, folder]:
-            Case(int(seed)).write(folder)
-        case ["compare", command, runs, *first] if len(first) < 2:
-            return compare(shlex.split(command), int(runs), int(first[0]) if first else 0)
-        case ["alone", runs, *first] if len(first) < 2:
-            return compare(None, int(runs), int(first[0]) if first else 0)
-        case ["smallest", command, seed, folder]:
-            return smallest(shlex.split(command), int(seed), folder)
-        case _:
-            sys.exit(__doc__)
+    return comparing.main(words, Case, __doc__, compare, smallest)
 
 
 if __name__ == "__main__":

@@ -9,10 +9,10 @@ is the difference of the two counts, divided by the number of events.
 """
 import os
 import struct
-import subprocess
 import sys
 import tempfile
 
+from counted import counted, put, run_with
 from instructions import disk_of
 
 NAME = list(struct.unpack("<8H", b"/dev/tty8".ljust(16, b"\0")))
@@ -26,18 +26,8 @@ LINE = "x" * 15
 
 
 def count(program, words, script, folder):
-    with open(f"{folder}/image", "wb") as file:
-        file.write(disk_of(words))
-    with open(f"{folder}/script", "w", encoding="ascii") as file:
-        file.write(script)
-    out = f"{folder}/callgrind"
-    run = ["valgrind", "--tool=callgrind", f"--callgrind-out-file={out}", program, "run", f"{folder}/image", "1200",
-           f"{folder}/script", f"{folder}/term", f"{folder}/log", f"{folder}/final"]
-    done = subprocess.run(run, capture_output=True, text=True, check=False)
-    if done.returncode:
-        sys.exit(f"{script[:40]!r}: status {done.returncode}: {done.stdout}")
-    with open(out, encoding="ascii") as file:
-        return next(int(line.split()[1]) for line in file if line.startswith(("summary:", "totals:")))
+    put(folder, script, disk_of(words))
+    return counted([program, *run_with(1200)], folder)
 
 
 def cost(program, words, before, events, number):

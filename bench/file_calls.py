@@ -25,11 +25,11 @@ import json
 import os
 import random
 import re
-import shlex
 import subprocess
 import sys
 import tempfile
 
+import comparing
 from random_calls import random_plan
 from random_disk import Tree
 from random_program import CALLS, MARK, RESULTS, Call, init_of, items_of, slots_of
@@ -288,35 +288,13 @@ def smallest(command, seed, folder, kind=Case):
     calls = kind(seed).plan.calls
     if not differences(command, kind(seed))[0]:
         sys.exit(f"seed {seed}: no difference")
-    size = len(calls)
-    while size:
-        at = 0
-        while at < len(calls):
-            fewer = calls[:at] + calls[at + size :]
-            if differences(command, kind(seed, fewer))[0]:
-                calls = fewer
-            else:
-                at += size
-        size //= 2
-    case = kind(seed, calls)
+    case = kind(seed, comparing.without(calls, lambda some: differences(command, kind(seed, some))[0]))
     case.write(folder)
     print(case.listing(), *differences(command, case)[0], sep="\n")
 
 
 def main(words, kind=Case, doc=__doc__):
-    if words and words[0] in ("compare", "alone", "smallest") and "ABSTRACT_UNIX" not in os.environ:
-        sys.exit("ABSTRACT_UNIX: the folder of the reference")
-    match words:
-        case ["make", seed, folder]:
-            kind(int(seed)).write(folder)
-        case ["compare", command, runs, *first] if len(first) < 2:
-            return compare(shlex.split(command), int(runs), int(first[0]) if first else 0, kind)
-        case ["alone", runs, *first] if len(first) < 2:
-            return compare(None, int(runs), int(first[0]) if first else 0, kind)
-        case ["smallest", command, seed, folder]:
-            return smallest(shlex.split(command), int(seed), folder, kind)
-        case _:
-            sys.exit(doc)
+    return comparing.main(words, kind, doc, compare, smallest)
 
 
 if __name__ == "__main__":

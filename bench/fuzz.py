@@ -49,6 +49,7 @@ import time
 
 import fuzz_row
 import spoil
+from comparing import needs_reference
 from fuzz_cases import HI, KINDS, TOP, Case, case_of, of_bench, read
 from fuzz_judge import Program, answered, by_itself, check_answer, differences, ended, events_of
 from fuzz_small import Small
@@ -231,8 +232,7 @@ def main(words):
     parser.add_argument("--kind", choices=KINDS)
     parser.add_argument("--keep", metavar="FOLDER", default="fuzz.kept")
     options = parser.parse_args(words)
-    if "ABSTRACT_UNIX" not in os.environ:
-        sys.exit("ABSTRACT_UNIX: the folder of the reference")
+    needs_reference()
     program = Program(shlex.split(options.v6))
     does = check if options.check is not None else one if options.seed is not None else fuzz
     return int(does(options, program))

@@ -5,7 +5,7 @@ import re
 import struct
 import sys
 
-from fuzz_cases import TOP
+from fuzz_cases import HI, TOP, read
 from fuzz_judge import MOST_SLOTS, OUTPUTS, TooSlow, check_answer, number, reference_run
 
 sys.path.append(os.path.join(TOP, "tools"))

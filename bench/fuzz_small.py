@@ -7,7 +7,7 @@ import time
 from fuzz_cases import HEADER, HI, INODE_7, read
 from fuzz_judge import differences
 from fuzz_hosts import Host
-from processes import without
+from comparing import without
 from spoil import Disk, put
 
 NOP, JUMP = 0o240, 0o137

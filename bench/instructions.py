@@ -10,11 +10,11 @@ fits before a branch back, so that the branch hardly counts. The second number o
 ticks and a second among it; it is counted for the loops and for the few instructions in CLOCKED.
 """
 import os
-import re
 import struct
-import subprocess
 import sys
 import tempfile
+
+from counted import counted, put, run_with
 
 TOP = os.path.dirname(os.path.dirname(os.path.abspath(__file__)))
 # /etc/init on that disk: where its inode and its one block stand
@@ -75,7 +75,7 @@ ONES = [
 ]
 
 # the words of a run, whose files stand in one folder
-RUN = ["run", "image", "100", "script", "term", "log", "final"]
+RUN = run_with(100)
 
 CLOCKED = {name for name, _ in LOOPS} | {"MOV R1,R2", "ADD R1,R2", "MOV @#700,R1", "INC @#700", "DIV #3,R2"}
 
@@ -97,11 +97,8 @@ def disk_of(words, least=0o710):
 
 
 def count(program, slots, folder, before="", run=RUN):
-    with open(f"{folder}/script", "w") as file:
-        file.write(f"{before}run {slots}\n")
-    words = ["valgrind", "--tool=callgrind", "--callgrind-out-file=/dev/null", program, *run]
-    ran = subprocess.run(words, cwd=folder, stderr=subprocess.PIPE, text=True, check=True)
-    return int(re.search(r"Collected : (\d+)", ran.stderr)[1])
+    put(folder, f"{before}run {slots}\n")
+    return counted([program, *run], folder)
 
 
 def cost(program, words, slots, before=""):

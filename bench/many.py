@@ -8,12 +8,11 @@ The program runs each over a number of slots and over twice as many under callgr
 counts, divided by the number of rounds in it.
 """
 import os
-import re
-import subprocess
 import sys
 import tempfile
 
-from instructions import MEMORY_LOOP, disk_of
+from counted import counted, put, run_with
+from instructions import disk_of
 
 FORK, EXIT, WAIT, GETPID, NICE, SLEEP, TIMES = (0o104400 | number for number in (2, 1, 7, 20, 34, 35, 43))
 ROUNDS = 2000
@@ -44,16 +43,8 @@ FORKS = [FORK, 0o000402, WAIT, 0o000774, EXIT]
 
 
 def count(program, words, slots, folder, before=""):
-    with open(f"{folder}/image", "wb") as file:
-        file.write(disk_of(words, 2 * len(words)))
-    with open(f"{folder}/script", "w", encoding="ascii") as file:
-        file.write(f"{before}run {slots}\n")
-    run = ["valgrind", "--tool=callgrind", "--callgrind-out-file=/dev/null", program, "run", f"{folder}/image", "3968",
-           f"{folder}/script", f"{folder}/term", f"{folder}/log", f"{folder}/final"]
-    done = subprocess.run(run, capture_output=True, text=True, check=False)
-    if done.returncode:
-        sys.exit(f"status {done.returncode}: {done.stdout}")
-    return int(re.search(r"Collected : (\d+)", done.stderr)[1])
+    put(folder, f"{before}run {slots}\n", disk_of(words, 2 * len(words)))
+    return counted([program, *run_with(3968)], folder)
 
 
 def cost(program, words, slots, rounds, before=""):

@@ -20,6 +20,7 @@ import subprocess
 import sys
 import tempfile
 
+from comparing import asked
 from processes import kind_of
 
 BENCH = os.path.dirname(os.path.abspath(__file__))
@@ -98,10 +99,4 @@ def compare(command, runs, lines, first, slots, kind):
 
 if __name__ == "__main__":
     case, words = kind_of(sys.argv[1:])
-    if not 3 <= len(words) <= 5 or not all(word.isdecimal() for word in words[1:]):
-        sys.exit(__doc__)
-    if "ABSTRACT_UNIX" not in os.environ:
-        sys.exit("ABSTRACT_UNIX: the folder of the reference")
-    sys.path.insert(0, os.environ["ABSTRACT_UNIX"])
-    numbers = [int(word) for word in words[1:]] + [0, SLOTS][len(words) - 3 :]
-    sys.exit(compare(words[0], *numbers, case))
+    sys.exit(compare(*asked(words, __doc__, 2, 0, SLOTS), case))

@@ -35,11 +35,11 @@ import json
 import os
 import random
 import re
-import shlex
 import sys
 import tempfile
 import time
 
+import comparing
 from file_calls import DISK_BYTES, SWAP_AT, by_command, first_difference, line_difference, node_differences
 from random_disk import Tree
 from random_execs import Programs, data_at
@@ -75,11 +75,7 @@ class Case:
         return "\n".join([*lines, "", "the disk", *self.tree.listing()]) + "\n"
 
     def write(self, folder):
-        os.makedirs(folder, exist_ok=True)
-        texts = {"core": f"{self.core}\n".encode(), "listing": self.listing().encode()}
-        for name, data in {"image": self.image, "script": self.script.bytes(), **texts}.items():
-            with open(f"{folder}/{name}", "wb") as file:
-                file.write(data)
+        comparing.write_case(folder, self)
 
 
 class ExecCase(Case):
@@ -286,21 +282,6 @@ def compare(command, runs, first, kind=Case):
     return bool(differ)
 
 
-def without(items, differs):
-    """Leaves out more and more of a list, first many and then single ones, as long as there is a difference."""
-    size = len(items)
-    while size:
-        at = 0
-        while at < len(items):
-            fewer = items[:at] + items[at + size :]
-            if differs(fewer):
-                items = fewer
-            else:
-                at += size
-        size //= 2
-    return items
-
-
 def smallest(command, seed, folder, kind=Case):
     case = kind(seed)
     if not differences(command, case)[0]:
@@ -318,9 +299,9 @@ def smallest(command, seed, folder, kind=Case):
     def differs(some_lines, program):
         return bool(some_lines) and bool(differences(command, kind(seed, script_of(some_lines), program))[0])
 
-    lines = without(lines, lambda some: differs(some, case.program))
-    steps = without(case.program.steps, lambda some: differs(lines, program_of(some)))
-    lines = without(lines, lambda some: differs(some, program_of(steps)))
+    lines = comparing.without(lines, lambda some: differs(some, case.program))
+    steps = comparing.without(case.program.steps, lambda some: differs(lines, program_of(some)))
+    lines = comparing.without(lines, lambda some: differs(some, program_of(steps)))
     case = kind(seed, script_of(lines), program_of(steps))
     case.write(folder)
     print(case.listing(), case.script.bytes(), *differences(command, case)[0], sep="\n")
@@ -328,19 +309,7 @@ def smallest(command, seed, folder, kind=Case):
 
 def main(words):
     kind, words = kind_of(words)
-    if words and words[0] in ("compare", "alone", "smallest") and "ABSTRACT_UNIX" not in os.environ:
-        sys.exit("ABSTRACT_UNIX: the folder of the reference")
-    match words:
-        case ["make", seed, folder]:
-            kind(int(seed)).write(folder)
-        case ["compare", command, runs, *first] if len(first) < 2:
-            return compare(shlex.split(command), int(runs), int(first[0]) if first else 0, kind)
-        case ["alone", runs, *first] if len(first) < 2:
-            return compare(None, int(runs), int(first[0]) if first else 0, kind)
-        case ["smallest", command, seed, folder]:
-            return smallest(shlex.split(command), int(seed), folder, kind)
-        case _:
-            sys.exit(__doc__)
+    return comparing.main(words, kind, __doc__, compare, smallest)
 
 
 if __name__ == "__main__":

@@ -471,9 +471,10 @@ class Operator(Typist):
         self.rng.choices([kind for kind, _ in kinds], [weight for _, weight in kinds])[0]()
 
 
-def random_script(rng, *slots):
-    operator = Operator(rng, *slots)
-    if rng.random() < 0.8:
+def script_by(operator, clocked):
+    """The lines that an operator chooses, most often under a clock, often with disk waits and paced output."""
+    rng = operator.rng
+    if rng.random() < clocked:
         operator.clock()
     if rng.random() < 0.4:
         operator.disk()
@@ -482,3 +483,7 @@ def random_script(rng, *slots):
     while operator.slots < operator.most:
         operator.line()
     return Script(operator.lines, [b"\n"] * len(operator.lines))
+
+
+def random_script(rng, *slots):
+    return script_by(Operator(rng, *slots), 0.8)

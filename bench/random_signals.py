@@ -10,9 +10,9 @@ something else, or looks at it.
 from random_console import NO_CALLS
 from random_execs import ExecChooser, Programs
 from random_processes import (CHMOD, CREAT, FD, FSTAT, GETPID, INDIRECT, LINK, MKNOD, NAMES, OPEN, READ, SETUID, SLEEP,
-                              STTY, TELL, TIMES, UNLINK, WAIT, WRITE, Code, Does, Forks, Indirectly, Operator, Rounds, WaitsForAll)
+                              STTY, TELL, TIMES, UNLINK, WAIT, WRITE, Code, Does, Forks, Indirectly, Operator, Rounds, WaitsForAll,
+                              script_by)
 from random_program import EXIT, STACK, TRAP, Call
-from random_script import Script
 
 KILL, SIGNAL = 37, 48
 NAMES.update({KILL: "kill", SIGNAL: "signal"})
@@ -207,13 +207,4 @@ class SignalOperator(Operator):
 
 
 def random_signal_script(rng, slots):
-    operator = SignalOperator(rng, slots)
-    if rng.random() < 0.85:
-        operator.clock()
-    if rng.random() < 0.4:
-        operator.disk()
-    if rng.random() < 0.5:
-        operator.pace()
-    while operator.slots < operator.most:
-        operator.line()
-    return Script(operator.lines, [b"\n"] * len(operator.lines))
+    return script_by(SignalOperator(rng, slots), 0.85)

@@ -8,11 +8,12 @@ proved as every program is, in a copy of one crate; it runs for one and for two 
 the difference of the two counts, and that divided by the number of lines.
 """
 import os
-import re
 import shutil
 import subprocess
 import sys
 import tempfile
+
+from counted import counted
 
 TOP = os.path.dirname(os.path.dirname(os.path.abspath(__file__)))
 LINES = 209_715
@@ -72,9 +73,7 @@ def built(folder):
 
 
 def count(program, readings):
-    words = ["valgrind", "--tool=callgrind", "--callgrind-out-file=/dev/null", program, str(readings)]
-    ran = subprocess.run(words, stderr=subprocess.PIPE, text=True, check=True)
-    return int(re.search(r"Collected : (\d+)", ran.stderr)[1])
+    return counted([program, str(readings)])
 
 
 def main():

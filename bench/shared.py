@@ -8,12 +8,12 @@ and over twice as many under callgrind; printed is the difference of the two cou
 counted for a text of one click, and for one of a hundred.
 """
 import os
-import re
 import struct
 import subprocess
 import sys
 import tempfile
 
+import counted
 from instructions import TOP
 
 ROUNDS = 500
@@ -39,16 +39,11 @@ def disk(program, words, clicks, folder):
 
 
 def count(program, slots, folder):
-    with open(f"{folder}/script", "w", encoding="ascii") as file:
-        file.write(f"run {slots}\n")
-    run = ["valgrind", "--tool=callgrind", "--callgrind-out-file=/dev/null", program, "run", f"{folder}/image", "3968",
-           f"{folder}/script", f"{folder}/term", f"{folder}/log", f"{folder}/final"]
-    done = subprocess.run(run, capture_output=True, text=True, check=False)
-    if done.returncode:
-        sys.exit(f"status {done.returncode}: {done.stdout}")
+    """How often the text was shared, and what the run took."""
+    counted.put(folder, f"run {slots}\n")
+    took = counted.counted([program, *counted.run_with(3968)], folder)
     with open(f"{folder}/log", encoding="ascii") as file:
-        lines = file.read().splitlines()
-    return sum(line.startswith("share 1 ") for line in lines), int(re.search(r"Collected : (\d+)", done.stderr)[1])
+        return sum(line.startswith("share 1 ") for line in file), took
 
 
 def cost(program, words, clicks, slots):

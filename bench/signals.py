@@ -14,6 +14,7 @@ import subprocess
 import sys
 import tempfile
 
+from counted import counted, put, run_with
 from instructions import TOP
 from many import EXIT, FORK, GETPID, LAST, children, loop
 
@@ -37,15 +38,10 @@ def run(program, words, slots, folder):
     subprocess.run([program, "make", "0", f"{folder}/image"], check=True)
     disk = [sys.executable, f"{TOP}/tools/disk.py", "--v6", program, "put", f"{folder}/image", f"{folder}/init", "/etc/init"]
     subprocess.run(disk, check=True)
-    with open(f"{folder}/script", "w", encoding="ascii") as file:
-        file.write(f"run {slots}\n")
-    words = ["valgrind", "--tool=callgrind", "--callgrind-out-file=/dev/null", program, "run", f"{folder}/image", "3968",
-             f"{folder}/script", f"{folder}/term", f"{folder}/log", f"{folder}/final"]
-    done = subprocess.run(words, capture_output=True, text=True, check=False)
-    if done.returncode:
-        sys.exit(f"status {done.returncode}: {done.stdout}")
+    put(folder, f"run {slots}\n")
+    took = counted([program, *run_with(3968)], folder)
     with open(f"{folder}/log", encoding="ascii") as log:
-        return int(re.search(r"Collected : (\d+)", done.stderr)[1]), log.read()
+        return took, log.read()
 
 
 def cost(program, words, mark):

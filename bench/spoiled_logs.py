@@ -27,6 +27,7 @@ import subprocess
 import sys
 import tempfile
 
+from comparing import needs_reference
 from definition import Auditor
 from file_calls import called, words_of_run
 from fuzz_cases import case_of
@@ -269,8 +270,7 @@ def judge(command, count, first, folder=None, quick=False):
 
 
 def main(words):
-    if "ABSTRACT_UNIX" not in os.environ:
-        sys.exit("ABSTRACT_UNIX: the folder of the reference")
+    needs_reference()
     match words:
         case ["write", command, count, *first, folder] if len(first) < 2:
             os.makedirs(folder, exist_ok=True)

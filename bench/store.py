@@ -8,11 +8,12 @@ program is, in a copy of the repository's crates; it runs for a number of calls 
 printed is the difference of the two counts, divided by the number.
 """
 import os
-import re
 import shutil
 import subprocess
 import sys
 import tempfile
+
+from counted import counted
 
 TOP = os.path.dirname(os.path.dirname(os.path.abspath(__file__)))
 
@@ -202,9 +203,7 @@ def built(folder):
 
 
 def count(program, letter, calls):
-    words = ["valgrind", "--tool=callgrind", "--callgrind-out-file=/dev/null", program, letter, str(calls)]
-    ran = subprocess.run(words, stderr=subprocess.PIPE, text=True, check=True)
-    return int(re.search(r"Collected : (\d+)", ran.stderr)[1])
+    return counted([program, letter, str(calls)])
 
 
 def main():

@@ -10,10 +10,10 @@ seconds and over one of twice as many under callgrind, and so does one that only
 the difference of these differences, by the number of changes.
 """
 import os
-import subprocess
 import sys
 import tempfile
 
+from counted import counted, put, run_with
 from instructions import disk_of
 
 ALONE = [0o000777]
@@ -24,20 +24,11 @@ CHANGES = 40
 
 
 def count(program, words, script, folder):
-    with open(f"{folder}/image", "wb") as file:
-        file.write(disk_of(words))
-    with open(f"{folder}/script", "w", encoding="ascii") as file:
-        file.write(script)
-    out = f"{folder}/callgrind"
-    run = ["valgrind", "--tool=callgrind", f"--callgrind-out-file={out}", program, "run", f"{folder}/image", "64",
-           f"{folder}/script", f"{folder}/term", f"{folder}/log", f"{folder}/final"]
-    done = subprocess.run(run, capture_output=True, text=True, check=False)
-    if done.returncode:
-        sys.exit(f"{script[:40]!r}: status {done.returncode}: {done.stdout}")
+    """How many images came in, and what the run took."""
+    put(folder, script, disk_of(words))
+    took = counted([program, *run_with(64)], folder)
     with open(f"{folder}/log", encoding="ascii") as file:
-        changes = sum(line.startswith("in ") for line in file)
-    with open(out, encoding="ascii") as file:
-        return changes, next(int(line.split()[1]) for line in file if line.startswith(("summary:", "totals:")))
+        return sum(line.startswith("in ") for line in file), took
 
 
 def cost(program, words):

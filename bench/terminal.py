@@ -14,12 +14,11 @@ and goes on: printed is such a slot, less one in which nobody runs and nothing w
 choice, and of a write that goes on. On line 7 each such slot asks eight lines.
 """
 import os
-import re
 import struct
-import subprocess
 import sys
 import tempfile
 
+from counted import counted, put, run_with
 from instructions import disk_of
 
 WRITES, PACED_SLOTS = 5_000, 21_000
@@ -50,13 +49,8 @@ def disk_that_writes(byte, line=0, loop=LOOP):
 
 def count(program, image, script, command):
     with tempfile.TemporaryDirectory() as folder:
-        for name, data in (("image", image), ("script", script.encode())):
-            with open(f"{folder}/{name}", "wb") as file:
-                file.write(data)
-        words = ["valgrind", "--tool=callgrind", "--callgrind-out-file=/dev/null", program, command, "image", "100", "script", "term",
-                 "log", "final"]
-        ran = subprocess.run(words, cwd=folder, stderr=subprocess.PIPE, text=True, check=True)
-        return int(re.search(r"Collected : (\d+)", ran.stderr)[1])
+        put(folder, script, image)
+        return counted([program, *run_with(100, command)], folder)
 
 
 def cost(program, image, before, slots, parts, command="run"):

@@ -20,6 +20,7 @@ import sys
 import tempfile
 import types
 
+from comparing import asked
 from processes import kind_of
 
 TOOLS = os.path.join(os.path.dirname(os.path.dirname(os.path.abspath(__file__))), "tools")
@@ -136,10 +137,4 @@ def compare(command, count, first, slots, kind):
 
 if __name__ == "__main__":
     case, words = kind_of(sys.argv[1:])
-    if not 2 <= len(words) <= 4 or not all(word.isdecimal() for word in words[1:]):
-        sys.exit(__doc__)
-    if "ABSTRACT_UNIX" not in os.environ:
-        sys.exit("ABSTRACT_UNIX: the folder of the reference")
-    sys.path.insert(0, os.environ["ABSTRACT_UNIX"])
-    numbers = [int(word) for word in words[1:]] + [0, 1000][len(words) - 2 :]
-    sys.exit(compare(words[0], *numbers, case))
+    sys.exit(compare(*asked(words, __doc__, 1, 0, 1000), case))

@@ -14,7 +14,7 @@ import random
 import sys
 
 from file_calls import Case, main
-from random_calls import CHDIR, CHMOD, LINK, MKNOD, OPEN, READ, STAT, SYNC, UNLINK, WRITE, Chooser, random_plan
+from random_calls import CHDIR, CHMOD, LINK, MKNOD, OPEN, STAT, SYNC, UNLINK, WRITE, Chooser, random_plan
 from random_disk import BLOCKS, NAMES, Inode, Tree
 from random_program import STACK, Call
 

@@ -29,7 +29,7 @@ from silent import why_silent
 HELP = """~.      ends, and so does the end of a file that is read in the place of the keyboard
 ~^X     types a control character: ~^D is 004, ~^? is 0177
 ~k KEYS types keys without a return: ~k abc^D is abc and 004
-~:LINE  puts a line of a script: ~:clock 1000, ~:run 50000, ~:switch 000001
+~:LINE  puts a line of a script: ~:clock 1000, ~:disk 20, ~:pace 5, ~:run 50000, ~:switch 000001
 ~~TEXT  types a line that begins with ~
 ~N      shows line N of the terminal, 0 to 7, and types there from now on; --lines gives these lines
 ~a      shows all lines on which something was shown, side by side

@@ -4,9 +4,8 @@ import functools
 import itertools
 import threading
 from collections import OrderedDict
-from concurrent.futures import ThreadPoolExecutor
 
-from moments import WORKERS, MomentError
+from moments import MomentError, workers
 from proctable import Table
 
 APART = 4096  # lines of the log between two tables that are kept
@@ -140,7 +139,7 @@ class History:
 
     def each(self, does, wanted):
         """What `does` makes of each of these, several at a time."""
-        with ThreadPoolExecutor(WORKERS) as pool:
+        with workers() as pool:
             return list(pool.map(does, wanted))
 
     def slot_of_line(self, line):

@@ -4,7 +4,7 @@ A long log is thinned: the picture has so many columns, and a column shows what 
 what was so at its end.
 """
 import colorsys
-from xml.sax.saxutils import escape
+from html import escape
 
 from proctable import CORE_FIRST, SWAP_FIRST, SWAP_LAST
 
@@ -307,10 +307,10 @@ def tint(hue, light):
 
 def rect(x, y, width, height, fill, kind="", title=""):
     kind = f' class="{kind}"' if kind else ""
-    inside = f"><title>{escape(title)}</title></rect>" if title else "/>"
+    inside = f"><title>{escape(title, False)}</title></rect>" if title else "/>"
     return f'<rect{kind} x="{x}" y="{y}" width="{width}" height="{height}" style="fill:{fill}"{inside}'
 
 
 def text(x, y, words, kind=""):
     kind = f' class="{kind}"' if kind else ""
-    return f'<text{kind} x="{x}" y="{y}">{escape(words)}</text>'
+    return f'<text{kind} x="{x}" y="{y}">{escape(words, False)}</text>'

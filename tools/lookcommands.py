@@ -11,6 +11,7 @@ LETTERS = "RrowWsSz"
 REGISTERS = {**{f"r{n}": n for n in range(6)}, "sp": 6, "pc": 7}
 BY_MEMORY = ("call", "pc", "word", "break", "watch")  # what only core tells of
 MOST_WORDS = 4096  # that are shown at once
+FEW_PROGRAMS = 3  # that are named where a name isn't one of a process's own
 HELP = """\
 ps                       the processes
 process [N]              process N whole; without a number, here and everywhere, the one that runs, or process 1
@@ -88,6 +89,15 @@ class Looker:
             raise LookError(self.gone(number))
         return number
 
+    def coming(self):
+        """The number of the process that a command is about, which may come later: then that is the moment from now on."""
+        if self.number is None or self.moment.whole.slot_of(self.number) is not None:
+            return self.chosen()
+        later = [came for came, _ in self.history.life(self.number) if came >= self.moment.lines]
+        if later and (slots := self.history.slot_of_line(later[0])) <= self.history.last:
+            self.moment = self.history.moment(slots)
+        return self.chosen()
+
     def gone(self, number):
         """Why a process isn't there."""
         said = f"process {number} isn't there in slot {self.moment.slots}"
@@ -119,13 +129,16 @@ class Looker:
             at = process.registers[REGISTERS[first]]
         else:
             program = self.views.program(self.moment, number)
-            at = program.address_of(first) if program else None
-            if at is None and program and ":" in first:
-                at = program.line_address(first)
+            at = program.place(first) if program else None
             if at is None:
                 whose = f"{program.path} has no such name" if program else f"process {number} has no program with names"
-                raise LookError(f"{first}: {whose}")
+                raise LookError(f"{first}: {whose}{self.others(first)}")
         return at + (self.number_of(more, "bytes", 65535) if plus else 0) & 0xFFFF
+
+    def others(self, name):
+        """Which programs of the disk have a name that the one which was looked at hasn't."""
+        found = [program.path for program in self.views.programs.found if program.place(name) is not None]
+        return f"; {' and '.join(found)} {'has' if len(found) == 1 else 'have'}, see `of N`" if 0 < len(found) <= FEW_PROGRAMS else ""
 
     def word_address(self, text):
         at = self.address(text)
@@ -270,6 +283,8 @@ class Looker:
             self.look_on(words[0])
         search = Search(self.history, self.moment, forwards)
         try:
+            if kind in ("pc", "word"):
+                self.number = self.chosen()  # of here; where the search comes to, another may run
             is_there = self.moment is not here and kind == "pc" and self.is_at(*words)
             slots = self.moment.slots if is_there else does(search, *words)
         finally:
@@ -277,8 +292,9 @@ class Looker:
         return self.found(slots, text, forwards) + self.stands(kind)
 
     def look_on(self, place):
-        """Where the program of a process hasn't the name of a place, goes on to the first one that it executes which has it."""
-        here, number = self.moment, self.chosen()
+        """Where the program of a process hasn't the name of a place, goes on to the first one that it executes which has it; where the
+        process isn't there yet, to where it comes."""
+        here, number = self.moment, self.coming()
         while True:
             try:
                 self.address(place)
@@ -303,10 +319,24 @@ class Looker:
         if kind == "break":
             now, before = self.moment, self.history.moment(self.moment.slots - 1)
             return [self.at_break(*one) for one in self.breaks if pc_of(now, one[0]) == one[1] != pc_of(before, one[0])]
+        if kind == "word":
+            return self.came(self.number)
+        if kind == "watch":
+            now, before = self.moment, self.history.moment(self.moment.slots - 1)
+            changed = [number for number, at in self.watched if self.word(now, number, at) != self.word(before, number, at)]
+            return [line for number in dict.fromkeys(changed) for line in self.came(number)]
         if kind != "pc":
             return []
         number, process = self.memory_of()
         return self.views.place(process.pc, self.views.program(self.moment, number))
+
+    def came(self, number):
+        """By what a process came to this moment: the instruction that it had before it, or a call that had begun by then."""
+        before = self.history.moment(self.moment.slots - 1)
+        process = before.process(number) if before.whole.slot_of(number) is not None else None
+        if process is None or not process.parts:
+            return []
+        return [self.views.came(process, self.views.program(before, number))]
 
     def at_break(self, number, at):
         """A break in words, with the name of its place and its line of the source."""
@@ -377,8 +407,9 @@ class Looker:
 
     def do_break(self, place=None):
         if place is not None:
-            here, self.number = self.moment, self.chosen()
+            here = self.moment
             try:
+                self.number = self.coming()
                 self.look_on(place)
                 one = self.number, self.word_address(place)
             finally:

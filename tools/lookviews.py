@@ -208,6 +208,12 @@ class Views:
         told = [name] * bool(name) + ([self.told(found)] if found else [])
         return [f"  pc {address:06o}: {', '.join(told)}"] if told else []
 
+    def came(self, process, program):
+        """The instruction or the call from which a process goes on, with its name and its line of the source, as far as they are known."""
+        told = self.place(process.pc, program)
+        call = f", in its call {PENDING.get(process.pending, 'of then')}" if process.pending else ""
+        return f"  from pc {process.pc:06o}{call}" + (told[0][len("  pc 000000") :] if told else "")
+
     def name(self, program, address):
         return (program.name_at(address) if program else None) or ""
 

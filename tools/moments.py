@@ -4,7 +4,6 @@ import collections
 import mmap
 import os
 import threading
-from concurrent.futures import ThreadPoolExecutor
 
 from files import read_bytes
 from program import ProgramError, call, named
@@ -18,6 +17,13 @@ WORKERS = os.cpu_count() or 1
 FURTHER = range(1, 8)  # the lines of a terminal beside the console
 NO_MEMORY = "core isn't known of a run with eight lines or a second disk, since `v6 memory` has one of each"
 ENDS = ("trap", "sleep", "exit")  # words of the lines with which a turn in the kernel ends
+
+
+def workers():
+    """As many threads as there are processors; what they take is imported where they are wanted, since a tool begins sooner so."""
+    from concurrent.futures import ThreadPoolExecutor
+
+    return ThreadPoolExecutor(WORKERS)
 
 
 def is_turn(line):
@@ -145,7 +151,7 @@ class Run:
         first = self.count(0, more)
         found.update({line: 0 for line in wanted if line < first})
         parts = self.parts([line for line in wanted if line >= first], more)
-        with ThreadPoolExecutor(WORKERS) as pool:
+        with workers() as pool:
             while parts := [part for part in parts if part[2]]:
                 middles = [(low + high) // 2 for low, high, _ in parts if high - low > 1]
                 counts = dict(zip(middles, pool.map(lambda middle: self.count(middle, more), middles)))

@@ -7,6 +7,9 @@ const AROUND = 7;                         // lines that are shown before and aft
 const KINDS = { choice: CHOICE, call: CALL, second: SECOND };
 const MOST_SHOWN = 100000;                // bytes of a terminal that are shown, from its end
 const HIDDEN = "hidden in the quiz: it is known after the next choice alone";
+const WAITS = 10, NUMBER = 2;             // cells of a row of the table of processes
+const CALLS = { wait: "wait", keys: "read", read: "read", show: "write", write: "write", tout: "sleep" };  // by what is waited for
+const BEGUN = " has begun, and isn't done", CALL_OF = /^call +/;  // of the row of a process that tells its call
 
 const $ = (id) => document.getElementById(id);
 
@@ -157,6 +160,14 @@ class Run {
     return this.raws.has(text);
   }
 
+  /** The last line, up to one, that gave the image of the process in a slot the place that it has then; or 0. */
+  placed(slot, line) {
+    const moves = new RegExp(`^((in|out|image|exit) ${slot} |fork [0-9]+ ${slot} |size ${slot} [0-9]+ [as]${slot === 1 ? "|boot " : ""})`);
+    const has = this.texts.map((text) => moves.test(text));
+    while (line && !has[this.columns.raw[line - 1]]) line--;
+    return line;
+  }
+
   /** The next line about a word, or the last before, or 0. */
   search(word, line, by) {
     const has = this.about(word);
@@ -252,7 +263,8 @@ class Page {
     const said = [head.said && `The run ends so: ${head.said}.`, head.left && `Left out: ${head.left}.`,
       head.isCut && "The log ends within a run."].filter(Boolean);
     $("note").textContent = said.join(" ");
-    for (const id of ["p-call", "p-process"]) $(id).hidden = !head.hasMemory;
+    $("panels").className = head.hasMemory ? "" : "bare";
+    for (const id of ["p-call", "of-memory"]) $(id).hidden = !head.hasMemory;
     this.listMarks();
     this.listTerminals();
     document.querySelector("main").hidden = false;
@@ -300,7 +312,7 @@ class Page {
     $("call").textContent = isHidden && !run.is(line, CALL) ? HIDDEN : run.one("call") || "No call ends with this line, and none begins to wait.";
     for (const name of ["core", "swap", "texts"]) $(name).textContent = run.shown(name).join("\n");
     this.showLog();
-    this.showProcesses();
+    this.showProcesses(moment, isHidden);
     this.showTerminal(moment, isHidden);
     this.showProcess(moment, isHidden);
     this.drawCursor();
@@ -358,8 +370,9 @@ class Page {
     }));
   }
 
-  showProcesses() {
+  showProcesses(moment, isHidden) {
     const rows = this.run.panel("ps").map((text, slot) => [slot, text.split("\t")]).filter(([, found]) => found.length > 1);
+    const isKnown = moment && moment.isExact && moment.isLast && !isHidden;
     const cells = (kind, texts) => texts.map((text) => {
       const cell = document.createElement(kind);
       cell.textContent = text;
@@ -374,15 +387,23 @@ class Page {
     };
     const chosen = String(this.chosenSlot());
     const kind = (slot, found) => [found[0] === "R" && "runs", String(slot) === chosen && "chosen"].filter(Boolean).join(" ");
-    const told = rows.map(([slot, found]) => made("td", found, kind(slot, found)));
+    const told = rows.map(([slot, found]) => made("td", [...found, this.callOf(slot, found, isKnown)], kind(slot, found)));
     rows.forEach(([slot], at) => told[at].addEventListener("click", () => this.choose(String(slot))));
-    $("ps").replaceChildren(made("th", this.run.head.ps, ""), ...told);
+    $("ps").replaceChildren(made("th", [...this.run.head.ps, "CALL"], ""), ...told);
     this.offer(rows);
+  }
+
+  /** The call in which a process waits: with its arguments, where memory is known of just this line, and else by what it waits for. */
+  callOf(slot, cells, isKnown) {
+    const told = isKnown && this.run.shown(`process ${slot}`).find((text) => CALL_OF.test(text));
+    if (told) return told.replace(CALL_OF, "").replace(BEGUN, "");
+    const call = CALLS[cells[WAITS].split(".")[0]];
+    return call ? `${call}(..)` : "";
   }
 
   /** The processes that may be chosen to be shown whole. */
   offer(rows) {
-    const wanted = [["", "who runs, or process 1"], ...rows.map(([slot, found]) => [String(slot), `process ${found[2]}, in slot ${slot}`])];
+    const wanted = [["", "who runs, or process 1"], ...rows.map(([slot, found]) => [String(slot), `process ${found[NUMBER]}, in slot ${slot}`])];
     const was = $("chosen").value;
     const same = [...$("chosen").options].map((one) => one.value + one.textContent).join() === wanted.map((one) => one.join("")).join();
     if (same) return;
@@ -411,11 +432,18 @@ class Page {
   }
 
   showProcess(moment, isHidden) {
-    const { run } = this;
-    if (!run.head.hasMemory) return;
-    const slot = this.chosenSlot();
+    const { run } = this, slot = this.chosenSlot();
+    $("why").disabled = !slot;
+    if (!run.head.hasMemory) {
+      $("process").textContent = `What the log tells of process ${run.panel("ps")[slot].split("\t")[NUMBER]} is in the table.`;
+      return;
+    }
     const parts = { process: "process", code: "code", stack: "stack", area: "u area" };
-    for (const [id, name] of Object.entries(parts)) $(id).textContent = isHidden ? "" : run.shown(`${name} ${slot}`).join("\n");
+    for (const [id, name] of Object.entries(parts)) {
+      const told = isHidden ? [] : run.shown(`${name} ${slot}`);
+      $(id).textContent = told.join("\n");
+      $("p-" + id).hidden = !told.length && id !== "process";  // of one that has ended half of its u area is left
+    }
     const said = isHidden ? HIDDEN : this.when(moment, slot);
     if (said) $("process").textContent = `${said}\n${$("process").textContent}`;
   }
@@ -423,7 +451,7 @@ class Page {
   /** Of when the memory is that is shown of a process, where that isn't just after the line; and whether it was another's then. */
   when(moment, slot) {
     if (!moment || moment.isExact && moment.isLast) return "";
-    const [first] = this.run.shown(`process ${slot}`), now = this.run.panel("ps")[slot].split("\t")[2];
+    const [first] = this.run.shown(`process ${slot}`), now = this.run.panel("ps")[slot].split("\t")[NUMBER];
     if (moment.isExact && !first) return `process ${now} has gone by line ${moment.end}, the last of the moment, and memory isn't known within it`;
     if (moment.isExact) return `after all lines of the moment, up to ${moment.end}, since memory isn't known within it:`;
     const was = !first || slot && first.split(" ")[1] !== now ? `process ${now} wasn't there in slot ${moment.slot}` : `as in slot ${moment.slot}`;
@@ -463,11 +491,20 @@ class Page {
     });
   }
 
+  /** Goes to the line that put the image of the process that is shown whole where it is. It stays the one that is shown. */
+  why() {
+    const slot = this.chosenSlot(), line = this.run.placed(slot, this.line);
+    if (!slot || !line) return;
+    $("chosen").value = slot;
+    this.go(line);
+  }
+
   // play, search and quiz
 
   play(isOn = this.timer === null) {
     clearInterval(this.timer);
     this.timer = null;
+    $("head").setAttribute("aria-live", isOn ? "off" : "polite");  // a reader isn't told line after line
     $("play").setAttribute("aria-pressed", String(isOn));
     $("play").textContent = isOn ? "Stop" : "Play";
     if (!isOn) return;
@@ -481,18 +518,27 @@ class Page {
     if (found) this.go(found);
   }
 
-  quiz() {
+  /** Begins or ends the quiz. Where that was done by its button, the one that answers is the next to be pressed. */
+  quiz(isByButton) {
     this.isQuiz = !this.isQuiz;
     this.play(false);
     $("quiz").setAttribute("aria-pressed", String(this.isQuiz));
     $("ask").hidden = !this.isQuiz;
     if (this.isQuiz) this.ask(); else this.show();
+    if (this.isQuiz && isByButton) $("answer").focus();
   }
 
   /** Goes to just before the next choice from a line on, which is then hidden. */
   ask(from = this.line) {
     const next = this.run.next(from, CHOICE, 1);
     this.go(this.run.is(next, CHOICE) ? next - 1 : this.line);
+  }
+
+  /** Shows the answer, or asks on. The button for what comes then is the next to be pressed, where one of the two was. */
+  answer(isAnswer) {
+    if (isAnswer) this.step("on", "line"); else this.ask(this.line + (this.isAsked() ? 1 : 0));
+    const next = $(this.isAsked() ? "answer" : "another");
+    if (document.activeElement !== document.body) next.focus();
   }
 
   isAsked() {
@@ -525,9 +571,10 @@ class Page {
       $("word").blur();  // so that N goes on
       this.search(1);
     });
-    $("quiz").addEventListener("click", () => this.quiz());
-    $("answer").addEventListener("click", () => this.step("on", "line"));
-    $("another").addEventListener("click", () => this.ask(this.line + (this.isAsked() ? 1 : 0)));
+    $("why").addEventListener("click", () => this.why());
+    $("quiz").addEventListener("click", () => this.quiz(true));
+    $("answer").addEventListener("click", () => this.answer(true));
+    $("another").addEventListener("click", () => this.answer(false));
     $("keys").addEventListener("click", () => {
       $("help").hidden = !$("help").hidden;
       $("keys").setAttribute("aria-expanded", String(!$("help").hidden));
@@ -536,16 +583,23 @@ class Page {
     document.addEventListener("keydown", (event) => this.key(event));
   }
 
+  /** Keys that the place takes itself in which one is stay its own: all of them in a text, a number and a list, those that move the slider,
+      and arrows where there is more than has room. */
+  isTaken({ target, key }) {
+    if (target === $("cursor")) return key.length > 1;
+    const isFull = target.scrollWidth > target.clientWidth && ![document.body, $("paper")].includes(target);
+    return /^(INPUT|SELECT)$/.test(target.tagName) || isFull && key.startsWith("Arrow");
+  }
+
   key(event) {
-    const inField = /^(INPUT|SELECT|TEXTAREA)$/.test(event.target.tagName);
-    if (event.ctrlKey || event.altKey || event.metaKey || inField) return;
+    if (event.ctrlKey || event.altKey || event.metaKey || this.isTaken(event)) return;
     const way = event.shiftKey ? "back" : "on";
     const does = {
       ArrowLeft: () => this.step("back", "line"), ArrowRight: () => this.step("on", "line"),
       Home: () => this.go(1), End: () => this.go(this.run.lines),
       c: () => this.step(way, "choice"), a: () => this.step(way, "call"), s: () => this.step(way, "second"),
       p: () => this.play(), q: () => this.quiz(), n: () => this.search(event.shiftKey ? -1 : 1), "/": () => $("word").focus(),
-      Enter: () => this.isQuiz && event.target === document.body && !$("answer").disabled && this.step("on", "line"),
+      w: () => this.why(), Enter: () => this.isQuiz && this.answer(this.isAsked()),
     }[event.key.length === 1 ? event.key.toLowerCase() : event.key];
     if (!does || event.key === "Enter" && event.target !== document.body) return;
     event.preventDefault();

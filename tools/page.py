@@ -74,13 +74,14 @@ def page_of_log(options):
     from pagehtml import html_of_log
     from pagerun import account_of_log
     from processes import programs_of
-    from scriptfile import read_script, ticks_of
+    from scriptfile import read_script, slots_of, ticks_of
 
     log = lines_of(read_bytes(options.log))
     sizes = programs_of(read_bytes(options.disk)) if options.disk else {}
-    ticks = ticks_of(read_script(options.script_of_log)) if options.script_of_log else ()
+    script = read_script(options.script_of_log) if options.script_of_log else None
+    ticks, slots = ((), None) if script is None else (ticks_of(script), slots_of(script))
     terminals = [read_bytes(name) for name in options.term]
-    account = account_of_log(log, sizes, ticks)
+    account = account_of_log(log, sizes, ticks, slots)
     if not account.table.over:
         print(f"page.py: {options.log}: {CUT}", file=sys.stderr)
     return html_of_log(account, terminals, head_of(options, options.log, account)), account.table.over

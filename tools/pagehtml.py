@@ -28,7 +28,7 @@ def html_of_run(account, run, head):
     shown = [size for slots, *_ in looks for size in run.shown_at(slots)]
     moments = {"slots": array("I", [slots for slots, *_ in looks]), "shown": array("I", shown),
                "ends": array("I", [after for _, _, after, _ in looks])}
-    left = ". ".join(filter(None, ("" if run.has_memory else WITHOUT, account.left_out())))
+    left = "; ".join(filter(None, ("" if run.has_memory else WITHOUT, account.left_out())))
     head = {**head, "isRun": True, "hasMemory": run.has_memory, "isEight": run.eight, "last": account.last, "left": left,
             "said": run.said if run.status else ""}
     return html_of(account, head, moments, run.terms)

@@ -1,6 +1,8 @@
 """The rule that gives a line of a log, and the procedures of Lions' book that it comes from, with their place in this repository.
 
 The rules restate docs/manual/log.md, clock.md, swapper.md, core.md, processes.md, signals.md and texts.md in a sentence each."""
+import re
+
 import lions
 
 # Of each word of a line: the rule, the procedures of the book, and where they are here.
@@ -52,14 +54,23 @@ SWAPPER = {  # of the swapper's own sleeps
     "runin": ("The swapper, rules 4 and 5: there is no room, nobody in core waits, and either who wants to come in has been out for less "
               "than three seconds, or who would go out has been in for less than two.", [("sched", "swap_sched: pass")]),
 }
+SLOT = re.compile(r"\bslot (\d+)")
+
+
 def rule_of(entry, table, text):
     """The rule of a line and its procedures, by the table before it, which knows the priorities; of a choice also why it is this one."""
     word = entry["word"]
     rule, procedures = SWAPPER[entry["W"]] if word == "sleep" and entry["W"] in SWAPPER else RULES[word]
     if word == "out":
         procedures = [("sched", "swap_sched: pass"), *procedures]
-    line, why = table.foretold(entry) or (None, None)
-    return f"{rule} Here: {why}." if line == text else rule, procedures
+    line, why = table.foretold(entry) or (None, "")
+    return f"{rule} Here: {SLOT.sub(lambda found: numbered(found, table), why)}." if line == text else rule, procedures
+
+
+def numbered(found, table):
+    """A slot that is named, and the number of its process, where that is another."""
+    slot = int(found[1])
+    return found[0] if slot not in table.rows or table.rows[slot].number == slot else f"{found[0]} (process {table.rows[slot].number})"
 
 
 def told(procedures):

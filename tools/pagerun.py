@@ -27,7 +27,7 @@ PARTS = {"process": 16, "code": 64, "stack": 20, "u area": 28}  # rows of the pa
 MOVES = {"boot", "size", "fork", "drop", "bare", "text", "share", "image", "in", "out", "exit", "reap"}  # words that change a map
 WIDE = {"boot", "exit", "reap"}  # words that may change the row of any process
 UNKNOWN = -1
-MAPS = 150, 75  # the heights of the maps of core and of the swap area
+MAPS = 120, 75  # the heights of the maps of core and of the swap area
 
 
 class Recorded(Run):
@@ -193,8 +193,8 @@ class Memory:
 class Account:
     """The account of a run: its texts, what the panels show at each line, and the picture."""
 
-    def __init__(self, log, sizes, ticks=()):
-        self.log, self.ticks = log, iter(ticks)
+    def __init__(self, log, sizes, ticks=(), slots=None):
+        self.log, self.ticks, self.slots = log, iter(ticks), slots
         self.table, self.texts = Ruled(), Texts()
         self.teller, self.panels = Teller(self.table, sizes), Panels(self.texts)
         self.words, self.raw = array("I"), array("I")
@@ -215,8 +215,9 @@ class Account:
         self.memory.take(moment)
         self.is_new = True
 
-    def take(self, text, moment=UNKNOWN, call="", is_call=False):
-        """One more line: its words, and the panels after it. A call that is shown ends or waits with this line, or with its moment."""
+    def take(self, text, moment=UNKNOWN, call="", is_call=False, slots=None):
+        """One more line: its words, and the panels after it. A call that is shown ends or waits with this line, or with its moment. So many
+        slots have passed, where that is known."""
         entry = self.table.read(text)
         rule, procedures = rule_of(entry, self.table, text)
         self.words.append(self.texts.number(self.teller.told(entry)))
@@ -233,8 +234,15 @@ class Account:
         self.kinds.append(kind)
         self.moments.append(moment + 1)
         self.show(entry["word"], is_second)
-        self.picture.take(self.table, next(self.ticks, None) if entry["word"] == "tick" else None)
+        self.picture.take(self.table, self.passed(entry["word"], slots))
         self.panels.end_line()
+
+    def passed(self, word, slots):
+        """How many slots have passed at a line: by the script at a tick, at the beginning and at the end, else by its moment; or None."""
+        tick = next(self.ticks, None) if word == "tick" else None
+        if tick is not None or self.slots is None:
+            return tick
+        return {"boot": 0, "end": self.slots}.get(word, slots)
 
     def who(self, number):
         """A process with its program, as memory told it last, or by the size of its image."""
@@ -283,9 +291,9 @@ class Account:
         return "\t".join(map(str, cells(self.table, slot, user, command)))
 
 
-def account_of_log(log, sizes, ticks=()):
+def account_of_log(log, sizes, ticks=(), slots=None):
     """The account of a log alone: nothing of it comes from core."""
-    account = Account(log, sizes, ticks)
+    account = Account(log, sizes, ticks, slots)
     for text in log:
         account.take(text)
     return account
@@ -295,7 +303,7 @@ def account_of_run(run, views, ticks, most):
     """The account of a run, whose core is looked at in so many moments at most."""
     history = History(run)
     looks, ahead = Looks(history, most), Table()
-    account = Account(run.log, views.sizes, ticks)
+    account = Account(run.log, views.sizes, ticks, run.script.slots)
     account.memory = Memory(views, account.panels)
     calls = Ahead(Calls(run, looks.exact()).follow())
     for number, (slots, before, after, is_exact) in enumerate(looks.found):
@@ -309,7 +317,7 @@ def account_of_run(run, views, ticks, most):
         ended = calls.until(after)
         call = next(iter(ended.values())) if len(ended) == 1 else ""
         for line in range(start, after):
-            account.take(run.log[line], number, ended.get(line, call), line in ended)
+            account.take(run.log[line], number, ended.get(line, call), line in ended, slots if is_exact else None)
     for line in range(ahead.lines, len(run.log)):
         account.take(run.log[line], len(looks.found) - 1)
     account.looks, account.last = looks, history.last
@@ -319,11 +327,11 @@ def account_of_run(run, views, ticks, most):
 def account_of_lines(run, sizes, ticks, most):
     """The account of a run of which core isn't known: only when the terminal has shown what comes from its moments."""
     history = History(run)
-    account, looks = Account(run.log, sizes, ticks), Looks(history, most)
-    for number, (_, before, after, is_exact) in enumerate(looks.found):
+    account, looks = Account(run.log, sizes, ticks, run.script.slots), Looks(history, most)
+    for number, (slots, before, after, is_exact) in enumerate(looks.found):
         start = before if is_exact else after - 1
         for line in range(before, after):
-            account.take(run.log[line], number - (line < start))
+            account.take(run.log[line], number - (line < start), slots=slots if is_exact else None)
     for line in range(looks.found[-1][2], len(run.log)):
         account.take(run.log[line], len(looks.found) - 1)
     account.looks, account.last = looks, history.last

@@ -70,6 +70,11 @@ class Program:
         found = [(line, at) for at, file, line in self.lines if file in files and line >= int(number)]
         return min(found)[1] if found else None
 
+    def place(self, text):
+        """The address of a name, or of a line of the source; or None."""
+        at = self.address_of(text)
+        return self.line_address(text) if at is None and ":" in text else at
+
     def fits(self, process):
         """How many of a process's bytes are those of this program's text, or None where it can't be its own."""
         size = self.text or self.data

@@ -11,7 +11,6 @@ import itertools
 import os
 import sys
 import tempfile
-from concurrent.futures import ThreadPoolExecutor
 from dataclasses import dataclass
 
 sys.path.insert(0, os.path.dirname(os.path.abspath(__file__)))
@@ -19,7 +18,7 @@ from callwords import Call, answer, kept
 from files import guarded
 from history import History
 from logwords import CHANNELS, clicks
-from moments import WORKERS, MomentError, Run, is_turn
+from moments import MomentError, Run, is_turn, workers
 from program import CORE, V6, ProgramError, add_version
 from proctable import LogFault, Table
 from scriptfile import ScriptError, add_replay, check_head, read_script
@@ -93,7 +92,7 @@ class Tracer:
             turn.is_shown = self.options.first <= turn.line + 1 <= self.options.last
         wanted = [turn for turn in found if self.is_wanted(turn, turn.line in execs)]
         slots = self.run.slots_of([turn.line for turn in wanted])
-        with ThreadPoolExecutor(WORKERS) as pool:
+        with workers() as pool:
             before = pool.map(lambda turn: self.run.count(slots[turn.line] - 1, True), wanted)
             after = pool.map(lambda turn: self.run.count(slots[turn.line]), wanted)
             for turn, first, past in zip(wanted, before, after):
@@ -128,7 +127,7 @@ class Tracer:
     def halved(self):
         """The turns, each with what is known of it, where the slots of their lines are found by halving."""
         turns = self.turns()
-        with ThreadPoolExecutor(WORKERS) as pool:
+        with workers() as pool:
             while chunk := list(itertools.islice(turns, AT_ONCE)):
                 yield from zip(chunk, pool.map(self.look, chunk))
 

@@ -7,3 +7,4 @@ out=${1:-$here/bin}
 for name in forth grep sort tell wc; do
     tools/cc.py -o "$out/$name" $here/src/$name.c
 done
+tools/cc.py -g -o "$out/words" $here/src/words.c

@@ -25,6 +25,16 @@ while getopts a:j:q option; do
 done
 shift $((OPTIND - 1))
 folder=$(realpath -m "${1:-${V6_CC:-$HOME/.cache/v6-cc}}")
+check() { [ -f "$archive" ] || { echo "build-gcc.sh: $archive: No such file" >&2; exit 1; }; echo "$sum  $archive" | sha256sum -c -; }
+[ -z "$archive" ] || check
+missing=
+for tool in make patch cc c++ flex xz; do
+    command -v $tool >/dev/null || missing="$missing $tool"
+done
+for name in gmp mpfr mpc; do
+    echo "#include <$name.h>" | cc -E - >/dev/null 2>&1 || missing="$missing lib$name-dev"
+done
+[ -z "$missing" ] || { echo "build-gcc.sh: these are wanted, and not found:$missing" >&2; exit 1; }
 work=$(mktemp -d)
 trap 'rm -rf "$work"' EXIT
 cd "$work"
@@ -35,15 +45,8 @@ if [ -z "$archive" ]; then
         exit 1
     }
     dpkg-deb --fsys-tarfile gcc-12-source_*.deb | tar xf - "./${archive#"$work"/}"
+    check
 fi
-[ -f "$archive" ] || { echo "build-gcc.sh: $archive: No such file" >&2; exit 1; }
-echo "$sum  $archive" | sha256sum -c -
-for tool in make patch cc c++ flex xz; do
-    command -v $tool >/dev/null || { echo "build-gcc.sh: $tool is wanted" >&2; exit 1; }
-done
-for name in gmp mpfr mpc; do
-    echo "#include <$name.h>" | cc -E - >/dev/null 2>&1 || { echo "build-gcc.sh: lib$name-dev is wanted" >&2; exit 1; }
-done
 tar xJf "$archive" --exclude='*/gcc/testsuite' --exclude='*/gcc/ada' --exclude='*/libstdc++-v3' --exclude='*/libgo' \
     --exclude='*/libphobos'
 patch -s -p1 -d gcc-* <"$here/gcc.patch"

@@ -16,12 +16,19 @@ if [ "${1-}" = -a ]; then
     shift 2
 fi
 folder=$(realpath -m "${1:-${V6_CC:-$HOME/.cache/v6-cc}}")
+check() { [ -f "$archive" ] || { echo "build.sh: $archive: No such file" >&2; exit 1; }; echo "$sum  $archive" | sha256sum -c -; }
+[ -z "$archive" ] || check
+missing=
+for tool in make patch cc bison flex; do
+    command -v $tool >/dev/null || missing="$missing $tool"
+done
+[ -z "$missing" ] || { echo "build.sh: these are wanted, and not found:$missing" >&2; exit 1; }
 work=$(mktemp -d)
 trap 'rm -rf "$work"' EXIT
 cd "$work"
 if [ -z "$archive" ]; then
     archive=$work/pcc_$version.orig.tar.gz
-    apt-get source --download-only "pcc=$version-1" || true   # of the package's files only this one is wanted
+    apt-get source --download-only --tar-only "pcc=$version-1" || true
     [ -f "$archive" ] || {
         cat >&2 <<END
 build.sh: the package hasn't come. apt needs a source of source packages; these two lines, as root, give it one of Debian 12:
@@ -33,12 +40,8 @@ Or -a names its file, pcc_$version.orig.tar.gz.
 END
         exit 1
     }
+    check
 fi
-[ -f "$archive" ] || { echo "build.sh: $archive: No such file" >&2; exit 1; }
-echo "$sum  $archive" | sha256sum -c -
-for tool in make patch cc bison flex; do
-    command -v $tool >/dev/null || { echo "build.sh: $tool is wanted" >&2; exit 1; }
-done
 tar xzf "$archive"
 cd pcc-*
 patch -s -p1 <"$here/pcc.patch"

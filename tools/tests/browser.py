@@ -11,12 +11,14 @@ import subprocess
 import sys
 import tempfile
 import time
+import zlib
 
 NAMES = "chromium", "chromium-browser", "google-chrome", "chrome"
 FOUND = next(filter(None, map(shutil.which, NAMES)), None)
 WORDS = ["--headless", "--no-sandbox", "--disable-gpu", "--remote-debugging-pipe", "--no-first-run", "--disable-extensions",
          "--disable-background-networking", "--disable-dev-shm-usage", "--disable-component-update", "--disable-sync"]
 LONGEST = 60  # seconds for one answer
+SHOWN = "typeof page === 'object' && !document.querySelector('main').hidden"  # of a page of a run
 BEGIN = "import os, sys; os.dup2(int(sys.argv[1]), 3); os.dup2(int(sys.argv[2]), 4); os.execv(sys.argv[3], sys.argv[3:])"
 
 
@@ -81,13 +83,13 @@ class Browser:
                 raise EOFError("the browser has ended")
             self.rest += more
 
-    def open(self, name, at=""):
+    def open(self, name, at="", shown=SHOWN):
         """Opens a file, and waits until its page is shown; how many seconds that took."""
         self.events.clear()
         begun = time.monotonic()
         self.ask("Page.navigate", url="about:blank")
         self.ask("Page.navigate", url=pathlib.Path(name).resolve().as_uri() + at)
-        while not self.value("typeof page === 'object' && !document.querySelector('main').hidden"):
+        while not self.value(shown):
             if self.errors() or time.monotonic() - begun > LONGEST:
                 raise AssertionError(self.errors() or "the page isn't shown")
             time.sleep(0.02)
@@ -108,6 +110,11 @@ class Browser:
             self.ask("Input.dispatchKeyEvent", type=kind, key=name, modifiers=8 * shift, windowsVirtualKeyCode=code,
                      **(text if kind == "keyDown" else {}))
 
+    def mouse(self, kind, x, y, is_held=True):
+        """The left button is Pressed or Released at a place, or the mouse Moved there."""
+        button = "left" if is_held or kind != "Moved" else "none"
+        self.ask("Input.dispatchMouseEvent", type="mouse" + kind, x=x, y=y, button=button, buttons=int(is_held), clickCount=1)
+
     def keys(self, text):
         """Types a text."""
         for one in text:
@@ -120,15 +127,24 @@ class Browser:
                 if one.get("entry", {}).get("level") != "verbose"]
 
     def requests(self):
-        """The addresses that were asked for, without the page itself."""
+        """The addresses that were asked for, without the page itself, and what the browser has in itself."""
         found = [event["params"]["request"]["url"] for event in self.events if event["method"] == "Network.requestWillBeSent"]
-        return [url for url in found if url != "about:blank" and not url.endswith(".html")]
+        return [url for url in found if not url.startswith(("about:blank", "data:")) and not url.endswith(".html")]
 
     def size(self, width, height, dark=False, media="screen"):
         """Shows pages on a screen of this size, or on paper, with `print`."""
         self.ask("Emulation.setDeviceMetricsOverride", width=width, height=height, deviceScaleFactor=1, mobile=False)
         scheme = {"name": "prefers-color-scheme", "value": "dark" if dark else "light"}
         self.ask("Emulation.setEmulatedMedia", media=media, features=[scheme])
+
+    def sight(self, name):
+        """Shows pages as one sees them who can't tell colours: `achromatopsia` in grey, `deuteranopia` and `protanopia` not red from green."""
+        self.ask("Emulation.setEmulatedVisionDeficiency", type=name)
+
+    def pixels(self, x, y, width, height):
+        """Red, green and blue of each point of a piece of what is shown, four times as large."""
+        clip = {"x": x, "y": y, "width": width, "height": height, "scale": 4}
+        return points(base64.b64decode(self.ask("Page.captureScreenshot", format="png", clip=clip)["data"]))
 
     def picture(self, name, whole=False):
         """A picture of what is shown, or of the whole page, goes to a file."""
@@ -138,3 +154,31 @@ class Browser:
     def printed(self):
         """The bytes of the page as it is printed."""
         return base64.b64decode(self.ask("Page.printToPDF", preferCSSPageSize=True, printBackground=True)["data"])
+
+
+def points(png):
+    """Red, green and blue of each point of a picture of three or four bytes a point."""
+    at, data, width, depth = 8, b"", 0, 0
+    while at < len(png):
+        size, kind = int.from_bytes(png[at : at + 4], "big"), png[at + 4 : at + 8]
+        piece = png[at + 8 : at + 8 + size]
+        if kind == b"IHDR":
+            width, depth = int.from_bytes(piece[:4], "big"), {2: 3, 6: 4}[piece[9]]
+        data += piece * (kind == b"IDAT")
+        at += 12 + size
+    raw, row, found = zlib.decompress(data), bytes(width * depth), []
+    for start in range(0, len(raw), 1 + width * depth):
+        row = unfiltered(raw[start], raw[start + 1 : start + 1 + width * depth], row, depth)
+        found += [tuple(row[one : one + 3]) for one in range(0, len(row), depth)]
+    return found
+
+
+def unfiltered(kind, row, above, depth):
+    """A row of a picture, by how it differs from what is left of it and above it."""
+    out = bytearray(row)
+    for at in range(len(out)):
+        left, up, corner = (out[at - depth], above[at], above[at - depth]) if at >= depth else (0, above[at], 0)
+        guess = left + up - corner
+        nearest = min((left, up, corner), key=lambda one: abs(guess - one))
+        out[at] = (out[at] + (0, left, up, (left + up) // 2, nearest)[kind]) % 256
+    return bytes(out)

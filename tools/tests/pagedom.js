@@ -1,6 +1,6 @@
 "use strict";
 // Runs the program of a page without a browser, over as much of a document as it needs: `node pagedom.js PAGE LINE..` goes to each line of
-// the log, and prints what stands at the top, which parts are hidden, and what each terminal shows.
+// the log, and prints what stands at the top, which parts are hidden, what each terminal shows, and in which call each process waits.
 
 const fs = require("fs");
 
@@ -45,10 +45,11 @@ function wait() {
       page.go(line);
       return byId("term").shown();
     });
-    told.push({ line, head: byId("head").textContent, terminals });
+    const calls = byId("ps").children.slice(1).map((row) => row.children.at(-1).textContent);
+    told.push({ line, head: byId("head").textContent, terminals, calls });
   }
   console.log(JSON.stringify({ told, note: byId("note").textContent, options: byId("terminal").children.map((one) => String(one.textContent)),
-                               isHidden: ["p-call", "p-process", "which"].map((id) => byId(id).hidden) }));
+                               isHidden: ["p-call", "of-memory", "which"].map((id) => byId(id).hidden) }));
   process.exit(0);
 }
 wait();

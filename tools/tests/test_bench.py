@@ -119,6 +119,17 @@ class Cases(unittest.TestCase):
         self.assertLessEqual({"image2", "final2"}, failing(RUN2))
         self.assertFalse({*LINES, "image2", "final2"} & failing(RUN))
 
+    def test_lines_of_a_second_image(self):
+        """A row of a case with two disks gives the second one again."""
+        cases = [fuzz_cases.case_of(seed, "two") for seed in range(MANY // 30)]
+        base = fuzz_cases.read(fuzz_cases.HI)
+        for case in cases:
+            head, *lines = fuzz_row.second_lines(case) or [None]
+            self.assertEqual(head == "second", case.command[0] == "run2")
+            if head:
+                self.assertEqual(bytes(fuzz_row.Read("\n".join(lines)).image(base)), case.second)
+        self.assertIn("run2", [case.command[0] for case in cases])
+
 
 class Judge(unittest.TestCase):
     def test_files(self):

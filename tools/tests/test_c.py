@@ -1,11 +1,14 @@
 """cc.py, its library, and the programs of examples/c. What the programs must print is by hand, or as Python reckons it."""
 import os
 import random
+import shutil
 import subprocess
 import unittest
 
 import expressions
 from common import TOOLS, TOP, V6, Case, read, tool, v6
+from lessonpages import commands
+from pages import Runs
 
 import symbols
 
@@ -76,11 +79,21 @@ class WithoutCompiler(Program):
             self.assertIn("it.tar.gz: FAILED", done.stdout)
             self.assertEqual(os.listdir(self.folder), ["it.tar.gz"])
 
+    def tools(self, *names):
+        """A folder with what the scripts call, and with these names, which do nothing."""
+        os.mkdir(self.path("some"))
+        for name in ("dirname", "mktemp", "realpath", "rm", "cat", "sha256sum"):
+            os.symlink(shutil.which(name), self.path(f"some/{name}"))
+        for name in names:
+            self.put(f"some/{name}", b"#!/bin/sh\n")
+            os.chmod(self.path(f"some/{name}"), 0o755)
+        return {**os.environ, "PATH": self.path("some")}
+
     def test_no_archive(self):
         """Where apt has no such package, the lines to copy are told, and no sum of a file that isn't there."""
-        self.put("apt-get", b"#!/bin/sh\necho 'E: You must put some deb-src URIs in your sources.list' >&2\nexit 100\n")
-        os.chmod(self.path("apt-get"), 0o755)
-        path = {**os.environ, "PATH": self.folder + ":" + os.environ["PATH"]}
+        path = self.tools("make", "patch", "cc", "c++", "bison", "flex", "xz")
+        self.put("some/apt-get", b"#!/bin/sh\necho 'E: You must put some deb-src URIs in your sources.list' >&2\nexit 100\n")
+        os.chmod(self.path("some/apt-get"), 0o755)
         for script, told in (("build.sh", "\n    echo 'deb-src http://deb.debian.org/debian bookworm main' >/etc/apt/sources.list.d/v6-cc"
                                           ".list\n    apt-get update\n"), ("build-gcc.sh", "build-gcc.sh: the package hasn't come: ")):
             script = os.path.join(TOOLS, "c", script)
@@ -90,6 +103,14 @@ class WithoutCompiler(Program):
             done = subprocess.run([script, "-a", self.path("none"), self.path("made")], capture_output=True, text=True)
             self.assertEqual((done.returncode, done.stdout), (1, ""))
             self.assertEqual(done.stderr, f"{os.path.basename(script)}: {self.path('none')}: No such file\n")
+
+    def test_what_building_needs(self):
+        """All that is missing is told at once, before anything is fetched."""
+        path = self.tools("patch", "cc")
+        for script, wanted in (("build.sh", "make bison flex"), ("build-gcc.sh", "make c++ flex xz")):
+            done = subprocess.run([os.path.join(TOOLS, "c", script), self.path("made")], capture_output=True, text=True, env=path)
+            self.assertEqual((done.returncode, done.stdout), (1, ""))
+            self.assertEqual(done.stderr, f"{script}: these are wanted, and not found: {wanted}\n")
 
     def test_arguments_and_status(self):
         """main has their number and their addresses, and what it gives is the status."""
@@ -207,15 +228,32 @@ class Examples(Program):
         page = read(os.path.join(EXAMPLE, "README.md")).decode()
         self.assertEqual((done.returncode, done.stderr), (0, ""))
         self.assertIn(f"```\n{done.stdout}```\n", page)
-        for name in ("forth", "grep", "sort", "tell", "wc"):
+        for name in ("forth", "grep", "sort", "tell", "wc", "words"):
             self.assertRegex(page, rf"\| `{name}.*\| {os.path.getsize(os.path.join(EXAMPLE, 'bin', name)):,} \|\n")
 
     @wants_compiler
     def test_built(self):
         """The programs that are kept are what the compiler makes of their sources."""
-        for name in ("forth", "grep", "sort", "tell", "wc"):
-            self.assertEqual(self.call(cc.main, "-o", self.path(name), os.path.join(EXAMPLE, "src", name + ".c")), (0, "", ""))
+        done = subprocess.run([os.path.join(EXAMPLE, "build.sh"), self.folder], capture_output=True, text=True)
+        self.assertEqual((done.returncode, done.stdout, done.stderr), (0, "", ""))
+        self.assertEqual(sorted(os.listdir(self.folder)), sorted(os.listdir(os.path.join(EXAMPLE, "bin"))))
+        for name in os.listdir(self.folder):
             self.assertEqual(read(self.path(name)), read(os.path.join(EXAMPLE, "bin", name)), name)
+
+
+class Fault(Runs):
+    def test_page(self):
+        """The commands by which docs/tools/c.md finds a fault come to what it shows. Without the compiler the program that is kept is
+        looked at, and it isn't mended."""
+        part = read(os.path.join(TOP, "docs", "tools", "c.md")).decode().split("\n## A fault, found backwards\n")[1].split("\n## ")[0]
+        (compiled, nothing), *found = commands(part)
+        mended = next(number for number, (command, _) in enumerate(found) if "cc.py" in command)
+        if HERE:
+            found = [(compiled, nothing), *found]
+        else:
+            found = [("cp examples/c/bin/words words", ""), *found[:mended]]
+        for command, shown in found:
+            self.assertEqual(self.play(command), (0, shown), command)
 
 
 class Programs(Program):

@@ -102,13 +102,17 @@ class Person(Case):
         self.addCleanup(self.console.wait)
         self.addCleanup(self.console.kill)
 
-    def drawn(self, typed, wanted):
-        """The rows that are shown after a line is typed, up to a text below them. Only a console that hangs meets the end."""
+    def shown(self, typed, is_done):
+        """What is shown after a line is typed until it is all that is waited for. Only a console that hangs meets the end."""
         os.write(self.ours, typed)
         shown, end = b"", time.monotonic() + LONG
-        while not (CLEARED in shown and wanted in shown.rpartition(CLEARED)[2]) and select.select(
-                [self.ours], [], [], max(end - time.monotonic(), 0))[0]:
+        while not is_done(shown) and select.select([self.ours], [], [], max(end - time.monotonic(), 0))[0]:
             shown += os.read(self.ours, 4096)
+        return shown
+
+    def drawn(self, typed, wanted):
+        """The rows that are shown after a line is typed, up to a text below them."""
+        shown = self.shown(typed, lambda shown: CLEARED in shown and wanted in shown.rpartition(CLEARED)[2])
         self.assertIn(wanted, shown)
         self.assertNotIn(b"console: ", shown.rpartition(CLEARED)[0])  # nothing else tells of what other lines show
         return [line.rstrip() for line in shown.rpartition(CLEARED)[2].replace(b"\r", b"").decode().split("\n")]
@@ -127,11 +131,9 @@ class Person(Case):
         self.assertEqual([row.split("|")[1].strip() for row in found[1:4]], ["", "login: hello", ""])
         found = self.drawn(b"~u\n", b"after line 1: ~2 guest\r\n% ")
         self.assertEqual([row.split("|")[1].strip() for row in found[1:4]], ["", "login:", ""])
-        os.write(self.ours, b"~a\n")
-        shown = b""
-        while not shown.endswith(b"% "):  # the prompt is shown again
-            shown += os.read(self.ours, 4096)
-        self.assertIn(b"console: all lines", shown)
+        all_lines = b"console: all lines"
+        shown = self.shown(b"~a\n", lambda shown: all_lines in shown and shown.endswith(b"% "))  # the prompt is shown again
+        self.assertIn(all_lines, shown)
         os.write(self.ours, b"~.\n")
         self.assertEqual(self.console.wait(LONG), 0)
 

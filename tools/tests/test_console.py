@@ -579,8 +579,7 @@ class EightLines(Case):
         """The command of docs/tools/console.md gives what stands under it."""
         page = read(os.path.join(TOP, "docs", "tools", "console.md")).decode()
         command, told = next(block for block in page.split("```\n")[1::2] if "--lines" in block).split("\n", 1)
-        path = f"{os.path.dirname(sys.executable)}:{os.environ['PATH']}"
-        done = subprocess.run(["sh", "-c", command], cwd=TOP, env={**os.environ, "PATH": path, "V6": V6}, stdout=subprocess.PIPE,
+        done = subprocess.run(["sh", "-c", command], cwd=TOP, env={**os.environ, "V6": V6}, stdout=subprocess.PIPE,
                               stderr=subprocess.STDOUT)
         shown = [line.rstrip() for line in done.stdout.decode().replace("\r\n", "\n").split("\n")]
         self.assertEqual((done.returncode, "\n".join(shown)), (0, told.removesuffix("\n")))

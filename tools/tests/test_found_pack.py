@@ -2,7 +2,6 @@
 second program; the dialogue's is."""
 import os
 import subprocess
-import sys
 import unittest
 
 from common import TOP, V6, Case, read, tool, v6
@@ -14,8 +13,7 @@ console_main, disk_main, run_main = tool("console").main, tool("disk").main, too
 
 class FoundPack(Case):
     def shell(self, name, *words):
-        path = f"{os.path.dirname(sys.executable)}:{os.environ['PATH']}"
-        done = subprocess.run([os.path.join(EXAMPLE, name), *words], capture_output=True, env={**os.environ, "PATH": path, "V6": V6})
+        done = subprocess.run([os.path.join(EXAMPLE, name), *words], capture_output=True, env={**os.environ, "V6": V6})
         self.assertEqual((done.returncode, done.stderr), (0, b""))
         return done.stdout
 

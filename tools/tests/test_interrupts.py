@@ -24,7 +24,7 @@ runpy.run_path(sys.argv[0], run_name="__main__")
 class Interrupts(unittest.TestCase):
     def test_while_python_imports(self):
         """Each tool ends by it, without a traceback."""
-        for name in ("as", "cc", "console", "disk", "log", "look", "row", "run", "trace", "try"):
+        for name in ("as", "cc", "console", "disk", "log", "look", "page", "row", "run", "trace", "try"):
             command = [sys.executable, "-c", AT_IMPORT, os.path.join(TOOLS, name + ".py"), "--help"]
             done = subprocess.run(command, stdin=subprocess.DEVNULL, capture_output=True, text=True)
             self.assertEqual((done.returncode, done.stdout, done.stderr), (-signal.SIGINT, "", ""), name)

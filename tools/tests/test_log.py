@@ -10,7 +10,7 @@ import logpicture
 from logrules import BEGINS, ENDS, RULES
 from proctable import FORMS
 
-log_main, disk_main = tool("log").main, tool("disk").main
+log_main, disk_main, look_main = tool("log").main, tool("disk").main, tool("look").main
 SVG = "{http://www.w3.org/2000/svg}"
 LOG = """boot 100 7
 sleep 0 -100 runout
@@ -284,6 +284,38 @@ class Log(Case):
     def test_audit_of_numbers_that_no_line_has(self):
         self.assertEqual(self.audited("boot 64 0\nsleep 0 -100 runout\nwake read.0\n")[1][-1], "a number is out of its range.")
         self.assertEqual(self.audited("boot 64 0\nsleep 0 -100 runout\ngo 50\n")[1][-1], "S is out of its range: go 50.")
+
+    def spoiled(self, lines, how):
+        """A log with a line that is none from somewhere on, or cut within a line, and the number of that line."""
+        at = self.random.randrange(2, len(lines) - 1)
+        word, *rest = lines[at].split(" ")
+        wrong = {"channel": f"wake {self.random.choice(('keys.8', 'keys.0', 'show.01', 'disk.50', 'disk'))}", "word": "hangup 1",
+                 "number": " ".join([word, "0" + rest[0], *rest[1:]] if rest else [word, ""]), "byte": lines[at] + chr(self.random.randrange(128, 256)),
+                 "blank": " " + lines[at], "cut": lines[at][:-1]}[how]
+        return "\n".join([*lines[:at], wrong, *lines[at + 1 :] * (how != "cut")]) + "\n" * (how != "cut"), at + 1
+
+    def test_spoiled_logs_of_eight_lines(self):
+        """Of a run with two logins and a hangup: each command names the line of the log that is wrong, in one line, and draws nothing;
+        look.py says that it isn't that of the run."""
+        image, log, out = os.path.join(TOP, "examples", "timesharing", "image"), self.path("log"), self.path("out.svg")
+        script = self.text("script", "run 9000\ndisk 50\ntype guest\nrun 9000\nline 1\ntype guest\nrun 9000\nhangup 1\nrun 9000\n")
+        self.assertEqual(v6("run8", image, "3968", script, self.path("term"), log, self.path("final"))[0], 0)
+        self.assertEqual(self.log("audit", "--v6", V6, log)[0], 0)
+        lines = read(log).decode().splitlines()
+        self.assertTrue({"wake keys.1", "wake disk.2"} < set(lines))
+        for how in 2 * ("channel", "word", "number", "byte", "blank", "cut"):
+            text, at = self.spoiled(lines, how)
+            name = self.put("spoiled", text.encode("latin-1"))
+            fault = rf"log\.py: .*(line {at}: .*|the log ends within a run.*)\n" if how == "cut" else rf"log\.py: .*\bline {at}: .*\n"
+            for words in (("show", name), ("draw", name, "-o", out), ("diff", log, name), ("ask", name)):
+                status, _, said = self.ran(log_main, *words, typed=b"go 1\n" * 200)
+                self.assertEqual((status, os.path.exists(out)), (1, False), (words, how))
+                self.assertRegex(said, f"^{fault}$", (words, how))
+            status, shown, said = self.log("audit", "--v6", V6, name)
+            self.assertEqual((status, said), (1, ""))
+            self.assertRegex(shown, f"^log: line ({at}|{at + 1}) is " if how == "cut" else f"^log: line {at} is no log line\n", how)
+            said = self.call(look_main, "--v6", V6, "--eight", "--log", name, "-c", "quit", image, "3968", script)[2]
+            self.assertRegex(said, rf"^look\.py: .*: (line {at} is of another run|it is cut behind line {at - 1};)", how)
 
     def test_audit_without_the_program(self):
         name = self.text("log", LAWFUL + "end\n")

@@ -8,12 +8,13 @@ from array import array
 from common import TOP, V6, Case, read, tool
 from pagereader import Read, process_of, shown, table_of
 
+from logpicture import COLUMNS, LEFT
 from lookviews import ROW
 from moments import Script
 from pagepack import Panels, Texts, packed
 from rowfile import HI, Row, names
 
-page, look, as_main, disk_main = tool("page"), tool("look"), tool("as").main, tool("disk").main
+page, look, as_main, disk_main, log_main = tool("page"), tool("look"), tool("as").main, tool("disk").main, tool("log").main
 LIONS = os.path.join(TOP, "docs", "lions", "src")
 OUT = re.compile(r"^.*out of core, to block")
 NAME = b"<img src=x>&\"'"  # of a program, of a file and of arguments
@@ -63,15 +64,25 @@ tty:	</dev/tty8\\0>
 	.even
 line:	.=.+100.
 """
+GONE = """
+	sys	unlink; name
+	{more}
+1:
+	mov	$1,r0
+	sys	sleep
+	br	1b
+name:	</etc/init\\0>
+"""
+OVERWRITES = "mov\t$240,r1; mov\t$end,r2; 2: mov\tr1,(r2)+; cmp\tr2,$end+400.; blo\t2b; jmp\t3f; end: .=.+400.; 3:"
 LINES, SLOTS = range(6, 61), 16  # of a row that is taken: the lines of its log after the boot, and the most slots
 
 
 class Made(Case):
     """Runs of the lessons, and their pages."""
 
-    def disk(self, source, name="image"):
-        """A disk whose /etc/init is this program of the lessons."""
-        self.assertEqual(self.call(as_main, "-s", "-o", self.path("program"), os.path.join(LIONS, source))[0], 0)
+    def disk(self, source, name="image", names="-s"):
+        """A disk whose /etc/init is this program of the lessons, with names, or with `-g` with the lines of its source too."""
+        self.assertEqual(self.call(as_main, names, "-o", self.path("program"), os.path.join(LIONS, source))[0], 0)
         self.assertEqual(os.system(f"{V6} make 0 {self.path(name)}"), 0)
         self.assertEqual(self.call(disk_main, "put", self.path(name), self.path("program"), "/etc/init")[0], 0)
         return self.path(name)
@@ -161,6 +172,16 @@ class Runs(Made):
         self.assertEqual(found.at(22)["call"], ["62 [2 /etc/init] read(0, 063, 100) waits for keys again"])
         self.assertEqual(found.at(24)["call"], ['66 [1 /etc/init] write(0, "Pone\\n", 5) = 5'])
         self.assertEqual(found.at(16)["call"], [""])
+        self.same_slots(found)
+
+    def same_slots(self, found):
+        """Under the picture stand slots, though the script has no ticks: each at a line that came with this slot."""
+        texts = re.findall(r'<text class="(?:small|unit)" x="([0-9.]+)" y="([0-9.]+)">([^<]+)</text>', found.html)
+        (_, y, _), = [one for one in texts if one[2] == "slots passed"]
+        shown = [(round((float(x) - LEFT) * found.head["lines"] / COLUMNS) + 1, int(text)) for x, at, text in texts if at == y and text.isdecimal()]
+        self.assertGreater(len(shown), 3)
+        for line, slots in shown:
+            self.assertEqual(found.slot(line), slots)
 
     def test_three_in_a_core_for_two(self):
         """Also within the moments of the swapper, which have several lines. Each of the three waits in another call in the end."""
@@ -195,6 +216,14 @@ class Runs(Made):
                 self.assertIn(one, found.at(line)["rule"][0], line)
         self.assertTrue(found.at(273)["book"][0].startswith("sched (1940) of slp.c; here swap_sched"))
 
+    def test_rules_name_processes(self):
+        """A rule speaks of slots; where the process in one has another number, this stands beside it."""
+        log = b"boot 60 7\nsleep 0 -100 runout\ngo 1\nfork 1 2 at 18\nexit 2 swap 4000\nreap 2\nfork 1 2 swap 4000\nsleep 1 40 wait.1\ngo 0\nin 2 18\n"
+        self.call(page.main, "--log", self.put("log", log), "-o", self.path("page.html"))
+        found = Read(read(self.path("page.html")))
+        self.assertIn("Here: slot 2 (process 3) has been out of core for longest, 0 seconds (1)", found.at(10)["rule"][0])
+        self.assertIn("is -100, that of slot 0.", found.at(9)["rule"][0])
+
     def test_few_moments(self):
         """Where fewer moments are looked at than have lines, the page says so; what it shows of each is right."""
         words = self.crowd()
@@ -207,6 +236,42 @@ class Runs(Made):
         slots = found.slot(at)
         looker.lines_of(f"slot {slots}")
         self.assertEqual(process_of(found.at(at), 1), looker.views.process(looker.moment, 1))
+
+    def test_lines_of_the_source(self):
+        """Of a program that has them, the lines of its source stand with its code."""
+        words = self.disk("pair.s", names="-g"), "1200", self.put("script", b"run 60\ntype one\nrun 60\n")
+        found = self.compare(words, 3)
+        source = os.path.join(LIONS, "pair.s")
+        number, text = next((number, text) for number, text in enumerate(read(source).decode().splitlines(), 1) if text.strip().startswith("inc\tr0"))
+        shown_at = {line for line in range(1, found.head["lines"]) if f"source     {source}:{number}  {text.strip()}" in found.at(line)["process 1"]}
+        self.assertTrue(shown_at)
+        for line in shown_at:
+            self.assertIn(f"  {source}:{number}  {text.strip()}", found.at(line)["code 1"])
+
+    def test_a_program_that_has_gone(self):
+        """A process whose file is no more has its name still, for the disk was looked at before the run; one that has become other words
+        has none, and all that it does is shown."""
+        for more, program in (("", "/etc/init"), (OVERWRITES, "no file of the disk has its words")):
+            words = self.disk(self.put("gone.s", GONE.format(more=more).encode())), "1200", self.put("script", b"run 1200\n")
+            found = self.compare(words, 3)
+            last = found.at(found.head["lines"])
+            self.assertIn(f"program    {program}", last["process 1"])
+            self.assertIn("call       sleep() has begun, and isn't done", last["process 1"])
+
+    def test_picture(self):
+        """The picture is that of `log.py draw` with its axis of slots, but for maps that aren't as high."""
+        image, core, script = self.crowd()
+        log = self.path("log")
+        self.assertEqual(os.system(f"{V6} run {image} {core} {script} {self.path('term')} {log} {self.path('final')}"), 0)
+        self.assertEqual(self.call(log_main, "draw", "--script", script, "-o", self.path("drawn.svg"), log), (0, "", ""))
+        found, _ = self.made("--log", log, "--script", script)
+        paper = re.search(r'<div id="paper"[^>]*>\n(.*?)</div>', found.html, re.S)[1]
+        lanes, maps = re.compile(r"(?s)<text .*?(?=<text[^>]*>core: )"), re.compile("<title>([^<]*: [0-9]+ to [0-9]+)</title>")
+        drawn = read(self.path("drawn.svg")).decode()
+        self.assertEqual(lanes.search(paper)[0], lanes.search(drawn)[0])
+        self.assertIn("slots passed", lanes.search(paper)[0])
+        self.assertEqual(maps.findall(paper), maps.findall(drawn))
+        self.assertGreater(len(maps.findall(paper)), 5)
 
     def test_panic(self):
         """The page goes to the end of the log; core is shown up to the slot before."""

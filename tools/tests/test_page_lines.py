@@ -17,6 +17,7 @@ from processes import programs_of_all
 from symbols import Programs
 
 page_main = tool("page").main
+CALLS = {"wait": "wait(..)", "keys": "read(..)", "read": "read(..)", "show": "write(..)", "write": "write(..)", "tout": "sleep(..)"}
 EVENING, PACK = (os.path.join(TOP, "examples", name) for name in ("timesharing", "pack"))
 
 
@@ -57,6 +58,16 @@ class Lines(Case):
             self.same(found, looker, line, 8)
         self.assertGreater(len({found.terminal(line, 2) for line in range(1, lines, 100)}), 3)
 
+    def calls(self, found, line):
+        """In which call each process waits at a line, by what it waits for; where core is known at the line, by its own row."""
+        panels, place, out = found.at(line), found.columns["moments"][line - 1], []
+        is_known = found.head["hasMemory"] and place and line == found.columns["ends"][place - 1]
+        for slot, text in enumerate(panels["ps"]):
+            told = [one[11:].removesuffix(" has begun, and isn't done") for one in panels.get(f"process {slot}", []) if one.startswith("call ")]
+            if text:
+                out.append(told[0] if is_known and told else CALLS.get(text.split("\t")[10].partition(".")[0], ""))
+        return out
+
     @unittest.skipUnless(shutil.which("node"), "node isn't there")
     def test_the_program_of_the_page(self):
         """What it shows of each terminal at a line is what the page has, and the parts that core would fill are hidden. So of two disks,
@@ -73,6 +84,7 @@ class Lines(Case):
             self.assertEqual(shown["isHidden"], [example != hi, example != hi, example != EVENING])
             self.assertEqual(NO_MEMORY in shown["note"], example != hi)
             for one in shown["told"]:
+                self.assertEqual(one["calls"], self.calls(found, one["line"]), one["line"])
                 for which, text in enumerate(one["terminals"]):
                     wanted = found.terminal(one["line"], which).decode().replace("\r\n", "\n").replace("\r", "\\015")
                     self.assertEqual(text, wanted, (one["line"], which))

@@ -88,6 +88,47 @@ class Searches(Case):
         self.assertEqual(error, "look.py: no break of process 2 is set\nlook.py: 040: no break of process 1 is there\n"
                                 "look.py: no word is watched\n")
 
+    def shown(self, image, script, *commands):
+        """The lines that commands show but for those that tell a moment and lines of the log, and what is said."""
+        status, out, error = self.call(look.main, "--v6", V6, image, "1200", script, *[word for one in commands for word in ("-c", one)])
+        return [line for line in out.splitlines() if not line.startswith(("slot", "    "))], error
+
+    def test_what_stored_a_word(self):
+        """The instruction is told with its name, also backwards, or a call that had begun before. `seen` is stored at 040, and `count`
+        at 04; process 1 waits in its read with PC behind it, at 030."""
+        image, script = self.disk(self.put("counts.s", COUNTS)), self.put("script", b"run 2000\n")
+        lines, error = self.shown(image, script, "slot 1", "until word seen", "slot 1000", "since word seen", "slot 1", "watch count",
+                                  "watch who", "until watch")
+        self.assertEqual([line for line in lines if "from" in line], 2 * ["  from pc 000040: eighth"] + ["  from pc 000004"])
+        image, script = self.disk(os.path.join(TOP, "docs", "lions", "src", "pair.s")), self.put("script", b"run 60\ntype one\nrun 60\n")
+        self.assertEqual(self.shown(image, script, "until word which+2 of 1", "since word which+2 of 1"),
+                         (["  from pc 000030, in its call read"], "look.py: word which+2: not found before slot 61\n"))
+        lines, _ = self.shown(image, script, "slot 20", "watch which+2 of 2", "watch which+2 of 1", "watch which+4 of 1", "until watch")
+        self.assertEqual([line for line in lines if "from" in line], ["  from pc 000030, in its call read"])  # of process 1, once
+
+    def test_a_process_that_comes_later(self):
+        """A search and a break look on for it, and the moment stays where it never comes."""
+        image = self.disk(os.path.join(TOP, "docs", "lions", "src", "pair.s"))
+        script = self.put("script", b"run 60\ntype one\nrun 60\ntype two\nrun 60\n")
+        self.assertEqual(self.slots(image, script, "until pc 040 of 2", "slot 0", "break 040 of 2", "slot", "until break"), [125, 0, 0, 125])
+        self.assertEqual(self.shown(image, script, "until pc 040 of 3", "break 040 of 3"),
+                         ([], 2 * "look.py: process 3 isn't there in slot 0, and never in this run\n"))
+
+    def test_where_another_runs_then(self):
+        """Process 1 comes to `after` by its read, which waits, so that process 2 runs: the place that is told is that of process 1."""
+        source = read(os.path.join(TOP, "docs", "lions", "src", "pair.s")).replace(b"\tinc\tr0", b"after:\tinc\tr0")
+        image, script = self.disk(self.put("pair.s", source)), self.put("script", b"run 60\n")
+        self.assertEqual(self.shown(image, script, "slot 2", "until pc after"), (["  pc 000030: after"], ""))
+
+    def test_a_name_of_another_program(self):
+        """It is said which programs of the disk have it, where they are few."""
+        image, script = self.disk(self.put("counts.s", COUNTS)), self.put("script", b"run 20\n")
+        self.assertEqual(self.call(as_main, "-s", "-o", self.path("it"), self.put("it.s", b"other:\tsys\texit\n")), (0, "", ""))
+        for number, have in enumerate(("", "; /1 has, see `of N`", "; /1 and /2 have, see `of N`", "; /1 and /2 and /3 have, see `of N`", "")):
+            if number:
+                self.assertEqual(self.call(disk_main, "--v6", V6, "put", image, self.path("it"), f"/{number}"), (0, "", ""))
+            self.assertEqual(self.shown(image, script, "slot 1", "until pc other"), ([], f"look.py: other: /etc/init has no such name{have}\n"))
+
     def test_what_is_not_found(self):
         image, script = self.disk(self.put("counts.s", COUNTS)), self.put("script", b"run 2000\n")
         words_ = "--v6", V6, image, "1200", script, "-c", "slot 1", "-c", "until word seen 60", "-c", "slot 300", "-c", "since word who"

@@ -1,7 +1,6 @@
 """The example of the shell: its disk, its dialogue, and more that its commands do. What they must show is by hand."""
 import os
 import subprocess
-import sys
 import unittest
 
 from common import DISK_BYTES, TOP, V6, Case, read, tool, v6
@@ -206,9 +205,8 @@ class Shell(Case):
         blocks = read(os.path.join(TOP, "docs", "tools", "README.md")).decode().split("```\n")[1::2]
         commands = next(block for block in blocks if "$V6DIR" in block)
         self.put("hello.s", blocks[0].encode())
-        path = f"{os.path.dirname(sys.executable)}:{os.environ['PATH']}"
         done = subprocess.run(["sh", "-ec", commands], cwd=self.folder, capture_output=True,
-                              env={**os.environ, "V6DIR": TOP, "PATH": path, "V6": V6})
+                              env={**os.environ, "V6DIR": TOP, "V6": V6})
         self.assertEqual((done.returncode, done.stderr), (0, b"\nconsole: nobody waits for a key any more: the run is over\n"))
         self.assertEqual(read(self.path("who")), b"hello, ken\nhello, dennis\n")
         self.assertIn(b"# HELLO KEN DENNIS >/USR/WHO\r\n", read(self.path("term")))
@@ -221,8 +219,7 @@ class Shell(Case):
 
     def test_build(self):
         image = self.path("image")
-        path = f"{os.path.dirname(sys.executable)}:{os.environ['PATH']}"  # the tools with the same Python
-        done = subprocess.run([os.path.join(SHELL, "build.sh"), image], env={**os.environ, "V6": V6, "PATH": path},
+        done = subprocess.run([os.path.join(SHELL, "build.sh"), image], env={**os.environ, "V6": V6},
                               capture_output=True)
         self.assertEqual((done.returncode, done.stderr), (0, b""))
         self.assertEqual(read(image), read(os.path.join(SHELL, "image")))

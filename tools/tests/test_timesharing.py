@@ -2,7 +2,6 @@
 What the evening must show stands beside it, made by another program from the definitions; what else must come is by hand."""
 import os
 import subprocess
-import sys
 import unittest
 
 from common import TOOLS, TOP, V6, Case, read, tool, v6
@@ -72,8 +71,7 @@ class Timesharing(Case):
         for name, place in (("bin/v6", V6), ("examples/timesharing", EXAMPLE), ("tools/log.py", os.path.join(TOOLS, "log.py"))):
             self.assertIn(name, commands)
             commands = commands.replace(name, place)
-        path = f"{os.path.dirname(sys.executable)}:{os.environ['PATH']}"
-        done = subprocess.run(["sh", "-ec", commands], cwd=self.folder, env={**os.environ, "PATH": path}, capture_output=True)
+        done = subprocess.run(["sh", "-ec", commands], cwd=self.folder, capture_output=True)
         self.assertEqual((done.returncode, done.stdout, done.stderr), (0, b"", b""))
         drawn = read(self.path("evening.svg")).decode()
         self.assertEqual([f">slot {slot}: " in drawn for slot in (0, 7, 8)], [True, True, False])
@@ -81,9 +79,8 @@ class Timesharing(Case):
 
     def test_build(self):
         image = self.path("image")
-        path = f"{os.path.dirname(sys.executable)}:{os.environ['PATH']}"
         done = subprocess.run([os.path.join(EXAMPLE, "build.sh"), image], capture_output=True,
-                              env={**os.environ, "PATH": path, "V6": V6})
+                              env={**os.environ, "V6": V6})
         self.assertEqual((done.returncode, done.stderr), (0, b""))
         self.assertEqual(read(image), read(IMAGE))
 
