@@ -266,14 +266,16 @@ class Opened(Browsed):
         self.open()
         until = "new Promise((done) => {{ const timer = setInterval(() => {{ if ({}) {{ clearInterval(timer); done(page.line); }} }}, 10); }})"
         state = "['play', 'head'].map((id) => document.getElementById(id).getAttribute(id === 'play' ? 'aria-pressed' : 'aria-live'))"
-        self.value("document.getElementById('pace').value = '20'")
+        self.value("document.getElementById('pace').value = '5'")
+        begun = self.value("performance.now()")
         self.browser.key("p")
         self.assertEqual(self.value(state), ["true", "off"])
-        self.assertGreater(self.value(until.format("page.line > 4")), 4)
+        self.assertGreater(self.value(until.format("page.line > 3")), 3)
+        self.assertGreater(self.value("performance.now()") - begun, 3 * 160)  # milliseconds of three lines, five a second
         self.browser.key("p")
         line = self.line()
         self.assertEqual(self.value(state), ["false", "polite"])
-        self.assertEqual(self.value("new Promise((done) => setTimeout(() => done(page.line), 200))"), line)
+        self.assertEqual(self.value("new Promise((done) => setTimeout(() => done(page.line), 300))"), line)
         self.value("document.getElementById('pace').value = '100'")
         begun = self.value("performance.now()")
         self.browser.key("p")
