@@ -285,7 +285,7 @@ class Opened(Browsed):
 
     def test_searches(self):
         """A word of the log, a path, and the number of a process are found, forwards and back, also what a mark says nothing of."""
-        log = self.put("log", b"boot 100 7\nsleep 0 -100 runout\ngo 1\nfork 1 2 at 18\ntrap 1\nsignal 1 9\nsignal 2 2\ntrap 1\nidle\nend\n")
+        log = self.put("log", b"boot 100 7\nsleep 0 -100 runout\ngo 1\nfork 1 2 at 18\ntrap 1\nsignal 1 2\nsignal 2 2\ntrap 1\nidle\nend\n")
         self.made("--log", log)
         self.open()
         for words, lines in (("signal", [6, 7]), ("out 4", []), ("fork", [4]), ("2", [4, 7]), ("process 1 gets", [6])):
@@ -326,7 +326,9 @@ class Opened(Browsed):
 
     def test_places(self):
         """Which line put an image where it is: that with which its place in the table changed last. A page of a log alone has it too."""
-        for words in (self.crowd(2500), ("--log", self.put("log", TEXTS.encode()))):
+        grown = TEXTS.replace("go 1\nfork", "go 1\nsize 1 30 keep\nfork")
+        self.assertNotEqual(grown, TEXTS)
+        for words in (self.crowd(2500), ("--log", self.put("log", grown.encode()))):
             self.made(*words, *["--moments", "2"] * (len(words) == 3))
             self.open()
             table, seen, wanted = Table(), {}, []
