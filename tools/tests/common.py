@@ -18,7 +18,7 @@ TOP = os.path.dirname(TOOLS)
 DISK_BYTES = 2494464  # of a disk that a run leaves
 HANDLED = signal.SIGINT, signal.SIGQUIT, signal.SIGTERM, signal.SIGHUP  # signals for which tools have a handler
 sys.path.insert(0, TOOLS)
-os.environ["PATH"] = f"{os.path.dirname(sys.executable)}:{os.environ['PATH']}"  # tools that are called find this Python, not a wrapper of it
+os.environ.update(PATH=f"{TESTS}/bin:{os.environ['PATH']}", V6_PYTHON=sys.executable)  # of the tools that are called
 from program import V6
 
 
