@@ -6,7 +6,7 @@ import re
 import shlex
 import subprocess
 
-from common import TOP, V6, Case, read, tool
+from common import TOP, V6, Case, read, status_of, tool
 
 from lessonpages import commands
 
@@ -55,9 +55,7 @@ class Runs(Case):
         os.chdir(self.folder)
         try:
             with contextlib.redirect_stdout(out), contextlib.redirect_stderr(out):
-                status = tool(name).main(words)
-        except SystemExit as ended:
-            status = ended.code
+                status = status_of(tool(name).main, words)
         finally:
             os.chdir(there)
         return status, out.buffer.getvalue().decode().replace("\r\n", "\n")
