@@ -8,7 +8,7 @@ The runs are those of bench/processes.py, cut after SLOTS slots (60): a seed giv
 each run a page is made, and so many LINES of its log are drawn. COMMAND is a built v6. Compared are the line itself, and what
 the page has after the moment with which it came, at the last line of that moment: the rows of the table of processes with
 their state, number, parent, user, place, time, size, text and what is waited for; of each process its registers and condition
-codes, its signals' handlers and open files; who holds core and the swap area; the shared texts; and all that the terminal has
+codes, the call that it waits in, its signals' handlers and open files; who holds core and the swap area; the shared texts; and all that the terminal has
 shown.
 
 The reference is the Python module `abstract_unix`; the environment variable ABSTRACT_UNIX names the folder in which it is.
@@ -16,6 +16,7 @@ The reference is the Python module `abstract_unix`; the environment variable ABS
 import importlib.util
 import os
 import random
+import re
 import subprocess
 import sys
 import tempfile
@@ -31,6 +32,8 @@ from moments import Script
 from pagereader import Read, process_of, shown, table_of
 
 SLOTS = 60
+CALLS = None, "read", "write", "read", "write", "sleep", "wait", "a wait for the disk"  # that have begun, by the number of what is pending
+BEGUN = re.compile(r"call +([a-z ]+).* has begun, and isn't done")
 
 
 def other_moments():
@@ -69,8 +72,14 @@ def differences(page, line, wanted):
             continue
         lines, count = process_of(panels, slot), count + 1
         pairs += [(f"registers of {process.pid}", like.registers_of(lines), wanted.registers(slot)),
-                  (f"u area of {process.pid}", like.area_of(lines), wanted.area(slot))]
+                  (f"u area of {process.pid}", like.area_of(lines), wanted.area(slot)),
+                  (f"call of {process.pid}", call_of(lines), CALLS[process.pending])]
     return [f"{what}: {one} and {other}" for what, one, other in pairs if one != other], count
+
+
+def call_of(lines):
+    """The call that a process waits in, as its rows tell it, or None."""
+    return next((found[1].strip() for found in map(BEGUN.match, lines) if found), None)
 
 
 def compare(command, runs, lines, first, slots, kind):

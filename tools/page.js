@@ -312,7 +312,7 @@ class Page {
     $("call").textContent = isHidden && !run.is(line, CALL) ? HIDDEN : run.one("call") || "No call ends with this line, and none begins to wait.";
     for (const name of ["core", "swap", "texts"]) $(name).textContent = run.shown(name).join("\n");
     this.showLog();
-    this.showProcesses(moment, isHidden);
+    this.showProcesses(moment);
     this.showTerminal(moment, isHidden);
     this.showProcess(moment, isHidden);
     this.drawCursor();
@@ -370,9 +370,9 @@ class Page {
     }));
   }
 
-  showProcesses(moment, isHidden) {
+  showProcesses(moment) {
     const rows = this.run.panel("ps").map((text, slot) => [slot, text.split("\t")]).filter(([, found]) => found.length > 1);
-    const isKnown = moment && moment.isExact && moment.isLast && !isHidden;
+    const isKnown = moment && moment.isExact && moment.isLast;  // memory, at just this line
     const cells = (kind, texts) => texts.map((text) => {
       const cell = document.createElement(kind);
       cell.textContent = text;

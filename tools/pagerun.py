@@ -28,6 +28,7 @@ MOVES = {"boot", "size", "fork", "drop", "bare", "text", "share", "image", "in",
 WIDE = {"boot", "exit", "reap"}  # words that may change the row of any process
 UNKNOWN = -1
 MAPS = 120, 75  # the heights of the maps of core and of the swap area
+LARGE, LOW = 480, (80, 75)  # of a core of so many clicks or more: its map has up to twice the height
 
 
 class Recorded(Run):
@@ -201,7 +202,6 @@ class Account:
         self.kinds, self.moments = array("B"), array("I")
         self.width = Story("\n".join(log).encode()).width()
         self.picture = Picture(len(log), self.width, self.teller)
-        self.picture.heights = MAPS
         self.letters, self.procedures = ["."] * self.width, None
         self.memory, self.is_new = None, False  # what memory tells, and whether it does so of the next line first
         for name, rows in ROWS.items():
@@ -224,6 +224,8 @@ class Account:
         self.raw.append(self.texts.number(text))
         second = self.table.second()
         self.table.apply(entry)
+        if entry["word"] == "boot":
+            self.picture.heights = MAPS if self.table.core < LARGE else LOW
         self.panels.row("rule", 0, rule)
         if procedures != self.procedures:
             self.procedures = procedures

@@ -18,7 +18,7 @@ TOP = os.path.dirname(TOOLS)
 DISK_BYTES = 2494464  # of a disk that a run leaves
 HANDLED = signal.SIGINT, signal.SIGQUIT, signal.SIGTERM, signal.SIGHUP  # signals for which tools have a handler
 sys.path.insert(0, TOOLS)
-os.environ["PATH"] = f"{os.path.dirname(sys.executable)}:{os.environ['PATH']}"  # tools that are called find this Python, not a wrapper of it
+os.environ.update(PATH=f"{TESTS}/bin:{os.environ['PATH']}", V6_PYTHON=sys.executable)  # of the tools that are called
 from program import V6
 
 
@@ -50,6 +50,18 @@ def words(text):
     return b"".join(int(word, 8).to_bytes(2, "little") for word in text.split())
 
 
+def status_of(main, words):
+    """The status of a tool that is called here; what it does at signals is no more then."""
+    handlers = {number: signal.getsignal(number) for number in HANDLED}
+    try:
+        return main(list(words))
+    except SystemExit as ended:
+        return ended.code
+    finally:
+        for number, handler in handlers.items():
+            signal.signal(number, handler)
+
+
 class Case(unittest.TestCase):
     """A test with a folder of its own, in which a tool is called by its words."""
 
@@ -70,17 +82,10 @@ class Case(unittest.TestCase):
         """The status of a tool, the bytes of its standard output, and what it says on the other one. It is called here, which is
         cheaper than a process of its own; it reads what is typed, where there is anything."""
         out, error = (io.TextIOWrapper(io.BytesIO(), encoding="utf-8", errors="backslashreplace", newline="\n") for _ in range(2))
-        handlers = {number: signal.getsignal(number) for number in HANDLED}
         with contextlib.redirect_stdout(out), contextlib.redirect_stderr(error), contextlib.ExitStack() as streams:
             if typed is not None:
                 streams.enter_context(unittest.mock.patch("sys.stdin", io.TextIOWrapper(io.BytesIO(typed))))
-            try:
-                status = main(list(words))
-            except SystemExit as ended:
-                status = ended.code
-            finally:
-                for number, handler in handlers.items():
-                    signal.signal(number, handler)
+            status = status_of(main, words)
         out.flush()
         error.flush()
         return status, out.buffer.getvalue(), error.buffer.getvalue().decode()

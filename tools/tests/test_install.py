@@ -9,7 +9,7 @@ import tempfile
 import unittest
 import unittest.mock
 
-from common import TOOLS, TOP, Case, read, tool, v6
+from common import TESTS, TOOLS, TOP, Case, read, tool, v6
 
 install = tool("install")
 ENVIRONMENT = {key: value for key, value in os.environ.items() if key != "V6"}
@@ -155,7 +155,7 @@ class Installed(Case):
 
     def user(self, command, status=0):
         """What a user sees who has the installed commands on the PATH and nothing of the repository."""
-        path = f"{self.there}/bin:{os.path.dirname(sys.executable)}:/usr/bin:/bin"
+        path = f"{self.there}/bin:{TESTS}/bin:/usr/bin:/bin"
         done = subprocess.run(["sh", "-ec", command], cwd=self.path("mine"), env={"PATH": path, "HOME": self.folder},
                               stdin=subprocess.DEVNULL, capture_output=True, text=True)
         self.assertEqual(done.returncode, status, done.stderr)

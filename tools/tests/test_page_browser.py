@@ -266,14 +266,16 @@ class Opened(Browsed):
         self.open()
         until = "new Promise((done) => {{ const timer = setInterval(() => {{ if ({}) {{ clearInterval(timer); done(page.line); }} }}, 10); }})"
         state = "['play', 'head'].map((id) => document.getElementById(id).getAttribute(id === 'play' ? 'aria-pressed' : 'aria-live'))"
-        self.value("document.getElementById('pace').value = '20'")
+        self.value("document.getElementById('pace').value = '5'")
+        begun = self.value("performance.now()")
         self.browser.key("p")
         self.assertEqual(self.value(state), ["true", "off"])
-        self.assertGreater(self.value(until.format("page.line > 4")), 4)
+        self.assertGreater(self.value(until.format("page.line > 3")), 3)
+        self.assertGreater(self.value("performance.now()") - begun, 3 * 160)  # milliseconds of three lines, five a second
         self.browser.key("p")
         line = self.line()
         self.assertEqual(self.value(state), ["false", "polite"])
-        self.assertEqual(self.value("new Promise((done) => setTimeout(() => done(page.line), 200))"), line)
+        self.assertEqual(self.value("new Promise((done) => setTimeout(() => done(page.line), 300))"), line)
         self.value("document.getElementById('pace').value = '100'")
         begun = self.value("performance.now()")
         self.browser.key("p")
@@ -283,7 +285,7 @@ class Opened(Browsed):
 
     def test_searches(self):
         """A word of the log, a path, and the number of a process are found, forwards and back, also what a mark says nothing of."""
-        log = self.put("log", b"boot 100 7\nsleep 0 -100 runout\ngo 1\nfork 1 2 at 18\ntrap 1\nsignal 1 9\nsignal 2 2\ntrap 1\nidle\nend\n")
+        log = self.put("log", b"boot 100 7\nsleep 0 -100 runout\ngo 1\nfork 1 2 at 18\ntrap 1\nsignal 1 2\nsignal 2 2\ntrap 1\nidle\nend\n")
         self.made("--log", log)
         self.open()
         for words, lines in (("signal", [6, 7]), ("out 4", []), ("fork", [4]), ("2", [4, 7]), ("process 1 gets", [6])):
@@ -324,7 +326,9 @@ class Opened(Browsed):
 
     def test_places(self):
         """Which line put an image where it is: that with which its place in the table changed last. A page of a log alone has it too."""
-        for words in (self.crowd(2500), ("--log", self.put("log", TEXTS.encode()))):
+        grown = TEXTS.replace("go 1\nfork", "go 1\nsize 1 30 keep\nfork")
+        self.assertNotEqual(grown, TEXTS)
+        for words in (self.crowd(2500), ("--log", self.put("log", grown.encode()))):
             self.made(*words, *["--moments", "2"] * (len(words) == 3))
             self.open()
             table, seen, wanted = Table(), {}, []
