@@ -156,8 +156,8 @@ class Installed(Case):
     def user(self, command, status=0):
         """What a user sees who has the installed commands on the PATH and nothing of the repository."""
         path = f"{self.there}/bin:{TESTS}/bin:/usr/bin:/bin"
-        done = subprocess.run(["sh", "-ec", command], cwd=self.path("mine"), env={"PATH": path, "HOME": self.folder},
-                              stdin=subprocess.DEVNULL, capture_output=True, text=True)
+        done = subprocess.run(["sh", "-ec", command], cwd=self.path("mine"), stdin=subprocess.DEVNULL, capture_output=True,
+                              text=True, env={"PATH": path, "HOME": self.folder, "V6_PYTHON": os.environ["V6_PYTHON"]})
         self.assertEqual(done.returncode, status, done.stderr)
         return done.stdout, done.stderr
 
