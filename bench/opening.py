@@ -51,20 +51,32 @@ def opened(name):
     """Of one opening: seconds, and processor time of the thread, its process and the browser."""
     one = browser.Browser()
     try:
-        before = processes(one.process.pid)
-        seconds = one.open(name)
-        after = processes(one.process.pid)
-        used = {number: time - before.get(number, 0) for number, time in after.items()}
-        shows = max((number for number in used if is_renderer(number)), key=used.get)
-        _, thread = fields(f"/proc/{shows}/task/{shows}/stat")
-        return seconds, thread, used[shows], sum(used.values())
+        return opened_in(one, name)
     finally:
         one.close()
 
 
+def opened_in(one, name):
+    """The same in a browser that is there."""
+    before, drawn = processes(one.process.pid), threads(one.process.pid)
+    seconds = one.open(name)
+    after = processes(one.process.pid)
+    used = {number: time - before.get(number, 0) for number, time in after.items()}
+    shows = max((number for number in used if is_renderer(number)), key=used.get)
+    return seconds, threads(one.process.pid)[shows] - drawn.get(shows, 0), used[shows], sum(used.values())
+
+
+def threads(first):
+    """The processor time of the threads that run and draw pages, by the numbers of their processes."""
+    return {number: fields(f"/proc/{number}/task/{number}/stat")[1] for number in processes(first) if is_renderer(number)}
+
+
 def is_renderer(number):
-    with open(f"/proc/{number}/cmdline", "rb") as file:
-        return b"--type=renderer" in file.read()
+    try:
+        with open(f"/proc/{number}/cmdline", "rb") as file:
+            return b"--type=renderer" in file.read()
+    except OSError:  # it has just ended
+        return False
 
 
 def tell(times, pages):

@@ -6,11 +6,13 @@
 COMMAND is a built v6 with the command `memory`. The rows are those of crates/run_rows/data that run a disk, or those of these
 names or patterns, as tools/row.py takes them; of a longer run the first SLOTS slots are gone through (1,000,000). The instructions
 between two turns in the kernel are done by tools/stepper.py. Compared are the registers, the codes and all of the memory of each
-process where a call begins after which more has changed than its answer, and what another call leaves alone.
+process where a call begins after which more has changed than its answer, and what another call leaves alone; and each answer that
+tools/answers.py knows is compared with the program's.
 """
 import os
 import sys
 import tempfile
+from collections import Counter
 from concurrent.futures import ProcessPoolExecutor
 
 TOP = os.path.dirname(os.path.dirname(os.path.abspath(__file__)))
@@ -20,13 +22,15 @@ from moments import MomentError, Run
 from row import Runner, chosen
 from rowfile import DATA, Row, RowError
 from scriptfile import ScriptError
+import walk as walk_module
 from walk import Walk
 
 SLOTS = 1_000_000
+walk_module.is_due = lambda count: True  # each known answer is asked for
 
 
 def gone_through(command, name, most):
-    """What a row came to: how many slots and turns in the kernel were gone through, and what differs, or None."""
+    """What a row came to: how many slots and turns in the kernel were gone through, what differs, or None, and how many answers were known."""
     row = Row(name)
     if row.lines["command"] is not None:
         return None
@@ -35,7 +39,7 @@ def gone_through(command, name, most):
         with open(image, "wb") as out:
             out.write(row.image(runner.base(row.disk.numbers["made"])))
         try:
-            walk = Walk(History(Run(command, image, row.numbers["core"], row.script, folder)), 0)
+            walk = Walk(History(Run(command, image, row.numbers["core"], row.script, folder)), 0, knows=True)
         except (MomentError, ScriptError):
             return None  # a disk, a script or a core that is refused
         last = min(walk.history.last, most)
@@ -45,12 +49,13 @@ def gone_through(command, name, most):
                 walk.go(last)
                 turns += walk.met is not None
         except Exception as error:  # of the tool too
-            return walk.at, turns, f"{type(error).__name__}: {error}"
-    return last, turns, None
+            return walk.at, turns, f"{type(error).__name__}: {error}", walk.answered
+    return last, turns, None, walk.answered
 
 
 def main(command, most, names):
     rows = slots = turns = differ = 0
+    answered = Counter()
     with ProcessPoolExecutor() as pool:
         wanted = [(name, pool.submit(gone_through, command, name, most)) for name in names]
         for name, future in wanted:
@@ -58,9 +63,11 @@ def main(command, most, names):
             if found is None:
                 continue
             rows, slots, turns, differ = rows + 1, slots + found[0], turns + found[1], differ + bool(found[2])
+            answered += found[3]
             if found[2]:
                 print(f"{name}: {found[2]}", flush=True)
-    print(f"{rows} rows, {slots} slots, {turns} turns in the kernel; {differ} rows differ")
+    told = ", ".join(f"{count} of {name}" for name, count in sorted(answered.items()))
+    print(f"{rows} rows, {slots} slots, {turns} turns in the kernel, answers known: {told or 'none'}; {differ} rows differ")
     return int(differ > 0)
 
 

@@ -40,20 +40,34 @@ def symbols(assembler):
     return "\n" + "".join(rows)
 
 
-def assemble(options):
+def programs(options):
+    """Each program that is made, with its sources."""
+    if options.into is None:
+        yield options.out, [*options.sources, *options.behind]
+        return
     for name in options.sources:
-        if same_file(name, options.out) and os.path.exists(name):
+        yield os.path.join(options.into, os.path.basename(name).removesuffix(".s")), [name, *options.behind]
+
+
+def assemble(options):
+    return int(any([assemble_one(options, *one) for one in programs(options)]))
+
+
+def assemble_one(options, out, names):
+    """Makes a program of sources, and gives its status."""
+    for name in names:
+        if same_file(name, out) and os.path.exists(name):
             print(f"as.py: {name}: the source itself, and the program would take its place", file=sys.stderr)
             return 1
-    sources = [(name, read_bytes(name).decode("utf-8", "replace")) for name in options.sources]
+    sources = [(name, read_bytes(name).decode("utf-8", "replace")) for name in names]
     assembler = Assembler()
-    traced = tuple(options.sources) if options.lines else ()
+    traced = tuple(names) if options.lines else ()
     data = assembler.assemble(sources, options.shared, options.symbols or options.lines, traced)
     if data is None:
         for error in assembler.errors:
             print(f"as.py: {error}", file=sys.stderr)
         return 1
-    put_out(options.out, data, 0o755)
+    put_out(out, data, 0o755)
     if options.listing:
         print(listing(assembler) + (symbols(assembler) if options.symbols else ""), end="")
     return 0
@@ -72,7 +86,9 @@ def disassemble(options):
 def main(words):
     parser = argparse.ArgumentParser(prog="as.py", description="An assembler in the syntax of as(I): docs/tools/as.md")
     parser.add_argument("sources", metavar="FILE", nargs="+", help="the source, in the order in which it is read")
-    parser.add_argument("-o", dest="out", default="a.out", help="the program that is made (a.out)")
+    parser.add_argument("-o", dest="out", help="the program that is made (a.out)")
+    parser.add_argument("--into", metavar="FOLDER", help="make a program of each FILE there, which has its name without .s")
+    parser.add_argument("--with", dest="behind", metavar="FILE", action="append", default=[], help="a source that stands behind each")
     parser.add_argument("-n", dest="shared", action="store_true", help="with a text that is shared: magic 0410")
     parser.add_argument("-l", dest="listing", action="store_true", help="print each line with its address and words")
     parser.add_argument("-s", dest="symbols", action="store_true", help="with a table of symbols, also in the listing")
@@ -82,6 +98,9 @@ def main(words):
 
     def body():
         options = parser.parse_args(words)
+        if options.into is not None and options.out is not None:
+            parser.error("-o names one program, and --into is for several")
+        options.out = "a.out" if options.out is None else options.out
         return disassemble(options) if options.disassemble else assemble(options)
 
     return guarded("as.py", body)

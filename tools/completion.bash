@@ -23,7 +23,7 @@ _v6() {
     v6-look | look.py) case $word in -*) words='--eight --help --log --replay --second --symbols --v6 --version -c' ;; esac ;;
     v6-page | page.py)
         case $word in -*) words='--disk --eight --help --log --marks --moments --output --replay --script --second --symbols --term --title --v6 --version -o' ;; esac ;;
-    v6-as | as.py) case $word in -*) words='--disassemble --help --version -g -l -n -o -s' ;; esac ;;
+    v6-as | as.py) case $word in -*) words='--disassemble --help --into --version --with -g -l -n -o -s' ;; esac ;;
     v6-cc | cc.py) case $word in -*) words='--compiler --gcc --help --version -D -I -S -g -n -o -s' ;; esac ;;
     v6-run | run.py) case $word in -*) words='--core --disk --eight --help --log --replay --second --second-disk --term --v6 --version' ;; esac ;;
     v6-trace | trace.py) case $word in -*) words='--from --help --process --replay --to --v6 --version' ;; esac ;;

@@ -4,7 +4,7 @@ import os
 import re
 from dataclasses import dataclass
 
-from files import read_bytes
+from files import read_bytes, short
 from processes import BUSY, OVER, RUNS, SLEEPS, WAITS, Processes
 from program import call, named
 from scriptfile import with_line
@@ -47,7 +47,7 @@ class Disk:
         data = read_bytes(named)
         self.digest = hashlib.sha256(data).hexdigest().encode()
         with open(copy, "wb") as file:
-            file.write(data)
+            file.write(short(data))
 
     def has_changed(self):
         """Whether the file of the image isn't any more what was read of it."""

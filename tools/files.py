@@ -8,6 +8,8 @@ import sys
 import tempfile
 
 BLOCK = 512  # in which holes are counted
+DISK = 4872 * BLOCK  # bytes of a disk
+IN_MEMORY, ROOM = "/dev/shm", 2**31  # where many hosts keep files in memory, and how many bytes must be free there
 MOST = 2**28  # bytes of a file that is read whole
 INTERRUPTS = signal.SIGINT, signal.SIGTERM, signal.SIGHUP
 STREAMS = ("-", b"-", "/dev/stdout", b"/dev/stdout")
@@ -66,6 +68,24 @@ def read_bytes(name, most=None):
     if not most and len(data) > MOST:
         raise OSError(errno.EFBIG, f"more than {MOST} bytes", name)
     return data
+
+
+def short(image):
+    """An image without the zeros at its end, with which a shorter one counts as filled up: the program reads less, and the disk is the
+    same. One that is too long stays so."""
+    size = len(image.rstrip(b"\0")) if len(image) <= DISK else len(image)
+    return image[: -(-size // BLOCK) * BLOCK]
+
+
+def folder_of_runs():
+    """A folder that goes again, for the files of many runs, each of which is read at once: in memory, where the host has room there and
+    nobody wants another place."""
+    place = None
+    with contextlib.suppress(OSError):
+        found = os.statvfs(IN_MEMORY)
+        if "TMPDIR" not in os.environ and os.access(IN_MEMORY, os.W_OK | os.X_OK) and found.f_bavail * found.f_frsize >= ROOM:
+            place = IN_MEMORY
+    return tempfile.TemporaryDirectory(dir=place)
 
 
 def read_sparse(name):

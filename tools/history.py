@@ -1,15 +1,16 @@
 """The moments of a run, one by one: the table of processes by the log, and core and the swap area by the program's command."""
+import bisect
 import copy
 import functools
 import itertools
 import threading
 from collections import OrderedDict
 
-from moments import MomentError, workers
+from moments import WORKERS, MomentError, workers
 from proctable import Table
 
-APART = 4096  # lines of the log between two tables that are kept
-KEPT = 48  # moments whose memory is kept
+APART = 1024  # lines of the log between two tables that are kept
+KEPT, FEW_KEPT = 48, 4  # moments whose memory is kept, also in one of several processes
 
 
 class Moment:
@@ -62,6 +63,8 @@ class History:
         self.run, self.last = run, run.end()
         self.tables, self.built = [Table()], Table()  # before the lines 0, APART and so on; and the table that makes more of them
         self.memories, self.guard, self.outside, self.sent = OrderedDict(), threading.Lock(), None, None
+        self.kept, self.spans = KEPT, {}  # and by what was looked for the parts that were gone through for it
+        self.is_stepping = self.is_ended = False  # whether instructions are being done, and what is at work is to end
 
     def table(self, lines):
         """The table after so many lines of the log."""
@@ -104,7 +107,7 @@ class History:
         found = self.run.memory(slots, True)
         with self.guard:
             self.memories[slots] = found
-            while len(self.memories) > KEPT:
+            while len(self.memories) > self.kept:
                 self.memories.popitem(last=False)
         return found
 
@@ -141,6 +144,48 @@ class History:
         """What `does` makes of each of these, several at a time."""
         with workers() as pool:
             return list(pool.map(does, wanted))
+
+    def in_order(self, does, wanted):
+        """What `does` makes of each of these, one after the other: of the first here, and of the others in processes that work ahead."""
+        if wanted:
+            yield does(wanted[0])
+        if WORKERS == 1 or len(wanted) < 3:
+            yield from map(does, wanted[1:])
+            return
+        from parallel import in_order
+
+        self.table(len(self.run.log))  # so that each has the tables that are kept
+        yield from in_order(lambda number: does(wanted[number + 1]), len(wanted) - 1, WORKERS, self.forked, MomentError)
+
+    def forked(self, number):
+        """In a process of its own, whose files are its own; gives what ends its work."""
+        self.run.forked(f"{number}.")
+        self.guard, self.kept = threading.Lock(), FEW_KEPT
+        return self.end
+
+    def end(self):
+        """Ends what is at work: at once, or where a run of the program that it waits for is done."""
+        self.is_ended = True
+        if self.is_stepping:
+            raise SystemExit
+
+    def go_on(self):
+        if self.is_ended:
+            raise SystemExit
+
+    def keep(self, sought, low, high, hits):
+        """Keeps that between two moments what is looked for becomes so at these."""
+        self.spans.setdefault(sought.key, []).append((low, high, hits))
+
+    def span(self, sought, high):
+        """Of a part that was gone through for the same up to a moment or further: where it begins, and the last hit up to that moment, or
+        None; None where no part is known."""
+        found = next((one for one in self.spans.get(sought.key, ()) if one[0] < high <= one[1]), None)
+        if found is None:
+            return None
+        low, _, hits = found
+        place = bisect.bisect_right(hits, high)
+        return low, hits[place - 1] if place else None
 
     def slot_of_line(self, line):
         """The moment at which a line of the log, counted from 0 on, has come."""

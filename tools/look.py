@@ -8,10 +8,9 @@ if __name__ == "__main__":
 import argparse
 import os
 import sys
-import tempfile
 
 sys.path.insert(0, os.path.dirname(os.path.abspath(__file__)))
-from files import guarded, read_bytes
+from files import folder_of_runs, guarded, read_bytes
 from history import History
 from lookcommands import Looker, LookError
 from lookviews import Views
@@ -91,7 +90,7 @@ def talk(looker):
 
 
 def look(options):
-    with tempfile.TemporaryDirectory() as folder:
+    with folder_of_runs() as folder:
         looker = looker_of(options, folder)
         if not options.commands and sys.stdin.isatty():
             return talk(looker)

@@ -1,15 +1,14 @@
 """Searches over the moments of a run, forwards and backwards.
 
 What the log tells is found by its lines. What memory alone tells is found by going through the slots of the run, each one: walk.py."""
-import itertools
+import contextlib
 
 from callwords import call_at
 from moments import WORKERS, is_turn
-from walk import found
+from walk import Walk, calls, first, last
 
-NEAREST, WIDER, LONGEST = 4096, 4, 1_000_000  # slots of a stretch backwards: the first, how much longer each next one is, the most
-PART = 65536  # slots of a part of one, the least
-AT_ONCE = 16  # calls that are looked at together
+NEAREST, LEAST, LONGEST = 1024, 4096, 262_144  # slots of a part backwards: of the first, and of those behind it the least and the most
+AT_ONCE, MANY = 16, 64  # calls that are looked at together, and so many that all slots are gone through
 BLOCK = 4096  # lines of the log that are gone through together, backwards
 
 
@@ -100,17 +99,32 @@ class Search:
     # by calls
 
     def call(self, name, number):
-        """The next moment at which a process stands at such a call, or the last one."""
+        """The next moment at which a process stands at such a call, or the last one. Where the nearest turns in the kernel aren't such
+        calls, and many are left, all slots are gone through."""
         lines = self.history.run.log
         numbers = range(self.moment.lines, len(lines)) if self.forwards else range(self.moment.lines - 1, -1, -1)
-        turns = (line for line in numbers if is_turn(lines[line]))
-        while chunk := list(itertools.islice(turns, AT_ONCE)):
+        turns = [line for line in numbers if is_turn(lines[line])]
+        for at in range(0, len(turns), AT_ONCE):
+            chunk = turns[at : at + AT_ONCE]
             slots = self.history.run.slots_of(chunk)
             wanted = [(slots[line] - 1, int(lines[line].split(" ")[1])) for line in chunk if self.is_past(slots[line] - 1)]
             for (slot, _), is_found in zip(wanted, self.history.each(lambda one: self.stands(one, name, number), wanted)):
                 if is_found:
                     return slot
+            if len(turns) - at > MANY:
+                return self.begun(slots[chunk[-1]], lambda one: number in (None, one[1]) and name in ("", one[2]))
         return None
+
+    def begun(self, slot, is_wanted):
+        """The same by the calls that are begun behind a slot, or before it."""
+        if self.forwards:
+            walk = Walk(self.history, slot, knows=True)
+            found = next(filter(is_wanted, walk.calls(self.history.last)), None)
+            walk.check()
+            return found and found[0]
+        parts = parts_of(slot - 1)
+        with contextlib.closing(self.history.in_order(lambda part: calls(self.history, *part), parts)) as told:
+            return next((one[0] for found in told for one in reversed(found) if is_wanted(one)), None)
 
     def is_past(self, slots):
         return 0 <= slots <= self.history.last and (slots > self.moment.slots if self.forwards else slots < self.moment.slots)
@@ -129,28 +143,44 @@ class Search:
 
     def sought(self, *wanted):
         """The next moment at which what is looked for of a process, or of several, becomes so, or the last one. All moments are gone
-        through: forwards one after the other, backwards in stretches that become longer and longer, each of them forwards."""
-        if self.forwards:
-            nearest = None
-            for one in wanted:
-                nearest = next(found(self.history, one, self.moment.slots, nearest or self.history.last), nearest)
-            return nearest
-        high, size = max(self.moment.slots - 1, 0), NEAREST
-        while high:
-            low = max(high - size, 0)
-            parts = [(one, *part) for one in wanted for part in self.parts(low, high)]
-            last = max(filter(None, self.history.each(self.last_of, parts)), default=None)
-            if last is not None:
-                return last
-            high, size = low, min(size * WIDER, LONGEST)
+        through: forwards one after the other, backwards in parts, each of them forwards."""
+        if not self.forwards:
+            return self.last(wanted)
+        nearest = None
+        for one in wanted:
+            nearest = first(self.history, one, self.moment.slots, nearest or self.history.last) or nearest
+        return nearest
+
+    def last(self, wanted):
+        """The last moment, by what was found when the same was looked for before, as far as that goes."""
+        high = self.moment.slots - 1
+        while high > 0:
+            spans = [self.history.span(one, high) for one in wanted]
+            if None in spans:
+                return self.gone_through(wanted, high)
+            high, found = max(low for low, _ in spans), [hit for _, hit in spans if hit is not None]
+            if found and max(found) > high:
+                return max(found)
         return None
 
-    def parts(self, low, high):
-        """A stretch of the run, as parts that are gone through at the same time where they are long."""
-        size = max(PART, -(-(high - low) // WORKERS))
-        return [(start, min(start + size, high)) for start in range(low, high, size)]
+    def gone_through(self, wanted, high):
+        """The last moment up to one, where the parts are gone through, the nearest first, and as many at a time as there are processors."""
+        parts = parts_of(high)
+        with contextlib.closing(self.history.in_order(lambda part: [last(self.history, one, *part) for one in wanted], parts)) as told:
+            for (_, top), spans in zip(parts, told):
+                for one, (low, hits) in zip(wanted, spans):
+                    self.history.keep(one, low, top, hits)
+                found = [hits[-1] for _, hits in spans if hits]
+                if found:
+                    return max(found)
+        return None
 
-    def last_of(self, part):
-        """The last moment of a part of the run with which what is looked for becomes so, or None."""
-        sought, low, high = part
-        return max(found(self.history, sought, low, high), default=None)
+
+def parts_of(high):
+    """The run up to a moment in parts, each with the moment before it, the nearest first: they become longer with their distance."""
+    found, top, size = [], high, NEAREST
+    while top:
+        found.append((max(top - size, 0), top))
+        top = found[-1][0]
+        size = min(max(LEAST, (high - top) // WORKERS), LONGEST)
+    return found

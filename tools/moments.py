@@ -5,15 +5,16 @@ import mmap
 import os
 import threading
 
-from files import read_bytes
+from files import read_bytes, short
 from program import ProgramError, call, named
 from proctable import SWAP_FIRST, SWAP_LAST
 from scriptfile import COUNT, OTHER, fault, lines_of, ticks_of, with_line
+from volume import gathered
 
 CLICK, BLOCK, SEGMENT, U_AREA, ADDRESSES = 64, 512, 8192, 1024, 65536
 SWAP_BYTES = (SWAP_LAST - SWAP_FIRST + 1) * BLOCK
 DONE, USAGE = 0, 1  # of the program's statuses: docs/manual/commands.md
-WORKERS = os.cpu_count() or 1
+WORKERS = len(os.sched_getaffinity(0)) if hasattr(os, "sched_getaffinity") else os.cpu_count() or 1
 FURTHER = range(1, 8)  # the lines of a terminal beside the console
 NO_MEMORY = "core isn't known of a run with eight lines or a second disk, since `v6 memory` has one of each"
 ENDS = ("trap", "sleep", "exit")  # words of the lines with which a turn in the kernel ends
@@ -47,11 +48,14 @@ class Script:
             if not found and not OTHER.fullmatch(line):
                 raise fault(number, line)
             self.lines.append((line, int(found[2]) if found and found[1] == b"run" else None))
-        self.slots = 0
-        for _, count in self.lines:
+        self.slots, self.passed, self.places = 0, [], [0]  # how many slots have passed before each line, and where each ends
+        for line, count in self.lines:
             if count is None:
                 self.pauses.add(self.slots)
+            self.passed.append(self.slots)
+            self.places.append(self.places[-1] + len(line) + 1)
             self.slots += count or 0
+        self.text = b"".join(line + b"\n" for line, _ in self.lines)
 
     def events(self):
         """After which slots something comes from outside, and how many ticks; 0 where something else comes too."""
@@ -64,16 +68,13 @@ class Script:
 
     def cut(self, slots, more=False):
         """The script up to where so many slots have passed; with `more` also what comes before the next slot."""
-        out, left = [], slots
-        for line, count in self.lines:
-            if not left and (count or not more):
-                break
-            if count is not None and count > left:
-                out.append(b"run %d" % left)
-                break
-            left -= count or 0
-            out.append(line)
-        return b"".join(line + b"\n" for line in out)
+        count = bisect.bisect_left(self.passed, slots)  # lines before which fewer have passed
+        last = self.lines[count - 1][1] if count else None
+        if last is not None and self.passed[count - 1] + last > slots:
+            return self.text[: self.places[count - 1]] + b"run %d\n" % (slots - self.passed[count - 1])
+        while more and count < len(self.lines) and not self.lines[count][1]:
+            count += 1
+        return self.text[: self.places[count]]
 
 
 class Run:
@@ -82,27 +83,46 @@ class Run:
     def __init__(self, v6, image, core, script, folder, eight=False, second=None):
         self.v6, self.image, self.core, self.script, self.folder = v6, image, core, Script(script), folder
         self.eight, self.second, self.has_memory = eight, second, not eight and second is None
-        self.files, self.guard = {}, threading.Lock()
+        self.disks = [image, *[second] * (second is not None)]
+        self.forked("")
         self.lines, self.status, self.said = self.played(script)
+        self.copy()
         self.log = self.lines + ["end"] * (self.status == DONE)  # all lines of the log's file
         self.before = {}  # slots, more: how many lines the log has then
+
+    def forked(self, mark):
+        """In a process of its own, whose files have this mark in their names."""
+        self.mark, self.files, self.guard = mark, {}, threading.Lock()
+
+    def copy(self):
+        """From now on each run is made on a disk that is as good as what the disk is, and is read sooner."""
+        for number, name in enumerate(self.disks):
+            if os.path.isfile(name):
+                self.disks[number] = os.path.join(self.folder, f"disk.{number}")
+                with open(self.disks[number], "wb") as file:
+                    file.write(short(gathered(read_bytes(name))))
 
     def names(self, *wanted):
         """Files for one run, those of the thread that makes it."""
         with self.guard:
             number = self.files.setdefault(threading.get_ident(), len(self.files))
-        return [os.path.join(self.folder, f"{number}.{name}") for name in wanted]
+        return [os.path.join(self.folder, f"{self.mark}{number}.{name}") for name in wanted]
+
+    def cut(self, script):
+        """The file of a script."""
+        (name,) = self.names("script")
+        with open(name, "wb") as file:
+            file.write(script)
+        return name
 
     def played(self, script):
         """The lines of the log of a script without its last line `end`, the status, and what the program says."""
-        file, term, log = self.names("script", "term", "log")
-        with open(file, "wb") as out:
-            out.write(script)
+        term, log = self.names("term", "log")
         if os.path.exists(log):
             os.unlink(log)
         word = "run8" if self.eight else "run2" if self.second else "run"
-        second = [self.second, os.devnull] if self.second else []
-        status, said = call(self.v6, word, self.image, str(self.core), file, term, log, os.devnull, *second)
+        second = [*self.disks[1:], os.devnull] if self.second else []
+        status, said = call(self.v6, word, self.disks[0], str(self.core), self.cut(script), term, log, os.devnull, *second)
         if not os.path.exists(log):
             raise MomentError(named(with_line(said, script), {"image": self.image, "second": self.second}, self.core))
         lines = read_bytes(log).decode("ascii", "replace").split("\n")[:-1]
@@ -183,10 +203,8 @@ class Run:
         """The bytes of core and of the swap area after so many slots."""
         if not self.has_memory:
             raise MomentError(NO_MEMORY)
-        file, final = self.names("script", "memory")
-        with open(file, "wb") as out:
-            out.write(self.script.cut(slots, more))
-        status, said = call(self.v6, "memory", self.image, str(self.core), file, final)
+        (final,) = self.names("memory")
+        status, said = call(self.v6, "memory", self.disks[0], str(self.core), self.cut(self.script.cut(slots, more)), final)
         if status == USAGE:
             raise ProgramError(f"{self.v6} has no command `memory`, which tells what core and the swap area hold")
         if status != DONE:
@@ -195,6 +213,14 @@ class Run:
         if len(data) != self.core * CLICK + SWAP_BYTES:
             raise MomentError(f"the memory has {len(data)} bytes, and {self.core * CLICK + SWAP_BYTES} are wanted")
         return Memory(data, self.core)
+
+
+    def disk(self, slots):
+        """The bytes of the disk that is left after so many slots, or None where the run doesn't come so far."""
+        (final,) = self.names("final")
+        script = self.cut(self.script.cut(slots, True))
+        status, _ = call(self.v6, "run", self.disks[0], str(self.core), script, os.devnull, os.devnull, final)
+        return None if status else read_bytes(final)
 
 
 def mapped(name):

@@ -8,10 +8,9 @@ if __name__ == "__main__":
 import argparse
 import os
 import sys
-import tempfile
 
 sys.path.insert(0, os.path.dirname(os.path.abspath(__file__)))
-from files import guarded, place_of, put_out, read_bytes, same_file
+from files import folder_of_runs, guarded, place_of, put_out, read_bytes, same_file
 from moments import MomentError
 from program import CORE, V6, ProgramError, add_version
 from proctable import LogFault
@@ -49,7 +48,7 @@ def page_of_run(options):
 
     if not options.replay:
         check_head(options.script, options.image, options.core, options.eight, options.second)
-    with tempfile.TemporaryDirectory() as folder:
+    with folder_of_runs() as folder:
         script = read_script(options.script)
         run = Recorded(options.v6, options.image, options.core, script, folder, options.eight, options.second)
         disks = [read_bytes(name) for name in filter(None, (options.image, options.second))]

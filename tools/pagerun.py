@@ -4,7 +4,6 @@ import heapq
 import os
 from array import array
 from collections import OrderedDict
-from concurrent.futures import ThreadPoolExecutor
 
 from choices import Ruled
 from history import History, Moment
@@ -13,10 +12,10 @@ from logpicture import Picture
 from logwords import Teller
 from lookviews import by_size, cells, map_of, shared_texts
 from files import read_bytes
-from moments import FURTHER, WORKERS, Run
+from moments import FURTHER, Run
 from pagepack import Panels, Texts
 from pagerules import rule_of, told
-from proctable import SLOTS, TICKS_OF_A_SECOND, Table
+from proctable import SLOTS, Table
 from trace import Tracer
 
 KEPT = 80  # memories that are kept, since the calls of several moments are looked at together

@@ -9,12 +9,12 @@ import argparse
 import fnmatch
 import os
 import shlex
-import subprocess
 import sys
 import tempfile
 
 sys.path.insert(0, os.path.dirname(os.path.abspath(__file__)))
 import disassembler
+import program
 from files import guarded, read_bytes
 from pdp11 import ARGUMENTS
 from program import V6, ProgramError, add_version
@@ -36,12 +36,15 @@ class Runner:
         self.folder, self.bases = folder, {None: read_bytes(HI)}
 
     def call(self, words, report=""):
-        """The status of a command, and its report."""
+        """The status of a command that is given in the folder, and its report."""
+        there = os.getcwd()
+        os.chdir(self.folder)
         try:
-            done = subprocess.run([*self.words, *words], capture_output=True, cwd=self.folder)
+            return program.run([*self.words, *words])
         except OSError as error:
             raise ProgramError(f"{self.words[0]}: {error.strerror}: the program v6 is wanted; --v6 names it") from None
-        return done.returncode, done.stdout
+        finally:
+            os.chdir(there)
 
     def judged(self, words):
         """The status of a row's command, and its report. The gate's host writes the bytes of memory to `final` alone: here a folder
@@ -59,6 +62,12 @@ class Runner:
     def put(self, name, data):
         with open(os.path.join(self.folder, name), "wb") as file:
             file.write(data)
+
+    def empty(self, name):
+        """A file becomes empty, where it isn't."""
+        path = os.path.join(self.folder, name)
+        if not os.path.exists(path) or os.path.getsize(path):
+            self.put(name, b"")
 
     def get(self, name):
         path = os.path.join(self.folder, name)
@@ -78,7 +87,7 @@ class Runner:
         for name, data in (*zip(("image", "image2"), images), ("script", row.script), ("empty", b"")):
             self.put(name, data)
         for name in FILES:
-            self.put(name, b"")
+            self.empty(name)
         came = {"images": images}
         came["status"], came["report"] = self.judged(row.command().split(" ") if row.command() else [])
         came.update((name, self.get(name)) for name in FILES)

@@ -3,6 +3,7 @@
 What the kernel does stays with the kernel: a call, a trap, a fault, a larger stack. A stepper stops before such an instruction."""
 import struct
 
+from answers import CARRY, Answers
 from stepcode import MASK, STORED, TOP, row_at, single
 
 ADDRESSES = 65536
@@ -28,7 +29,7 @@ class Stepper:
         for number, (low, high) in enumerate(ranges):
             for at in range(low, high + 1):
                 self.zones[at] |= 1 << number
-        self.parts, self.hit = [], None
+        self.parts, self.hit, self.answers = [], None, Answers()
         self.fill(process)
         self.closed = list(self.kept)  # what can't be stored in for good, where `kept` also has what is watched and what rows are made of
         self.watched = {at: self.words[at] for at in words}
@@ -37,13 +38,32 @@ class Stepper:
 
     def fill(self, process):
         """The registers and the memory of a process."""
-        self.registers, self.pending = [*process.registers, *codes(process.u[16]), -1], process.pending
+        self.told(process)
         self.parts = process.parts
         for first, size, at in process.parts:
             found = struct.unpack_from(f"<{size // 2}H", process.data, at)
             self.words[first : first + size : 2] = found
             if not is_text(process, first):
                 self.kept[first : first + size : 2] = [0] * (size // 2)
+
+    def told(self, process):
+        """The registers, the codes and the u area that the program tells; no call has been answered here since."""
+        self.registers, self.pending = [*process.registers, *codes(process.u[16]), -1], process.pending
+        self.u, self.is_asked = process.u, True
+
+    def is_as(self, process):
+        """Whether a process is what is here."""
+        return process.registers == self.registers[:8] and process.u[16] & 15 == self.code() and self.changes(process) == {}
+
+    def would_be(self, answer, process):
+        """Whether a process is what this one would be with an answer, but for its words."""
+        registers = [answer.r0, answer.r1, *self.registers[2:7], answer.end]
+        return process.registers == registers and process.u[16] & 15 == self.code() & ~CARRY | answer.carry
+
+    def answered(self, answer):
+        """Goes on with the answer of a call that wasn't asked for."""
+        self.answers.go_on(self, answer)
+        self.is_asked = False
 
     def code(self):
         """The condition codes: N 8, Z 4, V 2, C 1."""
@@ -64,7 +84,7 @@ class Stepper:
 
     def take(self, process, changed):
         """Goes on with the registers of a process and with words that are others."""
-        self.registers, self.pending = [*process.registers, *codes(process.u[16]), -1], process.pending
+        self.told(process)
         for at, word in changed.items():
             self.words[at] = word
             if self.kept[at] and not self.closed[at]:

@@ -10,12 +10,11 @@ import copy
 import itertools
 import os
 import sys
-import tempfile
 from dataclasses import dataclass
 
 sys.path.insert(0, os.path.dirname(os.path.abspath(__file__)))
 from callwords import Call, answer, kept
-from files import guarded
+from files import folder_of_runs, guarded
 from history import History
 from logwords import CHANNELS, clicks
 from moments import MomentError, Run, is_turn, workers
@@ -221,7 +220,7 @@ class Tracer:
 
 def trace(options):
     image = options.image
-    with tempfile.TemporaryDirectory() as folder:
+    with folder_of_runs() as folder:
         if not options.replay:
             check_head(options.script, image, options.core)
         run = Run(options.v6, image, options.core, read_script(options.script), folder)

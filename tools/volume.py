@@ -457,3 +457,18 @@ def check_name(name):
         raise DiskError(f"the name has {len(name)} bytes, and a directory keeps {NAME_BYTES}")
     if not name or b"\0" in name or b"/" in name:
         raise DiskError("no name for a file: it is empty, or has a slash or a NUL")
+
+
+def gathered(image):
+    """A disk with the same files and as much room, whose free list stands in the lowest blocks that are free, and of which what else is
+    free is zeros. No program sees in which blocks something stands, so a run of it is the same; and up to its last byte it is shorter."""
+    volume = Volume(image)
+    free = sorted(volume.free_blocks())
+    for block in free:
+        if volume.block(block) != bytes(BLOCK):
+            volume.change(block, 0, bytes(BLOCK))
+    first, volume.group = len(free) // GROUP + 1, []
+    links, others = free[:first][::-1], free[first:][::-1]
+    while links or others:
+        volume.give((links if len(volume.group) == GROUP and links or not others else others).pop())
+    return volume.image()

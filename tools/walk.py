@@ -1,14 +1,17 @@
 """Goes through the slots of a run, each one: what comes between two lines of the log a stepper does here, and what the kernel does is
-asked for by the program's command `memory`. Where the two differ, that is said: see docs/tools/look.md."""
+asked for by the program's command `memory`, but for answers of calls that follow from what is known. Where the two differ, that is
+said: see docs/tools/look.md."""
 import bisect
 import copy
 import math
+from collections import Counter, deque
 
 from dataclasses import dataclass
 
+from answers import made
 from callwords import call_at, name_of
 from moments import ENDS, MomentError, is_turn
-from proctable import TICKS_OF_A_SECOND
+from proctable import NUMBERS, TICKS_OF_A_SECOND
 from stepcode import MASK
 from stepper import Stepper
 
@@ -16,6 +19,8 @@ NEAR = 20_000  # slots of other processes that are gone through, and
 FEW = 12  # turns in the kernel of theirs, before it is asked when the one that is looked for runs again
 ANSWERS = {"read": (1, None), "stat": (1, 36), "fstat": (1, 36), "gtty": (1, 6), "times": (0, 12)}  # which argument of a call says where
 # it writes, and how many bytes; those of a read are its count
+MOST_HITS = 1024  # of a part that are kept
+MOST_TIME = NUMBERS["TIME"][1]
 BY_SLOTS = ("wake disk.", "wake show")  # begin lines that may come with the end of a slot
 CHANGES = {"image", "size", "signal", "bare"}  # lines of a turn after which more has changed than a call's answer
 
@@ -25,6 +30,7 @@ class Sought:
 
     def __init__(self, number, ranges=(), words=None):
         self.number, self.ranges, self.words = number, ranges, words or {}
+        self.key = number, tuple(ranges), tuple(self.words.items())
 
     def comes(self, before, after):
         """Whether with a state something has become so that wasn't before it."""
@@ -74,8 +80,10 @@ class Walk:
     """The moments of a run from one on, slot by slot. What stays as it is needn't be looked at: it goes from one line of the log to the
     next, or to a moment at which something that is looked for becomes so."""
 
-    def __init__(self, history, slots, sought=None):
+    def __init__(self, history, slots, sought=None, knows=None):
         self.history, self.lines, self.at, self.sought = history, history.run.lines, slots, sought
+        self.knows = sought is not None if knows is None else knows  # whether calls are answered here where that can be
+        self.answered, self.clock = Counter(), None  # how often, by their names; and the time when the run begins, where that was told
         self.line = min(history.count(slots), len(self.lines))
         self.table, self.memory, self.steppers = history.table(self.line), None, {}
         self.events = history.events()
@@ -116,6 +124,7 @@ class Walk:
     def go(self, limit):
         """To a later moment, `limit` at most: behind a turn in the kernel, what comes from outside, or what was looked for."""
         self.hit = None
+        self.history.go_on()
         if self.sought and self.is_far():
             return self.jump(limit)
         place = bisect.bisect_right(self.pauses, self.at)
@@ -127,7 +136,9 @@ class Walk:
         elif slot and not self.stepper(slot).pending:
             stepper = self.stepper(slot)
             most = stop if not self.is_other(slot) else min(stop, self.at + NEAR)
+            self.history.is_stepping = True  # so nothing is lost where it is ended meanwhile
             self.at += stepper.run(most - self.at)
+            self.history.is_stepping = False
             self.hit = stepper.hit
             if not self.hit and self.at < most:
                 self.turn(slot)
@@ -175,6 +186,8 @@ class Walk:
             self.signalled.add(int(words[1]))
         elif words[0] == "fork":
             self.signalled.discard(int(words[2]))
+        elif words[0] == "time":
+            self.clock = None
         return words
 
     def next(self):
@@ -199,10 +212,14 @@ class Walk:
     def turn(self, slot):
         """What the kernel does in the next slot, for the process in a slot of the table, or as the swapper."""
         first, row, old = self.line, self.table.rows[slot], self.steppers.get(slot)
-        was = copy.copy(row), None if row.text is None else copy.copy(self.table.texts.get(row.text))
         if self.sought is None and slot:
             self.met = Met(slot, self.at + 1, row.number, first, before_call(old))
-        self.at, self.memory, words = self.at + 1, None, []
+        for one in (one for other, one in self.steppers.items() if other != slot):
+            one.answers.others()
+        answer = self.answer(slot, old) if self.knows and old and not self.is_other(slot) else None
+        if answer and self.lines[first : first + 1] == [f"trap {slot}"] and not is_due(self.answered[answer.name]):
+            return self.passes(old, answer)
+        self.at, self.memory, was, words = self.at + 1, None, self.rows(slot), []
         while self.line < len(self.lines) and words[:1] not in [[end] for end in ENDS]:
             words = self.take()
         if words[1:2] != [str(slot)] or words[0] not in ENDS:
@@ -211,11 +228,18 @@ class Walk:
             self.take()
         self.wakes()
         told = {line.partition(" ")[0] for line in self.lines[first : self.line]}
-        self.done(slot, old, was, words[0], told)
+        return self.done(slot, old, was, words[0], told, answer)
 
-    def done(self, slot, old, was, kind, told):
+    def passes(self, old, answer):
+        """A call that isn't asked for, and of which the log tells but its end: of the table that changes nothing."""
+        self.at, self.memory, self.line = self.at + 1, None, self.line + 1
+        self.table.lines = self.table.number = self.line
+        old.answered(answer)
+        self.wakes()
+
+    def done(self, slot, old, was, kind, told, answer):
         """Compares what was done here with what the program tells, and goes on from that. `was` has the process's row and its text
-        before, `told` the words of the lines."""
+        before, `told` the words of the lines; the answer is that of a call where it is known."""
         if kind == "sleep" and self.sought is None and old:
             old.pending = True  # what it has stays as it is
             return
@@ -224,28 +248,72 @@ class Walk:
             return
         is_same = kind != "exit" and not told & CHANGES
         if is_same:
-            process = self.process(slot)
-            changed = old.changes(process)
-            is_same = changed is not None and self.is_answer(old, process, changed)
-            if is_same:
-                old.take(process, changed)
-            elif changed is not None and not old.pending and slot not in self.signalled:
-                raise self.others(was)
+            is_same = self.asked(slot, old, was, kind, answer if kind == "trap" else None)
         if not is_same:  # more is as it was no more: of a call that has begun here, that it was so until then
             if not old.pending:
                 self.compare(old, was)
             self.steppers.pop(slot, None)
+
+    def asked(self, slot, old, was, kind, answer):
+        """Compares with what the program tells behind a call, and goes on from that, also from the answer where it is known. False where
+        the process may have become another one."""
+        process = self.process(slot)
+        changed = old.changes(process)
+        is_same = changed is not None and self.is_answer(old, process, changed)
+        if answer and not (is_same and old.would_be(answer, process)) or not is_same and changed is not None and self.is_clear(slot, old):
+            raise self.others(was)
+        if is_same:
+            self.learn(old, process, kind)
+            old.take(process, changed)
+        return is_same
+
+    def is_clear(self, slot, old):
+        """Whether a process has begun a call, and no signal may come to it."""
+        return not old.pending and slot not in self.signalled
+
+    def answer(self, slot, old):
+        """The answer of a call, where it is known without asking for it."""
+        if not self.is_clear(slot, old):
+            return None
+        now = None if self.clock is None else self.clock + self.table.second() & MOST_TIME
+        found = old.answers.of(old, self.table.rows[slot].number, now)
+        if found:
+            self.answered[found.name] += 1
+        return found
+
+    def learn(self, old, process, kind):
+        """What an answer tells that was asked for."""
+        if kind != "trap" or old.pending or not self.knows:
+            return old.answers.forget()
+        old.answers.learn(old, process, lambda: self.history.run.disk(self.at))
+        call = made(old)
+        if call and call.name == "time":
+            self.clock = (process.registers[0] << 16 | process.registers[1]) - self.table.second() & MOST_TIME
+        return None
 
     def is_answer(self, old, process, changed):
         """Whether nothing has changed but what the call of a process may change; behind the last address comes the first."""
         place, size = answer_of(call_at(old))
         return process.registers[2:7] == old.registers[2:7] and all(at - place + 1 & MASK <= size for at in changed)
 
-    def compare(self, old, was):
-        """Looks whether a process was as it was left here, before the call with which it is as it was no more."""
-        process = self.history.memory(self.at - 1).process(*was)
-        if process.registers != old.registers[:8] or process.u[16] & 15 != old.code() or old.changes(process) != {}:
+    def compare(self, one, was, memory=None):
+        """Looks whether a process is in memory as it was left here: as a rule before the call with which it is as it was no more."""
+        memory = self.history.memory(self.at - 1) if memory is None else memory
+        if not one.is_as(memory.process(*was)):
             raise self.others(was)
+
+    def check(self):
+        """Looks whether each process is as it was left here whose last answer wasn't asked for; of one that waits in a call since that is
+        seen when the call is done."""
+        for slot, one in self.steppers.items():
+            if not one.is_asked and not one.pending:
+                self.compare(one, self.rows(slot), self.history.memory(self.at))
+                one.is_asked = True
+
+    def rows(self, slot):
+        """The row of a process, and that of its text, as they are now."""
+        row = self.table.rows[slot]
+        return copy.copy(row), None if row.text is None else copy.copy(self.table.texts.get(row.text))
 
     def others(self, was):
         return self.differs(f"process {was[0].number} has other registers or words")
@@ -256,7 +324,7 @@ class Walk:
     def pause(self):
         """What comes from outside after a slot."""
         ran, first, ticks = self.table.running, self.line, self.events[self.at]
-        is_plain = ticks > 0
+        is_plain, was = ticks > 0, self.rows(ran) if ran else None
         for _ in range(ticks):
             self.take()
             is_second = not self.table.ticks % TICKS_OF_A_SECOND
@@ -267,33 +335,77 @@ class Walk:
                 break
             self.choice()
         if not is_plain:
+            for one in self.steppers.values():
+                one.answers.others()
             for _ in range(self.line, min(self.history.count(self.at), len(self.lines))):
                 self.take()
         told = {line.partition(" ")[0] for line in self.lines[first : self.line]}
         if not is_plain and ran and told & {"tick", *CHANGES, "exit"}:
-            self.steppers.pop(ran, None)
-            self.memory = None
+            one, self.memory = self.steppers.pop(ran, None), None
+            if one and not one.is_asked:
+                self.compare(one, was, self.history.run.memory(self.at))
 
     def jump(self, limit):
         """To where the process that is looked for runs again, or comes, where others do much until then."""
+        self.check()
         goal, slot = self.goal_of()
         slots = self.history.slot_of_line(goal) if goal < len(self.lines) else limit
         if slots >= limit:
             self.at = limit
             return
-        own = self.steppers.get(slot)
-        self.__init__(self.history, slots, self.sought)
+        own, answered = self.steppers.get(slot), self.answered
+        self.__init__(self.history, slots, self.sought, self.knows)
+        self.answered = answered
         if own is not None:
+            own.answers.others()
             self.steppers[slot] = own
 
+    def hits(self, high):
+        """The moments up to one with which what is looked for becomes so, one after the other."""
+        before = self.state()
+        while self.at < high:
+            self.go(high)
+            after = self.state()
+            if self.hit == "pc" or self.sought.comes(before, after):
+                yield self.at
+            before = after
 
-def found(history, sought, low, high):
-    """The moments behind one, up to another, with which what is looked for becomes so, one after the other."""
+
+    def calls(self, high):
+        """The calls that are begun up to a moment, by whichever process: the moment at which it stands there, its number, and the name of
+        the call."""
+        while self.at < high:
+            self.met = None
+            self.go(high)
+            if self.met and self.met.before.call:
+                yield self.met.at - 1, self.met.number, self.met.before.call.name
+
+
+def is_due(count):
+    """Whether an answer that is known is asked for all the same, to be compared: the first time, the second, the fourth and so on."""
+    return not count & count - 1
+
+
+def first(history, sought, low, high):
+    """The first moment behind one, up to another, with which what is looked for becomes so, or None."""
     walk = Walk(history, low, sought)
-    before = walk.state()
-    while walk.at < high:
-        walk.go(high)
-        after = walk.state()
-        if walk.hit == "pc" or sought.comes(before, after):
-            yield walk.at
-        before = after
+    hit = next(walk.hits(high), None)
+    walk.check()
+    return hit
+
+
+def calls(history, low, high):
+    """The calls that are begun behind one moment, up to another."""
+    walk = Walk(history, low, knows=True)
+    found = list(walk.calls(high))
+    walk.check()
+    return found
+
+
+def last(history, sought, low, high):
+    """The moments behind one, up to another, with which what is looked for becomes so: as many of them as are kept, the last ones, and
+    behind which moment these are all."""
+    walk = Walk(history, low, sought)
+    hits = deque(walk.hits(high), MOST_HITS)
+    walk.check()
+    return hits[0] - 1 if len(hits) == MOST_HITS else low, list(hits)

@@ -10,9 +10,7 @@ out=$(mktemp -d)
 trap 'rm -rf "$out"' EXIT
 
 tools/disk.py get examples/shell/image / "$out/disk" --table "$out/table"
-for name in mount umount; do
-    tools/as.py -o "$out/disk/etc/$name" $here/src/$name.s $here/src/perror.s $lib
-done
+tools/as.py --into "$out/disk/etc" --with $here/src/perror.s --with $lib $here/src/mount.s $here/src/umount.s
 cat $here/table >>"$out/table"
 tools/disk.py new --replace --short --time 212000000 --table "$out/table" "$to/image" "$out/disk"
 

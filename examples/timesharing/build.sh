@@ -11,14 +11,11 @@ trap 'rm -rf "$out"' EXIT
 
 cp -R $here/disk "$out/disk"
 mkdir "$out/disk/bin"
+sources=$here/src/who.s
 for name in cat chmod cmp cp date echo ed kill ln ls mkdir mv od ps rm sh sleep stty wc; do
-    tools/as.py -o "$out/disk/bin/$name" $shell/$name.s $shell/lib.s
+    sources="$sources $shell/$name.s"
 done
-for name in login write; do
-    tools/as.py -o "$out/disk/bin/$name" $here/src/$name.s $here/src/tty.s $shell/lib.s
-done
-tools/as.py -o "$out/disk/bin/who" $here/src/who.s $shell/lib.s
-for name in init getty; do
-    tools/as.py -o "$out/disk/etc/$name" $here/src/$name.s $shell/lib.s
-done
+tools/as.py --into "$out/disk/bin" --with $shell/lib.s $sources
+tools/as.py --into "$out/disk/bin" --with $here/src/tty.s --with $shell/lib.s $here/src/login.s $here/src/write.s
+tools/as.py --into "$out/disk/etc" --with $shell/lib.s $here/src/init.s $here/src/getty.s
 tools/disk.py new --replace --short --blocks 400 --inodes 96 --time 168204480 --table $here/table "$image" "$out/disk"

@@ -1,12 +1,11 @@
 """What the tests of the tools share. The program v6 is bin/v6, or the command in the environment's V6."""
 import contextlib
+import functools
 import importlib.util
 import io
 import os
 import random
-import shlex
 import signal
-import subprocess
 import sys
 import tempfile
 import unittest
@@ -19,7 +18,21 @@ DISK_BYTES = 2494464  # of a disk that a run leaves
 HANDLED = signal.SIGINT, signal.SIGQUIT, signal.SIGTERM, signal.SIGHUP  # signals for which tools have a handler
 sys.path.insert(0, TOOLS)
 os.environ.update(PATH=f"{TESTS}/bin:{os.environ['PATH']}", V6_PYTHON=sys.executable)  # of the tools that are called
-from program import V6
+from files import IN_MEMORY, ROOM
+from program import V6, parted, run
+
+
+def in_memory():
+    """Whether the files of tests may stand in memory: the host has room there, programs can be executed there, and nobody wants another
+    place."""
+    if "TMPDIR" in os.environ or not os.access(IN_MEMORY, os.W_OK | os.X_OK):
+        return False
+    found = os.statvfs(IN_MEMORY)
+    return found.f_bavail * found.f_frsize >= ROOM and not found.f_flag & os.ST_NOEXEC
+
+
+if in_memory():
+    os.environ["TMPDIR"] = IN_MEMORY
 
 
 def tool(name):
@@ -41,13 +54,36 @@ def write(name, data):
 
 
 def v6(*words):
-    done = subprocess.run([*shlex.split(V6), *words], capture_output=True, text=True)
-    return done.returncode, done.stdout
+    """The status of the program, and what it says."""
+    status, said = run([*parted(V6), *words])
+    return status, said.decode()
+
+
+@functools.lru_cache(maxsize=None)
+def generated(number):
+    """The bytes of a disk of the generator, which is made once for all tests."""
+    with tempfile.TemporaryDirectory() as folder:
+        name = os.path.join(folder, "made")
+        assert v6("make", str(number), name) == (0, "")
+        return read(name)
 
 
 def words(text):
     """The bytes of octal words."""
     return b"".join(int(word, 8).to_bytes(2, "little") for word in text.split())
+
+
+@functools.lru_cache(maxsize=None)
+def with_init(source, name, *options):
+    """The bytes of the generator's first disk with a program in the place of its /etc/init, which is made once for all tests. `name` is the
+    file of the source, where the program tells it."""
+    with tempfile.TemporaryDirectory() as folder:
+        image, program, it = (os.path.join(folder, one) for one in ("image", "program", "it.s"))
+        write(image, generated(0))
+        write(it, source)
+        assert not status_of(tool("as").main, [*options, "-o", program, name or it])
+        assert not status_of(tool("disk").main, ["--v6", V6, "put", image, program, "/etc/init"])
+        return read(image)
 
 
 def status_of(main, words):
@@ -77,6 +113,10 @@ class Case(unittest.TestCase):
     def put(self, name, data):
         write(self.path(name), data)
         return self.path(name)
+
+    def disk_of(self, source, *options, name="image"):
+        """A disk whose /etc/init is the program of a source."""
+        return self.put(name, with_init(read(source), source if "-g" in options else None, *options))
 
     def ran(self, main, *words, typed=None):
         """The status of a tool, the bytes of its standard output, and what it says on the other one. It is called here, which is

@@ -1,4 +1,6 @@
 """What the tests share that open pages in a browser without a window."""
+import functools
+import multiprocessing.util
 import unittest
 
 import browser
@@ -8,14 +10,23 @@ PANELS = "[...document.querySelectorAll('#head, #panels section')].map((one) => 
 TEXT = "document.getElementById({!r}).textContent"
 
 
+@functools.lru_cache(maxsize=None)
+def shared():
+    """The browser of this process, which ends with it."""
+    found = browser.Browser()
+    multiprocessing.util.Finalize(None, found.close, exitpriority=1)
+    return found
+
+
 @unittest.skipUnless(browser.FOUND, "no browser is there: chromium is wanted")
 class Browsed(Made):
-    """Pages of the lessons in a browser. One browser serves all tests of a class; after each nothing went wrong and nothing was asked for."""
+    """Pages of the lessons in a browser. One serves all tests of a process; after each nothing went wrong and nothing was asked for."""
+
+    shares = "browser"
 
     @classmethod
     def setUpClass(cls):
-        cls.browser = browser.Browser()
-        cls.addClassCleanup(cls.browser.close)
+        cls.browser = shared()
         cls.browser.size(1200, 900)
 
     def open(self, at="", name="page.html"):

@@ -5,12 +5,17 @@ import os
 import re
 import shlex
 import subprocess
+import unittest.mock
 
-from common import TOP, V6, Case, read, status_of, tool
+from common import TOP, V6, Case, read, status_of, tool, v6
 
 from lessonpages import commands
 
-SIMPLE = re.compile(r"tools/(as|cc|disk|log|look|page|run|trace)\.py [^|;&<>$`*?~#()\\]*")  # a tool alone, without what the shell knows
+WORD = r"(?:'[^']*'|[^|;&<>$`*?~#()\\'\n])"  # a word as it stands, or of a text in which the shell knows nothing
+# A tool alone, or one that is typed at by printf or from a file; its output may go to a file or through filters, or other commands follow.
+CALLED = re.compile(rf"(?:(?P<typed>printf '[^']*') \| )?tools/(?P<tool>as|cc|console|disk|log|look|page|run|trace|try)\.py (?P<words>{WORD}*)"
+                    r"(?:<(?P<file>\w+))?(?:>(?P<to>\w+)|\| (?P<through>[^;&<>`]*)|; (?P<then>[^|&<>`]*))?")
+PROGRAM = re.compile(rf"bin/v6 (?P<words>{WORD}*)(?P<then>; echo status \$\?)?")
 PICTURE = re.compile(r"!\[[^]]*\]\(([a-z]+\.svg)\)")
 LINK = re.compile(r"\]\(([^)#]*)(?:#([^)]*))?\)")
 
@@ -30,6 +35,11 @@ def broken_links(*path):
     return broken
 
 
+def stream():
+    """Where a tool that is called here writes."""
+    return io.TextIOWrapper(io.BytesIO(), encoding="utf-8", errors="backslashreplace", newline="\n", write_through=True)
+
+
 class Runs(Case):
     """A folder in which the commands are played, one page after the other in folders of their own."""
 
@@ -42,23 +52,53 @@ class Runs(Case):
         os.chmod(self.path("bin/v6"), 0o755)
 
     def play(self, command):
-        """The status of a command, and what it prints. A tool alone is called here, which is cheaper than a process of its own."""
-        simple = SIMPLE.fullmatch(command)
-        if simple:
-            return self.called(simple[1], shlex.split(command)[1:])
-        done = subprocess.run(["sh", "-c", command], cwd=self.folder, env={**os.environ, "V6": self.path("bin/v6")},
-                              stdout=subprocess.PIPE, stderr=subprocess.STDOUT)
-        return done.returncode, done.stdout.decode().replace("\r\n", "\n")
+        """The status of a command, and what it prints. A tool is called here, and the program without a shell, which is cheaper than
+        processes of their own."""
+        called, program = CALLED.fullmatch(command), PROGRAM.fullmatch(command)
+        if called:
+            status, out = self.called(called)
+        elif program:
+            status, out = self.there(lambda: v6(*shlex.split(program["words"])))
+            status, out = (0, f"{out}status {status}\n") if program["then"] else (status, out)
+        else:
+            status, out = self.shell(command)
+        return status, out.replace("\r\n", "\n")
 
-    def called(self, name, words):
-        out, there = io.TextIOWrapper(io.BytesIO(), encoding="utf-8", errors="backslashreplace", newline="\n", write_through=True), os.getcwd()
+    def shell(self, command, data=None):
+        """What the shell makes of a command, which reads these bytes."""
+        done = subprocess.run(["sh", "-c", command], cwd=self.folder, env={**os.environ, "V6": self.path("bin/v6")}, input=data,
+                              stdout=subprocess.PIPE, stderr=subprocess.STDOUT)
+        return done.returncode, done.stdout.decode()
+
+    def there(self, does):
+        """What is done in the folder."""
+        before = os.getcwd()
         os.chdir(self.folder)
         try:
-            with contextlib.redirect_stdout(out), contextlib.redirect_stderr(out):
-                status = status_of(tool(name).main, words)
+            return does()
         finally:
-            os.chdir(there)
-        return status, out.buffer.getvalue().decode().replace("\r\n", "\n")
+            os.chdir(before)
+
+    def called(self, command):
+        """What a tool prints, and what the rest of its command makes of that."""
+        typed = self.shell(command["typed"])[1].encode() if command["typed"] else read(self.path(command["file"])) if command["file"] else b""
+        out = stream()
+        error = stream() if command["to"] or command["through"] else out  # what it says goes where its output does, but for these
+        main, words = tool(command["tool"]).main, shlex.split(command["words"])
+        with contextlib.redirect_stdout(out), contextlib.redirect_stderr(error):
+            with unittest.mock.patch("sys.stdin", io.TextIOWrapper(io.BytesIO(typed))):
+                status = self.there(lambda: status_of(main, words))
+        shown, said = out.buffer.getvalue(), error.buffer.getvalue().decode()
+        if command["to"]:
+            self.put(command["to"], shown)
+            return status, said
+        if command["through"]:
+            status, shown = self.shell(command["through"], shown)
+            return status, said + shown
+        if command["then"]:
+            status, more = self.shell(f"(exit {status or 0}); {command['then']}")
+            said += more
+        return status, said
 
     def played(self, *path):
         """Plays a page, by the names of its path; its pictures are those that its commands make."""

@@ -1,6 +1,8 @@
 #!/usr/bin/env python3
-"""Runs all tests of the tools, those of one class in one process. With --times it tells how long a processor worked for each class,
-the dearest first. The program v6 is bin/v6, or the command in the environment's V6."""
+"""Runs all tests of the tools, those of one class in one process, or of several that share something; as many processes are at work
+as there are processors, or as --jobs says. With --times it tells how long a processor worked for each class, the dearest first, and for
+all. The program v6 is bin/v6, or the command in the environment's V6."""
+import argparse
 import io
 import os
 import resource
@@ -14,14 +16,22 @@ sys.path.insert(0, HERE)
 
 
 def classes(suite):
-    """The names of the test classes in a suite."""
+    """The names of the test classes in a suite, each with what it shares with others, or its own name."""
     for one in suite:
-        yield from classes(one) if isinstance(one, unittest.TestSuite) else [f"{type(one).__module__}.{type(one).__qualname__}"]
+        if isinstance(one, unittest.TestSuite):
+            yield from classes(one)
+        else:
+            name = f"{type(one).__module__}.{type(one).__qualname__}"
+            yield getattr(one, "shares", name), name
 
 
 def worked():
     """How long processors have worked for this process and for those that it has started and that have ended, in seconds."""
     return sum(used.ru_utime + used.ru_stime for used in map(resource.getrusage, (resource.RUSAGE_SELF, resource.RUSAGE_CHILDREN)))
+
+
+def run_all(names):
+    return [run(name) for name in names]
 
 
 def run(name):
@@ -33,17 +43,29 @@ def run(name):
     return done.testsRun, failed, said, [why for _, why in done.skipped], worked() - before
 
 
+def options_of(words):
+    parser = argparse.ArgumentParser(prog="run.py", description=__doc__)
+    parser.add_argument("--jobs", type=int, metavar="N", help="how many processes are at work at a time")
+    parser.add_argument("--times", action="store_true", help="tell how long a processor worked for each class")
+    return parser.parse_args(words)
+
+
 if __name__ == "__main__":
-    began = time.monotonic()
-    names = sorted(set(classes(unittest.defaultTestLoader.discover(HERE))))
+    options, began = options_of(sys.argv[1:]), time.monotonic()
+    groups = {}
+    for shared, name in sorted(set(classes(unittest.defaultTestLoader.discover(HERE)))):
+        groups.setdefault(shared, []).append(name)
+    groups = sorted(groups.values(), key=len, reverse=True)  # what takes longest begins first
+    names = [name for group in groups for name in group]
     if unittest.defaultTestLoader.errors:  # a file of tests that can't be read
         sys.exit("\n".join(unittest.defaultTestLoader.errors))
-    with ProcessPoolExecutor() as pool:
-        results = list(pool.map(run, names))
+    with ProcessPoolExecutor(options.jobs) as pool:
+        results = [one for found in pool.map(run_all, groups) for one in found]
     print("".join(text for _, _, text, _, _ in results), end="", file=sys.stderr)
-    if "--times" in sys.argv[1:]:
+    if options.times:
         for took, name in sorted(((result[4], name) for name, result in zip(names, results)), reverse=True):
             print(f"{took:7.2f} s  {name}", file=sys.stderr)
+        print(f"{sum(result[4] for result in results):7.2f} s in all", file=sys.stderr)
     count, failed = (sum(numbers) for numbers in list(zip(*results))[:2])
     skipped = [why for *_, reasons, _ in results for why in reasons]
     for why in sorted(set(skipped)):

@@ -273,13 +273,32 @@ class Command(Case):
         wanted = f"as.py: {source}: the source itself, and the program would take its place\n"
         self.assertEqual((self.call(as_main, "-o", source, source), read(source)), ((1, "", wanted), b"\tnop\n"))
 
+    def test_several_programs(self):
+        """Each has the name of its file, and what stands behind it; one that is wrong leaves the others."""
+        os.mkdir(self.path("bin"))
+        one, two, bad = (self.put(f"{name}.s", text) for name, text in (("one", b"\tjsr\tpc,f\n"), ("two", b"\tbr\tf\n"), ("bad", b"\tmov\tr0\n")))
+        behind = [word for name, text in (("f", b"f:\tmov\tx,r0\n"), ("x", b"x:\t5\n")) for word in ("--with", self.put(f"{name}.s", text))]
+        status, out, said = self.call(as_main, "--into", self.path("bin"), *behind, one, bad, two)
+        self.assertEqual((status, out, sorted(os.listdir(self.path("bin")))), (1, "", ["one", "two"]))
+        self.assertEqual(said, f"as.py: {bad}:1: the end of the line where ',' is wanted\n")
+        for name, source in (("one", one), ("two", two)):
+            self.assertEqual(self.call(as_main, "-o", self.path("alone"), source, *behind[1::2])[0], 0)
+            self.assertEqual(read(self.path(f"bin/{name}")), read(self.path("alone")))
+        self.assertEqual(self.call(as_main, "-o", self.path("alone"), *behind, two)[0], 0)
+        self.assertEqual(read(self.path("bin/two")), read(self.path("alone")))
+        kept = self.put("kept", b"\tnop\n")
+        self.assertEqual(self.call(as_main, "--into", self.path("none"), kept)[::2], (1, f"as.py: {self.path('none/kept')}: No such file or directory\n"))
+        self.assertEqual(self.call(as_main, "--into", self.folder, "-o", "x", one)[0], 2)
+        self.assertEqual(self.call(as_main, "--into", self.folder, kept)[::2],
+                         (1, f"as.py: {kept}: the source itself, and the program would take its place\n"))
+
     def test_standard_streams(self):
         source = self.put("x.s", b"\tnop\n")
         made = words("407 2 0 0 0 0 0 0 240")
         for name in ("-", "/dev/stdout"):
-            done = subprocess.run([sys.executable, os.path.join(TOOLS, "as.py"), "-o", name, source], capture_output=True)
+            done = subprocess.run([sys.executable, "-S", os.path.join(TOOLS, "as.py"), "-o", name, source], capture_output=True)
             self.assertEqual((done.returncode, done.stdout, done.stderr), (0, made, b""))
-        done = subprocess.run([sys.executable, os.path.join(TOOLS, "as.py"), "-o", "-", "-"], input=b"\tnop\n",
+        done = subprocess.run([sys.executable, "-S", os.path.join(TOOLS, "as.py"), "-o", "-", "-"], input=b"\tnop\n",
                               capture_output=True)
         self.assertEqual((done.returncode, done.stdout), (0, made))
 
@@ -292,7 +311,7 @@ class Command(Case):
         source = self.put("x.s", b"\tnop\n" * 20000)
         reads, writes = os.pipe()
         os.close(reads)
-        done = subprocess.run([sys.executable, os.path.join(TOOLS, "as.py"), "-l", "-o", self.path("out"), source],
+        done = subprocess.run([sys.executable, "-S", os.path.join(TOOLS, "as.py"), "-l", "-o", self.path("out"), source],
                               stdout=writes,
                               stderr=subprocess.PIPE)
         os.close(writes)

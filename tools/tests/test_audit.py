@@ -7,7 +7,7 @@ import threading
 import time
 import unittest
 
-from common import V6, Case
+from common import V6, Case, v6
 
 LAWFUL, READ_FAULT, WRITE_FAULT, UNLAWFUL, BAD = 0, 2, 3, 9, 10
 BEGINS = b"boot 1200 0\nsleep 0 -100 runout\ngo 1\n"  # slot 1 can run, so that `idle` doesn't fit
@@ -18,13 +18,19 @@ NUMBERS = {"S": (1, 0, 49), "K": (3, 0, 39), "C": (1, 0, 65535), "N": (37, 0, 65
 LINES = """boot {C} {TIME}
 go {S}
 trap {S}
+sleep {S} {P} runin
+sleep {S} {P} runout
 sleep {S} {P} tout
+sleep {S} {P} keys
+sleep {S} {P} show
 sleep {S} {P} wait.{S}
 sleep {S} {P} read.{I}
+sleep {S} {P} write.{I}
 sleep {S} {P} disk.{S}
 sleep {S} {P} keys.{L}
 sleep {S} {P} show.{L}
 wake wait.{S}
+wake read.{I}
 wake write.{I}
 wake disk.{S}
 wake keys.{L}
@@ -63,6 +69,8 @@ def numbers_of(form):
 
 class Audit(Case):
     def audited(self, name, **more):
+        if not more:
+            return v6("audit", name)
         done = subprocess.run([*shlex.split(V6), "audit", name], stdout=subprocess.PIPE, **more)
         return done.returncode, done.stdout.decode()
 
@@ -97,7 +105,7 @@ class Audit(Case):
 
     def test_words(self):
         for line in (b"idle", b"tick u", b"tick k", b"tick i", b"wake keys", b"wake show", b"wake tout", b"wake runin",
-                     b"panic swap", b"panic zombie", b"panic text", b"end"):
+                     b"wake runout", b"panic swap", b"panic zombie", b"panic text", b"end"):
             self.assertTrue(self.is_line(line), line)
             for spoiled in (line + b"\r", line + b" ", b" " + line, line + b"\t", line.upper(), line + b"\0", line[:-1], line + b"x",
                             line.replace(b" ", b"  ") if b" " in line else line + line, line.replace(b"i", b"\xed", 1) + b"\x80"):

@@ -96,7 +96,7 @@ class Person(Case):
         self.addCleanup(os.close, self.ours)
         fcntl.ioctl(theirs, termios.TIOCSWINSZ, struct.pack("HHHH", 24, 130, 0, 0))
         environment = {name: value for name, value in os.environ.items() if name not in ("COLUMNS", "LINES")}
-        command = [sys.executable, os.path.join(TOOLS, "console.py"), IMAGE, "--v6", V6, "--lines", "--side"]
+        command = [sys.executable, "-S", os.path.join(TOOLS, "console.py"), IMAGE, "--v6", V6, "--lines", "--side"]
         self.console = subprocess.Popen(command, stdin=theirs, stdout=theirs, stderr=theirs, env={**environment, "TERM": "vt100"})
         os.close(theirs)
         self.addCleanup(self.console.wait)

@@ -15,7 +15,7 @@ import time
 import unittest
 import unittest.mock
 
-from common import DISK_BYTES, TOOLS, TOP, V6, Case, read, tool, v6, write
+from common import DISK_BYTES, TOOLS, TOP, V6, Case, generated, read, tool, v6, write
 
 import dialogue
 from processes import Processes, programs_of
@@ -116,12 +116,7 @@ LOGS = (
 BOOT = "boot 1200 0\nsleep 0 -100 runout\ngo 1\n"
 
 
-COUNTS = """
-import subprocess, sys
-with open(sys.argv[1], "a") as file:
-    file.write("run ")
-sys.exit(subprocess.run(sys.argv[2:]).returncode)
-"""
+COUNTS = 'printf "run " >>"$1"\nshift\nexec "$@"\n'
 
 
 class Person(io.BytesIO):
@@ -254,8 +249,7 @@ class Sessions(Case):
 
     def test_the_disk(self):
         """On the generator's disk, whose first program writes lines back: docs/manual/generator.md."""
-        image, disk = self.path("made"), self.path("disk")
-        self.assertEqual(v6("make", "0", image), (0, ""))
+        image, disk = self.put("made", generated(0)), self.path("disk")
         term = b"SUM 6\r\n% HELLO\r\nHELLO\r\n% "
         self.assertEqual(self.session("hello\n~^D\n", "--disk", disk, image=image), (0, term, OVER))
         self.assertEqual(v6("check", disk), (0, "ok 7 nodes 3933 free\n"))
@@ -263,11 +257,10 @@ class Sessions(Case):
     def test_an_image_that_changes_meanwhile(self):
         """Each line is played on the disk that was read when the dialogue began, and a disk that another program has put in its
         place isn't written over."""
-        image, other = self.put("image", read(os.path.join(SHELL, "image"))), self.path("made")
-        v6("make", "12", other)
+        image, other = self.put("image", read(os.path.join(SHELL, "image"))), self.put("made", generated(12))
         for words, disk in ((("--disk", self.path("disk")), self.path("disk")), (("--disk", image), image + ".1")):
             write(image, read(os.path.join(SHELL, "image")))
-            command = [sys.executable, os.path.join(TOOLS, "console.py"), image, "--v6", V6, *words]
+            command = [sys.executable, "-S", os.path.join(TOOLS, "console.py"), image, "--v6", V6, *words]
             with subprocess.Popen(command, stdin=subprocess.PIPE, stdout=subprocess.PIPE, stderr=subprocess.PIPE) as ran:
                 self.assertEqual(ran.stdout.read(2), b"# ")
                 write(image, read(other))
@@ -282,7 +275,7 @@ class Sessions(Case):
         os.mkdir(self.path("tmp"))
         for number in (signal.SIGTERM, signal.SIGHUP):
             script, disk = self.path(f"script{number}"), self.path(f"disk{number}")
-            command = [sys.executable, os.path.join(TOOLS, "console.py"), os.path.join(SHELL, "image"), "--v6", V6, "--script", script,
+            command = [sys.executable, "-S", os.path.join(TOOLS, "console.py"), os.path.join(SHELL, "image"), "--v6", V6, "--script", script,
                        "--disk", disk]
             with subprocess.Popen(command, stdin=subprocess.PIPE, stdout=subprocess.PIPE, stderr=subprocess.PIPE,
                                   env={**os.environ, "TMPDIR": self.path("tmp")}) as ran:
@@ -302,7 +295,7 @@ class Sessions(Case):
     def test_two_consoles_with_one_script(self):
         """The lines of neither are lost: the later one is told, and keeps its own beside them."""
         script = self.path("script")
-        command = [sys.executable, os.path.join(TOOLS, "console.py"), os.path.join(SHELL, "image"), "--v6", V6, "--script", script]
+        command = [sys.executable, "-S", os.path.join(TOOLS, "console.py"), os.path.join(SHELL, "image"), "--v6", V6, "--script", script]
         pipes = {"stdin": subprocess.PIPE, "stdout": subprocess.PIPE, "stderr": subprocess.PIPE}
         with subprocess.Popen(command, **pipes) as one, subprocess.Popen(command, **pipes) as other:
             self.assertEqual((one.stdout.read(2), other.stdout.read(2)), (b"# ", b"# "))
@@ -487,8 +480,8 @@ class Sessions(Case):
     def test_a_long_file(self):
         """Few runs for a piped file of many lines: not a run a line. The script is that of lines that are typed one by one."""
         typed = "".join(f"echo {n}\n" for n in range(1000))
-        script, counter, runs = self.path("script"), self.put("counts.py", COUNTS.encode()), self.path("runs")
-        words = ("--v6", f"{sys.executable} {counter} {runs} {V6}", "--script", script)
+        script, counter, runs = self.path("script"), self.put("counts.sh", COUNTS.encode()), self.path("runs")
+        words = ("--v6", f"sh {counter} {runs} {V6}", "--script", script)
         status, term, said = self.session(typed, *words)
         self.assertEqual((status, said), (0, ""))
         self.assertLessEqual(len(read(runs).split()), 10)
@@ -660,16 +653,14 @@ class Terminals(Case):
         super().setUp()
         self.ours, theirs = pty.openpty()
         self.addCleanup(os.close, self.ours)
-        command = [sys.executable, os.path.join(TOOLS, "console.py"), self.image(), "--v6", V6, *self.WORDS]
+        command = [sys.executable, "-S", os.path.join(TOOLS, "console.py"), self.image(), "--v6", V6, *self.WORDS]
         self.console = subprocess.Popen(command, stdin=theirs, stdout=theirs, stderr=theirs, env={**os.environ, "TERM": self.TERM})
         os.close(theirs)
         self.addCleanup(self.console.wait)
         self.addCleanup(self.console.kill)
 
     def image(self):
-        image = self.path("made")
-        v6("make", "0", image)
-        return image
+        return self.put("made", generated(0))
 
     def until(self, wanted):
         """What the host's terminal shows until there is this. Only a console that hangs meets the end."""

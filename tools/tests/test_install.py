@@ -53,7 +53,7 @@ class Starts(unittest.TestCase):
     def test_what_is_imported(self):
         """What takes long to import is imported where it is used, so that a tool begins within 0.15 seconds of a processor."""
         names = ("as", "cc", "console", "disk", "log", "look", "row", "run", "trace", "try")
-        done = subprocess.run([sys.executable, "-c", STARTS, TOOLS, *names], capture_output=True, text=True)
+        done = subprocess.run([sys.executable, "-S", "-c", STARTS, TOOLS, *names], capture_output=True, text=True)
         self.assertEqual((done.stdout.splitlines(), done.stderr), (list(names), ""))
 
 
@@ -61,9 +61,8 @@ def make(*words):
     return subprocess.run(["make", "-s", "-C", TOP, *words], env=ENVIRONMENT, capture_output=True, text=True)
 
 
-@unittest.skipUnless(shutil.which("make"), "make isn't there")
-class Install(Case):
-    """What is put, and what goes."""
+class Maker(Case):
+    """What make and install.py do below a folder."""
 
     def make(self, *words, status=0):
         """What make says, where it ends so."""
@@ -71,10 +70,10 @@ class Install(Case):
         self.assertEqual((done.returncode, done.stdout), (status, ""), done.stderr)
         return done.stderr
 
-    def installed(self, command):
+    def installed(self, command, prefix=""):
         """What install.py says that does it as make has it do, but that Python compiles nothing."""
         with unittest.mock.patch("compileall.compile_dir"):
-            status, out, error = self.call(install.main, command, "", self.folder)
+            status, out, error = self.call(install.main, command, prefix, self.folder)
         self.assertEqual((status, out), (0, ""), error)
         return error
 
@@ -83,24 +82,10 @@ class Install(Case):
         return sorted(os.path.relpath(os.path.join(place, name), self.path(folder)) for place, folders, names
                       in os.walk(self.path(folder)) for name in folders + names)
 
-    def test_uninstall_leaves_nothing(self):
-        """All goes, with the folders that were made, and what Python has compiled; what was there before stays."""
-        os.makedirs(self.path("usr/bin"))
-        self.put("usr/bin/mine", b"mine")
-        before, words = self.below(), ("PREFIX=/usr", f"DESTDIR={self.folder}")
-        self.assertEqual(self.make("install", *words), "")
-        found = self.below()
-        for name in ("usr/bin/v6", "usr/bin/v6-console", "usr/bin/v6-try", "usr/lib/v6/tools/volume.py",
-                     "usr/lib/v6/examples/shell/image", "usr/lib/v6/examples/shell/src/lib.s", "usr/lib/v6/tools/c/build-gcc.sh", "usr/lib/v6/docs/tools/log.svg",
-                     "usr/share/doc/v6", "usr/share/man/man1/v6.1", "usr/share/man/man5/v6log.5", "usr/share/man/man1/v6-cc.1",
-                     "usr/share/bash-completion/completions/v6-disk"):
-            self.assertIn(name, found)
-        self.assertEqual(read(self.path("usr/bin/v6")), read(os.path.join(TOP, "bin", "v6")))
-        self.assertEqual(self.make("install", *words), "")  # a second time nothing has changed
-        self.assertEqual(self.below(), found)
-        self.assertEqual(self.make("uninstall", *words), "")
-        self.assertEqual(self.below(), before)
-        self.assertIn("v6 isn't installed there\n", self.make("uninstall", *words, status=2))
+
+@unittest.skipUnless(shutil.which("make"), "make isn't there")
+class Install(Maker):
+    """What is put, and what goes."""
 
     def test_what_was_changed_is_kept(self):
         """A disk of the user's, in the place of the one that was installed, and another program's file."""
@@ -130,7 +115,7 @@ class Install(Case):
 
 
 @unittest.skipUnless(shutil.which("make"), "make isn't there")
-class Installed(Case):
+class Installed(Maker):
     """What was put, as a user meets it who has nothing of the repository."""
 
     @classmethod
@@ -207,10 +192,35 @@ class Installed(Case):
         _, said = self.user("echo ls | v6-console", status=1)
         self.assertEqual(said.splitlines()[-1], "console: my.image: No such file or directory")
 
-    def test_a_tool_from_there(self):
-        """Also where DESTDIR stands before it, and by a link; it calls itself as it is called."""
-        self.assertEqual(make("install", "PREFIX=/usr", f"DESTDIR={self.folder}").stderr, "")
+    def test_a_tool_from_there_and_back(self):
+        """Also where DESTDIR stands before it, and by a link; it calls itself as it is called. Then all goes, with the folders that were
+        made, and what Python has compiled; what was there before stays."""
+        os.makedirs(self.path("usr/bin"))
+        self.put("usr/bin/mine", b"mine")
         self.put("it.s", b"\t.globl\t_main\n_main:\n\tclr\tr0\n\trts\tpc\n")
+        before, words = self.below(), ("PREFIX=/usr", f"DESTDIR={self.folder}")
+        self.assertEqual(self.make("install", *words), "")
+        self.parts()
+        self.from_there()
+        found = self.below("usr")
+        self.assertEqual(self.installed("install", "/usr"), "")  # a second time nothing has changed
+        self.assertEqual(self.below("usr"), [name for name in found if "__pycache__" not in name])
+        self.user("./disk --help")
+        self.assertTrue(self.compiled("program"))
+        self.assertEqual(self.make("uninstall", *words), "")
+        self.assertEqual([name for name in self.below() if not name.startswith("mine/")], before)
+        self.assertIn("v6 isn't installed there\n", self.make("uninstall", *words, status=2))
+
+    def parts(self):
+        found = self.below()
+        for name in ("usr/bin/v6", "usr/bin/v6-console", "usr/bin/v6-try", "usr/lib/v6/tools/volume.py",
+                     "usr/lib/v6/examples/shell/image", "usr/lib/v6/examples/shell/src/lib.s", "usr/lib/v6/tools/c/build-gcc.sh", "usr/lib/v6/docs/tools/log.svg",
+                     "usr/share/doc/v6", "usr/share/man/man1/v6.1", "usr/share/man/man5/v6log.5", "usr/share/man/man1/v6-cc.1",
+                     "usr/share/bash-completion/completions/v6-disk"):
+            self.assertIn(name, found)
+        self.assertEqual(read(self.path("usr/bin/v6")), read(os.path.join(TOP, "bin", "v6")))
+
+    def from_there(self):
         self.user(f"{self.folder}/usr/bin/v6-cc -o it ../it.s")
         os.symlink("../usr/bin/v6-disk", self.path("mine/disk"))
         self.assertEqual(self.user("./disk cat ../usr/lib/v6/examples/shell/image /usr/sys/ken/slp.c")[0][:4], "\t/*\n")

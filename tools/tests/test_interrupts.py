@@ -1,5 +1,4 @@
 """An interrupt that comes before a tool has begun."""
-import os
 import signal
 import subprocess
 import sys
@@ -14,20 +13,23 @@ def imported(name, *words):
     if name == "files":
         os.kill(os.getpid(), signal.SIGINT)
     return plain(name, *words)
-builtins.__import__ = imported
-sys.argv = sys.argv[1:]
-sys.path.insert(0, os.path.dirname(sys.argv[0]))
-runpy.run_path(sys.argv[0], run_name="__main__")
+for name in sys.argv[2:]:
+    child = os.fork()
+    if not child:
+        builtins.__import__ = imported
+        sys.path.insert(0, sys.argv[1])
+        sys.argv[:] = [f"{sys.argv[1]}/{name}.py", "--help"]
+        sys.exit(runpy.run_path(sys.argv[0], run_name="__main__"))
+    print(name, os.waitstatus_to_exitcode(os.waitpid(child, 0)[1]), flush=True)
 """
 
 
 class Interrupts(unittest.TestCase):
     def test_while_python_imports(self):
         """Each tool ends by it, without a traceback."""
-        for name in ("as", "cc", "console", "disk", "log", "look", "page", "row", "run", "trace", "try"):
-            command = [sys.executable, "-c", AT_IMPORT, os.path.join(TOOLS, name + ".py"), "--help"]
-            done = subprocess.run(command, stdin=subprocess.DEVNULL, capture_output=True, text=True)
-            self.assertEqual((done.returncode, done.stdout, done.stderr), (-signal.SIGINT, "", ""), name)
+        names = ("as", "cc", "console", "disk", "log", "look", "page", "row", "run", "trace", "try")
+        done = subprocess.run([sys.executable, "-S", "-c", AT_IMPORT, TOOLS, *names], stdin=subprocess.DEVNULL, capture_output=True, text=True)
+        self.assertEqual((done.stdout.splitlines(), done.stderr), ([f"{name} {-signal.SIGINT}" for name in names], ""))
 
 
 if __name__ == "__main__":

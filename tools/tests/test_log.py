@@ -4,7 +4,7 @@ import struct
 import unittest
 import xml.etree.ElementTree as tree
 
-from common import TOP, V6, Case, read, tool, v6
+from common import TOP, V6, Case, generated, read, tool, v6
 
 import logpicture
 from logrules import BEGINS, ENDS, RULES
@@ -170,7 +170,7 @@ class Log(Case):
         """A program whose text is shared is known by its image and its text together."""
         for name, header in (("one", (0o407, 0, 64, 0)), ("two", (0o410, 100, 64, 0)), ("three", (0o410, 200, 64, 0))):
             self.put(name, struct.pack("<8H", *header, 0, 0, 0, 0) + bytes(264))
-        self.assertEqual(v6("make", "0", self.path("disk"))[0], 0)
+        self.put("disk", generated(0))
         for name in ("one", "two", "three"):
             self.assertEqual(self.call(disk_main, "--v6", V6, "put", self.path("disk"), self.path(name), "/" + name)[0], 0)
         lines = ("bare 1", "image 1 37 at 1", "bare 1", "text 1 0 4 swap 4000", "image 1 37 swap 4001", "drop 1 0 sticky",
@@ -417,11 +417,9 @@ class Log(Case):
 
     def test_page_of_seconds(self):
         """The page's lines of the example crowd, in which a second is 600 slots."""
-        crowd, image = os.path.join(TOP, "examples", "crowd"), self.path("image")
-        script, names = os.path.join(crowd, "script"), [self.path(name) for name in ("term", "log", "final")]
-        self.assertEqual(self.call(tool("as").main, "-o", self.path("crowd"), os.path.join(crowd, "crowd.s"))[0], 0)
-        self.assertEqual(v6("make", "0", image)[0], 0)
-        self.assertEqual(self.call(tool("disk").main, "--v6", V6, "put", image, self.path("crowd"), "/etc/init")[0], 0)
+        crowd = os.path.join(TOP, "examples", "crowd")
+        image, script = self.disk_of(os.path.join(crowd, "crowd.s")), os.path.join(crowd, "script")
+        names = [self.path(name) for name in ("term", "log", "final")]
         self.assertEqual(v6("run", image, "100", script, *names)[0], 0)
         shown = self.log("show", "--script", script, "--from", "269", "--to", "277", names[1])[1]
         self.assertIn("\n\n" + shown + "```\n", read(os.path.join(TOP, "docs", "tools", "log.md")).decode())

@@ -2,7 +2,6 @@
 import io
 import os
 import struct
-import sys
 import tempfile
 import unittest
 import unittest.mock
@@ -21,14 +20,10 @@ look, as_main, disk_main = tool("look"), tool("as").main, tool("disk").main
 HI = os.path.join(TOP, "examples", "hi")
 PAGE = os.path.join(TOP, "docs", "tools", "look.md")
 HAS_MEMORY = v6("memory", os.devnull, "63", os.devnull, os.devnull)[0] != 1
-OLD = b"import subprocess, sys\nsys.exit(1 if sys.argv[2] == 'memory' else subprocess.run(sys.argv[1:]).returncode)\n"
+OLD = b'[ "$2" != memory ] || exit 1\nexec "$@"\n'
 CORE = 64
 # a program whose memory is all zeros
-ZEROS = b"""import subprocess, sys
-if sys.argv[2] != "memory":
-    sys.exit(subprocess.run(sys.argv[1:]).returncode)
-open(sys.argv[6], "wb").write(bytes(64 * int(sys.argv[4]) + 446464))
-"""
+ZEROS = b'[ "$2" = memory ] || exec "$@"\nhead -c $((64 * $4 + 446464)) /dev/zero >"$6"\n'
 # start: jsr pc,sub; sys exit; nop; sub: mov r0,-(sp); clr r0; rts pc
 TEXT = words("004767 000004 104401 000240 010046 005000 000207")
 START = ((0, "boot 64 0"), (0, "sleep 0 -100 runout"), (0, "go 1"), (1, "bare 1"), (1, "image 1 37 at 1"), (1, "trap 1"), (1, "go 1"))
@@ -529,7 +524,7 @@ class Commands(Case):
 
     def test_log(self):
         """Moments by the log alone, of a program whose memory is all zeros."""
-        zeros = f"{sys.executable} {self.put('zeros.py', ZEROS)} {V6}"
+        zeros = f"sh {self.put('zeros.sh', ZEROS)} {V6}"
         status, out, error = self.hi("-c", "slot", "-c", "next fork", "-c", "quit", "-c", "slot", v6_=zeros)
         self.assertEqual((status, out.splitlines()[1:], error), (1, [
             "      1  boot 1200 0             the system begins, with 1200 clicks of core, at 0 seconds",
@@ -538,12 +533,7 @@ class Commands(Case):
 
     def readers(self):
         """The disk and the script of the two readers of the page."""
-        disk, pair = self.path("image"), self.path("pair")
-        self.assertEqual(v6("make", "0", disk), (0, ""))
-        source = os.path.join(TOP, "docs", "lions", "src", "pair.s")
-        self.assertEqual(self.call(as_main, "-s", "-o", pair, source), (0, "", ""))
-        self.assertEqual(self.call(disk_main, "--v6", V6, "put", disk, pair, "/etc/init"), (0, "", ""))
-        return disk, self.put("typed", b"run 60\ntype one\nrun 60\ntype two\nrun 60\n")
+        return self.disk_of(os.path.join(TOP, "docs", "lions", "src", "pair.s"), "-s"), self.put("typed", b"run 60\ntype one\nrun 60\ntype two\nrun 60\n")
 
     def test_a_label_before_the_program_is_executed(self):
         """Process 1 has no program with names before its exec: a search for one looks on."""
@@ -564,7 +554,7 @@ class Commands(Case):
 
     def test_from_a_pipe(self):
         """What is typed after slot 60 belongs to the moment 60. A command that can't be done is told, and the next one is done."""
-        zeros, typed = f"{sys.executable} {self.put('zeros.py', ZEROS)} {V6}", io.StringIO("next wake\nhop\n\nnext wake\nquit\nslot 3\n")
+        zeros, typed = f"sh {self.put('zeros.sh', ZEROS)} {V6}", io.StringIO("next wake\nhop\n\nnext wake\nquit\nslot 3\n")
         with unittest.mock.patch("sys.stdin", typed):
             status, out, error = self.look(self.readers()[0], "1200", self.path("typed"), v6_=zeros)
         self.assertEqual((status, error), (1, "look.py: hop: no such command; help names them\n"))
@@ -596,7 +586,7 @@ class Commands(Case):
         zeros = 15 * (chr(92) + "000")
         self.assertEqual(self.look(image_, "1200", "/dev/full"), (1, "", f"look.py: script: line 1: '{zeros}..'\n"))
         self.assertEqual(self.hi("--symbols", bad, "-c", "help")[::2], (0, f"look.py: {bad}: no program, so it has no names\n"))
-        old = f"{sys.executable} {self.put('old.py', OLD)} {V6}"
+        old = f"sh {self.put('old.sh', OLD)} {V6}"
         said = f"look.py: {old} has no command `memory`, which tells what core and the swap area hold\n"
         self.assertEqual(self.hi("-c", "ps", v6_=old), (1, "", said))
 

@@ -178,7 +178,7 @@ class Names(Disks):
         image, file = self.new({"a": b"1"}, "--blocks", "100"), self.put("file", b"2")
         slow = self.put("slow.py", SLOW.encode())
         before = sorted(os.listdir(self.folder))
-        running = subprocess.Popen([sys.executable, os.path.join(TOOLS, "disk.py"), "--v6", f"{sys.executable} {slow} {file}",
+        running = subprocess.Popen([sys.executable, "-S", os.path.join(TOOLS, "disk.py"), "--v6", f"{sys.executable} {slow} {file}",
                                     "put", image, file, "/b"], stderr=subprocess.PIPE)
         while running.poll() is None and not any(name.startswith(".new-") for name in os.listdir(self.folder)):
             time.sleep(0.01)
@@ -192,7 +192,7 @@ class Names(Disks):
         image, file = self.new({"a": b"1"}, "--blocks", "100"), self.put("file", b"2")
         before, out = sorted(os.listdir(self.folder)), self.path("out")
         for maker, words in (("mkstemp", ("put", image, file, "/b")), ("mkdtemp", ("get", image, "/", out))):
-            done = subprocess.run([sys.executable, "-c", AT_ONCE, maker, os.path.join(TOOLS, "disk.py"), "--v6", V6, *words],
+            done = subprocess.run([sys.executable, "-S", "-c", AT_ONCE, maker, os.path.join(TOOLS, "disk.py"), "--v6", V6, *words],
                                   capture_output=True)
             self.assertEqual((done.returncode, done.stderr, sorted(os.listdir(self.folder))), (130, b"", before), words)
 
@@ -244,7 +244,7 @@ class Names(Disks):
 
     def test_many_files(self):
         """The time for a file doesn't grow with their number: four times as many take four times as many steps."""
-        self.assertLess(self.work(2000), 5 * self.work(500))
+        self.assertLess(self.work(1000), 5 * self.work(250))
 
     def test_grow(self):
         """Files stay as they are, also those whose blocks stood where the new inodes stand."""

@@ -1,11 +1,12 @@
 """page.py: what its pages hold at each line of a log, and what is refused. test_page_browser.py opens them in a browser."""
+import hashlib
 import os
 import re
 import tempfile
 import unittest
 from array import array
 
-from common import TOP, V6, Case, read, tool
+from common import TOP, Case, generated, read, tool, v6
 from pagereader import Read, process_of, shown, table_of
 
 from logpicture import COLUMNS, LEFT
@@ -74,24 +75,27 @@ GONE = """
 name:	</etc/init\\0>
 """
 OVERWRITES = "mov\t$240,r1; mov\t$end,r2; 2: mov\tr1,(r2)+; cmp\tr2,$end+400.; blo\t2b; jmp\t3f; end: .=.+400.; 3:"
+MADE = {}  # pages and what their commands said, by the words of these, and by what the files hold that they name
 LINES, SLOTS = range(6, 61), 16  # of a row that is taken: the lines of its log after the boot, and the most slots
 
 
 class Made(Case):
     """Runs of the lessons, and their pages."""
 
-    def disk(self, source, name="image", names="-s"):
+    def disk(self, source, names="-s"):
         """A disk whose /etc/init is this program of the lessons, with names, or with `-g` with the lines of its source too."""
-        self.assertEqual(self.call(as_main, names, "-o", self.path("program"), os.path.join(LIONS, source))[0], 0)
-        self.assertEqual(os.system(f"{V6} make 0 {self.path(name)}"), 0)
-        self.assertEqual(self.call(disk_main, "put", self.path(name), self.path("program"), "/etc/init")[0], 0)
-        return self.path(name)
+        return self.disk_of(os.path.join(LIONS, source), names)
 
     def made(self, *words):
-        """The page of a command."""
-        status, out, error = self.call(page.main, *words, "-o", self.path("page.html"))
-        self.assertEqual((status, out), (0, ""), error)
-        return Read(read(self.path("page.html"))), error
+        """The page of a command, which is made once for all tests, and what its command says."""
+        key = tuple((os.path.basename(word), hashlib.sha256(read(word)).digest()) if os.path.isfile(word) else word for word in words)
+        if key not in MADE:
+            status, out, error = self.call(page.main, *words, "-o", self.path("page.html"))
+            self.assertEqual((status, out), (0, ""), error)
+            MADE[key] = read(self.path("page.html")), error
+        made, error = MADE[key]
+        self.put("page.html", made)
+        return Read(made), error
 
     def pair(self):
         return self.disk("pair.s"), "1200", self.put("script", b"run 60\ntype one\nrun 60\ntype two\nrun 60\n")
@@ -104,8 +108,7 @@ class Made(Case):
         def octal(data):
             return ".byte\t" + ",".join(f"{byte:o}" for byte in data)
 
-        image = self.path("image")
-        self.assertEqual(os.system(f"{V6} make 0 {image}"), 0)
+        image = self.put("image", generated(0))
         texts = {"/etc/init": (ODD, b"/" + NAME, bytes(range(1, 128))), "/" + NAME.decode(): (WRITES, NAME[:-2] + b"o", bytes(range(128)))}
         for place, (source, name, codes) in texts.items():
             source = self.put("odd.s", source.format(name=octal(name + b"\0"), codes=octal(codes + b"\0")).encode())
@@ -262,7 +265,7 @@ class Runs(Made):
         """The picture is that of `log.py draw` with its axis of slots, but for maps that aren't as high."""
         image, core, script = self.crowd()
         log = self.path("log")
-        self.assertEqual(os.system(f"{V6} run {image} {core} {script} {self.path('term')} {log} {self.path('final')}"), 0)
+        self.assertEqual(v6("run", image, core, script, self.path("term"), log, os.devnull), (0, ""))
         self.assertEqual(self.call(log_main, "draw", "--script", script, "-o", self.path("drawn.svg"), log), (0, "", ""))
         found, _ = self.made("--log", log, "--script", script)
         paper = re.search(r'<div id="paper"[^>]*>\n(.*?)</div>', found.html, re.S)[1]

@@ -121,7 +121,7 @@ class Parts(Browsed):
     def test_a_million_lines(self):
         """A page of a million lines opens soon, and is stepped line by line."""
         last = self.long_page()
-        _, thread, _, _ = opening().opened(self.path("long.html"))
+        _, thread, _, _ = opening().opened_in(self.browser, self.path("long.html"))
         self.assertLess(thread, OPENED)  # of a processor: what else the machine does counts in seconds that pass
         self.open("#line=999000", name="long.html")
         self.assertEqual((self.line(), self.value("page.run.lines"), last > MANY), (999000, last, True))

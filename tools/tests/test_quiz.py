@@ -4,7 +4,7 @@ import os
 import unittest
 import unittest.mock
 
-from common import TOP, V6, Case, read, tool, v6
+from common import TOP, Case, read, tool, v6
 
 import rowfile
 from choices import Ruled
@@ -122,9 +122,7 @@ class Quiz(Case):
         """The page's questions about the example crowd, which a run answers."""
         crowd = os.path.join(TOP, "examples", "crowd")
         names = [self.path(name) for name in ("image", "term", "crowd.log", "final")]
-        self.assertEqual(self.call(tool("as").main, "-o", self.path("crowd"), os.path.join(crowd, "crowd.s"))[0], 0)
-        self.assertEqual(v6("make", "0", names[0])[0], 0)
-        self.assertEqual(self.call(tool("disk").main, "--v6", V6, "put", names[0], self.path("crowd"), "/etc/init")[0], 0)
+        self.disk_of(os.path.join(crowd, "crowd.s"))
         self.assertEqual(v6("run", names[0], "100", os.path.join(crowd, "script"), *names[1:])[0], 0)
         shown = self.asked(read(names[2]).decode(), b"out 1\nin 4\n", "--from", "273", "--count", "2")
         self.assertEqual((shown[0], shown[2]), (0, ""))

@@ -1,13 +1,16 @@
 """Rows: their sources make their words, their comments tell the places of the disk, and the tool runs them."""
+import functools
 import os
 import re
 import subprocess
 import sys
 import unittest
+import unittest.mock
 
 from common import TOP, Case, read, tool
 
-row_main = tool("row").main
+row_tool = tool("row")
+row_main = row_tool.main
 import rowfile
 
 DATA = rowfile.DATA
@@ -39,11 +42,19 @@ def comments(path):
                 yield int(found[1]), len(found[2].split()), found[3]
 
 
-class Comments(Case):
+@functools.lru_cache(maxsize=None)
+def row_of(name, data=DATA):
+    """A row, which all tests read once."""
+    return rowfile.Row(name, data)
+
+
+class All(Case):
+    """All rows of the repository."""
+
     def test_sources_make_their_words(self):
         """Words without a source are zeros."""
         for name in rowfile.names():
-            row = rowfile.Row(name)
+            row = row_of(name)
             with self.subTest(name):
                 row.check_sources()
                 for sources in (*row.sources.values(), *(file[3] for file in row.files())):
@@ -63,10 +74,23 @@ class Comments(Case):
 
     def test_every_row_says_what_it_shows(self):
         for name in rowfile.names():
-            title, page = rowfile.Row(name).remarks[:2]
+            title, page = row_of(name).remarks[:2]
             self.assertTrue(title and page.startswith("docs/manual/"), name)
             for there in re.findall(r"[\w-]+\.md", page):
                 self.assertTrue(os.path.exists(os.path.join(TOP, "docs", "manual", there)), f"{name}: {there}")
+
+    @unittest.mock.patch.object(row_tool, "Row", row_of)
+    def test_rows_hold(self):
+        """Each row, by the program as it is built and by its own host; the gate runs them over files in memory."""
+        names = rowfile.names()
+        status, out, error = self.call(row_main, "-q", "*")
+        self.assertEqual([line for line in out.split("\n") if line and not line.startswith("ok ")], [])
+        self.assertEqual((status, out, error), (0, "".join(f"ok {name}\n" for name in sorted(names)), ""))
+
+    @unittest.mock.patch.object(row_tool, "Row", row_of)
+    def test_all_are_listed(self):
+        status, out, _ = self.call(row_main)
+        self.assertEqual((status, out.count("\n")), (0, len(rowfile.names())))
 
 
 class Language(Case):
@@ -131,13 +155,6 @@ class Command(Case):
             done = subprocess.run(command, stdout=file, stderr=subprocess.PIPE)
         self.assertEqual((done.returncode, done.stderr), (141, b""))
 
-    def test_rows_hold(self):
-        """Each row, by the program as it is built and by its own host; the gate runs them over files in memory."""
-        names = rowfile.names()
-        status, out, error = self.call(row_main, "-q", "*")
-        self.assertEqual([line for line in out.split("\n") if line and not line.startswith("ok ")], [])
-        self.assertEqual((status, out, error), (0, "".join(f"ok {name}\n" for name in sorted(names)), ""))
-
     def test_shown(self):
         status, out, error = self.call(row_main, "a_child_is_told_of_once", "wait_a_child_is_told_of_once")
         self.assertEqual((status, out, error), (1, "", "row.py: a_child_is_told_of_once: no such row\n"))
@@ -190,15 +207,11 @@ script
         wanted = 0, "ok fuzz/seed_1\nok fuzz/seed_2\n", ""
         self.assertEqual(self.call(row_main, "--data", self.folder, "-q", "fuzz/*"), wanted)
 
-    def test_all_are_listed(self):
-        status, out, _ = self.call(row_main)
-        self.assertEqual((status, out.count("\n")), (0, len(rowfile.names())))
-
     def test_a_row_that_does_not_hold(self):
         image = rowfile.Row("programs/hi_over_memory")
         image.terms[0] = b"HO\r\n"
-        runner = tool("row").Runner(tool("row").V6, self.folder)
-        found = tool("row").differences(image, *runner.run(image))
+        runner = row_tool.Runner(row_tool.V6, self.folder)
+        found = row_tool.differences(image, *runner.run(image))
         self.assertEqual(found, [("term", b"HO\r\n", b"HI\r\n")])
 
 

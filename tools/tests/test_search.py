@@ -6,16 +6,19 @@ import sys
 import unittest
 import unittest.mock
 
-from common import TOP, V6, Case, read, tool, v6, words
+from common import TOP, V6, Case, read, tool, v6, words, write
 
+import answers
+import history
 import looksearch
 import stepper
 import walk as walk_module
 from history import History
 from looksearch import Search
 from moments import MomentError, Run
+from parallel import in_order
 from stepper import Stepper
-from walk import Sought, Walk, found
+from walk import Sought, Walk
 
 sys.path.append(os.path.join(TOP, "bench"))
 from random_instructions import InstructionCase
@@ -42,13 +45,51 @@ who:	0
 """
 
 
+# Loops that make calls: of six instructions, of two, and of three behind two that come first.
+CALLS = b"""
+	mov	$200.,r1
+1:	sys	getpid
+	sob	r1,1b
+	sys	time
+	mov	$200.,r1
+2:	sys	getuid
+	sob	r1,2b
+	br	.
+"""
+WHO = b"1:\tsys\tgetpid\n\tsys\tgetuid\n\tsys\tgetgid\n\tmov\t$9.,r0\n\tsys\tclose\n\tbr\t1b\n"
+TIME = b"1:\tsys\ttime\n\tbr\t1b\n"
+LOOP = b"""
+	sys	%s; name; 1
+	mov	r0,r4
+1:	mov	r4,r0
+	sys	%s
+	br	1b
+name:	<%s\\0>
+	.even
+text:	<abcd\\n>
+	.even
+call:	sys	write; text; 5
+"""
+TERMINAL, FILE = LOOP % (b"open", b"write; text; 5", b"/dev/tty8"), LOOP % (b"creat", b"write; text; 5", b"/f")
+INDIRECT, SEEKS = LOOP % (b"creat", b"indir; call", b"/f"), LOOP % (b"creat", b"seek; 7; 0", b"/f")
+FILLS = b"""
+	sys	creat; name; 666
+	mov	r0,r4
+1:	mov	r4,r0
+	sys	write; text; 512.
+	bes	full
+	br	1b
+full:	inc	text
+	br	.
+name:	</f\\0>
+	.bss
+text:	.=.+512.
+"""
+
+
 class Searches(Case):
     def disk(self, source):
-        image, program = self.path("image"), self.path("program")
-        self.assertEqual(v6("make", "0", image), (0, ""))
-        self.assertEqual(self.call(as_main, "-s", "-o", program, source), (0, "", ""))
-        self.assertEqual(self.call(disk_main, "--v6", V6, "put", image, program, "/etc/init"), (0, "", ""))
-        return image
+        return self.disk_of(source, "-s")
 
     def slots(self, image, script, *commands):
         """Where these commands come to, one after the other."""
@@ -66,11 +107,59 @@ class Searches(Case):
                          [1, 41, 42, 300, 85999, 107504, 1000, 987, 1000, 988, 110000, 128])
 
     def test_in_parts(self):
-        """A stretch whose parts are gone through at the same time."""
+        """Parts of a run that processes of their own go through at the same time, and what they keep for the next search."""
         image, script = self.disk(self.put("counts.s", COUNTS)), self.put("script", b"run 6000\n")
-        with unittest.mock.patch.object(looksearch, "PART", 1):
-            commands = "slot 5000", "since word seen 3", "slot 5000", "since pc eighth"
-            self.assertEqual(self.slots(image, script, *commands), [5000, 128, 5000, 4986])
+        commands = "slot 5000", "since word seen 3", "slot 5000", "since pc eighth", "since pc eighth", "slot 200", "since word seen 3", "slot 128"
+        wanted = [5000, 128, 5000, 4986, 4943, 200, 128, 128]
+        for kept in (walk_module.MOST_HITS, 2):
+            with unittest.mock.patch.multiple(looksearch, NEAREST=10, LEAST=300, LONGEST=700), \
+                    unittest.mock.patch.multiple(walk_module, MOST_HITS=kept), unittest.mock.patch.object(history, "WORKERS", 3):
+                self.assertEqual(self.slots(image, script, *commands), wanted)
+                found = self.call(look.main, "--v6", V6, image, "1200", script, "-c", "slot 5000", "-c", "since word who")
+                self.assertEqual((found[0], found[2]), (1, "look.py: word who: not found before slot 5000\n"))
+        with self.assertRaises(ChildProcessError):  # all processes have gone
+            os.waitpid(-1, 0)
+
+    def test_what_was_gone_through(self):
+        """It isn't gone through again: each of these asks for what the first has found."""
+        image = self.disk(self.put("counts.s", COUNTS))
+        known, sought = History(Run(V6, image, 1200, b"run 6000\n", self.folder)), Sought(1, [(0o40, 0o40)])
+        self.assertEqual(Search(known, known.moment(900), False).sought(sought), 858)
+        with unittest.mock.patch.object(looksearch, "last", side_effect=AssertionError):
+            found = [Search(known, known.moment(slots), False).sought(Sought(1, [(0o40, 0o40)])) for slots in (900, 858, 500, 42)]
+        self.assertEqual(found, [858, 815, 471, 41])
+
+    def test_a_process_that_fails(self):
+        """What goes wrong in one of them is told here, and the others end."""
+        def does(number):
+            if number == 2:
+                raise MomentError("the third")
+            return number
+
+        taken = []
+        with self.assertRaisesRegex(MomentError, "the third"):
+            for one in in_order(does, 5, 2, lambda number: lambda: None, MomentError):
+                taken.append(one)
+        self.assertEqual(taken, [0, 1])
+        with self.assertRaisesRegex(RuntimeError, "ZeroDivisionError"):
+            list(in_order(lambda number: 1 // number, 2, 2, lambda number: lambda: None, MomentError))
+        with self.assertRaisesRegex(RuntimeError, "has ended"):
+            list(in_order(lambda number: os._exit(1), 2, 2, lambda number: lambda: None, MomentError))
+        with self.assertRaises(ChildProcessError):
+            os.waitpid(-1, 0)
+
+    def test_calls_among_many(self):
+        """The calls number k are getpid in slot 2k + 1 and, behind `time` in slot 403, getuid in slot 2k + 403, each for 200 numbers."""
+        image, script = self.disk(self.put("calls.s", CALLS)), self.put("script", b"run 1000\n")
+        commands = ("slot 1", "until call time", "slot 900", "since call time", "slot 900", "since call exec", "slot 100", "since call getpid", "slot 9",
+                    "until call getuid", "slot 900", "since call", "slot 900", "since call getpid of 1")
+        for nearest, least, longest in ((looksearch.NEAREST, looksearch.LEAST, looksearch.LONGEST), (10, 100, 200)):
+            parts = unittest.mock.patch.multiple(looksearch, NEAREST=nearest, LEAST=least, LONGEST=longest)
+            with parts, unittest.mock.patch.object(history, "WORKERS", 3):
+                self.assertEqual(self.slots(image, script, *commands), [1, 402, 900, 402, 900, 0, 100, 98, 9, 404, 900, 802, 900, 400])
+                for call, whose in (("call exit", ""), ("call time", " of 2")):
+                    found = self.call(look.main, "--v6", V6, image, "1200", script, "-c", "slot 900", "-c", f"since {call}{whose}")
+                    self.assertEqual((found[0], found[2]), (1, f"look.py: {call}: not found before slot 900\n"))
 
     def test_breaks_and_watches(self):
         """`eighth` is at 040; PC comes there in slot 41 and each 43 later, and behind its first instruction in the next."""
@@ -138,21 +227,21 @@ class Searches(Case):
     def test_two_processes(self):
         """Each moment of the two readers is asked for one by one, and the same is found."""
         image = self.disk(os.path.join(TOP, "docs", "lions", "src", "pair.s"))
-        history = History(Run(V6, image, 1200, b"run 12\ntype one\nrun 14\ntick\ntype two\nrun 14\n", self.folder))
-        seen = {number: [self.pc(history.moment(slots), number) for slots in range(41)] for number in (1, 2)}
+        known = History(Run(V6, image, 1200, b"run 12\ntype one\nrun 14\ntick\ntype two\nrun 14\n", self.folder))
+        seen = {number: [self.pc(known.moment(slots), number) for slots in range(41)] for number in (1, 2)}
         for number, low, high in ((1, 0o20, 0o20), (1, 0o40, 0o46), (2, 0o20, 0o32), (2, 0o36, 0o50)):
             is_in = [pc is not None and low <= pc <= high for pc in seen[number]]
             wanted = [slots for slots in range(1, 41) if is_in[slots] and not is_in[slots - 1]]
             self.assertTrue(wanted)
             for few, near in ((walk_module.FEW, walk_module.NEAR), (-1, walk_module.NEAR), (100, 1)):  # by the log where others do much
                 with unittest.mock.patch.multiple(walk_module, FEW=few, NEAR=near):
-                    self.assertEqual(list(found(history, Sought(number, [(low, high)]), 0, 40)), wanted, (number, low, few))
+                    self.assertEqual(list(Walk(known, 0, Sought(number, [(low, high)])).hits(40)), wanted, (number, low, few))
         at = {1: 0o40, 2: 0o36}  # breaks of both
         wanted = [slots for slots in range(1, 41) if any(seen[one][slots] == at[one] != seen[one][slots - 1] for one in at)]
         both = [Sought(number, [(place, place)]) for number, place in at.items()]
         for forwards, nearest in ((True, wanted[0]), (False, wanted[-1])):
-            moment = history.moment(0 if forwards else 40)
-            self.assertEqual(Search(history, moment, forwards).sought(*both), nearest)
+            moment = known.moment(0 if forwards else 40)
+            self.assertEqual(Search(known, moment, forwards).sought(*both), nearest)
 
     def pc(self, moment, number):
         process = moment.process(number)
@@ -165,19 +254,61 @@ class Searches(Case):
             image = self.path("random")
             with open(image, "wb") as out:
                 out.write(case.image)
-            history = History(Run(V6, image, case.core, b"run 400\n", self.folder))
-            walk, compared = Walk(history, 0), 0
+            known = History(Run(V6, image, case.core, b"run 400\n", self.folder))
+            walk, compared = Walk(known, 0), 0
             while walk.at < 400:
                 walk.go(min(400, walk.at + 1 + random.Random(f"{seed} {walk.at}").randrange(6)))
                 slot = walk.table.running
                 if slot and walk.at % 5 == 0:
                     compared += 1
-                    self.same(walk.stepper(slot), history.moment(walk.at).process(walk.table.rows[slot].number), (seed, walk.at))
+                    self.same(walk.stepper(slot), known.moment(walk.at).process(walk.table.rows[slot].number), (seed, walk.at))
             self.assertGreater(compared, 15)
 
     def same(self, one, process, where):
         self.assertEqual((one.registers[:8], one.code()), (process.registers, process.u[16] & 15), where)
         self.assertEqual(one.changes(process), {}, where)
+
+    def gone_through(self, source, script, slots, is_due=walk_module.is_due):
+        """How many runs of memory it takes to go through a run of a program, and how many answers of each call were known."""
+        walk = Walk(History(Run(V6, self.disk(self.put("calls.s", source)), 1200, script, self.folder)), 2, Sought(1, words={0: None}))
+        with unittest.mock.patch.object(Run, "memory", autospec=True, side_effect=Run.memory) as asked, \
+                unittest.mock.patch.object(walk_module, "is_due", is_due):
+            self.assertEqual(list(walk.hits(slots)), [])
+            walk.check()
+        return asked.call_count, dict(walk.answered)
+
+    def test_answers_that_are_known(self):
+        """They are asked for now and then alone; all are right, as they are compared where each of them is asked for. The first eight writes
+        tell that a file is one that can be written, the first seek that it is no pipe, and the first time when the run began."""
+        for source, script, slots, known in ((WHO, b"run 400\n", 400, {"getuid": 67, "getgid": 67, "getpid": 66, "close": 66}),
+                                             (TIME, b"clock 5\nrun 700\n", 700, {"time": 348}), (SEEKS, b"run 400\n", 400, {"seek": 131}),
+                                             *((writes, b"run 400\n", 400, {"write": 124}) for writes in (TERMINAL, FILE, INDIRECT))):
+            asked, found = self.gone_through(source, script, slots)
+            self.assertEqual(found, known)
+            self.assertLess(asked, 50)
+            every, found = self.gone_through(source, script, slots, is_due=lambda count: True)
+            self.assertEqual(found, known)
+            self.assertGreater(every, sum(known.values()))
+
+    def test_a_known_answer_that_is_another(self):
+        """It is told where it is compared: the first time, or behind the last one that was taken."""
+        for due in (walk_module.is_due, lambda count: False):
+            with unittest.mock.patch.dict(answers.KNOWN, getuid=lambda one, process, call: (7, process.registers[1], 0)):
+                with self.assertRaisesRegex(MomentError, "followed from slot 2 on differs from what the program tells: process 1 has other registers"):
+                    self.gone_through(WHO, b"run 400\n", 3, is_due=due)
+
+    def test_a_disk_that_fills(self):
+        """A write that may find no room is asked for. Each write of the file takes a block, and the ninth one more; the last is refused."""
+        program, folder = self.path("program"), self.path("from")
+        os.makedirs(folder + "/etc")
+        self.assertEqual(self.call(as_main, "-s", "-o", program, self.put("fills.s", FILLS)), (0, "", ""))
+        write(folder + "/etc/init", read(program))
+        os.chmod(folder + "/etc/init", 0o755)
+        image, script = self.path("image"), self.put("script", b"run 1000\n")
+        for blocks in (60, 160):
+            self.assertEqual(self.call(disk_main, "--v6", V6, "new", "--replace", image, folder, "--blocks", str(blocks), "--inodes", "16"), (0, "", ""))
+            count = int(v6("check", image)[1].split()[3]) - 1
+            self.assertEqual(self.slots(image, script, "slot 1", "until pc full", "slot 999", "since pc full"), [1, 6 + 4 * count, 999, 6 + 4 * count])
 
     def test_a_difference(self):
         """Where a stepper does an instruction in another way than the program, that is said at the next call."""
@@ -191,7 +322,7 @@ class Searches(Case):
 
 
 class Rows(unittest.TestCase):
-    """Instructions in a row do what each of them does alone."""
+    """Instructions in a row do what each of them does alone, and calls that a process stands at."""
 
     def stepper(self, text, codes=0, ranges=()):
         process = unittest.mock.Mock(registers=[0, 1, 2, 3, 4, 5, 64, 0], u=bytes(16) + bytes([codes]), text=0, pending=0,
@@ -205,6 +336,13 @@ class Rows(unittest.TestCase):
         found = [one.bytes(at, most) for at, most in ((0, 4), (1, 2), (3, 9), (4, 2), (65533, 5), (65535, 1), (65536, 2), (0, 0))]
         self.assertEqual(found, [b"ab\0d", b"b\0", b"d", b"", b"xyzab", b"z", b"ab", b""])
         self.assertEqual((one.string(65534), one.string(3)), (b"yzab", b"d"))
+
+    def test_calls(self):
+        """Also one that is indirect; not what is no call, has words that aren't there, or is indirect twice."""
+        for text, wanted in (("104404 000100 000005", ("write", [64, 5], 6)), ("104400 000004 104404 000100 000005", ("write", [64, 5], 4)),
+                             ("104424", ("getpid", [], 2)), ("104400 000000", None), ("010001", None), ("104471", None), ("104400 000003", None),
+                             ("104400 000002", None), ("104400 000176 " + "000000 " * 61 + "104404", None)):
+            self.assertEqual(answers.made(self.stepper(text)), wanted, text)
 
     def test_many_ranges(self):
         """Each of them is come to, of however many."""

@@ -169,7 +169,7 @@ class Console(Second):
         """Each line is played on what was read of it; what another program has put in its place isn't written over."""
         for second, place in ((self.path("second"), self.path("second")), (self.pack, self.pack + ".1")):
             write(self.pack, read(PACK))
-            command = [sys.executable, os.path.join(TOOLS, "console.py"), self.image, "--v6", V6, "--second", self.pack,
+            command = [sys.executable, "-S", os.path.join(TOOLS, "console.py"), self.image, "--v6", V6, "--second", self.pack,
                        "--second-disk", second]
             with subprocess.Popen(command, stdin=subprocess.PIPE, stdout=subprocess.PIPE, stderr=subprocess.PIPE) as ran:
                 self.assertEqual(ran.stdout.read(2), b"# ")

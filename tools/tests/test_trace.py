@@ -1,16 +1,17 @@
 """trace.py: the moments of a run, calls in memory, and what is told of them. Slots and registers are by hand, from the programs."""
 import os
 import re
-import sys
 import unittest
 import unittest.mock
 
-from common import TOP, V6, Case, read, tool, v6, words, write
+from common import TOP, V6, Case, read, tool, v6, with_init, words, write
 
+import files
 from callwords import FORMS, Call, answer, call_at
 from moments import Memory, MomentError, Run, Script
 from pdp11 import ARGUMENTS, CALLS
 from proctable import Place, Row, Text
+from volume import gathered
 
 trace, as_main, disk_main = tool("trace"), tool("as").main, tool("disk").main
 HI = os.path.join(TOP, "examples", "hi")
@@ -32,23 +33,13 @@ TOLD = """\
 126 [2 /etc/init] write(0, "Ctwo\\n", 5) = 5
 129 [2 /etc/init] read(0, 063, 100) waits for keys
 """
-# The memory of examples/hi after each of its first slots: the registers R0 and PC, the clicks of the stack, and the codes.
-STANDS = """
-import subprocess, sys
-sys.path.insert(0, {tools!r})
-from scriptfile import COUNT, lines_of
-if sys.argv[2] != "memory":
-    sys.exit(subprocess.run(sys.argv[1:]).returncode)
-image, core, script, final = sys.argv[3:]
-slots = sum(int(COUNT.fullmatch(line)[2]) for line in lines_of(open(script, "rb").read()))
-r0, pc, stack, codes = {{0: (0, 0, 0, 0), 1: (0, 0, 20, 0), 2: (0, 6, 20, 0), 3: (3, 12, 20, 0), 4: (0, 16, 20, 4)}}[slots]
-u = bytearray(1024)
-u[0:2], u[14:16], u[16:18] = (one.to_bytes(2, "little") for one in (r0, pc, 0o170000 | codes))
-u[26], u[28] = 1, stack
-data = bytes.fromhex({icode!r} if not slots else {program!r}).ljust(64, b"\\0")
-open(final, "wb").write(bytes(u + data).ljust(64 * int(core) + 446464, b"\\0"))
+# Of the memory of examples/hi after each of its first slots the registers R0 and PC, the clicks of the stack, and the codes.
+HELD = {0: (0, 0, 0, 0), 1: (0, 0, 20, 0), 2: (0, 6, 20, 0), 3: (3, 12, 20, 0), 4: (0, 16, 20, 4)}
+# A program whose memory after so many slots is what stands in a file.
+STANDS = """[ "$2" = memory ] || exec "$@"
+cp "{}/memory.$(awk '$1 == "run" {{ slots += $2 }} END {{ print slots + 0 }}' "$5")" "$6"
 """
-OLD = b"import subprocess, sys\nsys.exit(1 if sys.argv[2] == 'memory' else subprocess.run(sys.argv[1:]).returncode)\n"
+OLD = b'[ "$2" != memory ] || exit 1\nexec "$@"\n'
 ICODE = words("104413 000014 000010 000777 000014 000000 062457 061564 064457 064556 000164")
 PROGRAM = words("104405 000022 000001 104404 000034 000003 012700 000000 104401") + b"/dev/tty8\0hi\n\0"
 WAITS = b"""
@@ -73,6 +64,49 @@ class Cuts(unittest.TestCase):
                                     (11, False, b"clock 5\nrun 10\n; a word\nrun 0\ntype a\nrun 1\n"),
                                     (13, True, b"clock 5\nrun 10\n; a word\nrun 0\ntype a\nrun 3\ntick\n")):
             self.assertEqual(script.cut(slots, more), wanted, (slots, more))
+
+
+class Folders(Case):
+    def test_a_short_image(self):
+        """Whole blocks up to the last that isn't zeros; one that is too long stays so."""
+        for data, size in ((b"", 0), (bytes(2000), 0), (b"a" + bytes(2000), 512), (bytes(511) + b"a" + bytes(512), 512), (bytes(512) + b"a" + bytes(900), 1024),
+                           (b"a" + bytes(99), 100), (b"a" + bytes(files.DISK - 1), 512), (b"a" + bytes(files.DISK), files.DISK + 1)):
+            self.assertEqual(files.short(data), data[:size])
+
+    def test_a_gathered_disk(self):
+        """It has the same files and as much room, and is shorter; a run of it is the same: the log, what is shown, memory, and the files that
+        are left."""
+        shell = os.path.join(TOP, "examples", "shell")
+        disk = self.put("disk", with_init(read(os.path.join(SOURCES, "twenty.s")), None))
+        for number, (image, script) in enumerate(((os.path.join(shell, "image"), os.path.join(shell, "script")), (disk, self.put("script", b"run 400\n")))):
+            other, seen = self.put("other", files.short(gathered(read(image)))), []
+            self.assertLess(len(read(other)), len(files.short(read(image))) + 1)
+            self.assertEqual(v6("check", other), v6("check", image))
+            for name in (image, other):
+                term, log, final, memory = (self.path(one) for one in ("term", "log", "final", "memory"))
+                self.assertEqual(v6("run", name, "1200", script, term, log, final), (0, ""))
+                self.assertEqual(v6("memory", name, "1200", script, memory), (0, ""))
+                self.assertEqual(self.call(disk_main, "--v6", V6, "get", final, "/", self.path(f"out{number}{len(seen)}"), "--table",
+                                           self.path("table"))[0], 0)
+                out = self.path(f"out{number}{len(seen)}")
+                held = {os.path.relpath(os.path.join(place, one), out): read(os.path.join(place, one)) for place, _, names in os.walk(out) for one in names}
+                seen.append((read(term), read(log), read(memory), held, read(self.path("table")), v6("check", final)))
+            self.assertEqual(*seen)
+        self.assertLess(len(read(other)), 200 * 512)  # of 4,000 blocks, of which few are used
+
+    def test_a_folder_in_memory(self):
+        """It is there where the host has room, and nobody wants another place."""
+        os.mkdir(self.path("memory"))
+        for words_, room, wanted in (({}, 0, True), ({}, 2**62, False), ({"TMPDIR": self.folder}, 0, False)):
+            with unittest.mock.patch.dict(os.environ), unittest.mock.patch.multiple(files, IN_MEMORY=self.path("memory"), ROOM=room):
+                os.environ.pop("TMPDIR", None)
+                os.environ.update(words_)
+                with files.folder_of_runs() as name:
+                    self.assertEqual(os.path.dirname(name) == self.path("memory"), wanted)
+        with unittest.mock.patch.dict(os.environ), unittest.mock.patch.object(files, "IN_MEMORY", self.path("none")):
+            os.environ.pop("TMPDIR", None)
+            with files.folder_of_runs() as name:
+                self.assertTrue(os.path.isdir(name))
 
 
 class Words(unittest.TestCase):
@@ -142,11 +176,7 @@ class Traces(Case):
 
     def disk(self, source):
         """A disk whose first program is one of docs/lions."""
-        image, program = self.path("image"), self.path("program")
-        self.assertEqual(v6("make", "0", image), (0, ""))
-        self.assertEqual(self.call(as_main, "-o", program, os.path.join(SOURCES, source)), (0, "", ""))
-        self.assertEqual(self.call(disk_main, "--v6", V6, "put", image, program, "/etc/init"), (0, "", ""))
-        return image
+        return self.disk_of(os.path.join(SOURCES, source))
 
     def pair(self):
         return self.disk("pair.s"), self.put("typed", TYPED)
@@ -161,19 +191,26 @@ class Traces(Case):
         self.assertEqual(run.slots_of([0, 2]), {0: 0, 2: 0})
 
     def test_a_run_of_another_disk(self):
+        """Where the disk becomes another one, the run is of the disk that it began with; of one that has become another meanwhile it's said."""
         image, script = self.pair()
         run = Run(V6, image, 1200, read(script), self.folder)
         write(image, read(os.path.join(HI, "image")))
+        self.assertEqual(run.count(70), 26)  # docs/lions/slp.md: up to the choice behind the read that waits in slot 69
+        write(run.disks[0], read(image))
         with self.assertRaisesRegex(MomentError, "the run isn't the same each time; has the disk changed?"):
-            run.count(70)
+            run.count(71)
 
     def stands(self):
-        text = STANDS.format(tools=os.path.join(TOP, "tools"), icode=ICODE.hex(), program=PROGRAM.hex())
-        return self.put("stands.py", text.encode())
+        for slots, (r0, pc, stack, codes) in HELD.items():
+            u = bytearray(1024)
+            u[0:2], u[14:16], u[16:18] = (one.to_bytes(2, "little") for one in (r0, pc, 0o170000 | codes))
+            u[26], u[28] = 1, stack
+            self.put(f"memory.{slots}", bytes(u + (PROGRAM if slots else ICODE).ljust(64, b"\0")).ljust(64 * 1200 + 446464, b"\0"))
+        return self.put("stands.sh", STANDS.format(self.folder).encode())
 
     def test_by_hand(self):
         """What is told where the memory of each moment is given by hand."""
-        stands = f"{sys.executable} {self.stands()} {V6}"
+        stands = f"sh {self.stands()} {V6}"
         words_ = "--v6", stands, os.path.join(HI, "image"), "1200", os.path.join(HI, "script")
         told = (' 1 [1] exec("/etc/init", ["/etc/init"]) = done\n 2 [1 /etc/init] open("/dev/tty8", 1) = 0\n'
                 ' 3 [1 /etc/init] write(0, "hi\\n", 3) = 3\n 5 [1 /etc/init] exit(0)\n')
@@ -313,7 +350,7 @@ class Traces(Case):
         none = self.path("none")
         self.assertEqual(self.trace(none, "1200", none), (1, "", f"trace.py: {none}: No such file or directory\n"))
         # a program without the command, as one of an earlier day
-        old = f"{sys.executable} {self.put('old.py', OLD)} {V6}"
+        old = f"sh {self.put('old.sh', OLD)} {V6}"
         said = f"trace.py: {old} has no command `memory`, which tells what core and the swap area hold\n"
         self.assertEqual(self.trace("--v6", old, image, "1200", os.path.join(HI, "script")), (1, "", said))
 

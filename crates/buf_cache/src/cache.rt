@@ -5,7 +5,7 @@ ghost use Rattle.std.specs.Borrow.{sem};
 ghost use Rattle.std.specs.Io.BufRead.{Rests};
 ghost use Rattle.buf_cache.specs.Blocks.{block_at, patched, IsDisk, WritesLate};
 ghost use Rattle.buf_cache.specs.Cached.{cached_blocks, used, changed, flushed, written, IsCached};
-ghost use Rattle.buf_cache.specs.Slots.{buffer_in, blocks_with, written_head, clean, dirty, IsKept};
+ghost use Rattle.buf_cache.specs.Slots.{buffer_in, cached_in, blocks_with, written_head, clean, dirty, IsKept};
 ghost use Rattle.buf_cache.specs.declared.cache.Head.{Head};
 ghost use Rattle.buf_cache.specs.contracts.cache.Cache.{the_row};
 
@@ -98,6 +98,32 @@ fn take_slot(disk: &mut Vec<[u8; 512]>, slots: &[[u8; 512]], heads: &mut ArrayVe
     last.slot
 }
 
+/// Reads block `n`, which no buffer has, into one that comes before the others. It stands out of line, so that a block that is in
+/// a buffer is found with few registers.
+#[inline(never)]
+fn fetch(
+    disk: &mut Vec<[u8; 512]>,
+    slots: &mut Vec<[u8; 512]>,
+    heads: &mut ArrayVec<Head, 15>,
+    n: u16,
+)
+    requires kept { IsKept disk.old.items slots.old.items heads.old.items }
+    requires block { n < DISK_BLOCKS }
+    requires none { blocks_with heads.old.items n ≡ 0 }
+    ensures used { cached_in disk.new.items slots.new.items heads.new.items
+        ≡ used (cached_in disk.old.items slots.old.items heads.old.items) n }
+    ensures kept { IsKept disk.new.items slots.new.items heads.new.items }
+{
+    let slot = take_slot(disk, slots, heads);
+    slots[slot as usize] = disk[n as usize];
+    let head = Head {
+        block: n,
+        slot,
+        is_changed: false,
+    };
+    heads.insert(0, head);
+}
+
 /// Writes the blocks that have changed to the disk.
 fn write_blocks(disk: &mut Vec<[u8; 512]>, slots: &[[u8; 512]], heads: &[Head])
     requires { IsKept disk.old.items slots.now heads.now }
@@ -153,6 +179,7 @@ impl Cache {
     }
 
     /// Brings block `n` to the front of the buffers, from the disk where none has it. `getblk`.
+    #[inline(never)]
     fn bring(&mut self, n: u16)
         requires { n < DISK_BLOCKS }
         ensures used { self.new ≡ used self.old n }
@@ -162,14 +189,7 @@ impl Cache {
             to_front(&mut self.heads, place);
             return;
         }
-        let slot = take_slot(&mut self.disk, &self.slots, &mut self.heads);
-        self.slots[slot as usize] = self.disk[n as usize];
-        let head = Head {
-            block: n,
-            slot,
-            is_changed: false,
-        };
-        self.heads.insert(0, head);
+        fetch(&mut self.disk, &mut self.slots, &mut self.heads, n);
     }
 
     /// The bytes of block `n`, which is then the one that was used last. `bread`, `brelse`.

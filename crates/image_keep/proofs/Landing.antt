@@ -21,7 +21,8 @@ use Rattle.image_keep.specs.Near.{stack_end}
 use Rattle.image_keep.proofs.Frames.{with_image_area}
 use Rattle.image_keep.proofs.Own.{with_line, own_sound, front, OwnWrite}
 use Rattle.image_keep.proofs.AreaSet.{AreaSet}
-use Rattle.image_keep.proofs.Registers.{state_long, state_set}
+use Rattle.image_keep.proofs.Registers.{state_long}
+use Rattle.image_keep.proofs.FieldPut.{state_set}
 use Rattle.image_keep.proofs.Reading.{Stand, stand, starts_after}
 use Rattle.image_keep.proofs.Storing.{image_put}
 use Rattle.image_keep.proofs.StandingParts.{apart_by, text_long, data_long, stack_long}

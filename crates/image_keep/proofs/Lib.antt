@@ -46,7 +46,6 @@ pub mod RunsRead
 pub mod Lent
 pub mod Vacant
 pub mod Registers
-pub mod RegisterWords
 pub mod SharedFacts
 pub mod Depositing
 pub mod Deposited

@@ -22,7 +22,7 @@ use Rattle.image_keep.specs.declared.standing.Standing.{Standing}
 use Rattle.image_keep.specs.declared.starts.Starts.{Starts}
 use Rattle.image_keep.specs.Line.{Lists, line_of}
 use Rattle.image_keep.specs.Kept.{Kept, IsKept, HasImage, image_of, area_of, with_image, with_area}
-use Rattle.image_keep.specs.Memory.{Stock, place_at, kept_of, IsSound}
+use Rattle.image_keep.specs.Memory.{Stock, kept_of, IsSound}
 use Rattle.image_keep.specs.Counts.{IsCounted}
 use Rattle.image_keep.specs.Maps.{AreMaps}
 use Rattle.image_keep.specs.Told.{AreTold}
@@ -37,9 +37,10 @@ use Rattle.image_keep.proofs.Own.{with_line}
 use Rattle.image_keep.proofs.InPlan.{core_kept}
 use Rattle.image_keep.proofs.KeptForm.{kept_holds}
 use Rattle.image_keep.proofs.Storing.{told_image}
-use Rattle.image_keep.proofs.Told.{state_told}
+use Rattle.image_keep.proofs.Told.{area_told}
 use Rattle.image_keep.proofs.Reading.{starts_after}
-use Rattle.image_keep.proofs.Registers.{Stands, stands, state_there, starts_described}
+use Rattle.image_keep.proofs.AreaSet.{AreaHere, area_here, starts_fixed}
+use Rattle.image_keep.proofs.Registers.{state_there, starts_described}
 use Rattle.image_keep.proofs.StandingState.{state_read, stated_of, codes_low}
 use Rattle.image_keep.proofs.Landing.{StandsAs, LeftAround, Landed, landed, lengths_same}
 use Rattle.image_keep.proofs.StandsThere.{stands_as}
@@ -170,8 +171,8 @@ module _ (a : Inside) (k : Kept) (f : Fixed) (view : kept_in a ≡ k) (h : AreIm
   holds : IsKept k
   holds = kept_holds (stock_in a) k view h.sound h.table h.told bytes
 
-  there : Stands (stock_in a) k f.slot f.starts (alive_image k f.slot fixed.alive).0.place
-  there = stands (stock_in a) k f.slot f.starts view h.sound h.counted fixed
+  there : AreaHere (stock_in a) k f.slot (f.starts.image - 1024)
+  there = area_here (stock_in a) k f.slot (f.starts.image - 1024) view h.sound h.counted has (starts_fixed k f.slot f.starts fixed)
 
   placed : 0 < f.standing.code_len → StandsAs (stock_in a) k f.slot f.starts f.standing
   placed some = stands_as (stock_in a) k f.slot f.starts f.standing view h.sound h.counted (holds.formed f.slot) fixed (f.near.follows some)
@@ -190,11 +191,11 @@ module _ (a : Inside) (k : Kept) (f : Fixed) (view : kept_in a ≡ k) (h : AreIm
   stands_there some =
       let i = inside some in
       let ar = i.area in let e = i.end in let b = i.stack_below in let st = i.stack_in in
-      let at = there.at in let d = (placed some).data_at in
-      let begins : f.standing.area ≡ place_at a.core (alive_image k f.slot fixed.alive).0.place = omega (arith, ar, at, d) in
+      let d = (placed some).data_at in
+      let begins : f.standing.area ≡ f.starts.image - 1024 = omega (arith, ar, d) in
       sym (part-left a.memory.core a.memory.swap f.standing.area 18 (omega (arith, ar, e, b, st)))
       ∙ ap (λ n. part (line_of a.memory) n 18) begins
-      ∙ state_there (line_of a.memory) (place_at a.core (alive_image k f.slot fixed.alive).0.place) (area_of k f.slot) there.sized.r there.bytes
+      ∙ state_there (line_of a.memory) (f.starts.image - 1024) (area_of k f.slot) there.sized.r there.bytes
 
   its_machine : 0 < f.standing.code_len → standing_machine a.memory.core f.standing ≡ machine_in k f.slot
   its_machine some =
@@ -255,7 +256,7 @@ module _ (a : Inside) (k : Kept) (f : Fixed) (view : kept_in a ≡ k) (h : AreIm
           let m : Image = standing_image b.memory.core f.standing in
           let rs : List ℕ = registers_at b.memory.core f.standing.area in
           let c : ℕ = codes_at b.memory.core f.standing.area in
-          state_told (with_image k f.slot m) (kept_in b) f.slot rs c (now_kept ∙ ap (λ (p : UArea). with_area (with_image k f.slot m) f.slot (with_state p rs c)) (sym (with_image_area k f.slot f.slot m)))
+          area_told (with_image k f.slot m) (kept_in b) (with_image k f.slot m) f.slot (with_state (area_of (with_image k f.slot m) f.slot) rs c) refl (now_kept ∙ ap (λ (p : UArea). with_area (with_image k f.slot m) f.slot (with_state p rs c)) (sym (with_image_area k f.slot f.slot m))) (refl, refl, refl)
           (told_image (kept_in a) (with_image k f.slot m) k f.slot m view refl h.told)
 
       now_fixed : IsFixed (kept_in b) f

@@ -53,30 +53,32 @@ codes_after core new f s rest is = (state_read new f.area _ _ (length-words core
 pub stated_after : (core new : List ℕ) (f : Standing) → StandsIn (length core) f → ((k m : ℕ) → (k + m ≤ f.data) ⊎ (f.data_end + 65536 ≤ k + f.stack_start) → part new k m ≡ part core k m) → IsStated core f.area → IsStated new f.area
 stated_after core new f s rest is = stated_of new f.area _ _ (length-words core f.area 8) (codes_low core f.area) (state_stays core new f s rest is)
 
+pub state_room : (size : ℕ) (f : Standing) → StandsIn size f → f.area + 18 ≤ size
+state_room size f i = let a = i.area in let e = i.end in let s = i.stack_in in let b = i.stack_below in omega (arith, a, e, s, b)
+
 -- The registers and codes are put back as they stood before, where nothing around has changed.
-module _ (core now new : List ℕ) (f : Standing) (inside : StandsIn (length core) f) (stated : IsStated core f.area) (beside : around now f ≡ around core f)
-    (put : new ≡ over now f.area (part core f.area 18)) where
+module _ (core now new : List ℕ) (f : Standing) (old : StandsWith core f) (beside : around now f ≡ around core f) (put : new ≡ over now f.area (part core f.area 18)) where
   same_size : length now ≡ length core
   same_size = ap (λ (x : Around). x.size) beside
 
   room_before : f.area + 18 ≤ length core
-  room_before = let a = inside.area in let e = inside.end in let s = inside.stack_in in let b = inside.stack_below in omega (arith, a, e, s, b)
+  room_before = state_room (length core) f old.inside
+
+  inside_now : StandsIn (length now) f
+  inside_now = subst (λ n. StandsIn n f) (sym same_size) old.inside
 
   room : f.area + 18 ≤ length now
-  room = let before = room_before in let same = same_size in omega (arith, before, same)
+  room = state_room (length now) f inside_now
 
   long : length (part core f.area 18) ≡ 18
   long = length-part core f.area 18 room_before
-
-  inside_now : StandsIn (length now) f
-  inside_now = subst (λ n. StandsIn n f) (sym same_size) inside
 
   rest : (k m : ℕ) → (k + m ≤ f.area) ⊎ (f.area + 18 ≤ k) → part new k m ≡ part now k m
   rest k m off = state_rest now new f.area (part core f.area 18) k m room long put off
 
   pub back_machine : standing_image now f ≡ standing_image core f → standing_machine new f ≡ standing_machine core f
   back_machine image =
-      let state = state_back core now new f.area room same_size room_before stated put in
+      let state = state_back core now new f.area room same_size room_before old.stated put in
       let same = image_same now new f inside_now rest ∙ image in
       λ i. record { r = state.0 i; cc = state.1 i; image = same i }
 
@@ -85,9 +87,9 @@ module _ (core now new : List ℕ) (f : Standing) (inside : StandsIn (length cor
 
   pub back_stands : StandsWith new f
   back_stands = record {
-    inside = subst (λ n. StandsIn n f) (sym (ap (λ (x : Around). x.size) back_around)) inside;
+    inside = subst (λ n. StandsIn n f) (sym (ap (λ (x : Around). x.size) back_around)) old.inside;
     stated = stated_of new f.area (registers_at core f.area) (codes_at core f.area) (length-words core f.area 8) (codes_low core f.area)
-        (state_put now new f.area (part core f.area 18) (registers_at core f.area) (codes_at core f.area) room long stated put);
+        (state_put now new f.area (part core f.area 18) (registers_at core f.area) (codes_at core f.area) room long old.stated put);
   }
 
 pub ruleset near = (around_stored, around_stated, registers_after, codes_after, stated_after, image_beside)

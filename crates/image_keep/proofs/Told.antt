@@ -4,7 +4,7 @@ use Rattle.std.proofs.lemmas.Bool.{cases_eq, cases_lt}
 use Rattle.std.proofs.lemmas.List.{get_or-set_same, get_or-set_other, set_past}
 use Rattle.v6_base.specs.declared.entry.Place.{Place}
 use Rattle.v6_base.specs.declared.entry.Place.TheVariants.{Core, Swap}
-use Rattle.v6_base.specs.Image.{Image, nseg}
+use Rattle.v6_base.specs.Image.{nseg}
 use Rattle.u_area.specs.declared.area.UArea.{UArea}
 use Rattle.text_tab.specs.declared.row.TextRow.{TextRow}
 use Rattle.text_tab.specs.Table.{loaded_at, unloaded}
@@ -13,7 +13,6 @@ use Rattle.image_keep.specs.SharedTexts.{with_text, filled, retexted}
 use Rattle.image_keep.specs.Counts.{is_text}
 use Rattle.image_keep.specs.Moves.{come_shared, leave_shared, text_need, swapped_in, swapped_out}
 use Rattle.image_keep.specs.Told.{IsTold, AreTold}
-use Rattle.image_keep.specs.Running.{with_state}
 use Rattle.image_keep.proofs.Frames.{keeping_same, keeping_other}
 
 -- one slot keeps something else
@@ -103,37 +102,21 @@ bare_told i j k s view is told = subst AreTold (sym is) (told_slot k s Nothing (
 pub grave_told : (i j k : Kept) (s : ℕ) (u : UArea) (b : ℕ) → i ≡ k → j ≡ with_keeping k s (Grave u b) → text_of k s ≡ None → AreTold i → AreTold j
 grave_told i j k s u b view is none told = subst AreTold (sym is) (told_slot k s (Grave u b) (subst AreTold view told) (told_grave (text_clicks k (text_of k s)) (text_of k s) u b none))
 
-same_sizes : (u v : UArea) (m : Image) → HasSizes u m → HasSizes v m → (u.text_size ≡ v.text_size) × (u.data_size ≡ v.data_size) × (u.stack_size ≡ v.stack_size)
-same_sizes u v m a b =
-    let x = a.text_size in
-    let y = b.text_size in
-    let d = a.data_size in
-    let e = b.data_size in
-    let k = a.stack_size in
-    let l = b.stack_size in
-    (omega (arith, x, y), omega (arith, d, e), omega (arith, k, l))
-
 -- a u area with the sizes of an image has those that the image's own tells
 pub area_sizes : (k : Kept) (s : ℕ) (u : UArea) → IsKept k → HasImage k s → HasSizes u (image_of k s)
     → (u.text_size ≡ (area_of k s).text_size) × (u.data_size ≡ (area_of k s).data_size) × (u.stack_size ≡ (area_of k s).stack_size)
-area_sizes k s u holds has sizes = same_sizes u (area_of k s) (image_of k s) sizes (holds.sizes s has)
+area_sizes k s u holds has a =
+    let b = holds.sizes s has in
+    let x = a.text_size in let y = b.text_size in let d = a.data_size in let e = b.data_size in let p = a.stack_size in let q = b.stack_size in
+    (omega (arith, x, y), omega (arith, d, e), omega (arith, p, q))
 
-pub area_told : (i j k : Kept) (s : ℕ) (u : UArea) → i ≡ k → j ≡ with_area k s u → IsKept k → HasSizes u (image_of k s) → AreTold i → AreTold j
+pub area_told : (i j k : Kept) (s : ℕ) (u : UArea) → i ≡ k → j ≡ with_area k s u → (u.text_size ≡ (area_of k s).text_size) × (u.data_size ≡ (area_of k s).data_size) × (u.stack_size ≡ (area_of k s).stack_size) → AreTold i → AreTold j
 unfolding with_area
-area_told i j k s u view is holds sizes told =
+area_told i j k s u view is same told =
     let t : AreTold k = subst AreTold view told in
     subst AreTold (sym is) (told_slot k s (described u (keeping k s)) t
     (told_area (text_clicks k (text_of k s)) (text_of k s) (keeping k s) u
-    (λ held e. subst (λ (v : UArea). (u.text_size ≡ v.text_size) × (u.data_size ≡ v.data_size) × (u.stack_size ≡ v.stack_size)) (ap area_in e) (area_sizes k s u holds (held, e) sizes)) (t s)))
-
--- another u area with other registers and codes alone
-pub state_told : (k j : Kept) (s : ℕ) (r : List ℕ) (cc : ℕ) → j ≡ with_area k s (with_state (area_of k s) r cc) → AreTold k → AreTold j
-unfolding with_area
-state_told k j s r cc is told =
-    let u : UArea = with_state (area_of k s) r cc in
-    subst AreTold (sym is) (told_slot k s (described u (keeping k s)) told
-    (told_area (text_clicks k (text_of k s)) (text_of k s) (keeping k s) u
-    (λ held e. (let known : area_of k s ≡ held.u = ap area_in e in (ap (λ (v : UArea). v.text_size) known, ap (λ (v : UArea). v.data_size) known, ap (λ (v : UArea). v.stack_size) known))) (told s)))
+    (λ held e. subst (λ (v : UArea). (u.text_size ≡ v.text_size) × (u.data_size ≡ v.data_size) × (u.stack_size ≡ v.stack_size)) (ap area_in e) same) (t s)))
 
 -- an image comes into core, or goes out
 loaded_clicks : (at : ℕ) (row : TextRow) → (loaded_at at row).clicks ≡ row.clicks

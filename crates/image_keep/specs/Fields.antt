@@ -4,6 +4,9 @@ use Rattle.v6_base.specs.declared.entry.Place.{Place}
 use Rattle.v6_base.specs.declared.entry.Place.TheVariants.{Core, Swap}
 use Rattle.core_mem.specs.Bytes.{part, over}
 use Rattle.fs_codec.specs.Bytes.{bytes_of}
+use Rattle.u_area.specs.declared.area.UArea.{UArea}
+use Rattle.u_area.specs.Area.{IsSized}
+use Rattle.u_area.specs.Fields.{Becomes}
 use Rattle.image_keep.specs.Kept.{Kept, Held, Has, area_of}
 use Rattle.image_keep.specs.Memory.{place_at}
 use Rattle.image_keep.specs.State.{ImagesState}
@@ -16,6 +19,11 @@ IsAreaAt k s at = (held : Held) → Has k s held → at ≡ place_at k.core held
 abbrev pub area_there : ImagesState → Place → List ℕ
 area_there x (Core click) = part x.core (64 * (click - 1)) 1024
 area_there x (Swap block) = part x.swap (512 * (block - 4000)) 1024
+
+-- Bytes that are put at a place of a u area make it another one, with as long lists and the same sizes.
+pub record IsPut (own : UArea) (field : ℕ) (bytes : List ℕ) (u : UArea) : Type 0 where
+  pub law : IsSized own → Becomes own field bytes u × IsSized u
+  pub sizes : (u.text_size ≡ own.text_size) × (u.data_size ≡ own.data_size) × (u.stack_size ≡ own.stack_size)
 
 -- Something is written where a slot's u area stands, and nothing else of core and the swap area behind it.
 abbrev pub IsWritten : ImagesState → ImagesState → ℕ → (ℕ → List ℕ → List ℕ) → Type 0

@@ -11,8 +11,8 @@ use crate::near::processor;
 use crate::standing::{Standing, instruction_word, pc_of, reg, set_state, state_at};
 use pdp_decode::{Dispatch, Handler};
 use pdp_step::{
-    Processor, perform, perform_any, perform_apart, perform_between, perform_bytes,
-    perform_extended, perform_stepping,
+    Processor, perform, perform_apart, perform_between, perform_bytes, perform_extended,
+    perform_stepping,
 };
 
 /// The instruction at PC, where the process is at hand, its word has a handler, and all that it reads and writes is there.
@@ -233,52 +233,6 @@ fn step_row(core: &mut [u8], standing: &Standing, handler: Handler, pc: usize, w
     ensures stands { StandsWith core.new standing.now }
 {
     perform_stepping(&mut processor(core, standing), handler, pc, word).is_ok()
-}
-
-/// The same for any instruction, by no handler.
-#[inline(always)]
-pub(crate) fn attempt_any(core: &mut [u8], standing: &Standing) -> bool
-    requires { IsAtHand standing.now core.old }
-    ensures { Attempted standing.now core.old core.new result }
-{
-    let pc = usize::from(reg(core, standing.area, 7));
-    match instruction_word(core, standing, pc) {
-        Some(word) => attempt_modes(core, standing, pc + 2, word),
-        None => false,
-    }
-}
-
-// The row of a word over any addressing modes. Where it isn't done, the registers are put back.
-#[inline(always)]
-fn attempt_modes(core: &mut [u8], standing: &Standing, pc: usize, word: u32) -> bool
-    requires stands { StandsWith core.old standing.now }
-    requires word { word < 65536 }
-    requires room { pc ≤ 65538 }
-    ensures row { IsTrue result → IsRowDone (standing_machine core.old standing.now) pc word (standing_machine core.new standing.now) }
-    ensures missed { result ≡ false → standing_machine core.new standing.now ≡ standing_machine core.old standing.now }
-    ensures around { around core.new standing.now ≡ around core.old standing.now }
-    ensures stands { StandsWith core.new standing.now }
-{
-    let state = state_at(core, standing.area);
-    if modes_row(core, standing, pc, word) {
-        return true;
-    }
-    set_state(core, standing.area, &state);
-    false
-}
-
-// The same with the registers as they were by then.
-#[inline(always)]
-fn modes_row(core: &mut [u8], standing: &Standing, pc: usize, word: u32) -> bool
-    requires stands { StandsWith core.old standing.now }
-    requires word { word < 65536 }
-    requires room { pc ≤ 65538 }
-    ensures row { IsTrue result → IsRowDone (standing_machine core.old standing.now) pc word (standing_machine core.new standing.now) }
-    ensures image { result ≡ false → standing_image core.new standing.now ≡ standing_image core.old standing.now }
-    ensures around { around core.new standing.now ≡ around core.old standing.now }
-    ensures stands { StandsWith core.new standing.now }
-{
-    perform_any(&mut processor(core, standing), pc, word).is_ok()
 }
 
 /// The words of TRAP, whose last six bits are a number: PDP-11/40 Processor Handbook, chapter 4.

@@ -42,7 +42,7 @@ impl Images {
             *outcome = Outcome::Call(n);
             return false;
         }
-        self.execute_any(fixed) || self.execute_lent(fixed, outcome)
+        self.execute_lent(fixed, outcome)
     }
 
     // The same over the memory of the process, which is lent for it, with the registers in its u area.
@@ -92,19 +92,6 @@ impl Images {
     {
         self.memory.see_bytes();
         self.memory.attempt(&fixed.standing, &fixed.again, dispatch)
-    }
-
-    // The same for any instruction.
-    #[inline(always)]
-    fn execute_any(&mut self, fixed: &Fixed) -> bool
-        requires { IsFixed self.old.kept fixed.now }
-        ensures outcome { IsTrue result → (instr (machine_in self.old.kept fixed.now.slot)).outcome ≡ Next }
-        ensures done { IsTrue result → self.new.kept ≡ with_machine_in self.old.kept fixed.now.slot (instr (machine_in self.old.kept fixed.now.slot)).machine }
-        ensures kept { result ≡ false → self.new.kept ≡ self.old.kept }
-        ensures fixed { IsFixed self.new.kept fixed.now }
-    {
-        self.memory.see_bytes();
-        self.memory.attempt_any(&fixed.standing)
     }
 
     // The process of which this is fixed asks for a system call, where its word is at hand: PC passes the word, and the number

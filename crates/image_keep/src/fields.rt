@@ -1,11 +1,11 @@
 //! The u area of an image, read and written where it stands, whole and field by field.
 ghost use Rattle.std.specs.Prelude.{◌≡◌, ◌+◌, ◌*◌, ◌<◌, ◌≤◌, [], ◌∷◌, ◌++◌, length, replicate};
 ghost use Rattle.fs_codec.specs.Bytes.{bytes_of, long_words};
-ghost use Rattle.u_area.specs.Area.{fetched, front_bytes, IsSized, IsStored};
-ghost use Rattle.u_area.specs.Fields.{Becomes, with_register, with_codes, with_ids, with_handler, with_call, with_tick, with_no_times, with_child_times, with_end};
+ghost use Rattle.u_area.specs.Area.{fetched, front_bytes, IsStored};
+ghost use Rattle.u_area.specs.Fields.{with_register, with_codes, with_ids, with_handler, with_call, with_tick, with_no_times, with_child_times, with_end};
 ghost use Rattle.u_area.specs.declared.area.UArea.{UArea};
 ghost use Rattle.image_keep.specs.Kept.{Held, Has, HasImage, HasSizes, IsKept, area_of, image_of, with_area};
-ghost use Rattle.image_keep.specs.Fields.{IsAreaAt, IsWritten, AreWritten, IsTicked, area_there, over_call, over_end};
+ghost use Rattle.image_keep.specs.Fields.{IsAreaAt, IsPut, IsWritten, AreWritten, IsTicked, area_there, over_call, over_end};
 ghost use Rattle.image_keep.specs.Running.{IsFixed, with_pc, with_results, with_state, state_bytes};
 
 use crate::images::Images;
@@ -71,11 +71,8 @@ impl Images {
     #[inline(always)]
     fn area_start(&self, s: Slot) -> usize
         requires { HasImage self.now.kept s }
-        ensures place { IsAreaAt self.now.kept s result }
-        ensures sized { IsSized (area_of self.now.kept s) }
-        ensures sizes { HasSizes (area_of self.now.kept s) (image_of self.now.kept s) }
+        ensures { IsAreaAt self.now.kept s result }
     {
-        self.memory.see_bytes();
         64 * place_click(self.core, place_of(row_of(&self.rows, s as usize)))
     }
 
@@ -85,11 +82,36 @@ impl Images {
         requires { IsFixed self.now.kept fixed.now }
         ensures image { HasImage self.now.kept fixed.now.slot }
         ensures place { IsAreaAt self.now.kept fixed.now.slot result }
-        ensures sized { IsSized (area_of self.now.kept fixed.now.slot) }
-        ensures sizes { HasSizes (area_of self.now.kept fixed.now.slot) (image_of self.now.kept fixed.now.slot) }
     {
-        self.memory.see_bytes();
         fixed.starts.image - AREA_SIZE
+    }
+
+    // The bytes of the u area of a slot, which begins at a place.
+    #[inline(always)]
+    fn bytes_from(&self, s: Slot, at: usize) -> &[u8]
+        requires image { HasImage self.now.kept s }
+        requires place { IsAreaAt self.now.kept s at }
+        ensures there { (held : Held) → Has self.now.kept s held → result.now ≡ area_there self.now held.place }
+        ensures read { fetched result.now ≡ area_of self.now.kept s }
+        ensures stored { IsStored result.now }
+        ensures size { length result.now ≡ 1024 }
+    {
+        let _ = s;
+        self.memory.area_bytes(at)
+    }
+
+    // The u area of a slot, which begins at a place: the fetch of its bytes.
+    #[inline(always)]
+    fn area_from(&self, s: Slot, at: usize) -> UArea
+        requires image { HasImage self.now.kept s }
+        requires place { IsAreaAt self.now.kept s at }
+        ensures fetch { (held : Held) → Has self.now.kept s held → result ≡ fetched (area_there self.now held.place) }
+        ensures u { result ≡ area_of self.now.kept s }
+        ensures sizes { HasSizes result (image_of self.now.kept s) }
+        ensures holds { IsKept self.now.kept }
+    {
+        self.see_kept();
+        fetch_bytes(self.bytes_from(s, at))
     }
 
     /// The bytes of the u area of a slot with an image, where they stand in core or in the swap area. The functions of `u_area`
@@ -103,10 +125,11 @@ impl Images {
         ensures size { length result.now ≡ 1024 }
     {
         let at = self.area_start(s);
-        self.memory.area_bytes(at)
+        self.bytes_from(s, at)
     }
 
     /// The u area of a slot with an image: the fetch of the bytes where it stands, in core or in the swap area.
+    #[inline(never)]
     pub fn area(&self, s: Slot) -> UArea
         requires { HasImage self.now.kept s }
         ensures fetch { (held : Held) → Has self.now.kept s held → result ≡ fetched (area_there self.now held.place) }
@@ -114,8 +137,8 @@ impl Images {
         ensures sizes { HasSizes result (image_of self.now.kept s) }
         ensures holds { IsKept self.now.kept }
     {
-        self.memory.see_bytes();
-        fetch_bytes(self.area_bytes(s))
+        let at = self.area_start(s);
+        self.area_from(s, at)
     }
 
     /// The same of the process of which this is fixed.
@@ -127,31 +150,32 @@ impl Images {
         ensures size { length result.now ≡ 1024 }
     {
         let at = self.fixed_start(fixed);
-        self.memory.area_bytes(at)
+        self.bytes_from(fixed.slot, at)
     }
 
     /// And that u area.
-    #[inline(always)]
+    #[inline(never)]
     pub fn area_at(&self, fixed: &Fixed) -> UArea
         requires { IsFixed self.now.kept fixed.now }
         ensures u { result ≡ area_of self.now.kept fixed.now.slot }
         ensures sizes { HasSizes result (image_of self.now.kept fixed.now.slot) }
         ensures holds { IsKept self.now.kept }
     {
-        self.memory.see_bytes();
-        fetch_bytes(self.area_bytes_at(fixed))
+        let at = self.fixed_start(fixed);
+        self.area_from(fixed.slot, at)
     }
 
-    // Puts bytes into the u area of a slot's image, which begins at a place.
+    // Puts bytes into the u area of a slot's image, which begins at a place and stays there.
     #[inline(always)]
     fn put_field(&mut self, s: Slot, at: usize, field: usize, bytes: &[u8])
         requires image { HasImage self.old.kept s }
         requires place { IsAreaAt self.old.kept s at }
         requires within { field + length bytes.now ≤ 1024 }
-        requires meaning { (u : UArea) × Becomes (area_of self.old.kept s) field bytes.now u × IsSized u × HasSizes u (image_of self.old.kept s) }
-        ensures kept { (u : UArea) → Becomes (area_of self.old.kept s) field bytes.now u → IsSized u
-            → self.new.kept ≡ with_area self.old.kept s u }
+        requires law { (u : UArea) × IsPut (area_of self.old.kept s) field bytes.now u }
+        ensures kept { (u : UArea) → IsPut (area_of self.old.kept s) field bytes.now u → self.new.kept ≡ with_area self.old.kept s u }
         ensures written { AreWritten self.old self.new s field bytes.now }
+        ensures image { HasImage self.new.kept s }
+        ensures place { IsAreaAt self.new.kept s at }
     {
         let _ = s;
         self.memory.see_bytes();
@@ -166,6 +190,7 @@ impl Images {
         ensures kept { self.new.kept ≡ with_area self.old.kept s u.now }
         ensures written { AreWritten self.old self.new s 0 (front_bytes u.now) }
     {
+        self.see_kept();
         let front = u.front();
         let at = self.area_start(s);
         self.put_field(s, at, 0, &front);

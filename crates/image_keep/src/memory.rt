@@ -6,7 +6,7 @@ ghost use Rattle.v6_base.specs.Image.{AreBytes};
 ghost use Rattle.image_keep.specs.Attempted.{IsAtHand, Attempted, Called};
 ghost use Rattle.image_keep.specs.Line.{line_of};
 
-use crate::attempt::{attempt, attempt_any, attempt_call};
+use crate::attempt::{attempt, attempt_call};
 use crate::standing::Standing;
 use core_mem::Core;
 use pdp_decode::Dispatch;
@@ -376,16 +376,6 @@ impl Memory {
         ensures swap { self.new.swap ≡ self.old.swap }
     {
         attempt(self.core.bytes_mut(), standing, again, dispatch)
-    }
-
-    /// The same for any instruction, by no handler.
-    #[inline(always)]
-    pub(crate) fn attempt_any(&mut self, standing: &Standing) -> bool
-        requires { IsAtHand standing.now self.old.core }
-        ensures did { Attempted standing.now self.old.core self.new.core result }
-        ensures swap { self.new.swap ≡ self.old.swap }
-    {
-        attempt_any(self.core.bytes_mut(), standing)
     }
 
     /// The system call that a process asks for, which stands in core.

@@ -170,7 +170,7 @@ fn operands_and_numbers_are_read_from_their_digits(rt: HostRuntime) {
 }
 
 // Which handler a word has, by its instruction and its operands' modes.
-static HANDLERS: [(u16, Handler); 32] = [
+static HANDLERS: [(u16, Handler); 34] = [
     (0o010102, Handler::MovRR), // MOV R1,R2
     (0o012701, Handler::MovIR), // MOV #5,R1
     (0o013701, Handler::MovAR), // MOV @#700,R1
@@ -201,6 +201,8 @@ static HANDLERS: [(u16, Handler); 32] = [
     (0o000207, Handler::Rts), // RTS PC
     (0o000257, Handler::ClearCodes), // CCC
     (0o000261, Handler::SetCodes), // SEC
+    (0o000002, Handler::Rti), // RTI
+    (0o000006, Handler::Rti), // RTT
     (0o104400, Handler::Other), // TRAP 0
     (0o000000, Handler::Other), // HALT
 ];

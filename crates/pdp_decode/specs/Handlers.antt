@@ -295,6 +295,7 @@ Handles handler.JsrL n = IsExtended n Jsr Relative
 Handles handler.Rts n = decode_of n ≡ Rts (reg_of (n % 0o10))
 Handles handler.ClearCodes n = decode_of n ≡ Codes false (flags_of n)
 Handles handler.SetCodes n = decode_of n ≡ Codes true (flags_of n)
+Handles handler.Rti n = decode_of n ≡ Rti
 Handles handler.Other n = Unit {0}
 
 -- where a source lies that has a handler with each instruction: in a register; or, a word, in the program, at an absolute
@@ -313,7 +314,7 @@ abbrev pub IsAtLabel : Operand → Type 0
 IsAtLabel d = IsAddressed Absolute Word d ⊎ IsAddressed Relative Word d
 
 -- the instructions that have a handler for certain: those that work on a register, with such a source; branches; jumps to a
--- label. Frequent ways to other operands have one too.
+-- label; RTS, RTI, and those on the condition codes. Frequent ways to other operands have one too.
 abbrev pub HasHandler : Instr → Type 0
 HasHandler (Mov w s d) = IsFromSource w s × IsAddressed Register w d
 HasHandler (Cmp w s d) = IsFromSource w s × IsAddressed Register w d
@@ -347,7 +348,7 @@ HasHandler (Jmp d) = IsAtLabel d
 HasHandler (Jsr n d) = IsAtLabel d
 HasHandler (Rts n) = Unit {0}
 HasHandler (Mark words) = ⊥
-HasHandler Rti = ⊥
+HasHandler Rti = Unit {0}
 HasHandler (Codes set names) = Unit {0}
 HasHandler Wait = ⊥
 HasHandler (SoftTrap trap) = ⊥

@@ -55,6 +55,7 @@ fn choose(instr: Instr, word: u16) -> Handler
         Instr::Jmp(d) => jmp(addressed(Width::Word, d)),
         Instr::Jsr(_, d) => jsr(addressed(Width::Word, d)),
         Instr::Rts(_) => Handler::Rts,
+        Instr::Rti => Handler::Rti,
         Instr::Codes(set, _) => codes(set),
         _ => Handler::Other,
     }

@@ -241,6 +241,8 @@ pub enum Handler {
     Rts,
     ClearCodes,
     SetCodes,
+    /// RTI and RTT.
+    Rti,
     /// Any other word, and any instruction with operands found otherwise.
     Other,
 }

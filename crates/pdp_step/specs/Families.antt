@@ -138,6 +138,7 @@ family_of handler.MovAM = Between
 family_of handler.SxtR = Extended
 family_of handler.ClearCodes = Extended
 family_of handler.SetCodes = Extended
+family_of handler.Rti = Extended
 family_of handler.MulR = Extended
 family_of handler.MulI = Extended
 family_of handler.MulX = Extended

@@ -24,7 +24,7 @@ use crate::pair_rows::{divide, multiply, shift_pair, shift_reg};
 use crate::processor::Processor;
 use crate::size::{Bytes, Words};
 use crate::transfers::{
-    branch_if, count, jump, jump_to_subroutine, names_in, return_by, set_codes,
+    branch_if, count, jump, jump_to_subroutine, names_in, resume, return_by, set_codes,
 };
 use pdp_decode::{Condition, Handler};
 
@@ -250,8 +250,8 @@ pub fn perform_between<P: Processor>(
     }
 }
 
-/// The row of a word by its handler, for MUL, DIV, ASH, ASHC, SXT, the condition codes, and some that change a word in memory.
-/// Where it misses, nothing has changed.
+/// The row of a word by its handler, for MUL, DIV, ASH, ASHC, SXT, RTI, the condition codes, and some that change a word in
+/// memory. Where it misses, nothing has changed.
 #[inline(always)]
 pub fn perform_extended<P: Processor>(
     p: &mut P,
@@ -272,6 +272,7 @@ pub fn perform_extended<P: Processor>(
         Handler::SxtR => extend_sign::<P, Register>(p, pc, word),
         Handler::ClearCodes => set_codes(p, pc, false, names_in(word)),
         Handler::SetCodes => set_codes(p, pc, true, names_in(word)),
+        Handler::Rti => resume(p, pc),
         Handler::MulR => multiply::<P, Register>(p, pc, word),
         Handler::MulI => multiply::<P, Immediate>(p, pc, word),
         Handler::MulX => multiply::<P, Indexed>(p, pc, word),

@@ -32,4 +32,3 @@ pub use outcome::{Kind, Outcome};
 pub use processor::Processor;
 pub use regs::Regs;
 pub use stepping::step;
-pub use table::perform_any;

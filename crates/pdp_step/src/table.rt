@@ -1,13 +1,13 @@
 //! The table of instructions over any addressing modes.
-ghost use Rattle.std.specs.Prelude.{◌≡◌, ◌<◌, ◌≤◌, ◌/◌, false, ℕ, IsErr};
+ghost use Rattle.std.specs.Prelude.{◌≡◌, ◌<◌, ◌≤◌, ◌/◌, false, ℕ};
 ghost use Rattle.pdp_decode.specs.Decode.{decode_of, operand_of};
 ghost use Rattle.pdp_decode.specs.declared.instr.Width.{Width};
 ghost use Rattle.pdp_step.specs.Machine.{carry_in};
 ghost use Rattle.pdp_step.specs.Arithmetic.{result_of};
 ghost use Rattle.pdp_step.specs.Rows.{moved, compared, joined, modified, replaced, tested};
 ghost use Rattle.pdp_step.specs.Instruction.{go, row_of, plan_of};
-ghost use Rattle.pdp_step.specs.After.{finished, Finishes, RefusesNumbered, RefusesMissed, RefusesTrapped};
-ghost use Rattle.pdp_step.specs.Parts.{at_pc, IsMissed, IsTrapped, Ends};
+ghost use Rattle.pdp_step.specs.After.{finished, Finishes, RefusesNumbered, RefusesMissed};
+ghost use Rattle.pdp_step.specs.Parts.{at_pc, IsMissed, Ends};
 
 use crate::alteration::{
     AddingCarry, Alteration, Complementing, Decreasing, Increasing, Negating, RotatingLeft,
@@ -29,20 +29,17 @@ use crate::transfers::{
 use pdp_decode::Width::{Byte, Word};
 use pdp_decode::{Instr, SoftTrap, Width, decode};
 
-/// An instruction: its word is fetched at PC, and its row is done. Where it isn't done, the registers are as they were by then,
-/// and no byte has changed.
+/// An instruction: its word is fetched at PC, and its row is done. Where it isn't done, the registers are as they were by then.
 #[inline(always)]
 pub fn attempt<P: Processor>(p: &mut P) -> Result<(), Refusal>
     ensures attempt { Finishes result (P.machine p.new) (finished (P.machine p.old).image (plan_of (P.machine p.old))) }
     ensures number { RefusesNumbered result }
-    ensures image { IsErr result → (P.machine p.new).image ≡ (P.machine p.old).image }
     ensures missed { RefusesMissed result → P.MayMiss }
-    ensures trapped { RefusesTrapped result → P.MayTrap }
     ensures rest { P.rest p.new ≡ P.rest p.old }
 {
     let pc = p.reg(7) as usize;
     match p.program_word(pc) {
-        Ok(word) => perform_any(p, pc + 2, word as u32),
+        Ok(word) => perform_instruction(p, pc + 2, word as u32),
         Err(halt) => Err(Refusal::Halted(halt)),
     }
 }
@@ -52,9 +49,7 @@ pub fn attempt<P: Processor>(p: &mut P) -> Result<(), Refusal>
 fn any_move<P: Processor>(p: &mut P, pc: usize, word: u32, w: Width) -> Result<(), Halt>
     requires room { pc ≤ 65538 }
     ensures row { Ends result (P.machine p.new) (finished (P.machine p.old).image (go (moved (at_pc (P.machine p.old) pc) w (operand_of (word / 64)) (operand_of word)))) }
-    ensures image { IsMissed result → (P.machine p.new).image ≡ (P.machine p.old).image }
     ensures missed { IsMissed result → P.MayMiss }
-    ensures trapped { IsTrapped result → P.MayTrap }
     ensures rest { P.rest p.new ≡ P.rest p.old }
 {
     match w {
@@ -73,9 +68,7 @@ fn any_compare<P: Processor, O: Operation>(
 ) -> Result<(), Halt>
     requires room { pc ≤ 65538 }
     ensures row { Ends result (P.machine p.new) (finished (P.machine p.old).image (go (compared (at_pc (P.machine p.old) pc) w (operand_of (word / 64)) (operand_of word) (O.made w (carry_in (P.machine p.old)))))) }
-    ensures image { IsMissed result → (P.machine p.new).image ≡ (P.machine p.old).image }
     ensures missed { IsMissed result → P.MayMiss }
-    ensures trapped { IsTrapped result → P.MayTrap }
     ensures rest { P.rest p.new ≡ P.rest p.old }
 {
     match w {
@@ -94,9 +87,7 @@ fn any_join<P: Processor, O: Operation>(
 ) -> Result<(), Halt>
     requires room { pc ≤ 65538 }
     ensures row { Ends result (P.machine p.new) (finished (P.machine p.old).image (go (joined (at_pc (P.machine p.old) pc) w (operand_of (word / 64)) (operand_of word) (O.made w (carry_in (P.machine p.old)))))) }
-    ensures image { IsMissed result → (P.machine p.new).image ≡ (P.machine p.old).image }
     ensures missed { IsMissed result → P.MayMiss }
-    ensures trapped { IsTrapped result → P.MayTrap }
     ensures rest { P.rest p.new ≡ P.rest p.old }
 {
     match w {
@@ -117,9 +108,7 @@ fn any_modify<P: Processor, A: Alteration>(
     requires room { pc ≤ 65538 }
     requires size { (x : Width) → A.IsFor alteration.now x }
     ensures row { Ends result (P.machine p.new) (finished (P.machine p.old).image (go (modified (at_pc (P.machine p.old) pc) w (operand_of word) (A.made alteration.now w (carry_in (P.machine p.old)))))) }
-    ensures image { IsMissed result → (P.machine p.new).image ≡ (P.machine p.old).image }
     ensures missed { IsMissed result → P.MayMiss }
-    ensures trapped { IsTrapped result → P.MayTrap }
     ensures rest { P.rest p.new ≡ P.rest p.old }
 {
     match w {
@@ -133,9 +122,7 @@ fn any_modify<P: Processor, A: Alteration>(
 fn any_clear<P: Processor>(p: &mut P, pc: usize, word: u32, w: Width) -> Result<(), Halt>
     requires room { pc ≤ 65538 }
     ensures row { Ends result (P.machine p.new) (finished (P.machine p.old).image (go (replaced (at_pc (P.machine p.old) pc) w (operand_of word) (result_of w 0 false false)))) }
-    ensures image { IsMissed result → (P.machine p.new).image ≡ (P.machine p.old).image }
     ensures missed { IsMissed result → P.MayMiss }
-    ensures trapped { IsTrapped result → P.MayTrap }
     ensures rest { P.rest p.new ≡ P.rest p.old }
 {
     match w {
@@ -149,30 +136,13 @@ fn any_clear<P: Processor>(p: &mut P, pc: usize, word: u32, w: Width) -> Result<
 fn any_test<P: Processor>(p: &mut P, pc: usize, word: u32, w: Width) -> Result<(), Halt>
     requires room { pc ≤ 65538 }
     ensures row { Ends result (P.machine p.new) (finished (P.machine p.old).image (go (tested (at_pc (P.machine p.old) pc) w (operand_of word) (λ x. result_of w x false false)))) }
-    ensures image { IsMissed result → (P.machine p.new).image ≡ (P.machine p.old).image }
     ensures missed { IsMissed result → P.MayMiss }
-    ensures trapped { IsTrapped result → P.MayTrap }
     ensures rest { P.rest p.new ≡ P.rest p.old }
 {
     match w {
         Word => test::<P, Words, Any>(p, pc, word),
         Byte => test::<P, Bytes, Any>(p, pc, word),
     }
-}
-
-/// The row of any word, with PC after it. Where it isn't done, the registers are as they were by then, and no byte has changed.
-#[inline(always)]
-pub fn perform_any<P: Processor>(p: &mut P, pc: usize, word: u32) -> Result<(), Refusal>
-    requires word { word < 65536 }
-    requires room { pc ≤ 65538 }
-    ensures row { Finishes result (P.machine p.new) (finished (P.machine p.old).image (row_of (at_pc (P.machine p.old) pc) word (decode_of word))) }
-    ensures number { RefusesNumbered result }
-    ensures image { IsErr result → (P.machine p.new).image ≡ (P.machine p.old).image }
-    ensures missed { RefusesMissed result → P.MayMiss }
-    ensures trapped { RefusesTrapped result → P.MayTrap }
-    ensures rest { P.rest p.new ≡ P.rest p.old }
-{
-    perform_instruction(p, pc, word)
 }
 
 // The row of a word, by its instruction, with PC after it.
@@ -183,9 +153,7 @@ fn perform_instruction<P: Processor>(p: &mut P, pc: usize, word: u32) -> Result<
     requires room { pc ≤ 65538 }
     ensures row { Finishes result (P.machine p.new) (finished (P.machine p.old).image (row_of (at_pc (P.machine p.old) pc) word (decode_of word))) }
     ensures number { RefusesNumbered result }
-    ensures image { RefusesMissed result → (P.machine p.new).image ≡ (P.machine p.old).image }
     ensures missed { RefusesMissed result → P.MayMiss }
-    ensures trapped { RefusesTrapped result → P.MayTrap }
     ensures rest { P.rest p.new ≡ P.rest p.old }
 {
     match decode(word as u16) {

@@ -1,8 +1,9 @@
 -- A process's u area is another one, with the sizes that it had: what is handed to a call, and what is on the board.
-use Rattle.std.proofs.Common.{◌≡◌, ◌∙◌, ℕ, List, length, get_or, Option, None, ap, arith}
+use Rattle.std.proofs.Common.{◌≡◌, ◌∙◌, ℕ, List, length, get_or, Option, None, refl, ap, arith}
 use Rattle.std.specs.Option.{unwrap_or}
 use Rattle.u_area.specs.declared.area.UArea.{UArea}
-use Rattle.image_keep.specs.Kept.{with_area}
+use Rattle.image_keep.specs.Kept.{area_of, with_area}
+use Rattle.image_keep.specs.State.{ImagesState}
 use Rattle.fs_nodes.specs.FileSystem.{FileSystem}
 use Rattle.sys_procs.specs.declared.procs.Procs.{Procs}
 use Rattle.sys_procs.specs.Process.{Process, no_process}
@@ -10,23 +11,32 @@ use Rattle.sys_procs.specs.World.{processes_in, with_process}
 use Rattle.sys_procs.specs.Handed.{handed, board, process_here, IsAlive}
 use Rattle.sys_procs.proofs.SameKept.{SameKept, same_handed, same_board, same_here, same_alive}
 use Rattle.sys_procs.proofs.Slots.{fifty_processes}
-use Rattle.sys_procs.proofs.Alive.{put_here, SameSizes, area_put, area_state, area_board, area_alive}
+use Rattle.sys_procs.proofs.Alive.{area_here, put_here, SameSizes, area_put, area_state, area_board, area_alive}
 
-module _ (p q : Procs) (s : ℕ) (u : UArea) (alive : IsAlive p s) (long : length p.images.kept.slots ≡ 50)
-    (put : SameKept q (record p { images = record p.images { kept = with_area p.images.kept s u } })) where
-  pub put_state : (fs : FileSystem) → handed q fs ≡ with_process (handed p fs) s (record (process_here p s) { u = u })
-  put_state fs =
-      same_handed put fs ∙ area_state p s u fs
-      ∙ ap (λ (ps : List (Option Process)). record (handed p fs) { processes = ps }) (area_put p s u alive long)
+-- this is its u area, and all else is as it was
+pub record HasArea (p q : Procs) (s : ℕ) (u : UArea) : Type 0 where
+  pub state : (fs : FileSystem) → handed q fs ≡ with_process (handed p fs) s (record (process_here p s) { u = u })
+  pub here : process_here q s ≡ record (process_here p s) { u = u }
+  pub images : q.images.kept ≡ with_area p.images.kept s u
+  pub shown : board q ≡ board p
+  pub alive : IsAlive q s
 
-  pub put_process : process_here q s ≡ record (process_here p s) { u = u }
-  put_process =
-      let at : List (Option Process) → Process = λ ps. unwrap_or (get_or ps s None) no_process in
-      same_here put s ∙ (ap at (area_put p s u alive long)
-      ∙ put_here (processes_in p.rows.slots p.images.kept) s (record (process_here p s) { u = u }) (omega (arith, alive.below, fifty_processes p.rows.slots p.images.kept)))
-
-  pub put_board : board q ≡ board p
-  put_board = same_board put ∙ area_board p s u
-
-  pub put_alive : SameSizes u (process_here p s).u → IsAlive q s
-  put_alive same = same_alive put (area_alive p s u alive long same)
+-- by what was made of the u area where it stands
+pub area_set : (p : Procs) (s : ℕ) → IsAlive p s → length p.images.kept.slots ≡ 50 → (i : ImagesState) (made : UArea → UArea)
+    → i.kept ≡ with_area p.images.kept s (made (area_of p.images.kept s)) → SameSizes (made (process_here p s).u) (process_here p s).u
+    → HasArea p (record p { images = i }) s (made (process_here p s).u)
+area_set p s alive long i made kept same =
+    let u : UArea = made (process_here p s).u in
+    let images : i.kept ≡ with_area p.images.kept s u = kept ∙ ap (λ (v : UArea). with_area p.images.kept s (made v)) (area_here p s alive) in
+    let put : SameKept (record p { images = i }) (record p { images = record p.images { kept = with_area p.images.kept s u } }) =
+    record { rows = refl; table = refl; kept = images; switches = refl } in
+    let at : List (Option Process) → Process = λ ps. unwrap_or (get_or ps s None) no_process in
+    record {
+      state = λ fs. same_handed put fs ∙ area_state p s u fs
+          ∙ ap (λ (ps : List (Option Process)). record (handed p fs) { processes = ps }) (area_put p s u alive long);
+      here = same_here put s ∙ (ap at (area_put p s u alive long)
+          ∙ put_here (processes_in p.rows.slots p.images.kept) s (record (process_here p s) { u = u }) (omega (arith, alive.below, fifty_processes p.rows.slots p.images.kept)));
+      images = images;
+      shown = same_board put ∙ area_board p s u;
+      alive = same_alive put (area_alive p s u alive long same);
+    }

@@ -74,9 +74,12 @@ impl Procs {
         requires alive { IsAlive self.old s }
         requires number { n < 8 }
         ensures state { (fs : FileSystem) → handed self.new fs
-            ≡ with_process (handed self.old fs) s (record (process_here self.old s) { u = with_register (process_here self.old s).u n value }) }
-        ensures here { process_here self.new s ≡ record (process_here self.old s) { u = with_register (process_here self.old s).u n value } }
-        ensures images { self.new.images.kept ≡ with_area self.old.images.kept s (with_register (process_here self.old s).u n value) }
+            ≡ with_process (handed self.old fs) s
+            (record (process_here self.old s) { u = with_register (process_here self.old s).u n value }) }
+        ensures here { process_here self.new s
+            ≡ record (process_here self.old s) { u = with_register (process_here self.old s).u n value } }
+        ensures images { self.new.images.kept
+            ≡ with_area self.old.images.kept s (with_register (process_here self.old s).u n value) }
         ensures rows { self.new.rows ≡ self.old.rows }
         ensures table { self.new.table ≡ self.old.table }
         ensures switches { self.new.switches ≡ self.old.switches }
@@ -91,9 +94,12 @@ impl Procs {
     pub(crate) fn put_call(&mut self, s: Slot, pending: u8, call: &[u16; 8])
         requires alive { IsAlive self.old s }
         ensures state { (fs : FileSystem) → handed self.new fs
-            ≡ with_process (handed self.old fs) s (record (process_here self.old s) { u = with_call (process_here self.old s).u pending call.now }) }
-        ensures here { process_here self.new s ≡ record (process_here self.old s) { u = with_call (process_here self.old s).u pending call.now } }
-        ensures images { self.new.images.kept ≡ with_area self.old.images.kept s (with_call (process_here self.old s).u pending call.now) }
+            ≡ with_process (handed self.old fs) s
+            (record (process_here self.old s) { u = with_call (process_here self.old s).u pending call.now }) }
+        ensures here { process_here self.new s
+            ≡ record (process_here self.old s) { u = with_call (process_here self.old s).u pending call.now } }
+        ensures images { self.new.images.kept
+            ≡ with_area self.old.images.kept s (with_call (process_here self.old s).u pending call.now) }
         ensures rows { self.new.rows ≡ self.old.rows }
         ensures table { self.new.table ≡ self.old.table }
         ensures switches { self.new.switches ≡ self.old.switches }
@@ -108,8 +114,10 @@ impl Procs {
     pub(crate) fn put_ids(&mut self, s: Slot, ids: [u8; 4])
         requires alive { IsAlive self.old s }
         ensures state { (fs : FileSystem) → handed self.new fs
-            ≡ with_process (handed self.old fs) s (record (process_here self.old s) { u = with_ids (process_here self.old s).u ids }) }
-        ensures here { process_here self.new s ≡ record (process_here self.old s) { u = with_ids (process_here self.old s).u ids } }
+            ≡ with_process (handed self.old fs) s
+            (record (process_here self.old s) { u = with_ids (process_here self.old s).u ids }) }
+        ensures here { process_here self.new s
+            ≡ record (process_here self.old s) { u = with_ids (process_here self.old s).u ids } }
         ensures images { self.new.images.kept ≡ with_area self.old.images.kept s (with_ids (process_here self.old s).u ids) }
         ensures rows { self.new.rows ≡ self.old.rows }
         ensures table { self.new.table ≡ self.old.table }
@@ -126,9 +134,12 @@ impl Procs {
         requires alive { IsAlive self.old s }
         requires number { sig < 20 }
         ensures state { (fs : FileSystem) → handed self.new fs
-            ≡ with_process (handed self.old fs) s (record (process_here self.old s) { u = with_handler (process_here self.old s).u sig handler }) }
-        ensures here { process_here self.new s ≡ record (process_here self.old s) { u = with_handler (process_here self.old s).u sig handler } }
-        ensures images { self.new.images.kept ≡ with_area self.old.images.kept s (with_handler (process_here self.old s).u sig handler) }
+            ≡ with_process (handed self.old fs) s
+            (record (process_here self.old s) { u = with_handler (process_here self.old s).u sig handler }) }
+        ensures here { process_here self.new s
+            ≡ record (process_here self.old s) { u = with_handler (process_here self.old s).u sig handler } }
+        ensures images { self.new.images.kept
+            ≡ with_area self.old.images.kept s (with_handler (process_here self.old s).u sig handler) }
         ensures rows { self.new.rows ≡ self.old.rows }
         ensures table { self.new.table ≡ self.old.table }
         ensures switches { self.new.switches ≡ self.old.switches }
@@ -143,8 +154,10 @@ impl Procs {
     pub(crate) fn clear_times(&mut self, s: Slot)
         requires alive { IsAlive self.old s }
         ensures state { (fs : FileSystem) → handed self.new fs
-            ≡ with_process (handed self.old fs) s (record (process_here self.old s) { u = with_no_times (process_here self.old s).u }) }
-        ensures here { process_here self.new s ≡ record (process_here self.old s) { u = with_no_times (process_here self.old s).u } }
+            ≡ with_process (handed self.old fs) s
+            (record (process_here self.old s) { u = with_no_times (process_here self.old s).u }) }
+        ensures here { process_here self.new s
+            ≡ record (process_here self.old s) { u = with_no_times (process_here self.old s).u } }
         ensures images { self.new.images.kept ≡ with_area self.old.images.kept s (with_no_times (process_here self.old s).u) }
         ensures rows { self.new.rows ≡ self.old.rows }
         ensures table { self.new.table ≡ self.old.table }
@@ -160,9 +173,12 @@ impl Procs {
     pub(crate) fn put_child_times(&mut self, s: Slot, user: u32, system: u32)
         requires alive { IsAlive self.old s }
         ensures state { (fs : FileSystem) → handed self.new fs
-            ≡ with_process (handed self.old fs) s (record (process_here self.old s) { u = with_child_times (process_here self.old s).u user system }) }
-        ensures here { process_here self.new s ≡ record (process_here self.old s) { u = with_child_times (process_here self.old s).u user system } }
-        ensures images { self.new.images.kept ≡ with_area self.old.images.kept s (with_child_times (process_here self.old s).u user system) }
+            ≡ with_process (handed self.old fs) s
+            (record (process_here self.old s) { u = with_child_times (process_here self.old s).u user system }) }
+        ensures here { process_here self.new s
+            ≡ record (process_here self.old s) { u = with_child_times (process_here self.old s).u user system } }
+        ensures images { self.new.images.kept
+            ≡ with_area self.old.images.kept s (with_child_times (process_here self.old s).u user system) }
         ensures rows { self.new.rows ≡ self.old.rows }
         ensures table { self.new.table ≡ self.old.table }
         ensures switches { self.new.switches ≡ self.old.switches }
@@ -177,9 +193,12 @@ impl Procs {
     pub(crate) fn put_end(&mut self, s: Slot, status: u16, handlers: &[u16; 20])
         requires alive { IsAlive self.old s }
         ensures state { (fs : FileSystem) → handed self.new fs
-            ≡ with_process (handed self.old fs) s (record (process_here self.old s) { u = with_end (process_here self.old s).u status handlers.now }) }
-        ensures here { process_here self.new s ≡ record (process_here self.old s) { u = with_end (process_here self.old s).u status handlers.now } }
-        ensures images { self.new.images.kept ≡ with_area self.old.images.kept s (with_end (process_here self.old s).u status handlers.now) }
+            ≡ with_process (handed self.old fs) s
+            (record (process_here self.old s) { u = with_end (process_here self.old s).u status handlers.now }) }
+        ensures here { process_here self.new s
+            ≡ record (process_here self.old s) { u = with_end (process_here self.old s).u status handlers.now } }
+        ensures images { self.new.images.kept
+            ≡ with_area self.old.images.kept s (with_end (process_here self.old s).u status handlers.now) }
         ensures rows { self.new.rows ≡ self.old.rows }
         ensures table { self.new.table ≡ self.old.table }
         ensures switches { self.new.switches ≡ self.old.switches }

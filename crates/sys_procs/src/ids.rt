@@ -1,5 +1,5 @@
 //! Who a process is: getpid(II), getuid(II), setuid(II), getgid(II), setgid(II); and csw(II), nice(II).
-ghost use Rattle.std.specs.Prelude.{◌≡◌, ◌||◌, ◌==◌, pos, if◌then◌else◌, [], ◌∷◌};
+ghost use Rattle.std.specs.Prelude.{◌≡◌, ◌||◌, ◌==◌, pos, [], ◌∷◌};
 ghost use Rattle.std.specs.Int.{int_min};
 ghost use Rattle.v6_base.specs.Trace.{Took, Log};
 ghost use Rattle.fs_nodes.specs.FileSystem.{FileSystem, SameRest};

@@ -1,15 +1,14 @@
 //! The texts that processes share: `xalloc` and `xfree` in Lions' Commentary, `text.c`.
-ghost use Rattle.std.specs.Prelude.{◌≡◌, ◌≤◌, ◌<◌, ◌+◌, ◌==◌, not, ℕ, Some, None, IfOk, IfErr, IfSome, IsSome, count_by, slice_index, bit_and};
-ghost use Rattle.v6_base.specs.Trace.{Took, Log};
+ghost use Rattle.std.specs.Prelude.{◌≡◌, ◌≤◌, ◌<◌, ◌==◌, not, ℕ, Some, None, IfOk, IfErr, IfSome, IsSome, count_by, slice_index, bit_and};
 ghost use Rattle.fs_codec.specs.declared.modes.TheConstants.{ISVTX};
 ghost use Rattle.fs_nodes.specs.FileSystem.{SameRest};
 ghost use Rattle.pick_rules.specs.Apply.{change_row};
 ghost use Rattle.image_keep.specs.Kept.{Shared, text_of, shared};
 ghost use Rattle.image_keep.specs.SharedTexts.{row_in, found_text};
 ghost use Rattle.sys_procs.specs.Tests.{node_in};
-ghost use Rattle.sys_procs.specs.TextTable.{is_text_of, entry_of};
+ghost use Rattle.sys_procs.specs.TextTable.{is_text_of};
 ghost use Rattle.sys_procs.specs.Texts.{free_entry, xfree, xalloc_by};
-ghost use Rattle.sys_procs.specs.World.{World, texts_in};
+ghost use Rattle.sys_procs.specs.World.{texts_in};
 ghost use Rattle.sys_procs.specs.Comes.{nothing};
 ghost use Rattle.sys_procs.specs.inside.Begun.{leaves, takes, new_entry, taken_by};
 ghost use Rattle.sys_procs.specs.Handed.{IsAlive, IsBare, IsMarked, came, handed};

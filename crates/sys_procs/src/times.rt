@@ -1,5 +1,5 @@
 //! The time, and the times of processes: time(II), stime(II), times(II), sleep(II).
-ghost use Rattle.std.specs.Prelude.{◌≡◌, ℕ, ◌+◌, ◌*◌, ◌%◌, ◌^◌, [], ◌∷◌, slice_index, is_some};
+ghost use Rattle.std.specs.Prelude.{◌≡◌, ◌+◌, ◌*◌, ◌%◌, ◌^◌, [], ◌∷◌, slice_index, is_some};
 ghost use Rattle.v6_base.specs.Trace.{Took, Log};
 ghost use Rattle.v6_base.specs.Copy.{store_bytes};
 ghost use Rattle.fs_nodes.specs.FileSystem.{FileSystem, SameRest};

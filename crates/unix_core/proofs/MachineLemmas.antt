@@ -90,21 +90,30 @@ like_timed User u = record { clicks = refl; files = refl; dir = refl; pending = 
 like_timed Kernel u = record { clicks = refl; files = refl; dir = refl; pending = refl; call = refl }
 like_timed Idle u = record { clicks = refl; files = refl; dir = refl; pending = refl; call = refl }
 
+-- what it leaves
+pub record IsCharged (mode : Mode) (w now : World) : Type 0 where
+  pub good : IsGood now
+  pub unix : unix_of now ≡ charged (unix_of w) mode w.procs.table.running
+  pub board : board_in now ≡ board_in w
+
 module _ (mode : Mode) (w : World) (s : ℕ) (good : IsGood w) (runs : w.procs.table.running ≡ Some s) (above : 0 < s)
-    (u : UArea) (is : u ≡ timed_area mode (area_of w.procs.images.kept s)) (x : ImagesState) (kept : x.kept ≡ with_area w.procs.images.kept s u) where
+    (x : ImagesState) (kept : x.kept ≡ with_area w.procs.images.kept s (timed_area mode (area_of w.procs.images.kept s))) where
   abbrev who : Process
   who = process_of (unix_of w) s
+
+  abbrev u : UArea
+  u = timed_area mode (area_of w.procs.images.kept s)
 
   lives : IsAlive w.procs s
   lives = good_alive w s good runs above
 
   charge_is : u ≡ timed_area mode who.u
-  charge_is = is ∙ ap (timed_area mode) (area_here w.procs s lives)
+  charge_is = ap (timed_area mode) (area_here w.procs s lives)
 
   charge_like : IsLikeArea u who.u
   charge_like = subst (λ v. IsLikeArea v who.u) (sym charge_is) (like_timed mode who.u)
 
-  pub charge_unix : unix_of (with_images w x) ≡ charged (unix_of w) mode w.procs.table.running
+  charge_unix : unix_of (with_images w x) ≡ charged (unix_of w) mode w.procs.table.running
   charge_unix =
       ap (λ (l : Kept). unix_of (with_kept w x l)) kept
       ∙ unix_put w x s u lives
@@ -112,8 +121,12 @@ module _ (mode : Mode) (w : World) (s : ℕ) (good : IsGood w) (runs : w.procs.t
       ∙ sym (ap (charged (unix_of w) mode) runs
       ∙ ap (λ c. if c then unix_of w else with_process (unix_of w) s (timed mode who)) (ne_eqb s 0 (λ e. omega (arith, e, above))))
 
-  pub charge_board : board_in (with_images w x) ≡ board_in w
-  charge_board = ap (λ (l : Kept). board_in (with_kept w x l)) kept ∙ (λ i. record (board_in w) { texts = map text_place ((with_area_texts w.procs.images.kept s u).texts i); core = area_core w.procs.images.kept s u i })
-
-  pub charge_good : IsGood (with_images w x)
-  charge_good = subst (λ (l : Kept). IsGood (with_kept w x l)) (sym kept) (good_put w x s u lives charge_like good)
+  pub is_charged : (m : Mode) → m ≡ mode → IsCharged m w (with_images w x)
+  is_charged m is =
+      let done : IsCharged mode w (with_images w x) = record {
+        good = subst (λ (l : Kept). IsGood (with_kept w x l)) (sym kept) (good_put w x s u lives charge_like good);
+        unix = charge_unix;
+        board = ap (λ (l : Kept). board_in (with_kept w x l)) kept
+            ∙ (λ i. record (board_in w) { texts = map text_place ((with_area_texts w.procs.images.kept s u).texts i); core = area_core w.procs.images.kept s u i });
+      } in
+      subst (λ n. IsCharged n w (with_images w x)) (sym is) done

@@ -29,14 +29,18 @@ use Rattle.unix_core.proofs.EventLemmas.{called_agree, called_image, called_cloc
 use Rattle.unix_core.proofs.TickLemmas.{tick_like, tick_running, tick_clock, board_ticked}
 use Rattle.unix_core.proofs.DeliveredLemmas.{trap_user, mode_charged}
 
--- A tick has come to one world, and another one is left: what is delivered to that one the tick delivers.
-pub record HasTicked (w now : World) (as_trap : Bool) : Type 0 where
+-- A tick has come to one world, in this mode, with this table after its count and this second that is due, and another one is left: what is
+-- delivered to that one the tick delivers.
+pub record HasTicked (w now : World) (as_trap : Bool) (mode : Mode) (t : Table) (called : Bool) : Type 0 where
+  pub good : IsGood now
   pub stop : (logged (board_in w) (tick_effects (system_at w))).stop ≡ None
   pub user : as_trap ≡ true → is_user_mode (mode_of (system_at now)) ≡ true
   pub comes : (e : Ending) (last : World) → HasCome (board_in now) (delivers_where as_trap (unix_of now) now.procs.table.running) e last
       → HasCome (logged (board_in w) (tick_effects (system_at w))).board (tick_delivery (system_at w)) e last
   pub shows : (a b : Taken) → Took a (logged (board_in now) (delivers_where as_trap (unix_of now) now.procs.table.running).effects).items b
       → Took a (logged (logged (board_in w) (tick_effects (system_at w))).board (tick_delivery (system_at w)).effects).items b
+  pub first : (a b c : Taken) → Took a (Log (tick_entry mode) ∷ []) b → Took b (logged {W = Unix} (board_of t now.procs.images.kept) (wakes called Tout)).items c
+      → Took a (logged (board_in w) (tick_effects (system_at w))).items c
 
 module _ (w : World) (mode : Mode) (mode_is : mode ≡ mode_of (system_at w)) (w' : World) (was : IsGood w') (unix : unix_of w' ≡ outside.charged (unix_of w) mode w.procs.table.running)
     (table : w'.procs.table ≡ w.procs.table) (board : board_in w' ≡ board_in w)
@@ -44,7 +48,7 @@ module _ (w : World) (mode : Mode) (mode_is : mode ≡ mode_of (system_at w)) (w
     (u : Table) (u_is : u ≡ called_table called Tout t) (fine : IsTable u)
     (woken : board_of u w'.procs.images.kept ≡ (logged {W = Unix} (board_of t w'.procs.images.kept) (wakes called Tout)).board)
     (good_low : (s : ℕ) → w.procs.table.running ≡ Some s → s < 50) where
-  pub tick_good : IsGood (with_table w' u)
+  tick_good : IsGood (with_table w' u)
   tick_good =
       let v = w'.procs.rows in
       let k : Kept = w'.procs.images.kept in
@@ -93,7 +97,7 @@ module _ (w : World) (mode : Mode) (mode_is : mode ≡ mode_of (system_at w)) (w
       λ i. record { unix = after i; board = log i }
 
   -- the lines of the tick, and who is woken
-  pub first_items : (a b c : Taken) → Took a (Log (tick_entry mode) ∷ []) b → Took b (logged {W = Unix} (board_of t w'.procs.images.kept) (wakes called Tout)).items c
+  first_items : (a b c : Taken) → Took a (Log (tick_entry mode) ∷ []) b → Took b (logged {W = Unix} (board_of t w'.procs.images.kept) (wakes called Tout)).items c
       → Took a l.items c
   first_items a b c one two =
       let shown : Took b rest.items c = subst (λ x. Took b (logged {W = Unix} x (wakes called Tout)).items c) board_then two in
@@ -140,5 +144,5 @@ module _ (w : World) (mode : Mode) (mode_is : mode ≡ mode_of (system_at w)) (w
         subst (λ (x : Steps). Took a (logged l.board x.effects).items b) delivery_is
         (subst (λ x. Took a (logged x (delivers_where as_trap (unix_of w2) u.running).effects).items b) (ap (λ (x : System). x.board) tick_is) took)
 
-    pub has_ticked : HasTicked w w2 as_trap
-    has_ticked = record { stop = tick_stop; user = trap_mode; comes = tick_comes; shows = tick_shows }
+    pub has_ticked : HasTicked w w2 as_trap mode t called
+    has_ticked = record { good = tick_good; stop = tick_stop; user = trap_mode; comes = tick_comes; shows = tick_shows; first = first_items }

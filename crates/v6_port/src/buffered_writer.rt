@@ -1,5 +1,5 @@
 // A buffer in front of a writer.
-ghost use Rattle.std.specs.Prelude.{◌≡◌, ◌<◌, ◌≤◌, [], length, take, drop, IsOk, IsOkAnd, OnOk};
+ghost use Rattle.std.specs.Prelude.{◌≡◌, ◌<◌, ◌≤◌, true, false, [], length, take, drop, IsOk, IsOkAnd, OnOk};
 ghost use Rattle.std.specs.Io.KnownBytes.{Keeps, Appends, WriteAppends, append_known};
 ghost use Rattle.std.specs.Io.{WritesAtMost};
 ghost use Rattle.arrayvec.specs.ArrayVec.{array_vec_len};
@@ -32,6 +32,26 @@ impl<W: Write + Drop> BufferedWriter<W> {
             buffer: ArrayVec::new(),
             given: 0,
         }
+    }
+
+    // Whether there was room for a piece, which is in the buffer then. The bytes of a terminal come one by one.
+    #[inline(always)]
+    pub(crate) fn takes(&mut self, piece: &[u8]) -> bool
+        ensures taken { result ≡ true
+            → Appends (append_known (W.contents self.old.inner) (drop self.old.given self.old.buffer.items))
+            (append_known (W.contents self.new.inner) (drop self.new.given self.new.buffer.items)) piece.now }
+        ensures kept { result ≡ false
+            → append_known (W.contents self.new.inner) (drop self.new.given self.new.buffer.items)
+            ≡ append_known (W.contents self.old.inner) (drop self.old.given self.old.buffer.items) }
+        ensures len { result ≡ false → array_vec_len self.new.buffer ≡ array_vec_len self.old.buffer }
+    {
+        if let [byte] = piece {
+            if !self.buffer.is_full() {
+                self.buffer.push(*byte);
+                return true;
+            }
+        }
+        self.buffer.try_extend_from_slice(piece).is_ok()
     }
 
     // What the writer doesn't take stays.
@@ -79,21 +99,13 @@ impl<W: Write + Drop> BufferedWriter<W> {
 impl<W: Write + Drop> Write for BufferedWriter<W> {
     ghost contents = { λ w. append_known (W.contents w.inner) (drop w.given w.buffer.items) };
 
-    // The bytes of a terminal come one by one.
-    #[inline(always)]
     fn write(&mut self, piece: &[u8]) -> io::Result<usize>
         ensures bound { WritesAtMost result piece.now }
         ensures bytes { WriteAppends (append_known (W.contents self.old.inner) (drop self.old.given self.old.buffer.items))
             (append_known (W.contents self.new.inner) (drop self.new.given self.new.buffer.items)) result piece.now }
         ensures holds { array_vec_len self.old.buffer < SIZE → IsOkAnd result (λ n. 0 < length piece.now → 0 < n) }
     {
-        if let [byte] = piece {
-            if !self.buffer.is_full() {
-                self.buffer.push(*byte);
-                return Ok(1);
-            }
-        }
-        if self.buffer.try_extend_from_slice(piece).is_ok() {
+        if self.takes(piece) {
             return Ok(piece.len());
         }
         self.write_piece(piece)

@@ -50,23 +50,54 @@ fn give_out<W: Write + Drop>(outputs: &mut [Option<BufferedWriter<W>>; OUTPUTS])
     }
 }
 
-// Report goes to standard output, after all that is held, since that may go there too. What is for another
-// port goes to its file.
+// Report goes to standard output, after all that is held, since that may go there too.
+fn report<R: Files + Print>(
+    rt: &R,
+    outputs: &mut [Option<BufferedWriter<R::File>>; OUTPUTS],
+    piece: &[u8],
+) -> Result<usize, Failed>
+    ensures { IfOk result (λ n. n ≤ length piece.now) }
+{
+    give_out(outputs);
+    match rt.write_some(piece) {
+        Ok(count) => Ok(count),
+        Err(_) => Err(Failed),
+    }
+}
+
+// Writes a piece for which the buffer has no room. The result of std's write is large: where it lies would be cleared for each
+// piece, if this stood inline.
+#[cold]
+#[inline(never)]
+fn write_rest<W: Write + Drop>(file: &mut BufferedWriter<W>, piece: &[u8]) -> Result<usize, Failed>
+    ensures { IfOk result (λ n. n ≤ length piece.now) }
+{
+    match file.write(piece) {
+        Ok(count) => Ok(count),
+        Err(_) => Err(Failed),
+    }
+}
+
+// What is for another port than Report goes to its file.
 fn put<R: Files + Print>(
     rt: &R,
     outputs: &mut [Option<BufferedWriter<R::File>>; OUTPUTS],
     port: OutPort,
     piece: &[u8],
-) -> io::Result<usize>
+) -> Result<usize, Failed>
     requires { IsThere port }
     ensures { IfOk result (λ n. n ≤ length piece.now) }
 {
     if let OutPort::Report = port {
-        give_out(outputs);
-        return rt.write_some(piece);
+        return report(rt, outputs, piece);
     }
     match &mut outputs[port.place()] {
-        Some(file) => file.write(piece),
+        Some(file) => {
+            if file.takes(piece) {
+                return Ok(piece.len());
+            }
+            write_rest(file, piece)
+        }
         None => Ok(0),
     }
 }

@@ -98,5 +98,8 @@ returns-in-Jsr-clause-handles c = c.jsr.ensures.handles c.args.word (extended_by
 pub returns-in-Rts-clause-handles : goal.returns-in-Rts-clause-handles
 returns-in-Rts-clause-handles c = return_by c.in-Rts.field-0 c.args.word (rw c.in-Rts.is at c.requires.word) (c.requires.value ∙ c.in-Rts.is)
 
+pub returns-in-Rti-clause-handles : goal.returns-in-Rti-clause-handles
+returns-in-Rti-clause-handles c = c.requires.value ∙ c.in-Rti.is
+
 pub returns-in-Codes-clause-handles : goal.returns-in-Codes-clause-handles
 returns-in-Codes-clause-handles c = c.codes.ensures.handles c.args.word (codes_by c.in-Codes.set c.in-Codes.field-1 c.args.word (rw c.in-Codes.is at c.requires.word) (c.requires.value ∙ c.in-Codes.is))

@@ -1,7 +1,7 @@
 -- A handler says what its word is.
 use Rattle.std.proofs.Common.{◌/◌, ◌%◌, true, false, refl, subst}
 use Rattle.pdp_decode.specs.declared.instr.Width.TheVariants.{Word}
-use Rattle.pdp_decode.specs.declared.instr.Instr.TheVariants.{Neg, Adc, Asr, Asl, Sxt, Mul, Div, Ash, Ashc, Codes}
+use Rattle.pdp_decode.specs.declared.instr.Instr.TheVariants.{Neg, Adc, Asr, Asl, Sxt, Mul, Div, Ash, Ashc, Rti, Codes}
 use Rattle.pdp_decode.specs.declared.handler.Handler.TheVariants as handler
 use Rattle.pdp_decode.specs.declared.instr.Flags.{Flags}
 use Rattle.pdp_decode.specs.Numbers.{flag_bits}
@@ -9,7 +9,7 @@ use Rattle.pdp_decode.specs.Decode.{reg_of, operand_of, flags_of}
 use Rattle.pdp_step.specs.Registers.{codes_in}
 use Rattle.pdp_step.specs.Machine.{carry_in}
 use Rattle.pdp_step.specs.Arithmetic.{Negate, AddCarry, ShiftRight, ShiftLeft, change_of}
-use Rattle.pdp_step.specs.Rows.{modified, replaced, sign_made, multiplied, divided, shifted_reg, shifted_pair, named_codes}
+use Rattle.pdp_step.specs.Rows.{modified, replaced, sign_made, multiplied, divided, shifted_reg, shifted_pair, resumed, named_codes}
 use Rattle.pdp_step.specs.Instruction.{go, on_codes, row_of}
 use Rattle.pdp_step.specs.After.{finished}
 use Rattle.pdp_step.specs.Parts.{at_pc, Ends}
@@ -30,6 +30,10 @@ returns-in-ClearCodes-clause-row g c = row_as c.set_codes.result (g.P.Processor.
 pub returns-in-SetCodes-clause-row : goal.returns-in-SetCodes-clause-row
 unfolding row_of
 returns-in-SetCodes-clause-row g c = row_as c.set_codes-in-SetCodes.result (g.P.Processor.machine c.set_codes-in-SetCodes.new.p) (at_pc (g.P.Processor.machine c.args.p.now) c.args.pc) c.args.word (Codes true (flags_of c.args.word)) (on_codes (at_pc (g.P.Processor.machine c.args.p.now) c.args.pc) (flag_bits (named_codes true (flags_of c.args.word) (codes_in (g.P.Processor.machine c.args.p.now).cc)))) (handled c.args.handler handler.SetCodes c.args.word c.in-SetCodes.is c.requires.handles) refl (subst (λ (x : Flags). Ends c.set_codes-in-SetCodes.result (g.P.Processor.machine c.set_codes-in-SetCodes.new.p) (finished (g.P.Processor.machine c.args.p.now).image (on_codes (at_pc (g.P.Processor.machine c.args.p.now) c.args.pc) (flag_bits (named_codes true x (codes_in (g.P.Processor.machine c.args.p.now).cc)))))) c.names_in-in-SetCodes.ensures c.set_codes-in-SetCodes.ensures.row)
+
+pub returns-in-Rti-clause-row : goal.returns-in-Rti-clause-row
+unfolding row_of
+returns-in-Rti-clause-row g c = row_as c.resume.result (g.P.Processor.machine c.resume.new.p) (at_pc (g.P.Processor.machine c.args.p.now) c.args.pc) c.args.word Rti (go (resumed (at_pc (g.P.Processor.machine c.args.p.now) c.args.pc))) (handled c.args.handler handler.Rti c.args.word c.in-Rti.is c.requires.handles) refl c.resume.ensures.row
 
 pub multiply-requires-clause-source : goal.multiply-requires-clause-source
 multiply-requires-clause-source g c = (handled c.args.handler handler.MulR c.args.word c.in-MulR.is c.requires.handles).operand

@@ -6,7 +6,7 @@ use Rattle.pdp_step.proofs.table.attempt.Goals as goal
 
 pub returns-in-Ok-clause-attempt : goal.returns-in-Ok-clause-attempt
 unfolding reg_of
-returns-in-Ok-clause-attempt g c = attempted c.perform_any.result (g.P.Processor.machine c.perform_any.new.p) (g.P.Processor.machine c.args.p.now) c.reg-pc.result c.in-Ok.word c.reg-pc.ensures (omega arith) c.in-Ok.ensures.word c.perform_any.ensures.row
+returns-in-Ok-clause-attempt g c = attempted c.perform_instruction.result (g.P.Processor.machine c.perform_instruction.new.p) (g.P.Processor.machine c.args.p.now) c.reg-pc.result c.in-Ok.word c.reg-pc.ensures (omega arith) c.in-Ok.ensures.word c.perform_instruction.ensures.row
 
 pub returns-in-Err-clause-attempt : goal.returns-in-Err-clause-attempt
 unfolding reg_of

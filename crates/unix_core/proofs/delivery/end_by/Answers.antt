@@ -96,95 +96,83 @@ tell-told-requires-clause-image g c = c.requires.ready.good.running c.args.s c.r
 pub tell-told-requires-clause-heeded : goal.tell-told-requires-clause-heeded
 tell-told-requires-clause-heeded g c = ap (λ n. n % 2) c.requires.default
 
-pub put_core-whole-requires-clause-ready : goal.put_core-whole-requires-clause-ready
-put_core-whole-requires-clause-ready g c =
-    let w : World = c.args.world.now in
-    let t = c.tell-told.ensures in
-    still_ready w c.tell-told.new.world c.args.s c.args.sig c.requires.ready t.holds c.requires.default c.tell-told.result t.answer t.images t.others
-
-pub put_core-whole-requires-clause-user : goal.put_core-whole-requires-clause-user
-put_core-whole-requires-clause-user g c =
-    let w : World = c.args.world.now in
-    let t = c.tell-told.ensures in
-    still_user w c.tell-told.new.world c.args.s c.args.sig c.requires.ready t.holds c.requires.default c.tell-told.result t.answer t.images t.others c.requires.user
-
-pub returns-then-leaves_core-clause-come : goal.returns-then-leaves_core-clause-come
-returns-then-leaves_core-clause-come g c =
+pub put_core-whole-requires : goal.put_core-whole-requires
+put_core-whole-requires g c =
     let w : World = c.args.world.now in
     let w1 : World = c.tell-told.new.world in
+    let s = c.args.s in
+    let sig = c.args.sig in
+    let ready = c.requires.ready in
+    let t = c.tell-told.ensures in
+    record {
+      ready = still_ready w w1 s sig ready t.holds c.requires.default c.tell-told.result t.answer t.images t.others;
+      user = still_user w w1 s sig ready t.holds c.requires.default c.tell-told.result t.answer t.images t.others c.requires.user;
+    }
+
+pub returns-then-leaves_core : goal.returns-then-leaves_core
+returns-then-leaves_core g c =
+    let w : World = c.args.world.now in
+    let w1 : World = c.tell-told.new.world in
+    let s = c.args.s in
+    let sig = c.args.sig in
+    let ready = c.requires.ready in
     let t = c.tell-told.ensures in
     let p = c.put_core-whole.ensures in
-    let is = same_board w w1 c.args.s c.args.sig c.requires.ready t.holds c.requires.default c.tell-told.result t.answer t.images t.others in
-    let board : board_in c.put_core-whole.new.world ≡ board_in w = ap (λ (x : Procs). board_of x.table x.images.kept) p.procs ∙ is in
-    let n = total _ _ _ _ (status_is w c.args.s c.args.sig (fetched c.area_bytes.result.now) c.register-r0.result c.from.result c.requires.ready c.area_bytes.ensures.read c.register-r0.ensures c.from.ensures)
+    let w2 : World = c.put_core-whole.new.world in
+    let e = c.end_with.ensures in
+    let board : board_in w2 ≡ board_in w = ap (λ (x : Procs). board_of x.table x.images.kept) p.procs ∙ same_board w w1 s sig ready t.holds c.requires.default c.tell-told.result t.answer t.images t.others in
+    let n = total _ _ _ _ (status_is w s sig (fetched c.area_bytes.result.now) c.register-r0.result c.from.result ready c.area_bytes.ensures.read c.register-r0.ensures c.from.ensures)
     (c.flag_of.ensures ∙ ap (λ b. if b then dumped else 0) p.whole) in
-    subst (λ b. HasCome b (ends_by (unix_of w) c.args.s c.args.sig) c.end_with.result c.end_with.new.world) board
-    (subst (λ x. HasCome (board_in c.put_core-whole.new.world) x c.end_with.result c.end_with.new.world)
-    (with_file w w1 c.args.s c.args.sig c.requires.ready t.holds c.requires.default c.tell-told.result t.answer t.images t.others
-    c.leaves_core.result c.leaves_core.ensures c.if-leaves_core.true c.put_core-whole.new.world _ p.unix n)
-    c.end_with.ensures.come)
+    let steps = with_file w w1 s sig ready t.holds c.requires.default c.tell-told.result t.answer t.images t.others
+    c.leaves_core.result c.leaves_core.ensures c.if-leaves_core.true w2 _ p.unix n in
+    record {
+      come = subst (λ b. HasCome b (ends_by (unix_of w) s sig) c.end_with.result c.end_with.new.world) board
+          (subst (λ x. HasCome (board_in w2) x c.end_with.result c.end_with.new.world) steps e.come);
+      items = subst (λ b. Took (g.T.Trace.taken c.args.trace.now) (logged b (ends_by (unix_of w) s sig).effects).items (g.T.Trace.taken c.end_with.new.trace)) board
+          (subst (λ (x : Steps). Took (g.T.Trace.taken c.args.trace.now) (logged (board_in w2) x.effects).items (g.T.Trace.taken c.end_with.new.trace)) steps e.items);
+      good = e.good;
+      covered = e.covered;
+      runs = e.runs;
+      frame = e.frame;
+      rest = subst (λ (x : World). SameRest x.files.tree.nodes c.end_with.new.world.files.tree.nodes) t.others (rest_then _ _ _ p.rest e.rest);
+      slots = e.slots ∙ p.slots ∙ t.slots;
+    }
 
-pub returns-then-leaves_core-clause-items : goal.returns-then-leaves_core-clause-items
-returns-then-leaves_core-clause-items g c =
+pub end_with-requires-2 : goal.end_with-requires-2
+end_with-requires-2 g c =
     let w : World = c.args.world.now in
     let w1 : World = c.tell-told.new.world in
+    let s = c.args.s in
+    let sig = c.args.sig in
+    let ready = c.requires.ready in
     let t = c.tell-told.ensures in
-    let p = c.put_core-whole.ensures in
-    let is = same_board w w1 c.args.s c.args.sig c.requires.ready t.holds c.requires.default c.tell-told.result t.answer t.images t.others in
-    let board : board_in c.put_core-whole.new.world ≡ board_in w = ap (λ (x : Procs). board_of x.table x.images.kept) p.procs ∙ is in
-    let n = total _ _ _ _ (status_is w c.args.s c.args.sig (fetched c.area_bytes.result.now) c.register-r0.result c.from.result c.requires.ready c.area_bytes.ensures.read c.register-r0.ensures c.from.ensures)
-    (c.flag_of.ensures ∙ ap (λ b. if b then dumped else 0) p.whole) in
-    subst (λ b. Took (g.T.Trace.taken c.args.trace.now) (logged b (ends_by (unix_of w) c.args.s c.args.sig).effects).items (g.T.Trace.taken c.end_with.new.trace)) board
-    (subst (λ (x : Steps). Took (g.T.Trace.taken c.args.trace.now) (logged (board_in c.put_core-whole.new.world) x.effects).items (g.T.Trace.taken c.end_with.new.trace))
-    (with_file w w1 c.args.s c.args.sig c.requires.ready t.holds c.requires.default c.tell-told.result t.answer t.images t.others
-    c.leaves_core.result c.leaves_core.ensures c.if-leaves_core.true c.put_core-whole.new.world _ p.unix n)
-    c.end_with.ensures.items)
+    record {
+      ready = still_ready w w1 s sig ready t.holds c.requires.default c.tell-told.result t.answer t.images t.others;
+      user = still_user w w1 s sig ready t.holds c.requires.default c.tell-told.result t.answer t.images t.others c.requires.user;
+    }
 
-pub returns-then-leaves_core-clause-rest : goal.returns-then-leaves_core-clause-rest
-returns-then-leaves_core-clause-rest g c =
-    let t = c.tell-told.ensures in
-    subst (λ (x : World). SameRest x.files.tree.nodes c.end_with.new.world.files.tree.nodes) t.others
-    (rest_then _ _ _ c.put_core-whole.ensures.rest c.end_with.ensures.rest)
-
-pub end_with-requires-2-clause-ready : goal.end_with-requires-2-clause-ready
-end_with-requires-2-clause-ready g c =
-    let w : World = c.args.world.now in
-    let t = c.tell-told.ensures in
-    still_ready w c.tell-told.new.world c.args.s c.args.sig c.requires.ready t.holds c.requires.default c.tell-told.result t.answer t.images t.others
-
-pub end_with-requires-2-clause-user : goal.end_with-requires-2-clause-user
-end_with-requires-2-clause-user g c =
-    let w : World = c.args.world.now in
-    let t = c.tell-told.ensures in
-    still_user w c.tell-told.new.world c.args.s c.args.sig c.requires.ready t.holds c.requires.default c.tell-told.result t.answer t.images t.others c.requires.user
-
-pub returns-clause-come : goal.returns-clause-come
-returns-clause-come g c =
+pub returns : goal.returns
+returns g c =
     let w : World = c.args.world.now in
     let w1 : World = c.tell-told.new.world in
+    let s = c.args.s in
+    let sig = c.args.sig in
+    let ready = c.requires.ready in
     let t = c.tell-told.ensures in
-    let is = same_board w w1 c.args.s c.args.sig c.requires.ready t.holds c.requires.default c.tell-told.result t.answer t.images t.others in
-    subst (λ b. HasCome b (ends_by (unix_of w) c.args.s c.args.sig) c.end_with-2.result c.end_with-2.new.world) is
-    (subst (λ x. HasCome (board_in w1) x c.end_with-2.result c.end_with-2.new.world)
-    (without w w1 c.args.s c.args.sig c.requires.ready t.holds c.requires.default c.tell-told.result t.answer t.images t.others
+    let e = c.end_with-2.ensures in
+    let board = same_board w w1 s sig ready t.holds c.requires.default c.tell-told.result t.answer t.images t.others in
+    let steps = without w w1 s sig ready t.holds c.requires.default c.tell-told.result t.answer t.images t.others
     c.leaves_core.result c.leaves_core.ensures c.if-leaves_core.false _
-    (status_is w c.args.s c.args.sig (fetched c.area_bytes.result.now) c.register-r0.result c.from.result c.requires.ready c.area_bytes.ensures.read c.register-r0.ensures c.from.ensures))
-    c.end_with-2.ensures.come)
-
-pub returns-clause-items : goal.returns-clause-items
-returns-clause-items g c =
-    let w : World = c.args.world.now in
-    let w1 : World = c.tell-told.new.world in
-    let t = c.tell-told.ensures in
-    let is = same_board w w1 c.args.s c.args.sig c.requires.ready t.holds c.requires.default c.tell-told.result t.answer t.images t.others in
-    subst (λ b. Took (g.T.Trace.taken c.args.trace.now) (logged b (ends_by (unix_of w) c.args.s c.args.sig).effects).items (g.T.Trace.taken c.end_with-2.new.trace)) is
-    (subst (λ (x : Steps). Took (g.T.Trace.taken c.args.trace.now) (logged (board_in w1) x.effects).items (g.T.Trace.taken c.end_with-2.new.trace))
-    (without w w1 c.args.s c.args.sig c.requires.ready t.holds c.requires.default c.tell-told.result t.answer t.images t.others
-    c.leaves_core.result c.leaves_core.ensures c.if-leaves_core.false _
-    (status_is w c.args.s c.args.sig (fetched c.area_bytes.result.now) c.register-r0.result c.from.result c.requires.ready c.area_bytes.ensures.read c.register-r0.ensures c.from.ensures))
-    c.end_with-2.ensures.items)
-
-pub returns-clause-rest : goal.returns-clause-rest
-returns-clause-rest g c =
-    let t = c.tell-told.ensures in
-    subst (λ (x : World). SameRest x.files.tree.nodes c.end_with-2.new.world.files.tree.nodes) t.others c.end_with-2.ensures.rest
+    (status_is w s sig (fetched c.area_bytes.result.now) c.register-r0.result c.from.result ready c.area_bytes.ensures.read c.register-r0.ensures c.from.ensures) in
+    record {
+      come = subst (λ b. HasCome b (ends_by (unix_of w) s sig) c.end_with-2.result c.end_with-2.new.world) board
+          (subst (λ x. HasCome (board_in w1) x c.end_with-2.result c.end_with-2.new.world) steps e.come);
+      items = subst (λ b. Took (g.T.Trace.taken c.args.trace.now) (logged b (ends_by (unix_of w) s sig).effects).items (g.T.Trace.taken c.end_with-2.new.trace)) board
+          (subst (λ (x : Steps). Took (g.T.Trace.taken c.args.trace.now) (logged (board_in w1) x.effects).items (g.T.Trace.taken c.end_with-2.new.trace)) steps e.items);
+      good = e.good;
+      covered = e.covered;
+      runs = e.runs;
+      frame = e.frame;
+      rest = subst (λ (x : World). SameRest x.files.tree.nodes c.end_with-2.new.world.files.tree.nodes) t.others e.rest;
+      slots = e.slots ∙ t.slots;
+    }

@@ -96,8 +96,8 @@ pass_on-requires-clause-slots g c = c.close_files.ensures.shown.slots
 pub see_covered-requires : goal.see_covered-requires
 see_covered-requires g c = c.end_proc-ended.ensures.agree
 
-pub returns-in-Ok-clause-come : goal.returns-in-Ok-clause-come
-returns-in-Ok-clause-come g c =
+pub returns-in-Ok : goal.returns-in-Ok
+returns-in-Ok g c =
     let w : World = c.args.world.now in
     let new : World = c.close_files.new.world in
     let t : Table = c.pass_on.new.table in
@@ -108,51 +108,29 @@ returns-in-Ok-clause-come g c =
     let state = c.close_files.ensures.unix in
     let is = c.pass_on.ensures.table in
     let ready = then w new s t shown state is in
-    let now : World = record w1 { files = record w1.files { tree = c.end_proc-ended.new.tree }; procs = c.end_proc-ended.new.p } in
+    let unix = closed_unix w new s t shown state is in
+    let board = closed_board w new s t shown state is in
     let e = c.end_proc-ended.ensures in
-    let rests : Rests w1 now = record { mounts = e.mounts; pipes = refl; lines = refl; tape = refl; core = refl; slots = refl } in
-    let none = ended_goes _ _ e.does.answer c.in-Ok.is in
-    exit_come w w1 now s ready n c.see.ensures (closed_unix w new s t shown state is) (closed_board w new s t shown state is) none
-    (ended_unix w1 now s ready n e.agree none (end_state w1 s ready n _ none e.does.left.state) e.does.left.shown refl rests) e.does.left.shown
-
-pub returns-in-Ok-clause-good : goal.returns-in-Ok-clause-good
-returns-in-Ok-clause-good g c goes =
-    let w : World = c.args.world.now in
-    let new : World = c.close_files.new.world in
-    let t : Table = c.pass_on.new.table in
-    let w1 : World = with_table new t in
-    let s = c.args.s in
-    let n = c.args.status in
-    let shown = c.close_files.ensures.shown in
-    let state = c.close_files.ensures.unix in
-    let is = c.pass_on.ensures.table in
-    let ready = then w new s t shown state is in
     let now : World = record w1 { files = record w1.files { tree = c.end_proc-ended.new.tree }; procs = c.end_proc-ended.new.p } in
-    let e = c.end_proc-ended.ensures in
     let rests : Rests w1 now = record { mounts = e.mounts; pipes = refl; lines = refl; tape = refl; core = refl; slots = refl } in
-    let closed = closed_then w w1 s c.requires.ready ready (closed_unix w new s t shown state is) in
     let none = ended_goes _ _ e.does.answer c.in-Ok.is in
     let left = end_state w1 s ready n _ none e.does.left.state in
-    ended_good w1 now s ready n e.agree none left e.does.left.shown refl rests c.see.ensures closed
-    (closed_free w new s t shown state is c.requires.ready (none_pending (process_of (unix_of w) s) c.requires.user)) e.marks
-    (ap (λ (v : its.World). counts v.inodes.store) left ∙ (worlds.gone_ended (given w1) s (given w1) n (still_given w1 s ready)).count)
+    record {
+      come = exit_come w w1 now s ready n c.see.ensures unix board none (ended_unix w1 now s ready n e.agree none left e.does.left.shown refl rests) e.does.left.shown;
+      good = λ goes. ended_good w1 now s ready n e.agree none left e.does.left.shown refl rests c.see.ensures (closed_then w w1 s c.requires.ready ready unix)
+          (closed_free w new s t shown state is c.requires.ready (none_pending (process_of (unix_of w) s) c.requires.user)) e.marks
+          (ap (λ (v : its.World). counts v.inodes.store) left ∙ (worlds.gone_ended (given w1) s (given w1) n (still_given w1 s ready)).count);
+      covered = λ over. c.see_covered.ensures;
+      runs = λ other. absurd (other refl);
+      items = exit_took w w1 w1 s ready n c.see.ensures unix board _ _ _
+          (subst (λ l. Took (g.T.Trace.taken c.args.trace.now) l (g.T.Trace.taken c.pass_on.new.trace)) shown.shown c.pass_on.ensures.items) e.does.left.items;
+      frame = g.met.T.Trace.goes_on _ _ _ c.pass_on.ensures.frame e.frame;
+      rest = rest_then _ _ _ c.close_files.ensures.rest e.blocks;
+      slots = c.close_files.ensures.slots;
+    }
 
-pub returns-in-Ok-clause-items : goal.returns-in-Ok-clause-items
-returns-in-Ok-clause-items g c =
-    let w : World = c.args.world.now in
-    let new : World = c.close_files.new.world in
-    let t : Table = c.pass_on.new.table in
-    let w1 : World = with_table new t in
-    let s = c.args.s in
-    let shown = c.close_files.ensures.shown in
-    let state = c.close_files.ensures.unix in
-    let is = c.pass_on.ensures.table in
-    exit_took w w1 w1 s (then w new s t shown state is) c.args.status c.see.ensures (closed_unix w new s t shown state is) (closed_board w new s t shown state is)
-    _ _ _ (subst (λ l. Took (g.T.Trace.taken c.args.trace.now) l (g.T.Trace.taken c.pass_on.new.trace)) shown.shown c.pass_on.ensures.items)
-    c.end_proc-ended.ensures.does.left.items
-
-pub returns-in-Err-clause-come : goal.returns-in-Err-clause-come
-returns-in-Err-clause-come g c =
+pub returns-in-Err : goal.returns-in-Err
+returns-in-Err g c =
     let w : World = c.args.world.now in
     let new : World = c.close_files.new.world in
     let t : Table = c.pass_on.new.table in
@@ -163,53 +141,21 @@ returns-in-Err-clause-come g c =
     let state = c.close_files.ensures.unix in
     let is = c.pass_on.ensures.table in
     let ready = then w new s t shown state is in
-    let now : World = record w1 { files = record w1.files { tree = c.end_proc-ended.new.tree }; procs = c.end_proc-ended.new.p } in
+    let unix = closed_unix w new s t shown state is in
+    let board = closed_board w new s t shown state is in
     let e = c.end_proc-ended.ensures in
+    let now : World = record w1 { files = record w1.files { tree = c.end_proc-ended.new.tree }; procs = c.end_proc-ended.new.p } in
     let rests : Rests w1 now = record { mounts = e.mounts; pipes = refl; lines = refl; tape = refl; core = refl; slots = refl } in
     let halt = ended_stops _ c.in-Err.kind _ e.does.answer c.in-Err.is in
-    exit_stops w w1 now s ready n c.see.ensures (closed_unix w new s t shown state is) (closed_board w new s t shown state is)
-    halt.0 halt.1.0 (Panic c.in-Err.kind) (ap Panic halt.1.1)
-    (stopped_unix w1 now s ready n halt.0 halt.1.0 e.does.left.state e.does.left.shown refl rests) e.does.left.shown
-
-pub returns-in-Err-clause-good : goal.returns-in-Err-clause-good
-returns-in-Err-clause-good g c goes = over_then c.in-Err.kind goes
-
-pub returns-in-Err-clause-runs : goal.returns-in-Err-clause-runs
-returns-in-Err-clause-runs g c other =
-    let w : World = c.args.world.now in
-    let new : World = c.close_files.new.world in
-    let t : Table = c.pass_on.new.table in
-    let w1 : World = with_table new t in
-    let s = c.args.s in
-    let ready = then w new s t c.close_files.ensures.shown c.close_files.ensures.unix c.pass_on.ensures.table in
-    let now : World = record w1 { files = record w1.files { tree = c.end_proc-ended.new.tree }; procs = c.end_proc-ended.new.p } in
-    let e = c.end_proc-ended.ensures in
-    let rests : Rests w1 now = record { mounts = e.mounts; pipes = refl; lines = refl; tape = refl; core = refl; slots = refl } in
-    let halt = ended_stops _ c.in-Err.kind _ e.does.answer c.in-Err.is in
-    stopped_runs w1 now s ready c.args.status halt.0 halt.1.0 e.does.left.state e.does.left.shown refl rests
-
-pub returns-in-Err-clause-items : goal.returns-in-Err-clause-items
-returns-in-Err-clause-items g c =
-    let w : World = c.args.world.now in
-    let new : World = c.close_files.new.world in
-    let t : Table = c.pass_on.new.table in
-    let w1 : World = with_table new t in
-    let s = c.args.s in
-    let shown = c.close_files.ensures.shown in
-    let state = c.close_files.ensures.unix in
-    let is = c.pass_on.ensures.table in
-    exit_took w w1 w1 s (then w new s t shown state is) c.args.status c.see.ensures (closed_unix w new s t shown state is) (closed_board w new s t shown state is)
-    _ _ _ (subst (λ l. Took (g.T.Trace.taken c.args.trace.now) l (g.T.Trace.taken c.pass_on.new.trace)) shown.shown c.pass_on.ensures.items)
-    c.end_proc-ended.ensures.does.left.items
-
-pub returns-in-Ok-clause-frame : goal.returns-in-Ok-clause-frame
-returns-in-Ok-clause-frame g c = g.met.T.Trace.goes_on _ _ _ c.pass_on.ensures.frame c.end_proc-ended.ensures.frame
-
-pub returns-in-Err-clause-frame : goal.returns-in-Err-clause-frame
-returns-in-Err-clause-frame g c = g.met.T.Trace.goes_on _ _ _ c.pass_on.ensures.frame c.end_proc-ended.ensures.frame
-
-pub returns-in-Ok-clause-rest : goal.returns-in-Ok-clause-rest
-returns-in-Ok-clause-rest g c = rest_then _ _ _ c.close_files.ensures.rest c.end_proc-ended.ensures.blocks
-
-pub returns-in-Err-clause-rest : goal.returns-in-Err-clause-rest
-returns-in-Err-clause-rest g c = rest_then _ _ _ c.close_files.ensures.rest c.end_proc-ended.ensures.blocks
+    record {
+      come = exit_stops w w1 now s ready n c.see.ensures unix board halt.0 halt.1.0 (Panic c.in-Err.kind) (ap Panic halt.1.1)
+          (stopped_unix w1 now s ready n halt.0 halt.1.0 e.does.left.state e.does.left.shown refl rests) e.does.left.shown;
+      good = λ goes. over_then c.in-Err.kind goes;
+      covered = λ over. c.see_covered.ensures;
+      runs = λ other. stopped_runs w1 now s ready n halt.0 halt.1.0 e.does.left.state e.does.left.shown refl rests;
+      items = exit_took w w1 w1 s ready n c.see.ensures unix board _ _ _
+          (subst (λ l. Took (g.T.Trace.taken c.args.trace.now) l (g.T.Trace.taken c.pass_on.new.trace)) shown.shown c.pass_on.ensures.items) e.does.left.items;
+      frame = g.met.T.Trace.goes_on _ _ _ c.pass_on.ensures.frame e.frame;
+      rest = rest_then _ _ _ c.close_files.ensures.rest e.blocks;
+      slots = c.close_files.ensures.slots;
+    }

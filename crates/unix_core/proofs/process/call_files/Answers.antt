@@ -12,7 +12,7 @@ use Rattle.unix_core.specs.declared.slots.Slots.{Slots}
 use Rattle.abstract_unix.specs.declared.calls.FileCall.{FileCall}
 use Rattle.abstract_unix.specs.declared.calls.SystemCall.TheVariants.{OnFiles}
 use Rattle.abstract_unix.specs.Unix.{Timing, process_of}
-use Rattle.abstract_unix.specs.Calls.{answers, handed_of, file_row, did_by, is_read, has_bytes, is_of_disk, reads_disk, waits_in_call}
+use Rattle.abstract_unix.specs.Calls.{answers, handed_of, file_row, did_by, is_read, has_bytes, is_of_disk, reads_disk, waits_in_call, does_call}
 use Rattle.abstract_unix.proofs.Dues.{times_did}
 use Rattle.unix_core.specs.Slots.{CanWait}
 use Rattle.unix_core.specs.Parts.{unix_of, board_in, HasCome}
@@ -20,6 +20,8 @@ use Rattle.unix_core.proofs.CountLemmas.{has_not_waited}
 use Rattle.unix_core.proofs.ShowingLemmas.{with_table, passed_ready, passed_come, passed_items}
 use Rattle.unix_core.proofs.WaitLemmas.{same_bits, some_disk, slept_goes, waited_any, timed_effects, untimed_come, timed_come}
 use Rattle.unix_core.proofs.process.call_files.Goals as goal
+use Rattle.unix_core.proofs.process.call_files.Given.{Over}
+use Rattle.unix_core.proofs.process.call_files.Goals.{After-conclude-ending, After-waits}
 
 -- what is handed to the call, and what it comes to
 abbrev given : World → ℕ → Handed
@@ -75,42 +77,23 @@ wait_for_disk-requires-clause-some g c =
     ∙ sym c.waits.ensures ∙ c.if-waits.true))
 
 -- what has come before the wait, and what has been shown
-pub returns-then-waits-clause-come : goal.returns-then-waits-clause-come
-returns-then-waits-clause-come g c =
+done : (g : Over) (c : After-conclude-ending g) → let w : World = c.args.world.now in
+    HasCome (board_in w) (did_by (unix_of w) c.args.fixed.now.slot (row w c.args.call c.args.fixed.now.slot c.args.args)) c.conclude-ending.result c.conclude-ending.new.world
+done g c =
     let w : World = c.args.world.now in
     let s = c.args.fixed.now.slot in
     let new : World = c.do_on_files-answer.new.world in
     let e = c.do_on_files-answer.ensures in
     let did : Did = row w c.args.call s c.args.args in
-    let waits = waits_so w c.args.call s c.args.args c.may_wait-may.result c.waits.result c.do_on_files-answer.result c.may_wait-may.ensures e.answer c.waits.ensures in
-    let done : HasCome (board_in w) (did_by (unix_of w) s did) c.conclude-ending.result c.conclude-ending.new.world =
     passed_come w new s did.state did.items e.shown e.unix c.pass_on.new.table c.pass_on.ensures.table (λ u. answers u s did.answer)
     c.conclude-ending.result c.conclude-ending.new.world
     (subst (λ (a : Answer). HasCome (board_in (with_table new c.pass_on.new.table)) (answers (unix_of (with_table new c.pass_on.new.table)) s a)
-    c.conclude-ending.result c.conclude-ending.new.world) e.answer c.conclude-ending.ensures.come) in
-    timed_come (board_in w) (did_by (unix_of w) s did) c.conclude-ending.result c.conclude-ending.new.world done
-    (reads_disk c.args.call (given w s) did.answer) s c.wait_for_disk.new.world c.wait_for_disk.result c.conclude-ending.ensures.goes
-    (waits_then w c.args.call s c.args.args c.waits.result waits ∙ c.if-waits.true)
-    c.wait_for_disk.ensures.unix c.wait_for_disk.ensures.board c.wait_for_disk.ensures.ending
+    c.conclude-ending.result c.conclude-ending.new.world) e.answer c.conclude-ending.ensures.come)
 
-pub returns-then-waits-clause-covered : goal.returns-then-waits-clause-covered
-returns-then-waits-clause-covered g c ends = absurd (slept_goes _ _ c.wait_for_disk.ensures.ending ends)
-
-pub returns-then-waits-clause-slots : goal.returns-then-waits-clause-slots
-returns-then-waits-clause-slots g c =
-    waited_any _ c.args.world.now.slots c.conclude-ending.new.world.slots c.wait_for_disk.new.world.slots
-    (c.conclude-ending.ensures.slots ∙ c.do_on_files-answer.ensures.slots) c.wait_for_disk.ensures.slots
-
-pub returns-then-waits-clause-rest : goal.returns-then-waits-clause-rest
-returns-then-waits-clause-rest g c =
-    subst (λ (f : Files). SameAroundEach c.args.world.now.files.tree.nodes.blocks f.tree.nodes.blocks) (sym c.wait_for_disk.ensures.files)
-    (subst (λ b. SameAroundEach c.args.world.now.files.tree.nodes.blocks b) (sym c.conclude-ending.ensures.blocks) c.do_on_files-answer.ensures.rest)
-
-pub returns-then-waits-clause-frame : goal.returns-then-waits-clause-frame
-returns-then-waits-clause-frame g c = g.met.T.Trace.goes_on _ _ _ c.pass_on.ensures.frame c.conclude-ending.ensures.frame
-
-pub returns-then-waits-clause-items : goal.returns-then-waits-clause-items
-returns-then-waits-clause-items g c =
+took : (g : Over) (c : After-conclude-ending g) → let w : World = c.args.world.now in
+    Took (g.T.Trace.taken c.args.trace.now) (logged (board_in w) (does_call (unix_of w) c.args.fixed.now.slot (OnFiles c.args.call) c.args.args).effects).items
+    (g.T.Trace.taken c.conclude-ending.new.trace)
+took g c =
     let w : World = c.args.world.now in
     let s = c.args.fixed.now.slot in
     let new : World = c.do_on_files-answer.new.world in
@@ -124,51 +107,47 @@ returns-then-waits-clause-items g c =
     (logged (board_in (with_table new c.pass_on.new.table)) (answers (unix_of (with_table new c.pass_on.new.table)) s a).effects).items
     (g.T.Trace.taken c.conclude-ending.new.trace)) e.answer c.conclude-ending.ensures.items))
 
-pub returns-clause-come : goal.returns-clause-come
-returns-clause-come g c =
+waited : (g : Over) (c : After-waits g) → waits_in_call (unix_of c.args.world.now) c.args.fixed.now.slot (OnFiles c.args.call) c.args.args ≡ c.waits.result
+waited g c =
+    waits_so c.args.world.now c.args.call c.args.fixed.now.slot c.args.args c.may_wait-may.result c.waits.result c.do_on_files-answer.result c.may_wait-may.ensures
+    c.do_on_files-answer.ensures.answer c.waits.ensures
+
+pub returns-then-waits : goal.returns-then-waits
+returns-then-waits g c =
     let w : World = c.args.world.now in
     let s = c.args.fixed.now.slot in
-    let new : World = c.do_on_files-answer.new.world in
-    let e = c.do_on_files-answer.ensures in
+    let at = goal.at.returns-then-waits g c in
     let did : Did = row w c.args.call s c.args.args in
-    let waits = waits_so w c.args.call s c.args.args c.may_wait-may.result c.waits.result c.do_on_files-answer.result c.may_wait-may.ensures e.answer c.waits.ensures in
-    let done : HasCome (board_in w) (did_by (unix_of w) s did) c.conclude-ending.result c.conclude-ending.new.world =
-    passed_come w new s did.state did.items e.shown e.unix c.pass_on.new.table c.pass_on.ensures.table (λ u. answers u s did.answer)
-    c.conclude-ending.result c.conclude-ending.new.world
-    (subst (λ (a : Answer). HasCome (board_in (with_table new c.pass_on.new.table)) (answers (unix_of (with_table new c.pass_on.new.table)) s a)
-    c.conclude-ending.result c.conclude-ending.new.world) e.answer c.conclude-ending.ensures.come) in
-    untimed_come (board_in w) (did_by (unix_of w) s did) c.conclude-ending.result c.conclude-ending.new.world done
-    (reads_disk c.args.call (given w s) did.answer) s (waits_then w c.args.call s c.args.args c.waits.result waits ∙ c.if-waits.false)
+    let e = c.conclude-ending.ensures in
+    let last = c.wait_for_disk.ensures in
+    record {
+      come = timed_come (board_in w) (did_by (unix_of w) s did) c.conclude-ending.result c.conclude-ending.new.world (done g at.After-conclude-ending)
+          (reads_disk c.args.call (given w s) did.answer) s c.wait_for_disk.new.world c.wait_for_disk.result e.goes
+          (waits_then w c.args.call s c.args.args c.waits.result (waited g at.After-waits) ∙ c.if-waits.true) last.unix last.board last.ending;
+      ready = last.ready;
+      covered = λ ends. absurd (slept_goes _ _ last.ending ends);
+      items = took g at.After-conclude-ending;
+      frame = g.met.T.Trace.goes_on _ _ _ c.pass_on.ensures.frame e.frame;
+      rest = subst (λ (f : Files). SameAroundEach w.files.tree.nodes.blocks f.tree.nodes.blocks) (sym last.files)
+          (subst (λ b. SameAroundEach w.files.tree.nodes.blocks b) (sym e.blocks) c.do_on_files-answer.ensures.rest);
+      slots = waited_any _ w.slots c.conclude-ending.new.world.slots c.wait_for_disk.new.world.slots (e.slots ∙ c.do_on_files-answer.ensures.slots) last.slots;
+    }
 
-pub returns-clause-items : goal.returns-clause-items
-returns-clause-items g c =
+pub returns : goal.returns
+returns g c =
     let w : World = c.args.world.now in
     let s = c.args.fixed.now.slot in
-    let new : World = c.do_on_files-answer.new.world in
-    let e = c.do_on_files-answer.ensures in
+    let at = goal.at.returns g c in
     let did : Did = row w c.args.call s c.args.args in
-    subst (λ es. Took (g.T.Trace.taken c.args.trace.now) (logged (board_in w) es).items (g.T.Trace.taken c.conclude-ending.new.trace))
-    (sym (timed_effects (reads_disk c.args.call (given w s) did.answer) s (did_by (unix_of w) s did)))
-    (passed_items w new s did.state did.items e.shown e.unix c.pass_on.new.table c.pass_on.ensures.table (λ u. answers u s did.answer)
-    _ _ _ c.pass_on.ensures.items
-    (subst (λ (a : Answer). Took (g.T.Trace.taken c.pass_on.new.trace)
-    (logged (board_in (with_table new c.pass_on.new.table)) (answers (unix_of (with_table new c.pass_on.new.table)) s a).effects).items
-    (g.T.Trace.taken c.conclude-ending.new.trace)) e.answer c.conclude-ending.ensures.items))
-
-pub returns-clause-covered : goal.returns-clause-covered
-returns-clause-covered g c ends = absurd (let never = sym c.conclude-ending.ensures.goes ∙ ends in cc never)
-
-pub returns-clause-slots : goal.returns-clause-slots
-returns-clause-slots g c =
-    let w : World = c.args.world.now in
-    let s = c.args.fixed.now.slot in
-    has_not_waited _ w.slots c.conclude-ending.new.world.slots (c.conclude-ending.ensures.slots ∙ c.do_on_files-answer.ensures.slots) c.requires.waits
-    (waits_so w c.args.call s c.args.args c.may_wait-may.result c.waits.result c.do_on_files-answer.result c.may_wait-may.ensures
-    c.do_on_files-answer.ensures.answer c.waits.ensures ∙ c.if-waits.false)
-
-pub returns-clause-rest : goal.returns-clause-rest
-returns-clause-rest g c =
-    subst (λ b. SameAroundEach c.args.world.now.files.tree.nodes.blocks b) (sym c.conclude-ending.ensures.blocks) c.do_on_files-answer.ensures.rest
-
-pub returns-clause-frame : goal.returns-clause-frame
-returns-clause-frame g c = g.met.T.Trace.goes_on _ _ _ c.pass_on.ensures.frame c.conclude-ending.ensures.frame
+    let e = c.conclude-ending.ensures in
+    record {
+      come = untimed_come (board_in w) (did_by (unix_of w) s did) c.conclude-ending.result c.conclude-ending.new.world (done g at.After-conclude-ending)
+          (reads_disk c.args.call (given w s) did.answer) s (waits_then w c.args.call s c.args.args c.waits.result (waited g at.After-waits) ∙ c.if-waits.false);
+      ready = e.ready;
+      covered = λ ends. absurd (let never = sym e.goes ∙ ends in cc never);
+      items = took g at.After-conclude-ending;
+      frame = g.met.T.Trace.goes_on _ _ _ c.pass_on.ensures.frame e.frame;
+      rest = subst (λ b. SameAroundEach w.files.tree.nodes.blocks b) (sym e.blocks) c.do_on_files-answer.ensures.rest;
+      slots = has_not_waited _ w.slots c.conclude-ending.new.world.slots (e.slots ∙ c.do_on_files-answer.ensures.slots) c.requires.waits
+          (waited g at.After-waits ∙ c.if-waits.false);
+    }

@@ -16,7 +16,8 @@ use Rattle.abstract_unix.specs.declared.ending.Ending.TheVariants.{Panic}
 use Rattle.abstract_unix.specs.declared.calls.ProcessCall.{ProcessCall}
 use Rattle.abstract_unix.specs.declared.calls.SystemCall.TheVariants.{OnProcesses}
 use Rattle.abstract_unix.specs.Unix.{Timing, process_of, mounts_of}
-use Rattle.abstract_unix.specs.Calls.{world_of, came_by, process_row, loads_program, waits_in_call, with_world}
+use Rattle.abstract_unix.specs.Steps.{Steps}
+use Rattle.abstract_unix.specs.Calls.{world_of, came_by, process_row, loads_program, waits_in_call, does_call, with_world}
 use Rattle.abstract_unix.specs.Turn.{is_user}
 use Rattle.abstract_unix.specs.Whole.{CanGoOn}
 use Rattle.abstract_unix.proofs.GoingOnLemmas.{world_goes_on}
@@ -35,13 +36,17 @@ use Rattle.unix_core.proofs.WorldLemmas.{mounts_is}
 use Rattle.abstract_unix.proofs.StillWorlds as worlds
 use Rattle.unix_core.proofs.TameRows.{tame_row}
 use Rattle.unix_core.proofs.process.call_processes.Goals as goal
+use Rattle.unix_core.proofs.process.call_processes.Given.{Over}
+use Rattle.unix_core.proofs.process.call_processes.Goals.{After-conclude-ending, After-has_loaded}
 
 abbrev row : World → ProcessCall → ℕ → List ℕ → Comes
 row w call s args = process_row call w.files.tree.mounts (given w) s args
 
 -- that of the Unix
-row_is : (w : World) (call : ProcessCall) (s : ℕ) (args : List ℕ) → IsReady w s → IsFileSystem w.files.tree.nodes
-    → row w call s args ≡ process_row call (mounts_of (unix_of w)) (world_of (unix_of w)) s args
+abbrev its : World → ProcessCall → ℕ → List ℕ → Comes
+its w call s args = process_row call (mounts_of (unix_of w)) (world_of (unix_of w)) s args
+
+row_is : (w : World) (call : ProcessCall) (s : ℕ) (args : List ℕ) → IsReady w s → IsFileSystem w.files.tree.nodes → row w call s args ≡ its w call s args
 row_is w call s args ready form =
     λ i. process_row call (mounts_is w.files.tree.mounts w.files.tree.nodes.store ready.good.mounts i) (world_is w s ready form i) s args
 
@@ -70,11 +75,9 @@ waits_so w call s args ready form answer is loaded slots same told =
     (is ∙ ap (λ (x : Comes). x.answer) (row_is w call s args ready form)))
 
 waits_then : (w : World) (call : ProcessCall) (s : ℕ) (args : List ℕ) (loaded : Bool) → waits_in_call (unix_of w) s (OnProcesses call) args ≡ loaded
-    → let its : Comes = process_row call (mounts_of (unix_of w)) (world_of (unix_of w)) s args in
-    (loads_program call its.answer && not ((came_by (unix_of w) s its).unix.timing.disk == 0)) ≡ loaded
+    → (loads_program call (its w call s args).answer && not ((came_by (unix_of w) s (its w call s args)).unix.timing.disk == 0)) ≡ loaded
 waits_then w call s args loaded is =
-    let its : Comes = process_row call (mounts_of (unix_of w)) (world_of (unix_of w)) s args in
-    ap (λ (t : Timing). loads_program call its.answer && not (t.disk == 0)) (times_came s (unix_of w) its) ∙ is
+    ap (λ (t : Timing). loads_program call (its w call s args).answer && not (t.disk == 0)) (times_came s (unix_of w) (its w call s args)) ∙ is
 
 pub do_process_call-requires-clause-calls : goal.do_process_call-requires-clause-calls
 do_process_call-requires-clause-calls g c = ready_calls c.args.world.now c.args.s c.requires.ready c.see_table.ensures c.see_kept.ensures
@@ -102,150 +105,100 @@ wait_for_disk-requires-clause-waits g c = subst CanWait (sym c.conclude-ending.e
 pub wait_for_disk-requires-clause-some : goal.wait_for_disk-requires-clause-some
 wait_for_disk-requires-clause-some g c = takes_disk _ c.conclude-ending.new.world.slots.disk (sym c.has_loaded.ensures ∙ c.if-has_loaded.true)
 
-pub returns-then-has_loaded-clause-come : goal.returns-then-has_loaded-clause-come
-returns-then-has_loaded-clause-come g c =
+-- what it has come to, and what has been shown, before it may wait
+done : (g : Over) (c : After-conclude-ending g) → let w : World = c.args.world.now in
+    HasCome (board_in w) (came_by (unix_of w) c.args.s (its w c.args.call c.args.s c.args.args)) c.conclude-ending.result c.conclude-ending.new.world
+done g c =
     let w : World = c.args.world.now in
-    let s = c.args.s in
-    let e = c.do_process_call.ensures in
-    let its : Comes = process_row c.args.call (mounts_of (unix_of w)) (world_of (unix_of w)) s c.args.args in
-    let is = went w c.args.call s c.args.args c.in-Ok.answer _ e.does.answer c.in-Ok.is in
-    let waits = waits_so w c.args.call s c.args.args c.requires.ready c.see.ensures c.in-Ok.answer is c.has_loaded.result c.conclude-ending.new.world.slots
-    c.conclude-ending.ensures.slots c.has_loaded.ensures in
-    let done : HasCome (board_in w) (came_by (unix_of w) s its) c.conclude-ending.result c.conclude-ending.new.world =
-    subst (λ (x : Comes). HasCome (board_in w) (came_by (unix_of w) s x) c.conclude-ending.result c.conclude-ending.new.world)
-    (row_is w c.args.call s c.args.args c.requires.ready c.see.ensures)
-    (call_come w (after w c.do_process_call.new.tree c.do_process_call.new.p) s (row w c.args.call s c.args.args)
-    (tame w c.args.call s c.args.args c.requires.ready c.see.ensures c.see_kept.ensures) (beside w c.do_process_call.new.tree c.do_process_call.new.p c.do_process_call.ensures.mounts) e.does
-    c.in-Ok.answer c.in-Ok.is c.conclude-ending.result c.conclude-ending.new.world c.conclude-ending.ensures.come) in
-    timed_come (board_in w) (came_by (unix_of w) s its) c.conclude-ending.result c.conclude-ending.new.world done
-    (loads_program c.args.call its.answer) s c.wait_for_disk.new.world c.wait_for_disk.result c.conclude-ending.ensures.goes
-    (waits_then w c.args.call s c.args.args c.has_loaded.result waits ∙ c.if-has_loaded.true)
-    c.wait_for_disk.ensures.unix c.wait_for_disk.ensures.board c.wait_for_disk.ensures.ending
+    let p = c.do_process_call in
+    subst (λ (x : Comes). HasCome (board_in w) (came_by (unix_of w) c.args.s x) c.conclude-ending.result c.conclude-ending.new.world)
+    (row_is w c.args.call c.args.s c.args.args c.requires.ready c.see.ensures)
+    (call_come w (after w p.new.tree p.new.p) c.args.s (row w c.args.call c.args.s c.args.args)
+    (tame w c.args.call c.args.s c.args.args c.requires.ready c.see.ensures c.see_kept.ensures) (beside w p.new.tree p.new.p p.ensures.mounts) p.ensures.does
+    c.in-Ok.answer c.in-Ok.is c.conclude-ending.result c.conclude-ending.new.world c.conclude-ending.ensures.come)
 
-pub returns-then-has_loaded-clause-items : goal.returns-then-has_loaded-clause-items
-returns-then-has_loaded-clause-items g c =
+took : (g : Over) (c : After-conclude-ending g) → let w : World = c.args.world.now in
+    Took (g.T.Trace.taken c.args.trace.now) (logged (board_in w) (does_call (unix_of w) c.args.s (OnProcesses c.args.call) c.args.args).effects).items
+    (g.T.Trace.taken c.conclude-ending.new.trace)
+took g c =
     let w : World = c.args.world.now in
-    let s = c.args.s in
-    let e = c.do_process_call.ensures in
-    let its : Comes = process_row c.args.call (mounts_of (unix_of w)) (world_of (unix_of w)) s c.args.args in
+    let p = c.do_process_call in
     subst (λ es. Took (g.T.Trace.taken c.args.trace.now) (logged (board_in w) es).items (g.T.Trace.taken c.conclude-ending.new.trace))
-    (sym (timed_effects (loads_program c.args.call its.answer) s (came_by (unix_of w) s its)))
-    (subst (λ (x : Comes). Took (g.T.Trace.taken c.args.trace.now) (logged (board_in w) (came_by (unix_of w) s x).effects).items
-    (g.T.Trace.taken c.conclude-ending.new.trace))
-    (row_is w c.args.call s c.args.args c.requires.ready c.see.ensures)
-    (call_took w (after w c.do_process_call.new.tree c.do_process_call.new.p) s (row w c.args.call s c.args.args)
-    (tame w c.args.call s c.args.args c.requires.ready c.see.ensures c.see_kept.ensures) (beside w c.do_process_call.new.tree c.do_process_call.new.p c.do_process_call.ensures.mounts) e.does
-    c.in-Ok.answer c.in-Ok.is _ c.conclude-ending.ensures.items))
+    (ap (λ (x : Comes). (came_by (unix_of w) c.args.s x).effects) (row_is w c.args.call c.args.s c.args.args c.requires.ready c.see.ensures)
+    ∙ sym (timed_effects (loads_program c.args.call (its w c.args.call c.args.s c.args.args).answer) c.args.s (came_by (unix_of w) c.args.s (its w c.args.call c.args.s c.args.args))))
+    (call_took w (after w p.new.tree p.new.p) c.args.s (row w c.args.call c.args.s c.args.args)
+    (tame w c.args.call c.args.s c.args.args c.requires.ready c.see.ensures c.see_kept.ensures) (beside w p.new.tree p.new.p p.ensures.mounts) p.ensures.does
+    c.in-Ok.answer c.in-Ok.is _ c.conclude-ending.ensures.items)
 
-pub returns-then-has_loaded-clause-covered : goal.returns-then-has_loaded-clause-covered
-returns-then-has_loaded-clause-covered g c ends = absurd (slept_goes _ _ c.wait_for_disk.ensures.ending ends)
+loaded : (g : Over) (c : After-has_loaded g) → waits_in_call (unix_of c.args.world.now) c.args.s (OnProcesses c.args.call) c.args.args ≡ c.has_loaded.result
+loaded g c =
+    let w : World = c.args.world.now in
+    waits_so w c.args.call c.args.s c.args.args c.requires.ready c.see.ensures c.in-Ok.answer
+    (went w c.args.call c.args.s c.args.args c.in-Ok.answer _ c.do_process_call.ensures.does.answer c.in-Ok.is)
+    c.has_loaded.result c.conclude-ending.new.world.slots c.conclude-ending.ensures.slots c.has_loaded.ensures
 
-pub returns-then-has_loaded-clause-frame : goal.returns-then-has_loaded-clause-frame
-returns-then-has_loaded-clause-frame g c = g.met.T.Trace.goes_on _ _ _ c.do_process_call.ensures.frame c.conclude-ending.ensures.frame
-
-pub returns-then-has_loaded-clause-rest : goal.returns-then-has_loaded-clause-rest
-returns-then-has_loaded-clause-rest g c =
-    subst (λ (f : Files). SameAroundEach c.args.world.now.files.tree.nodes.blocks f.tree.nodes.blocks) (sym c.wait_for_disk.ensures.files)
-    (subst (λ b. SameAroundEach c.args.world.now.files.tree.nodes.blocks b) (sym c.conclude-ending.ensures.blocks) c.do_process_call.ensures.blocks)
-
-pub returns-then-has_loaded-clause-slots : goal.returns-then-has_loaded-clause-slots
-returns-then-has_loaded-clause-slots g c goes =
-    waited_any _ c.args.world.now.slots c.conclude-ending.new.world.slots c.wait_for_disk.new.world.slots c.conclude-ending.ensures.slots
-    c.wait_for_disk.ensures.slots
-
-pub returns-else-has_loaded-clause-come : goal.returns-else-has_loaded-clause-come
-returns-else-has_loaded-clause-come g c =
+pub returns-then-has_loaded : goal.returns-then-has_loaded
+returns-then-has_loaded g c =
     let w : World = c.args.world.now in
     let s = c.args.s in
-    let e = c.do_process_call.ensures in
-    let its : Comes = process_row c.args.call (mounts_of (unix_of w)) (world_of (unix_of w)) s c.args.args in
-    let is = went w c.args.call s c.args.args c.in-Ok.answer _ e.does.answer c.in-Ok.is in
-    let waits = waits_so w c.args.call s c.args.args c.requires.ready c.see.ensures c.in-Ok.answer is c.has_loaded.result c.conclude-ending.new.world.slots
-    c.conclude-ending.ensures.slots c.has_loaded.ensures in
-    let done : HasCome (board_in w) (came_by (unix_of w) s its) c.conclude-ending.result c.conclude-ending.new.world =
-    subst (λ (x : Comes). HasCome (board_in w) (came_by (unix_of w) s x) c.conclude-ending.result c.conclude-ending.new.world)
-    (row_is w c.args.call s c.args.args c.requires.ready c.see.ensures)
-    (call_come w (after w c.do_process_call.new.tree c.do_process_call.new.p) s (row w c.args.call s c.args.args)
-    (tame w c.args.call s c.args.args c.requires.ready c.see.ensures c.see_kept.ensures) (beside w c.do_process_call.new.tree c.do_process_call.new.p c.do_process_call.ensures.mounts) e.does
-    c.in-Ok.answer c.in-Ok.is c.conclude-ending.result c.conclude-ending.new.world c.conclude-ending.ensures.come) in
-    untimed_come (board_in w) (came_by (unix_of w) s its) c.conclude-ending.result c.conclude-ending.new.world done
-    (loads_program c.args.call its.answer) s (waits_then w c.args.call s c.args.args c.has_loaded.result waits ∙ c.if-has_loaded.false)
+    let at = goal.at.returns-then-has_loaded g c in
+    let e = c.conclude-ending.ensures in
+    let last = c.wait_for_disk.ensures in
+    record {
+      come = timed_come (board_in w) (came_by (unix_of w) s (its w c.args.call s c.args.args)) c.conclude-ending.result c.conclude-ending.new.world
+          (done g at.After-conclude-ending) (loads_program c.args.call (its w c.args.call s c.args.args).answer) s c.wait_for_disk.new.world c.wait_for_disk.result e.goes
+          (waits_then w c.args.call s c.args.args c.has_loaded.result (loaded g at.After-has_loaded) ∙ c.if-has_loaded.true) last.unix last.board last.ending;
+      ready = λ goes. last.ready;
+      covered = λ ends. absurd (slept_goes _ _ last.ending ends);
+      items = took g at.After-conclude-ending;
+      frame = g.met.T.Trace.goes_on _ _ _ c.do_process_call.ensures.frame e.frame;
+      rest = subst (λ (f : Files). SameAroundEach w.files.tree.nodes.blocks f.tree.nodes.blocks) (sym last.files)
+          (subst (λ b. SameAroundEach w.files.tree.nodes.blocks b) (sym e.blocks) c.do_process_call.ensures.blocks);
+      slots = λ goes. waited_any _ w.slots c.conclude-ending.new.world.slots c.wait_for_disk.new.world.slots e.slots last.slots;
+    }
 
-pub returns-else-has_loaded-clause-slots : goal.returns-else-has_loaded-clause-slots
-returns-else-has_loaded-clause-slots g c goes =
+pub returns-else-has_loaded : goal.returns-else-has_loaded
+returns-else-has_loaded g c =
     let w : World = c.args.world.now in
     let s = c.args.s in
-    let is = went w c.args.call s c.args.args c.in-Ok.answer _ c.do_process_call.ensures.does.answer c.in-Ok.is in
-    has_not_waited _ w.slots c.conclude-ending.new.world.slots c.conclude-ending.ensures.slots c.requires.waits
-    (waits_so w c.args.call s c.args.args c.requires.ready c.see.ensures c.in-Ok.answer is c.has_loaded.result c.conclude-ending.new.world.slots
-    c.conclude-ending.ensures.slots c.has_loaded.ensures ∙ c.if-has_loaded.false)
+    let at = goal.at.returns-else-has_loaded g c in
+    let e = c.conclude-ending.ensures in
+    record {
+      come = untimed_come (board_in w) (came_by (unix_of w) s (its w c.args.call s c.args.args)) c.conclude-ending.result c.conclude-ending.new.world
+          (done g at.After-conclude-ending) (loads_program c.args.call (its w c.args.call s c.args.args).answer) s
+          (waits_then w c.args.call s c.args.args c.has_loaded.result (loaded g at.After-has_loaded) ∙ c.if-has_loaded.false);
+      ready = λ goes. e.ready;
+      covered = λ ends. absurd (let never = sym e.goes ∙ ends in cc never);
+      items = took g at.After-conclude-ending;
+      frame = g.met.T.Trace.goes_on _ _ _ c.do_process_call.ensures.frame e.frame;
+      rest = subst (λ b. SameAroundEach w.files.tree.nodes.blocks b) (sym e.blocks) c.do_process_call.ensures.blocks;
+      slots = λ goes. has_not_waited _ w.slots c.conclude-ending.new.world.slots e.slots c.requires.waits (loaded g at.After-has_loaded ∙ c.if-has_loaded.false);
+    }
 
-pub returns-else-has_loaded-clause-items : goal.returns-else-has_loaded-clause-items
-returns-else-has_loaded-clause-items g c =
+pub returns-in-Err : goal.returns-in-Err
+returns-in-Err g c =
     let w : World = c.args.world.now in
     let s = c.args.s in
-    let e = c.do_process_call.ensures in
-    let its : Comes = process_row c.args.call (mounts_of (unix_of w)) (world_of (unix_of w)) s c.args.args in
-    subst (λ es. Took (g.T.Trace.taken c.args.trace.now) (logged (board_in w) es).items (g.T.Trace.taken c.conclude-ending.new.trace))
-    (sym (timed_effects (loads_program c.args.call its.answer) s (came_by (unix_of w) s its)))
-    (subst (λ (x : Comes). Took (g.T.Trace.taken c.args.trace.now) (logged (board_in w) (came_by (unix_of w) s x).effects).items
-    (g.T.Trace.taken c.conclude-ending.new.trace))
-    (row_is w c.args.call s c.args.args c.requires.ready c.see.ensures)
-    (call_took w (after w c.do_process_call.new.tree c.do_process_call.new.p) s (row w c.args.call s c.args.args)
-    (tame w c.args.call s c.args.args c.requires.ready c.see.ensures c.see_kept.ensures) (beside w c.do_process_call.new.tree c.do_process_call.new.p c.do_process_call.ensures.mounts) e.does
-    c.in-Ok.answer c.in-Ok.is _ c.conclude-ending.ensures.items))
-
-pub returns-else-has_loaded-clause-covered : goal.returns-else-has_loaded-clause-covered
-returns-else-has_loaded-clause-covered g c ends = absurd (let never = sym c.conclude-ending.ensures.goes ∙ ends in cc never)
-
-pub returns-else-has_loaded-clause-frame : goal.returns-else-has_loaded-clause-frame
-returns-else-has_loaded-clause-frame g c = g.met.T.Trace.goes_on _ _ _ c.do_process_call.ensures.frame c.conclude-ending.ensures.frame
-
-pub returns-else-has_loaded-clause-rest : goal.returns-else-has_loaded-clause-rest
-returns-else-has_loaded-clause-rest g c =
-    subst (λ b. SameAroundEach c.args.world.now.files.tree.nodes.blocks b) (sym c.conclude-ending.ensures.blocks) c.do_process_call.ensures.blocks
-
-pub returns-in-Err-clause-come : goal.returns-in-Err-clause-come
-returns-in-Err-clause-come g c =
-    let w : World = c.args.world.now in
-    let s = c.args.s in
-    let e = c.do_process_call.ensures in
-    let its : Comes = process_row c.args.call (mounts_of (unix_of w)) (world_of (unix_of w)) s c.args.args in
-    let now : World = after w c.do_process_call.new.tree c.do_process_call.new.p in
-    let done : HasCome (board_in w) (came_by (unix_of w) s its) (Panic c.in-Err.kind) now =
-    subst (λ (x : Comes). HasCome (board_in w) (came_by (unix_of w) s x) (Panic c.in-Err.kind) now)
-    (row_is w c.args.call s c.args.args c.requires.ready c.see.ensures)
-    (call_stops w now s (row w c.args.call s c.args.args)
-    (tame w c.args.call s c.args.args c.requires.ready c.see.ensures c.see_kept.ensures) (beside w c.do_process_call.new.tree c.do_process_call.new.p c.do_process_call.ensures.mounts) e.does
-    c.in-Err.kind c.in-Err.is (Panic c.in-Err.kind) refl) in
-    let stop = stopped_by (board_in w) (came_by (unix_of w) s its) (Panic c.in-Err.kind) now done refl (came_goes (unix_of w) s its) in
-    cut_come (board_in w) (came_by (unix_of w) s its) (Panic c.in-Err.kind) now done (loads_program c.args.call its.answer) s stop.0 stop.1
-
-pub returns-in-Err-clause-slots : goal.returns-in-Err-clause-slots
-returns-in-Err-clause-slots g c goes = over_then c.in-Err.kind goes
-
-pub returns-in-Err-clause-ready : goal.returns-in-Err-clause-ready
-returns-in-Err-clause-ready g c goes = over_then c.in-Err.kind goes
-
-pub returns-in-Err-clause-items : goal.returns-in-Err-clause-items
-returns-in-Err-clause-items g c =
-    let w : World = c.args.world.now in
-    let s = c.args.s in
-    let e = c.do_process_call.ensures in
-    let its : Comes = process_row c.args.call (mounts_of (unix_of w)) (world_of (unix_of w)) s c.args.args in
-    subst (λ es. Took (g.T.Trace.taken c.args.trace.now) (logged (board_in w) es).items (g.T.Trace.taken c.do_process_call.new.trace))
-    (sym (timed_effects (loads_program c.args.call its.answer) s (came_by (unix_of w) s its)))
-    (subst (λ (x : Comes). Took (g.T.Trace.taken c.args.trace.now) (logged (board_in w) (came_by (unix_of w) s x).effects).items
-    (g.T.Trace.taken c.do_process_call.new.trace))
-    (row_is w c.args.call s c.args.args c.requires.ready c.see.ensures)
-    (call_cut w (after w c.do_process_call.new.tree c.do_process_call.new.p) s (row w c.args.call s c.args.args)
-    (tame w c.args.call s c.args.args c.requires.ready c.see.ensures c.see_kept.ensures) (beside w c.do_process_call.new.tree c.do_process_call.new.p c.do_process_call.ensures.mounts) e.does
-    c.in-Err.kind c.in-Err.is))
-
-pub returns-in-Err-clause-covered : goal.returns-in-Err-clause-covered
-returns-in-Err-clause-covered g c ends =
-    let w : World = c.args.world.now in
-    let e = c.do_process_call.ensures in
-    stopped_covered (after w c.do_process_call.new.tree c.do_process_call.new.p) c.args.s
-    (IfErr-at_err (λ (kind : PanicKind). AreProcs c.do_process_call.new.p ⊎ AreBare c.do_process_call.new.p c.args.s) c.in-Err.is e.left)
-    c.see_procs.ensures.rows c.see_procs.ensures.images
+    let p = c.do_process_call in
+    let e = p.ensures in
+    let now : World = after w p.new.tree p.new.p in
+    let steps : Steps = came_by (unix_of w) s (its w c.args.call s c.args.args) in
+    let is = row_is w c.args.call s c.args.args c.requires.ready c.see.ensures in
+    let quiet = tame w c.args.call s c.args.args c.requires.ready c.see.ensures c.see_kept.ensures in
+    let stays = beside w p.new.tree p.new.p e.mounts in
+    let come : HasCome (board_in w) steps (Panic c.in-Err.kind) now =
+    subst (λ (x : Comes). HasCome (board_in w) (came_by (unix_of w) s x) (Panic c.in-Err.kind) now) is
+    (call_stops w now s (row w c.args.call s c.args.args) quiet stays e.does c.in-Err.kind c.in-Err.is (Panic c.in-Err.kind) refl) in
+    let stop = stopped_by (board_in w) steps (Panic c.in-Err.kind) now come refl (came_goes (unix_of w) s (its w c.args.call s c.args.args)) in
+    record {
+      come = cut_come (board_in w) steps (Panic c.in-Err.kind) now come (loads_program c.args.call (its w c.args.call s c.args.args).answer) s stop.0 stop.1;
+      ready = λ goes. over_then c.in-Err.kind goes;
+      covered = λ ends. stopped_covered now s (IfErr-at_err (λ (kind : PanicKind). AreProcs p.new.p ⊎ AreBare p.new.p s) c.in-Err.is e.left)
+          c.see_procs.ensures.rows c.see_procs.ensures.images;
+      items = subst (λ es. Took (g.T.Trace.taken c.args.trace.now) (logged (board_in w) es).items (g.T.Trace.taken p.new.trace))
+          (ap (λ (x : Comes). (came_by (unix_of w) s x).effects) is ∙ sym (timed_effects (loads_program c.args.call (its w c.args.call s c.args.args).answer) s steps))
+          (call_cut w now s (row w c.args.call s c.args.args) quiet stays e.does c.in-Err.kind c.in-Err.is);
+      frame = e.frame;
+      rest = e.blocks;
+      slots = λ goes. over_then c.in-Err.kind goes;
+    }

@@ -9,60 +9,37 @@ use Rattle.unix_core.proofs.SlotWorlds.{none_woken_now, due_later, reach_good, r
 use Rattle.unix_core.proofs.slots.reach.Goals as goal
 
 -- The next wake is later.
-pub send_after-requires-clause-good : goal.send_after-requires-clause-good
-send_after-requires-clause-good g c =
+pub send_after-requires : goal.send_after-requires
+send_after-requires g c =
     let w : World = c.args.world.now in
+    let r = c.requires in
     let later : w.slots.due < w.slots.wake = c.if-passed-wake.true in
-    reach_good w c.requires.left c.requires.good c.requires.counted w.procs refl c.requires.good.agree refl refl w.slots.wake later
+    record {
+      good = reach_good w r.left r.good r.counted w.procs refl r.good.agree refl refl w.slots.wake later;
+      timed = reach_timed w r.left r.good r.counted w.procs refl r.good.agree refl refl w.slots.wake later (due_later w r.counted later);
+      passed = reach_passed w r.left r.good r.counted w.procs refl r.good.agree refl refl w.slots.wake later;
+    }
 
-pub send_after-requires-clause-timed : goal.send_after-requires-clause-timed
-send_after-requires-clause-timed g c =
+pub returns-then-passed-wake : goal.returns-then-passed-wake
+returns-then-passed-wake g c =
     let w : World = c.args.world.now in
+    let r = c.requires in
     let later : w.slots.due < w.slots.wake = c.if-passed-wake.true in
-    reach_timed w c.requires.left c.requires.good c.requires.counted w.procs refl c.requires.good.agree refl refl w.slots.wake later
-    (due_later w c.requires.counted later)
-
-pub send_after-requires-clause-passed : goal.send_after-requires-clause-passed
-send_after-requires-clause-passed g c =
-    let w : World = c.args.world.now in
-    let later : w.slots.due < w.slots.wake = c.if-passed-wake.true in
-    reach_passed w c.requires.left c.requires.good c.requires.counted w.procs refl c.requires.good.agree refl refl w.slots.wake later
-
-pub returns-then-passed-wake-clause-unix : goal.returns-then-passed-wake-clause-unix
-returns-then-passed-wake-clause-unix g c =
-    let w : World = c.args.world.now in
-    let later : w.slots.due < w.slots.wake = c.if-passed-wake.true in
-    sent_unix w c.requires.left c.requires.good c.requires.counted w.procs refl c.requires.good.agree refl refl w.slots.wake later
-    c.send_after.new.world c.send_after.ensures.unix
-
-pub returns-then-passed-wake-clause-board : goal.returns-then-passed-wake-clause-board
-returns-then-passed-wake-clause-board g c =
-    let w : World = c.args.world.now in
-    let later : w.slots.due < w.slots.wake = c.if-passed-wake.true in
-    sent_board w c.requires.left c.requires.good c.requires.counted w.procs refl c.requires.good.agree refl refl w.slots.wake later
-    c.send_after.new.world c.send_after.ensures.unix
-    (ap (λ items. (logged {W = Unix} (board_in w) (map Show items)).board) (sym (none_woken_now w c.requires.counted later)))
-    c.send_after.ensures.board
-
-pub returns-then-passed-wake-clause-any : goal.returns-then-passed-wake-clause-any
-returns-then-passed-wake-clause-any g c =
-    let w : World = c.args.world.now in
-    let later : w.slots.due < w.slots.wake = c.if-passed-wake.true in
-    sent_any w c.requires.left c.requires.good c.requires.counted w.procs refl c.requires.good.agree refl refl w.slots.wake later
-    c.send_after.new.world c.send_after.ensures.unix false c.send_after.result
-    (ap (λ items. not (length items == 0)) (sym (none_woken_now w c.requires.counted later))) c.send_after.ensures.any
-
-pub returns-then-passed-wake-clause-tree : goal.returns-then-passed-wake-clause-tree
-returns-then-passed-wake-clause-tree g c = ap (λ (x : World). x.files.tree) c.send_after.ensures.others
-
-pub returns-then-passed-wake-clause-others : goal.returns-then-passed-wake-clause-others
-returns-then-passed-wake-clause-others g c =
-    let w : World = c.args.world.now in reach_others w c.send_after.new.world w.procs c.send_after.ensures.others
-
-pub returns-then-passed-wake-clause-items : goal.returns-then-passed-wake-clause-items
-returns-then-passed-wake-clause-items g c =
-    let w : World = c.args.world.now in
-    let later : w.slots.due < w.slots.wake = c.if-passed-wake.true in
-    sent_took w c.requires.left c.requires.good c.requires.counted w.procs refl c.requires.good.agree refl refl w.slots.wake later
-    c.send_after.new.world c.send_after.ensures.unix _ _ _ (took_nothing _ _ (none_woken_now w c.requires.counted later))
-    c.send_after.ensures.items
+    let none = none_woken_now w r.counted later in
+    let now : World = c.send_after.new.world in
+    let e = c.send_after.ensures in
+    record {
+      unix = sent_unix w r.left r.good r.counted w.procs refl r.good.agree refl refl w.slots.wake later now e.unix;
+      board = sent_board w r.left r.good r.counted w.procs refl r.good.agree refl refl w.slots.wake later now e.unix
+          (ap (λ items. (logged {W = Unix} (board_in w) (map Show items)).board) (sym none)) e.board;
+      any = sent_any w r.left r.good r.counted w.procs refl r.good.agree refl refl w.slots.wake later now e.unix false c.send_after.result
+          (ap (λ items. not (length items == 0)) (sym none)) e.any;
+      good = e.good;
+      counted = e.counted;
+      running = e.running;
+      tree = ap (λ (x : World). x.files.tree) e.others;
+      others = reach_others w now w.procs e.others;
+      same = e.same;
+      items = sent_took w r.left r.good r.counted w.procs refl r.good.agree refl refl w.slots.wake later now e.unix _ _ _ (took_nothing _ _ none) e.items;
+      frame = e.frame;
+    }

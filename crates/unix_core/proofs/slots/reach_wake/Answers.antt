@@ -1,5 +1,6 @@
 use Rattle.std.proofs.Common.{◌∙◌, sym, ap}
 use Rattle.unix_core.specs.declared.world.World.{World}
+use Rattle.sys_procs.specs.declared.procs.Procs.{Procs}
 use Rattle.unix_core.proofs.SlotWorlds.{reach_others, reach_good, reach_passed, reach_timed, sent_unix, sent_board, sent_any, sent_took, none_woken}
 use Rattle.unix_core.proofs.slots.reach_wake.Goals as goal
 
@@ -9,72 +10,37 @@ wake_disks-woken-requires-clause-agree g c = c.requires.good.agree
 pub wake_disks-woken-requires-clause-graves : goal.wake_disks-woken-requires-clause-graves
 wake_disks-woken-requires-clause-graves g c = c.requires.counted.timed.graves
 
-pub send_after-sent-requires-clause-good : goal.send_after-sent-requires-clause-good
-send_after-sent-requires-clause-good g c =
+pub send_after-sent-requires : goal.send_after-sent-requires
+send_after-sent-requires g c =
     let w : World = c.args.world.now in
+    let r = c.requires in
+    let ps : Procs = c.wake_disks-woken.new.procs in
     let e = c.wake_disks-woken.ensures in
-    reach_good w c.requires.left c.requires.good c.requires.counted c.wake_disks-woken.new.procs e.others e.agree e.running e.clock
-    c.wake_disks-woken.result.next e.next
+    record {
+      good = reach_good w r.left r.good r.counted ps e.others e.agree e.running e.clock c.wake_disks-woken.result.next e.next;
+      timed = reach_timed w r.left r.good r.counted ps e.others e.agree e.running e.clock c.wake_disks-woken.result.next e.next e.due;
+      passed = reach_passed w r.left r.good r.counted ps e.others e.agree e.running e.clock c.wake_disks-woken.result.next e.next;
+    }
 
-pub send_after-sent-requires-clause-passed : goal.send_after-sent-requires-clause-passed
-send_after-sent-requires-clause-passed g c =
+pub returns : goal.returns
+returns g c =
     let w : World = c.args.world.now in
+    let r = c.requires in
+    let ps : Procs = c.wake_disks-woken.new.procs in
     let e = c.wake_disks-woken.ensures in
-    reach_passed w c.requires.left c.requires.good c.requires.counted c.wake_disks-woken.new.procs e.others e.agree e.running e.clock
-    c.wake_disks-woken.result.next e.next
-
-pub send_after-sent-requires-clause-timed : goal.send_after-sent-requires-clause-timed
-send_after-sent-requires-clause-timed g c =
-    let w : World = c.args.world.now in
-    let e = c.wake_disks-woken.ensures in
-    reach_timed w c.requires.left c.requires.good c.requires.counted c.wake_disks-woken.new.procs e.others e.agree e.running e.clock
-    c.wake_disks-woken.result.next e.next e.due
-
-pub returns-clause-unix : goal.returns-clause-unix
-returns-clause-unix g c =
-    let w : World = c.args.world.now in
-    let e = c.wake_disks-woken.ensures in
-    sent_unix w c.requires.left c.requires.good c.requires.counted c.wake_disks-woken.new.procs e.others e.agree e.running e.clock
-    c.wake_disks-woken.result.next e.next c.send_after-sent.new.world c.send_after-sent.ensures.unix
-
-pub returns-clause-board : goal.returns-clause-board
-returns-clause-board g c =
-    let w : World = c.args.world.now in
-    let e = c.wake_disks-woken.ensures in
-    sent_board w c.requires.left c.requires.good c.requires.counted c.wake_disks-woken.new.procs e.others e.agree e.running e.clock
-    c.wake_disks-woken.result.next e.next c.send_after-sent.new.world c.send_after-sent.ensures.unix e.board c.send_after-sent.ensures.board
-
-pub returns-clause-any : goal.returns-clause-any
-returns-clause-any g c =
-    let w : World = c.args.world.now in
-    let e = c.wake_disks-woken.ensures in
-    c.either.ensures
-    ∙ sent_any w c.requires.left c.requires.good c.requires.counted c.wake_disks-woken.new.procs e.others e.agree e.running e.clock
-    c.wake_disks-woken.result.next e.next c.send_after-sent.new.world c.send_after-sent.ensures.unix _ _ e.any
-    c.send_after-sent.ensures.any
-
-pub returns-clause-running : goal.returns-clause-running
-returns-clause-running g c = c.send_after-sent.ensures.running ∙ c.wake_disks-woken.ensures.running
-
-pub returns-clause-tree : goal.returns-clause-tree
-returns-clause-tree g c = ap (λ (x : World). x.files.tree) c.send_after-sent.ensures.others
-
-pub returns-clause-others : goal.returns-clause-others
-returns-clause-others g c =
-    reach_others c.args.world.now c.send_after-sent.new.world c.wake_disks-woken.new.procs c.send_after-sent.ensures.others
-
-pub returns-clause-same : goal.returns-clause-same
-returns-clause-same g c none =
-    let both = none_woken c.wake_disks-woken.result.any c.send_after-sent.result (sym c.either.ensures ∙ none) in
-    c.send_after-sent.ensures.same both.1 ∙ c.wake_disks-woken.ensures.same both.0
-
-pub returns-clause-items : goal.returns-clause-items
-returns-clause-items g c =
-    let w : World = c.args.world.now in
-    let e = c.wake_disks-woken.ensures in
-    sent_took w c.requires.left c.requires.good c.requires.counted c.wake_disks-woken.new.procs e.others e.agree e.running e.clock
-    c.wake_disks-woken.result.next e.next c.send_after-sent.new.world c.send_after-sent.ensures.unix _ _ _ e.items
-    c.send_after-sent.ensures.items
-
-pub returns-clause-frame : goal.returns-clause-frame
-returns-clause-frame g c = g.met.T.Trace.goes_on _ _ _ c.wake_disks-woken.ensures.frame c.send_after-sent.ensures.frame
+    let next = c.wake_disks-woken.result.next in
+    let now : World = c.send_after-sent.new.world in
+    let s = c.send_after-sent.ensures in
+    record {
+      unix = sent_unix w r.left r.good r.counted ps e.others e.agree e.running e.clock next e.next now s.unix;
+      board = sent_board w r.left r.good r.counted ps e.others e.agree e.running e.clock next e.next now s.unix e.board s.board;
+      any = c.either.ensures ∙ sent_any w r.left r.good r.counted ps e.others e.agree e.running e.clock next e.next now s.unix _ _ e.any s.any;
+      good = s.good;
+      counted = s.counted;
+      running = s.running ∙ e.running;
+      tree = ap (λ (x : World). x.files.tree) s.others;
+      others = reach_others w now ps s.others;
+      same = λ none. (let both = none_woken c.wake_disks-woken.result.any c.send_after-sent.result (sym c.either.ensures ∙ none) in s.same both.1 ∙ e.same both.0);
+      items = sent_took w r.left r.good r.counted ps e.others e.agree e.running e.clock next e.next now s.unix _ _ _ e.items s.items;
+      frame = g.met.T.Trace.goes_on _ _ _ e.frame s.frame;
+    }

@@ -3,8 +3,7 @@ use Rattle.image_keep.specs.declared.row.Row.{Row}
 use Rattle.image_keep.specs.Inside.{stock_in}
 use Rattle.image_keep.specs.Memory.{is_alive}
 use Rattle.image_keep.proofs.StateOf.{kept_is}
-use Rattle.image_keep.proofs.AreaSet.{known, starts_at, area_here}
-use Rattle.image_keep.proofs.KeptForm.{kept_holds}
+use Rattle.image_keep.proofs.AreaSet.{known, starts_at}
 use Rattle.image_keep.proofs.images.Images.area_start.Goals as goal
 
 pub row_of-requires : goal.row_of-requires
@@ -13,13 +12,5 @@ row_of-requires c = rw c.deref.ensures.value ((known (stock_in c.self.inside) c.
 pub place_of-requires : goal.place_of-requires
 place_of-requires c = ap is_alive (ap (λ (r : Row). r.state) (rw c.deref.ensures.value at c.row_of.ensures) ∙ (known (stock_in c.self.inside) c.args.self.now.kept c.args.s (kept_is c.self.view_is) c.self.invariant.sound c.self.invariant.counted c.requires).is)
 
-pub returns-clause-place : goal.returns-clause-place
-returns-clause-place c = starts_at (stock_in c.self.inside) c.args.self.now.kept c.args.s c.place_click.result c.row_of.result c.place_of.result (kept_is c.self.view_is) c.self.invariant.sound c.self.invariant.counted c.requires (rw c.deref.ensures.value at c.row_of.ensures) c.place_of.ensures c.place_click.ensures
-
-pub returns-clause-sized : goal.returns-clause-sized
-returns-clause-sized c =
-    (area_here (stock_in c.self.inside) c.args.self.now.kept c.args.s _ (kept_is c.self.view_is) c.self.invariant.sound c.self.invariant.counted c.requires (returns-clause-place c)).sized
-
-pub returns-clause-sizes : goal.returns-clause-sizes
-returns-clause-sizes c =
-    (kept_holds (stock_in c.self.inside) c.args.self.now.kept (kept_is c.self.view_is) c.self.invariant.sound c.self.invariant.table c.self.invariant.told c.see_bytes.ensures).sizes c.args.s c.requires
+pub returns : goal.returns
+returns c = starts_at (stock_in c.self.inside) c.args.self.now.kept c.args.s c.place_click.result c.row_of.result c.place_of.result (kept_is c.self.view_is) c.self.invariant.sound c.self.invariant.counted c.requires (rw c.deref.ensures.value at c.row_of.ensures) c.place_of.ensures c.place_click.ensures

@@ -1,24 +1,12 @@
-use Rattle.std.proofs.Common.{refl}
-use Rattle.u_area.specs.declared.area.UArea.{UArea}
-use Rattle.u_area.proofs.FieldLemmas.{front_put}
-use Rattle.image_keep.specs.Kept.{area_of}
-use Rattle.image_keep.proofs.FieldPut.{placed, spelled}
+use Rattle.image_keep.proofs.Told.{area_sizes}
+use Rattle.image_keep.proofs.FieldPut.{front_law}
 use Rattle.image_keep.proofs.images.Images.set_area.Goals as goal
 
-pub put_field-requires-clause-meaning : goal.put_field-requires-clause-meaning
-put_field-requires-clause-meaning c =
-    let own : UArea = area_of c.args.self.now.kept c.args.s in
-    let sized = c.area_start-at.ensures.sized in
-    let v : UArea = c.args.u.now in
-    let z = c.area_start-at.ensures.sizes in
-    (v, placed own v 0 0 c.front-front.result _ refl c.front-front.ensures.written (front_put own v sized c.front-front.ensures.sized), c.front-front.ensures.sized, c.requires.sizes)
+pub put_field-requires-clause-law : goal.put_field-requires-clause-law
+put_field-requires-clause-law c = rw c.front-front.ensures.written (_, front_law _ _ c.front-front.ensures.sized (area_sizes _ _ _ c.see_kept.ensures c.requires.image c.requires.sizes))
 
 pub returns-clause-kept : goal.returns-clause-kept
-returns-clause-kept c =
-    let own : UArea = area_of c.args.self.now.kept c.args.s in
-    let sized = c.area_start-at.ensures.sized in
-    let v : UArea = c.args.u.now in
-    c.put_field.ensures.kept v (placed own v 0 0 c.front-front.result _ refl c.front-front.ensures.written (front_put own v sized c.front-front.ensures.sized)) (c.front-front.ensures.sized)
+returns-clause-kept c = (rw c.front-front.ensures.written at c.put_field.ensures.kept) _ (front_law _ _ c.front-front.ensures.sized (area_sizes _ _ _ c.see_kept.ensures c.requires.image c.requires.sizes))
 
 pub returns-clause-written : goal.returns-clause-written
-returns-clause-written c = spelled c.args.self.now c.put_field.new.self c.args.s 0 0 c.front-front.result _ refl c.front-front.ensures.written c.put_field.ensures.written
+returns-clause-written c = rw c.front-front.ensures.written at c.put_field.ensures.written

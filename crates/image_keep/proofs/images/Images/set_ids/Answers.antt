@@ -1,24 +1,9 @@
 use Rattle.std.proofs.Common.{rules}
-use Rattle.u_area.specs.declared.area.UArea.{UArea}
-use Rattle.u_area.specs.Fields.{with_ids}
-use Rattle.u_area.proofs.FieldLemmas.{ids_put}
-use Rattle.image_keep.specs.Kept.{area_of}
+use Rattle.image_keep.proofs.FieldPut.{ids_law}
 use Rattle.image_keep.proofs.images.Images.set_ids.Goals as goal
 
-pub put_field-requires-clause-meaning : goal.put_field-requires-clause-meaning
-put_field-requires-clause-meaning c =
-    let own : UArea = area_of c.args.self.now.kept c.args.s in
-    let sized = c.area_start-at.ensures.sized in
-    let v : UArea = with_ids own c.args.ids in
-    let z = c.area_start-at.ensures.sizes in
-    (v, ids_put own c.args.ids sized (search rules), record { r = sized.r; call = sized.call; handlers = sized.handlers; files = sized.files }, record { text_size = z.text_size; data_size = z.data_size; stack_size = z.stack_size })
+pub put_field-requires-clause-law : goal.put_field-requires-clause-law
+put_field-requires-clause-law c = (_, ids_law _ c.args.ids (search rules))
 
 pub returns-clause-kept : goal.returns-clause-kept
-returns-clause-kept c =
-    let own : UArea = area_of c.args.self.now.kept c.args.s in
-    let sized = c.area_start-at.ensures.sized in
-    let v : UArea = with_ids own c.args.ids in
-    c.put_field.ensures.kept v (ids_put own c.args.ids sized (search rules)) (record { r = sized.r; call = sized.call; handlers = sized.handlers; files = sized.files })
-
-pub returns-clause-written : goal.returns-clause-written
-returns-clause-written c = c.put_field.ensures.written
+returns-clause-kept c = c.put_field.ensures.kept _ (ids_law _ c.args.ids (search rules))

@@ -1,11 +1,10 @@
 use Rattle.std.proofs.Common.{◌≡◌, ◌∙◌, refl, sym, ap}
 use Rattle.u_area.specs.declared.area.UArea.{UArea}
-use Rattle.image_keep.specs.Kept.{area_of, image_of, with_area}
+use Rattle.image_keep.specs.Kept.{area_of, image_of}
 use Rattle.sys_procs.specs.declared.procs.Procs.{Procs}
 use Rattle.sys_procs.specs.Handed.{process_here}
-use Rattle.sys_procs.proofs.SameKept.{SameKept}
 use Rattle.sys_procs.proofs.Alive.{area_here, SameSizes, sizes_stay}
-use Rattle.sys_procs.proofs.PutAreas.{put_state, put_process, put_board, put_alive}
+use Rattle.sys_procs.proofs.PutAreas.{area_set}
 use Rattle.sys_procs.proofs.procs.Procs.put_area.Goals as goal
 
 pub set_area-requires-clause-sizes : goal.set_area-requires-clause-sizes
@@ -21,20 +20,8 @@ set_area-requires-clause-sizes c =
     } in
     sizes_stay u old (image_of p.images.kept c.args.s) same (c.see_kept.ensures.sizes c.args.s c.requires.alive.image)
 
-put : (c : goal.After-set_area) → SameKept (record c.args.self.now { images = c.set_area.new.self })
-    (record c.args.self.now { images = record c.args.self.now.images { kept = with_area c.args.self.now.images.kept c.args.s c.args.u.now } })
-put c = record { rows = refl; table = refl; kept = c.set_area.ensures.kept; switches = refl }
-
-pub returns-clause-state : goal.returns-clause-state
-returns-clause-state c = put_state c.args.self.now _ c.args.s c.args.u.now c.requires.alive c.see_kept.ensures.slots (put c)
-
-pub returns-clause-here : goal.returns-clause-here
-returns-clause-here c = put_process c.args.self.now _ c.args.s c.args.u.now c.requires.alive c.see_kept.ensures.slots (put c)
-
-pub returns-clause-board : goal.returns-clause-board
-returns-clause-board c = put_board c.args.self.now _ c.args.s c.args.u.now c.requires.alive c.see_kept.ensures.slots (put c)
-
-pub returns-clause-alive : goal.returns-clause-alive
-returns-clause-alive c =
-    put_alive c.args.self.now _ c.args.s c.args.u.now c.requires.alive c.see_kept.ensures.slots (put c)
-    (record { text = c.requires.text; «data» = c.requires.data_size; stack = c.requires.stack_size })
+pub returns : goal.returns
+returns c =
+    let e = area_set c.args.self.now c.args.s c.requires.alive c.see_kept.ensures.slots c.set_area.new.self (λ _. c.args.u.now) c.set_area.ensures.kept
+    (record { text = c.requires.text; «data» = c.requires.data_size; stack = c.requires.stack_size }) in
+    record { state = e.state; here = e.here; images = e.images; rows = refl; table = refl; switches = refl; board = e.shown; alive = e.alive }

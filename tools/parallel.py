@@ -1,0 +1,95 @@
+"""Work that is parted among processes of their own, since threads of Python take turns. What they find is taken in order."""
+import marshal
+import os
+import select
+import signal
+import struct
+import traceback
+
+NUMBER = struct.Struct("<I")  # of a piece of work, or of the bytes of an answer
+MOST = 4096  # pieces: a pipe has room for their numbers
+WELL, KNOWN, UNKNOWN = range(3)  # how a piece has ended
+
+
+def in_order(does, count, workers, begins, known):
+    """What `does` gives for 0, 1, 2 and so on, as many at a time as there are `workers`, each of which `begins` with its own number, which
+    gives what its end is told. An error of the class `known` is one here. Whoever goes no further ends what is at work."""
+    jobs, to = os.pipe()
+    os.write(to, b"".join(map(NUMBER.pack, range(min(count, MOST)))))
+    os.close(to)
+    sources = {}
+    try:
+        for number in range(min(workers, count)):
+            source, answers = os.pipe()
+            child = os.fork()
+            if not child:
+                for one in (*sources, source):
+                    os.close(one)
+                work(does, jobs, answers, lambda: begins(number), known)
+            os.close(answers)
+            sources[source] = child
+        yield from taken(sources, min(count, MOST), known)
+    finally:
+        os.close(jobs)
+        for child in sources.values():
+            os.kill(child, signal.SIGTERM)
+        for source, child in sources.items():
+            os.waitpid(child, 0)
+            os.close(source)
+    for number in range(MOST, count):
+        yield does(number)
+
+
+def taken(sources, count, known):
+    """The answers of the processes, in order."""
+    found, rest = {}, set(sources)
+    for number in range(count):
+        while number not in found:
+            for source in select.select(list(rest), [], [])[0] if rest else ended():
+                answer = read(source)
+                if answer is None:
+                    rest.discard(source)
+                else:
+                    found[answer[0]] = answer[1:]
+        kind, value = found.pop(number)
+        if kind != WELL:
+            raise known(value) if kind == KNOWN else RuntimeError(value)
+        yield value
+
+
+def ended():
+    raise RuntimeError("a process that was at work has ended")
+
+
+def read(source):
+    """The next answer of a process, or None where it has ended."""
+    size = whole(source, NUMBER.size)
+    return marshal.loads(whole(source, *NUMBER.unpack(size))) if size else None
+
+
+def whole(source, size):
+    data = b""
+    while len(data) < size and (more := os.read(source, size - len(data))):
+        data += more
+    return data
+
+
+def work(does, jobs, answers, begins, known):
+    """What a process does; it goes no further than this. Its end is told by a signal."""
+    try:
+        stop = begins()
+        signal.signal(signal.SIGTERM, lambda *_: stop())
+        while job := os.read(jobs, NUMBER.size):
+            (number,) = NUMBER.unpack(job)
+            try:
+                answer = number, WELL, does(number)
+            except known as error:
+                answer = number, KNOWN, str(error)
+            except Exception:
+                answer = number, UNKNOWN, traceback.format_exc()
+            data = marshal.dumps(answer)
+            data = NUMBER.pack(len(data)) + data
+            while data:
+                data = data[os.write(answers, data) :]
+    finally:
+        os._exit(0)
