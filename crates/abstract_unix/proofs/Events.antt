@@ -278,10 +278,6 @@ pass_came u seen p r = by l.stop refl
       over = λ kind x. passed.over stop e;
     }
 
-pass_fine : (u : Unix) (seen : Seen) → Paused (seats_of u) seen → seen.board.table.running ≡ Some 0
-    → FineTurn seen (settled_after (pass_of (system_at u seen)))
-pass_fine u seen p r = came_fine seen (pass_of (system_at u seen)) (pass_came u seen p r)
-
 -- who runs lives in its slot
 pub runs_at : (u : Unix) (s : ℕ) (b : Board) → IsTidy u → InTurn s (seats_of u) b → Runs s u
 runs_at u s b tidy t = record {

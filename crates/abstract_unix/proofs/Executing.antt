@@ -377,9 +377,6 @@ module _ (s : ℕ) (seen : Seen) (w : World) (program : Program) (i : Calling s 
 
   -- with a text that is there
   module _ (k : ℕ) (there : entry_of w.texts program.ino ≡ Some k) where
-    abbrev after_share : Seen
-    after_share = seen_after after_bare (line.Share s k)
-
     abbrev with_share : Seats
     with_share = with_text_of s here given_up.turn.seat k (joined_users here.texts (Some k))
 

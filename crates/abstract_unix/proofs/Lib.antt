@@ -38,6 +38,7 @@ pub mod GoingOnLemmas
 pub mod WaitingRows
 pub mod GoingOnSteps
 pub mod Stretches
+pub mod AtOnce
 pub mod DiskRows
 pub mod DiskSteps
 pub mod Dues

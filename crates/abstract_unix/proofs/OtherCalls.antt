@@ -1,21 +1,37 @@
 -- Calls leave the other disk alone.
-use Rattle.std.proofs.Common.{◌≡◌, ℕ, [], ◌∷◌, Option, Some, None, is_none, refl, ap}
+use Rattle.std.proofs.Common.{◌≡◌, ◌≢◌, ◌∙◌, ℕ, List, [], ◌∷◌, Option, Some, None, is_none, refl, sym, ap, subst}
+use Rattle.std.specs.Prelude.{Result, IfOk}
 use Rattle.std.proofs.lemmas.List.Elements.{All-head}
+use Rattle.v6_base.specs.Trace.{Taken}
+use Rattle.v6_base.specs.declared.answer.Answer.{Answer}
+use Rattle.v6_base.specs.declared.entry.PanicKind.{PanicKind}
+use Rattle.pick_rules.specs.Logged.{Stop, left_by}
+use Rattle.fs_nodes.specs.FileSystem.{FileSystem}
 use Rattle.fs_nodes.specs.Keys.{Stores}
 use Rattle.fs_tree.specs.Finding.{Inodes}
+use Rattle.mount_tab.specs.Mounted.{MountTable}
 use Rattle.proc_tab.specs.Processes.{lowest}
 use Rattle.sys_files.specs.Handed.{Handed}
+use Rattle.sys_files.specs.Does.{Does}
 use Rattle.sys_files.specs.Frame.{LeavesOther}
 use Rattle.sys_files.specs.Moving.{resumes}
 use Rattle.sys_files.specs.Sound.{IsSound}
 use Rattle.sys_files.proofs.OtherCloses.{closed_apart}
 use Rattle.sys_files.proofs.OtherWalks.{IsOn}
+use Rattle.sys_procs.specs.declared.procs.Procs.{Procs}
 use Rattle.sys_procs.specs.World.{World, process_of, members, change}
+use Rattle.sys_procs.specs.Agree.{answered}
 use Rattle.sys_procs.specs.Comes.{Comes}
+use Rattle.sys_procs.specs.Done.{HasDone}
+use Rattle.sys_procs.specs.Handed.{came, handed}
 use Rattle.sys_procs.specs.Fork.{fork_into, fork_one}
 use Rattle.sys_procs.specs.Resume.{awake, resume_proc}
 use Rattle.sys_procs.specs.Exit.{end_proc}
 use Rattle.sys_procs.specs.Frame as its
+use Rattle.abstract_unix.specs.declared.calls.FileCall.{FileCall}
+use Rattle.abstract_unix.specs.declared.calls.FileCall.TheVariants as file
+use Rattle.abstract_unix.specs.declared.calls.ProcessCall.{ProcessCall}
+use Rattle.abstract_unix.specs.Calls.{file_row, process_row, process_named}
 use Rattle.abstract_unix.specs.OtherDisk.{GoesOn, closed, CallsLeaveOther}
 use Rattle.abstract_unix.proofs.ProcessRows.{resume_plain}
 use Rattle.abstract_unix.proofs.OtherRows.{on_root, on_second, row_leaves_other, resume_leaves_other}
@@ -69,3 +85,38 @@ calls_leave_other = record {
   closes = closes;
   ends = ends;
 }
+
+-- What a call has done leaves the other disk alone, since its row does.
+pub call_left_other : (call : FileCall) (h new : Handed) (slot : ℕ) (args : List ℕ) (now : ℕ) (result : Answer) (start end : Taken)
+    → IsSound h → Does h new result start end (file_row call h slot args now) → call ≢ file.Sync → call ≢ file.Pipe
+    → LeavesOther h (record (file_row call h slot args now) { state = new })
+call_left_other call h new slot args now result start end sound does sync pipe =
+    let row = row_leaves_other call h slot args now sound sync pipe in
+    record {
+      second = λ keeps. ap (λ (x : Handed). x.inodes.store.second) does.state ∙ row.second keeps;
+      root = λ keeps. ap (λ (x : Handed). x.inodes.store.root) does.state ∙ row.root keeps;
+    }
+
+-- the same of a call on processes, where it answers
+pub process_left_other : (call : ProcessCall) (mounts : MountTable) (p q : Procs) (fs gs : FileSystem) (s : ℕ) (args : List ℕ)
+    (result : Result Answer PanicKind) (start end : Taken)
+    → HasDone p q gs result start end (process_row call mounts (handed p fs) s args)
+    → IfOk result (λ answer. its.LeavesOther (handed p fs) s (process_named call mounts (handed p fs) s args) (record (process_row call mounts (handed p fs) s args) { state = handed q gs }))
+process_left_other call mounts p q fs gs s args result start end done = by (came p comes).stop done.answer done.state where
+  w : World
+  w = handed p fs
+
+  comes : Comes
+  comes = process_row call mounts w s args
+
+  Leaves : Result Answer PanicKind → Type 0
+  Leaves r = IfOk r (λ answer. its.LeavesOther w s (process_named call mounts w s args) (record comes { state = handed q gs }))
+
+  by : (stop : Option (Stop World)) → result ≡ answered stop comes.answer → handed q gs ≡ left_by stop comes.state → Leaves result
+  by None is state =
+      let row = process_leaves_other call mounts w s args in
+      subst Leaves (sym is) (record {
+        second = λ keeps. ap (λ (x : World). x.inodes.store.second) state ∙ row.second keeps;
+        root = λ keeps. ap (λ (x : World). x.inodes.store.root) state ∙ row.root keeps;
+      })
+  by (Some stop) is state = subst Leaves (sym is) tt

@@ -1,15 +1,16 @@
 //! The system calls that are built, in the order of their numbers: section II of the manual; `sysent` in Lions'
 //! Commentary, `sysent.c`.
-ghost use Rattle.std.specs.Prelude.{◌≡◌, ◌≢◌, ◌<◌, ◌≤◌, ◌⊎◌, Some, None, IfOk, IfErr};
-ghost use Rattle.v6_base.specs.Trace.{Took};
+ghost use Rattle.std.specs.Prelude.{◌≡◌, ◌≢◌, ◌<◌, ◌≤◌, ◌⊎◌, IfOk, IfErr};
 ghost use Rattle.fs_nodes.specs.FileSystem.{SameRest};
 ghost use Rattle.fs_tree.specs.Mounting.{AreMounts};
 ghost use Rattle.sys_files.specs.Handed as parts;
 ghost use Rattle.sys_files.specs.Sound.{IsSound};
 ghost use Rattle.sys_files.specs.Does.{Does};
+ghost use Rattle.sys_files.specs.Frame.{LeavesOther};
 ghost use Rattle.sys_procs.specs.Done.{HasDone};
+ghost use Rattle.sys_procs.specs.Frame as its;
 ghost use Rattle.sys_procs.specs.Handed.{handed, AreProcs, AreBare, Calls, IsMarked};
-ghost use Rattle.abstract_unix.specs.Calls.{sysent_of, file_row, process_row};
+ghost use Rattle.abstract_unix.specs.Calls.{sysent_of, file_row, process_row, process_named};
 
 use fs_tree::Tree;
 use proc_tab::Row;
@@ -193,9 +194,9 @@ fn on_processes(count: u8, call: ProcessCall) -> Sysent
     entry(count, SystemCall::OnProcesses(call))
 }
 
-/// Does a call on files.
+/// Does a call on files by its row.
 #[inline(always)]
-pub fn do_file_call<S: Space, T: Trace>(
+fn do_file_row<S: Space, T: Trace>(
     call: FileCall,
     files: &mut Files,
     slot: Slot,
@@ -239,6 +240,35 @@ pub fn do_file_call<S: Space, T: Trace>(
     }
 }
 
+/// Does a call on files. Where all that it has to do with is on one disk, it leaves the other one alone.
+#[inline(always)]
+pub fn do_file_call<S: Space, T: Trace>(
+    call: FileCall,
+    files: &mut Files,
+    slot: Slot,
+    u: &mut UArea,
+    row: &mut Row,
+    space: &mut S,
+    args: [u16; 4],
+    now: u32,
+    trace: &mut T,
+) -> Answer
+    requires sound { IsSound (parts.handed files.old u.old row.old (S.image space.old)) }
+    ensures does { Does (parts.handed files.old u.old row.old (S.image space.old))
+        (parts.handed files.new u.new row.new (S.image space.new)) result (T.taken trace.old) (T.taken trace.new)
+        (file_row call (parts.handed files.old u.old row.old (S.image space.old)) slot args now) }
+    ensures apart { call ≢ FileCall.Sync → call ≢ FileCall.Pipe →
+        let h = parts.handed files.old u.old row.old (S.image space.old) in
+        LeavesOther h (record (file_row call h slot args now) {
+          state = parts.handed files.new u.new row.new (S.image space.new);
+        }) }
+    ensures frame { T.leads_to trace.old trace.new }
+    ensures memory { S.rest space.new ≡ S.rest space.old }
+    ensures blocks { SameRest files.old.tree.nodes files.new.tree.nodes }
+{
+    do_file_row(call, files, slot, u, row, space, args, now, trace)
+}
+
 /// Does a call on processes other than exec(II): the marks of the texts stay.
 #[inline(always)]
 fn do_other_call<T: Trace>(
@@ -280,9 +310,9 @@ fn do_other_call<T: Trace>(
     }
 }
 
-/// Does a call on processes. Where it stops in exec(II), its process may have neither its old image nor its new one.
+/// Does a call on processes by its row. Where it stops in exec(II), its process may have neither its old image nor its new one.
 #[tactic(auto, using(crate::proofs::CallLemmas::stops_whole, crate::proofs::CallLemmas::stops_so))]
-pub fn do_process_call<T: Trace>(
+fn do_process_row<T: Trace>(
     call: ProcessCall,
     p: &mut Procs,
     tree: &mut Tree,
@@ -306,4 +336,34 @@ pub fn do_process_call<T: Trace>(
         ProcessCall::Exec => exec_file(p, tree, s, args, trace),
         _ => do_other_call(call, p, tree, s, args, trace),
     }
+}
+
+/// Does a call on processes. Where it stops in exec(II), its process may have neither its old image nor its new one. Where it
+/// answers, and all that it has to do with is on one disk, it has left the other one alone.
+#[inline(always)]
+pub fn do_process_call<T: Trace>(
+    call: ProcessCall,
+    p: &mut Procs,
+    tree: &mut Tree,
+    s: Slot,
+    args: [u16; 4],
+    trace: &mut T,
+) -> Result<Answer, PanicKind>
+    requires calls { Calls p.old tree.old.nodes s }
+    requires marks { IsMarked p.old tree.old.marks }
+    requires mounts { AreMounts tree.old.mounts tree.old.nodes.store }
+    ensures does { HasDone p.old p.new tree.new.nodes result (T.taken trace.old) (T.taken trace.new)
+        (process_row call tree.old.mounts (handed p.old tree.old.nodes) s args) }
+    ensures apart { let w = handed p.old tree.old.nodes in IfOk result (λ answer.
+        its.LeavesOther w s (process_named call tree.old.mounts w s args) (record (process_row call tree.old.mounts w s args) {
+          state = handed p.new tree.new.nodes;
+        })) }
+    ensures frame { T.leads_to trace.old trace.new }
+    ensures agree { IfOk result (λ answer. AreProcs p.new) }
+    ensures left { IfErr result (λ kind. AreProcs p.new ⊎ AreBare p.new s) }
+    ensures marks { IsMarked p.new tree.new.marks }
+    ensures mounts { tree.new.mounts ≡ tree.old.mounts }
+    ensures blocks { SameRest tree.old.nodes tree.new.nodes }
+{
+    do_process_row(call, p, tree, s, args, trace)
 }

@@ -1,5 +1,5 @@
 //! What a header says.
-ghost use Rattle.std.specs.Prelude.{◌≡◌, ◌+◌, ◌*◌, ◌<◌, ◌≤◌, IfOk, MatchResult};
+ghost use Rattle.std.specs.Prelude.{◌≡◌, ◌<◌, ◌≤◌, IfOk, MatchResult};
 ghost use Rattle.aout_head.specs.Header.{word, header_of, plan_of, IsPlan, IsRefusal};
 
 use crate::parts::{ExecFault, Plan};

@@ -8,10 +8,12 @@ use Rattle.bmap_path.specs.declared.BlockName.TheVariants.{Data, Ind, Dbl}
 -- double indirect block.
 abbrev pub large_path : ℕ → List BlockName
 large_path bn =
-    if nat_lt bn DOUBLE_START then Ind (bn / INDIRECT_BLOCKS) ∷ Data bn ∷ [] else Dbl ∷ Ind (bn / INDIRECT_BLOCKS) ∷ Data bn ∷ []
+    if nat_lt bn DOUBLE_START then Ind (bn / INDIRECT_BLOCKS) ∷ Data bn ∷ []
+    else Dbl ∷ Ind (bn / INDIRECT_BLOCKS) ∷ Data bn ∷ []
 
 -- A small file has eight blocks. It becomes large by its first indirect block, which is not named a second time.
 abbrev pub path_of : Bool → ℕ → List BlockName
 path_of true bn = large_path bn
 path_of false bn =
-    if nat_lt bn SMALL_BLOCKS then Data bn ∷ [] else (if nat_lt bn INDIRECT_BLOCKS then large_path bn else Ind 0 ∷ large_path bn)
+    if nat_lt bn SMALL_BLOCKS then Data bn ∷ []
+    else (if nat_lt bn INDIRECT_BLOCKS then large_path bn else Ind 0 ∷ large_path bn)

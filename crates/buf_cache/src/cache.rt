@@ -1,5 +1,5 @@
 //! The disk through fifteen buffers: `bio.c` in Lions' Commentary.
-ghost use Rattle.std.specs.Prelude.{◌≡◌, ◌≢◌, ℕ, ◌+◌, ◌<◌, ◌≤◌, ◌∷◌, [], length, map, take, drop, slice_index_or, slice_set, IfOk, IfSome, IfNone};
+ghost use Rattle.std.specs.Prelude.{◌≡◌, ◌≢◌, ◌+◌, ◌<◌, ◌≤◌, ◌∷◌, [], length, map, take, drop, slice_index_or, slice_set, IfOk, IfSome, IfNone};
 ghost use Rattle.std.specs.List.{All, remove};
 ghost use Rattle.std.specs.Borrow.{sem};
 ghost use Rattle.std.specs.Io.BufRead.{Rests};
@@ -98,8 +98,8 @@ fn take_slot(disk: &mut Vec<[u8; 512]>, slots: &[[u8; 512]], heads: &mut ArrayVe
     last.slot
 }
 
-/// Reads block `n`, which no buffer has, into one that comes before the others. It stands out of line, so that a block that is in
-/// a buffer is found with few registers.
+/// Reads block `n`, which no buffer has, into one that comes before the others. It stands out of line, so that a block that
+/// is in a buffer is found with few registers.
 #[inline(never)]
 fn fetch(
     disk: &mut Vec<[u8; 512]>,

@@ -4,7 +4,7 @@
 //! Clicks are numbered from 1 on, as places in core are. Bytes are counted from the first click's.
 #![tactic(auto)]
 
-ghost use Rattle.std.specs.Prelude.{◌≡◌, ◌+◌, ◌-◌, ◌*◌, ◌<◌, ◌≤◌, ℕ, length, replicate, slice_index, slice_set, IfOk};
+ghost use Rattle.std.specs.Prelude.{◌≡◌, ◌+◌, ◌*◌, ◌<◌, ◌≤◌, ℕ, length, replicate, slice_index, slice_set, IfOk};
 ghost use Rattle.std.specs.Borrow.{sem};
 ghost use Rattle.core_mem.specs.Bytes.{part, over, click_start};
 ghost use Rattle.core_mem.specs.Lent.{LendsBytes};

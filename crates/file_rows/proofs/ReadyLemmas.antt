@@ -1,26 +1,20 @@
 -- What is ready can be called on, and stays ready through every call that keeps what it must.
-use Rattle.std.proofs.Common.{◌≡◌, ◌+◌, ◌*◌, cond, eqb, ◌<◌, ◌≤◌, ◌==◌, ℕ, zero, suc, List, length, replicate, slice_index, Option, Some, None, [], refl, sym, ap, ◌∙◌, subst, arith, if◌then◌else◌, Bool, true, false}
+use Rattle.std.proofs.Common.{◌≡◌, ◌+◌, ◌*◌, cond, eqb, ◌<◌, ◌≤◌, ◌==◌, ℕ, zero, suc, List, replicate, slice_index, Option, Some, None, [], refl, sym, ap, ◌∙◌, subst, arith, if◌then◌else◌, Bool, true, false}
 use Rattle.std.specs.Prelude.{count_by}
-use Rattle.std.proofs.lemmas.List.Sums.{count_by-le-length}
 use Rattle.std.proofs.lemmas.Bool.{eqb-true, ne_eqb}
 use Rattle.std.proofs.lemmas.List.Folds.{sum_by-replicate}
 use Rattle.std.proofs.lemmas.Option.{none-some}
-use Rattle.v6_base.specs.Image.{Image}
-use Rattle.proc_tab.specs.declared.row.Row.{Row}
-use Rattle.u_area.specs.declared.area.UArea.{UArea}
 use Rattle.open_files.specs.declared.file.OpenFile.{OpenFile}
-use Rattle.open_files.specs.Files.{file_at, times, HaveRoom}
+use Rattle.open_files.specs.Files.{file_at, times}
 use Rattle.fs_codec.specs.Store.{Store}
-use Rattle.fs_nodes.specs.Disks.{Disks}
 use Rattle.fs_nodes.specs.FileSystem.{FileSystem}
 use Rattle.fs_nodes.specs.Keys.{counts}
 use Rattle.mount_tab.specs.Mounted.{MountTable, is_the}
 use Rattle.fs_tree.specs.Mounting.{AreMounts}
 use Rattle.pipe_ends.specs.declared.ends.Pipe.{Pipe}
-use Rattle.sys_files.specs.declared.files.Files.{Files}
-use Rattle.sys_files.specs.Handed.{Handed, handed}
+use Rattle.sys_files.specs.Handed.{Handed}
 use Rattle.sys_files.specs.Pipes.{ArePipes}
-use Rattle.sys_files.specs.Sound.{IsSound, IsKept, numbers_of, is_of}
+use Rattle.sys_files.specs.Sound.{IsKept, is_of}
 use Rattle.file_rows.specs.Ready.{FitsDisks, IsReady}
 
 -- The mount table fits the stores where it has their numbers of inodes, and else not.
@@ -28,36 +22,6 @@ fits_of : (mounts : MountTable) (root : Store) (second : Option Store) → AreMo
     → FitsDisks mounts (counts (record { root = root; second = second }))
 fits_of mounts root None are = record { first = are.first; second = are.second; covered = are.covered }
 fits_of mounts root (Some s) are = record { first = are.first; second = are.second; covered = λ some. refl }
-
-mounts_of : (mounts : MountTable) (root : Store) (second : Option Store)
-    → FitsDisks mounts (counts (record { root = root; second = second })) → AreMounts mounts (record { root = root; second = second })
-mounts_of mounts root None fits = record { first = fits.first; second = fits.second; covered = fits.covered }
-mounts_of mounts root (Some s) fits = record { first = fits.first; second = fits.second; covered = λ some. refl }
-
-one_or_none : (b : Bool) → (if b then 1 else 0) ≤ 1
-one_or_none true = omega arith
-one_or_none false = omega arith
-
-pub sound_of : (f : Files) (u : UArea) (row : Row) (image : Image)
-    → IsReady f.table f.pipes u.files u.dir f.tree.mounts f.tree.nodes.references (counts f.tree.nodes.store)
-    → length f.table ≡ 100 → HaveRoom f.table → IsSound (handed f u row image)
-sound_of f u row image ready long room = record {
-  is_open = ready.is_open;
-  counted = λ entry file is.
-      let n = ready.counted entry in
-      let e : numbers_of (file_at f.table entry) ≡ file.count = ap numbers_of is in
-      omega (arith, n, e);
-  room = room;
-  referred = ready.referred;
-  few = λ ino.
-      let n = ready.few ino in
-      let c = count_by-le-length (is_of ino) f.table in
-      let o = one_or_none (u.dir == ino) in
-      let m = one_or_none (is_the f.tree.mounts.covered ino) in
-      omega (arith, n, c, o, m, long);
-  pipes = ready.piped;
-  mounts = mounts_of f.tree.mounts f.tree.nodes.store.root f.tree.nodes.store.second ready.fits;
-}
 
 pub kept_ready : (old new : Handed)
     → IsReady old.files old.pipes old.u.files old.u.dir old.mounts old.inodes.references (counts old.inodes.store) → IsKept old new
@@ -80,12 +44,6 @@ kept_ready old new ready kept = record {
   fits = fits_of new.mounts new.inodes.store.root new.inodes.store.second kept.mounts;
 }
 
--- The same references, by another name.
-pub same : (files : List (Option OpenFile)) (pipes : List Pipe) (numbers : List ℕ) (dir : ℕ) (mounts : MountTable) (c : Disks ℕ)
-    (old new : List ℕ) → new ≡ old → IsReady files pipes numbers dir mounts old c → IsReady files pipes numbers dir mounts new c
-same files pipes numbers dir mounts c old new e ready =
-    let P : List ℕ → Type 0 = λ r. IsReady files pipes numbers dir mounts r c in subst P (sym e) ready
-
 zeros : (n i : ℕ) → slice_index (replicate n 0) i ≡ 0
 zeros zero i = refl
 zeros (suc n) zero = refl
@@ -98,19 +56,6 @@ named_by_none n entry =
     let all = sum_by-replicate (λ number. cond (eqb number (entry + 1)) 1 0) n 0 in
     let product : n * cond {A = ℕ} (eqb 0 (entry + 1)) 1 0 ≡ n * 0 = ap (λ k. n * k) nothing in
     omega (arith, all, product)
-
--- another process, without an open file
-pub fresh_ready : (files : List (Option OpenFile)) (pipes : List Pipe) (numbers : List ℕ) (dir : ℕ) (mounts : MountTable)
-    (references : List ℕ) (c : Disks ℕ) → IsReady files pipes numbers dir mounts references c
-    → IsReady files pipes (replicate 15 0) dir mounts references c
-fresh_ready files pipes numbers dir mounts references c ready = record {
-  is_open = λ fd used. let z = zeros 15 fd in absurd (omega (arith, used, z));
-  counted = λ entry. let z = named_by_none 15 entry in omega (arith, z);
-  referred = ready.referred;
-  few = ready.few;
-  piped = ready.piped;
-  fits = ready.fits;
-}
 
 all_free : (n entry : ℕ) → file_at (replicate n None) entry ≡ None
 all_free zero entry = refl

@@ -1,6 +1,6 @@
 //! A file takes the blocks on the way to one of its blocks.
 
-ghost use Rattle.std.specs.Prelude.{◌≡◌, ◌≢◌, ℕ, ◌<◌, ◌≤◌, MatchResult, is_ok, false};
+ghost use Rattle.std.specs.Prelude.{◌≡◌, ◌≢◌, ◌<◌, ◌≤◌, MatchResult, is_ok, false};
 ghost use Rattle.v6_base.specs.declared.errno.Errno.{Errno};
 ghost use Rattle.fs_codec.specs.Modes.{is_device};
 ghost use Rattle.fs_codec.specs.Fields.{fields_of};

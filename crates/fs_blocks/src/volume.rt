@@ -1,6 +1,6 @@
 //! A disk with its super-block and its list of free blocks: file system(V), and `alloc.c` in Lions' Commentary.
 
-ghost use Rattle.std.specs.Prelude.{◌≡◌, ◌≢◌, ℕ, ◌+◌, ◌-◌, ◌*◌, ◌<◌, ◌≤◌, List, [], ◌∷◌, length, slice_set, slice_index, IfOk, OnErr, OnOk, MatchResult, MatchOption, IfSome, IfNone, true, false, nat_eq, count_by, take, drop, if◌then◌else◌};
+ghost use Rattle.std.specs.Prelude.{◌≡◌, ◌≢◌, ℕ, ◌+◌, ◌-◌, ◌*◌, ◌<◌, ◌≤◌, [], ◌∷◌, length, slice_set, slice_index, MatchResult, IfSome, IfNone, true, false, nat_eq, count_by, take, drop, if◌then◌else◌};
 ghost use Rattle.std.specs.Borrow.{sem};
 ghost use Rattle.std.specs.Io.BufRead.{Rests};
 ghost use Rattle.buf_cache.specs.Blocks.{block_at, patched, IsDisk, WritesLate};

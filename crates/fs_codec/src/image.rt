@@ -1,7 +1,7 @@
 //! Reading a disk image. Bytes past its end are 0.
-ghost use Rattle.std.specs.Prelude.{◌≡◌, ◌+◌, ◌*◌, ◌/◌, ◌%◌, ◌<◌, ◌≤◌, ◌^◌, length, slice_index};
+ghost use Rattle.std.specs.Prelude.{◌≡◌, ◌+◌, ◌<◌, ◌≤◌, ◌^◌, length, slice_index};
 ghost use Rattle.fs_codec.specs.Words.{word, words, bytes_from};
-ghost use Rattle.fs_codec.specs.Fields.{super_of, fields_of, inode_of};
+ghost use Rattle.fs_codec.specs.Fields.{fields_of};
 ghost use Rattle.fs_codec.specs.Disk.{disk_of, head, inode};
 
 use crate::layout::{BLOCK_INODES, BLOCK_SIZE, INODE_SIZE};

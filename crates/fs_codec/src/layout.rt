@@ -10,7 +10,7 @@ pub const DISK_BLOCKS: u16 = 4872;
 pub const DISK_BYTES: usize = 2_494_464;
 
 /// The block with which the swap area begins on the disk that has the root. The file system there ends before it.
-pub const SWAP_START: u16 = 4000;
+pub const SWAP_START: u16 = v6_base::SWAP_START;
 
 /// The bytes of an inode.
 pub const INODE_SIZE: usize = 32;

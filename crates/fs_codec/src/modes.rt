@@ -1,5 +1,5 @@
 //! The mode word of an inode: file system(V), and inode.h in Lions' Commentary.
-ghost use Rattle.std.specs.Prelude.{◌≡◌, ◌<◌, ◌^◌};
+ghost use Rattle.std.specs.Prelude.{◌≡◌};
 ghost use Rattle.fs_codec.specs.Modes.{file_type, is_directory, is_character_device, is_device, is_large, holds_blocks, has_execute_bit};
 
 /// The inode is used.

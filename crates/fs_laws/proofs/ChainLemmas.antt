@@ -1,13 +1,11 @@
 -- The chain of free blocks: what it rests on, and that the walk finds it.
-use Rattle.std.proofs.Common.{◌≡◌, ◌≢◌, ◌+◌, ◌-◌, ◌*◌, ◌<◌, ◌≤◌, ◌==◌, inl, inr, ℕ, zero, suc, Bool, true, false, not, cond, List, [], ◌∷◌, length, nat_eq, nat_lt, Option, Some, None, refl, sym, ap, ◌∙◌, subst, arith, eq-eqb}
+use Rattle.std.proofs.Common.{◌≡◌, ◌≢◌, ◌+◌, ◌-◌, ◌*◌, ◌<◌, ◌≤◌, ◌==◌, inl, inr, ℕ, zero, suc, Bool, true, false, cond, List, [], ◌∷◌, length, nat_eq, nat_lt, None, refl, sym, ap, ◌∙◌, subst, arith, eq-eqb}
 use Rattle.std.proofs.lemmas.Bool.{eqb-true, eqb-false, ne_eqb, le-ltb, ltb-true, cases_lt}
 use Rattle.std.proofs.lemmas.Bool.Decides.{eqb_tells, nat_tests}
 use Rattle.std.specs.List.{count_by, list_any, AllByRecursion}
 use Rattle.fs_codec.specs.Words.{word}
-use Rattle.fs_codec.specs.Disk.{Disk, head, is_data}
-use Rattle.fs_codec.specs.Free.{Group, Walk, walk, free_walk, top, after, group_in, ended, listing}
-use Rattle.fs_codec.specs.declared.fault.ImageFault.{ImageFault}
-use Rattle.fs_codec.specs.declared.fault.ImageFault.TheVariants.{FreeCount, FreeOutside}
+use Rattle.fs_codec.specs.Disk.{Disk, is_data}
+use Rattle.fs_codec.specs.Free.{Group, Walk, walk, top, after, group_in, listing}
 use Rattle.fs_codec.proofs.CountLemmas.{any_count, count-cons}
 use Rattle.fs_codec.proofs.FreeLemmas.{walk_none, walk_outside, walk_again, walk_count, walk_on}
 use Rattle.fs_laws.specs.Chain.{IsChain, SameGroup}

@@ -9,7 +9,7 @@ use Rattle.fs_codec.specs.Held.{held_by, held_blocks}
 use Rattle.fs_codec.specs.Stands.{node_of}
 use Rattle.fs_codec.specs.declared.layout.TheConstants.{DISK_BLOCKS}
 use Rattle.fs_laws.specs.Chain.{free, IsSound, SameZone}
-use Rattle.fs_laws.specs.Whole.{IsWhole, IsApart, ChangesFile, Rewrites}
+use Rattle.fs_laws.specs.Whole.{IsWhole, ChangesFile, Rewrites}
 use Rattle.fs_codec.proofs.FreeLemmas.{free_is_data}
 use Rattle.fs_laws.proofs.FreeLemmas.{each_in, good_head, same_data, data_some, data_place}
 use Rattle.fs_laws.proofs.HeldLemmas.{Kept, held_kept}

@@ -1,5 +1,5 @@
 -- A file that gains a block holds one name more.
-use Rattle.std.proofs.Common.{◌≡◌, ◌≢◌, ◌+◌, ◌-◌, ◌<◌, ◌≤◌, ◌&&◌, ◌==◌, not, inl, inr, ℕ, Bool, true, cond, map, set, slice_set, nat_lt, refl, sym, ap, ◌∙◌, subst, arith}
+use Rattle.std.proofs.Common.{◌≡◌, ◌≢◌, ◌+◌, ◌-◌, ◌<◌, ◌≤◌, ◌&&◌, ◌==◌, not, inl, inr, ℕ, Bool, true, cond, map, set, slice_set, nat_lt, sym, ap, ◌∙◌, arith}
 use Rattle.std.proofs.lemmas.Bool.{cases_lt, lt-ltb, le-ltb, ne_eqb}
 use Rattle.std.specs.List.{range_with_len}
 use Rattle.fs_codec.specs.Fields.{Inode}

@@ -1,5 +1,5 @@
 -- The blocks of an image without a fault are a whole disk.
-use Rattle.std.proofs.Common.{◌≡◌, ◌<◌, ◌≤◌, ℕ, Bool, true, false, cond, List, [], ◌∷◌, length, nat_lt, Option, None, refl, sym, ap, ◌∙◌, subst, arith}
+use Rattle.std.proofs.Common.{◌≡◌, ◌<◌, ◌≤◌, ℕ, Bool, true, false, cond, List, [], ◌∷◌, length, nat_lt, None, refl, sym, ap, ◌∙◌, subst, arith}
 use Rattle.std.proofs.lemmas.Bool.Decides.{nat_tests}
 use Rattle.std.proofs.lemmas.List.FromFn.{get_or-map-range_with_len}
 use Rattle.buf_cache.specs.Blocks.{block_at, blocks_of}
@@ -7,8 +7,7 @@ use Rattle.fs_codec.specs.Fields.{Inode}
 use Rattle.fs_codec.specs.Modes.{holds_blocks}
 use Rattle.fs_codec.specs.Disk.{disk_of, head, inode, inode_count}
 use Rattle.fs_codec.specs.Held.{addresses, held_by}
-use Rattle.fs_codec.specs.Faults.{first_some, when, disk_fault, fault_within, image_fault}
-use Rattle.fs_codec.specs.declared.fault.ImageFault.{ImageFault}
+use Rattle.fs_codec.specs.Faults.{when, disk_fault, fault_within, image_fault}
 use Rattle.fs_codec.specs.declared.fault.ImageFault.TheVariants.{TooLong}
 use Rattle.fs_codec.specs.declared.layout.TheConstants.{SWAP_START, DISK_BLOCKS, DISK_BYTES}
 use Rattle.fs_laws.specs.Chain.{IsSound}

@@ -1,7 +1,7 @@
 -- Free numbers, and how they are drawn.
-use Rattle.std.proofs.Common.{◌≡◌, ◌+◌, ◌-◌, ◌<◌, ◌≤◌, ◌==◌, ◌&&◌, ℕ, zero, suc, Bool, true, false, not, cond, List, [], ◌∷◌, ◌++◌, nat_le, Some, None, refl, sym, ap, ◌∙◌, arith, length, take, reverse, slice_index, min}
+use Rattle.std.proofs.Common.{◌≡◌, ◌+◌, ◌-◌, ◌<◌, ◌≤◌, ◌==◌, ◌&&◌, ℕ, zero, suc, Bool, true, false, not, cond, List, [], ◌∷◌, ◌++◌, nat_le, Some, None, refl, sym, ap, ◌∙◌, arith, length, take, min}
 use Rattle.std.proofs.lemmas.Bool.Decides.{nat_tests}
-use Rattle.std.proofs.lemmas.List.{take_more, take-append-le, reverse-append, reverse-reverse, append-nil}
+use Rattle.std.proofs.lemmas.List.{take-append-le, append-nil}
 use Rattle.std.proofs.lemmas.List.Elements.{filter-append}
 use Rattle.std.proofs.lemmas.List.FromFn.{get_or-map-range_with_len}
 use Rattle.std.proofs.Math.Seq.{take-length}
@@ -11,7 +11,7 @@ use Rattle.fs_codec.specs.Fields.{Inode}
 use Rattle.fs_codec.specs.Disk.{Disk, inode, inode_count}
 use Rattle.fs_codec.specs.Store.{Node, Store, node_numbered}
 use Rattle.fs_codec.specs.Stands.{node_of, store_of}
-use Rattle.fs_laws.specs.Numbers.{is_free_number, Draw, drawn, refill}
+use Rattle.fs_laws.specs.Numbers.{is_free_number, refill}
 
 none_when : (t : Bool) (node : Node) → is_none (cond t None (Some node)) ≡ t
 none_when true node = refl

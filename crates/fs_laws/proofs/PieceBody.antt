@@ -1,9 +1,9 @@
 -- The body of a file of which bytes of one data block are written.
-use Rattle.std.proofs.Common.{◌≡◌, ◌≢◌, ◌+◌, ◌-◌, ◌*◌, ◌/◌, ◌%◌, ◌<◌, ◌≤◌, ◌==◌, ◌&&◌, inl, inr, ℕ, zero, suc, Bool, true, false, not, cond, List, [], ◌∷◌, ◌++◌, map, length, take, drop, slice_index, slice_range, replicate, nat_eq, nat_lt, refl, sym, ap, ◌∙◌, subst, arith, length-drop}
+use Rattle.std.proofs.Common.{◌≡◌, ◌≢◌, ◌+◌, ◌-◌, ◌*◌, ◌/◌, ◌%◌, ◌<◌, ◌≤◌, ◌==◌, ◌&&◌, inl, inr, ℕ, zero, suc, Bool, true, false, not, cond, List, ◌∷◌, ◌++◌, map, length, take, drop, slice_index, slice_range, replicate, nat_eq, nat_lt, refl, sym, ap, ◌∙◌, subst, arith, length-drop}
 use Rattle.std.proofs.lemmas.Bool.{cases_lt, ne_eqb}
 use Rattle.std.proofs.lemmas.Bool.Decides.{eqb_tells}
 use Rattle.std.proofs.lemmas.List.{get_or-drop, get_or-take, length-take-le}
-use Rattle.std.specs.List.{count_by, flat_map, range_with_len, AllByRecursion}
+use Rattle.std.specs.List.{count_by, flat_map, range_with_len}
 use Rattle.fs_codec.specs.Modes.{is_large, holds_blocks}
 use Rattle.fs_codec.specs.Fields.{Inode, super_of}
 use Rattle.fs_codec.specs.Disk.{Disk, is_data}
@@ -12,13 +12,13 @@ use Rattle.fs_codec.specs.Stands.{name_of, is_held, held_of, one_past, data_of, 
 use Rattle.bmap_path.specs.declared.BlockName.{BlockName}
 use Rattle.bmap_path.specs.declared.BlockName.TheVariants.{Data, Ind, Dbl}
 use Rattle.buf_cache.specs.Blocks.{patched}
-use Rattle.fs_codec.proofs.CountLemmas.{count-cons, count-append}
+use Rattle.fs_codec.proofs.CountLemmas.{count-append}
 use Rattle.fs_laws.specs.Chain.{SameZone}
 use Rattle.fs_laws.specs.Tree.{indirects}
 use Rattle.fs_laws.proofs.FreeLemmas.{each_in, data_some, same_data}
 use Rattle.fs_laws.proofs.PlacesLemmas.{counted_at}
-use Rattle.fs_laws.proofs.HeldLemmas.{SameData, no_entries, flat_same, entries_kept}
-use Rattle.fs_laws.proofs.TreeLemmas.{large_count, indirect_is, large_data}
+use Rattle.fs_laws.proofs.HeldLemmas.{SameData, flat_same, entries_kept}
+use Rattle.fs_laws.proofs.TreeLemmas.{indirect_is}
 use Rattle.fs_laws.proofs.BodyLemmas.{data_long, body_long, body_byte, below_past}
 use Rattle.fs_laws.proofs.StoreLemmas.{patched_at, patched_before, patched_after, patched_long, same_parts}
 use Rattle.fs_laws.specs.Block.{IsBlock}

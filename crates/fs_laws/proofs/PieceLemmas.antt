@@ -1,15 +1,14 @@
 -- Reads and writes, piece by piece.
-use Rattle.std.proofs.Common.{◌≡◌, ◌≢◌, ◌+◌, ◌-◌, ◌*◌, ◌/◌, ◌%◌, ◌<◌, ◌≤◌, ◌==◌, inl, inr, ℕ, zero, suc, Bool, true, false, not, cond, List, [], ◌∷◌, map, length, min, max, nat_le, nat_lt, Option, Some, None, refl, sym, ap, ◌∙◌, arith}
+use Rattle.std.proofs.Common.{◌≡◌, ◌+◌, ◌-◌, ◌*◌, ◌/◌, ◌<◌, ◌≤◌, ◌==◌, inl, inr, ℕ, zero, suc, Bool, true, false, not, cond, List, [], ◌∷◌, map, min, max, Option, Some, None, refl, sym, ap, ◌∙◌, arith}
 use Rattle.std.proofs.lemmas.Bool.{cases_lt, lt-ltb, le-ltb, le-leb, lt-leb}
 use Rattle.std.specs.List.{range_with_len}
 use Rattle.std.proofs.lemmas.Nat.{and_or_apart}
-use Rattle.std.proofs.Common.{slice_range, slice_index_or, ◌||◌, bit_or}
+use Rattle.std.proofs.Common.{slice_range, ◌||◌, bit_or}
 use Rattle.bmap_path.specs.declared.BlockName.{BlockName}
 use Rattle.bmap_path.specs.declared.BlockName.TheVariants.{Data, Ind, Dbl}
 use Rattle.bmap_path.specs.Path.{path_of}
 use Rattle.fs_codec.specs.Modes.{file_type, is_device, is_large}
 use Rattle.fs_codec.specs.Store.{Node, holds}
-use Rattle.v6_base.specs.declared.errno.Errno.{Errno}
 use Rattle.v6_base.specs.declared.errno.Errno.TheVariants.{EFBIG, ENOSPC, EFAULT}
 use Rattle.fs_laws.specs.Touch.{Touching, touching, take_names, gained, mode_with}
 use Rattle.fs_laws.specs.Pieces.{pieces, piece_end, Moving, stopped, going_on, reading, writing, size_limit, with_bytes}

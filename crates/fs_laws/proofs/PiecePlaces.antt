@@ -1,23 +1,19 @@
 -- A file's data blocks are different from one another, and none of them is an indirect block.
-use Rattle.std.proofs.Common.{◌≡◌, ◌≢◌, ◌+◌, ◌-◌, ◌*◌, ◌/◌, ◌%◌, ◌<◌, ◌≤◌, ◌==◌, inl, inr, ℕ, zero, suc, Bool, true, false, not, cond, List, [], ◌∷◌, ◌++◌, length, take, slice_index, nat_eq, nat_lt, refl, sym, ap, ◌∙◌, subst, arith}
+use Rattle.std.proofs.Common.{◌≡◌, ◌≢◌, ◌-◌, ◌/◌, ◌%◌, ◌≤◌, inl, inr, ℕ, zero, suc, Bool, true, false, cond, List, [], ◌∷◌, length, slice_index, nat_eq, refl, sym, ap, ◌∙◌, arith}
 use Rattle.std.proofs.lemmas.Bool.Decides.{eqb_tells}
-use Rattle.std.specs.List.{count_by, flat_map, AllByRecursion}
+use Rattle.std.specs.List.{count_by, flat_map}
 use Rattle.fs_codec.specs.Modes.{is_large}
 use Rattle.fs_codec.specs.Fields.{Inode}
 use Rattle.fs_codec.specs.Disk.{Disk, is_data}
-use Rattle.fs_codec.specs.Held.{entries, in_indirect, in_double, indirect_at, address, addresses}
-use Rattle.bmap_path.specs.declared.BlockName.{BlockName}
-use Rattle.bmap_path.specs.declared.BlockName.TheVariants.{Data, Ind, Dbl}
-use Rattle.fs_codec.proofs.CountLemmas.{count-cons, count-append}
+use Rattle.fs_codec.specs.Held.{entries, address, addresses}
+use Rattle.bmap_path.specs.declared.BlockName.TheVariants.{Data}
+use Rattle.fs_codec.proofs.CountLemmas.{count-append}
 use Rattle.fs_laws.specs.Chain.{free}
-use Rattle.fs_laws.specs.Whole.{IsApart}
 use Rattle.fs_laws.specs.Tree.{indirects}
 use Rattle.fs_laws.specs.Block.{IsBlock}
-use Rattle.fs_laws.proofs.ChainLemmas.{count_first}
-use Rattle.fs_laws.proofs.FreeLemmas.{each_in, data_some}
 use Rattle.fs_laws.proofs.PlacesLemmas.{counted_at, one_place}
 use Rattle.fs_laws.proofs.GainLemmas.{small_addresses, small_address}
-use Rattle.fs_laws.proofs.HeldLemmas.{no_entries, flat_same, entries_kept}
+use Rattle.fs_laws.proofs.HeldLemmas.{no_entries}
 use Rattle.fs_laws.proofs.TreeLemmas.{large_count, indirect_is, large_data}
 
 -- a list of lists has what one of them has

@@ -1,12 +1,12 @@
 -- The node of an inode of which fields have changed, and no address that counts.
-use Rattle.std.proofs.Common.{◌≡◌, ◌≢◌, ◌-◌, ◌/◌, ◌%◌, ◌==◌, ◌&&◌, ◌||◌, ℕ, Bool, true, false, not, cond, List, map, slice_index, nat_lt, replicate, take, [], ◌++◌, Some, None, refl, sym, ap, ◌∙◌}
+use Rattle.std.proofs.Common.{◌≡◌, ◌≢◌, ◌-◌, ◌/◌, ◌%◌, ◌==◌, ◌&&◌, ◌||◌, ℕ, Bool, true, false, not, cond, map, slice_index, nat_lt, replicate, take, [], ◌++◌, Some, None, refl, sym, ap, ◌∙◌}
 use Rattle.std.proofs.lemmas.Bool.{ne_eqb, eqb-false}
 use Rattle.std.proofs.lemmas.Option.{none-some, same_Some}
 use Rattle.std.specs.List.{flat_map, range_with_len}
 use Rattle.fs_codec.specs.Fields.{Inode}
-use Rattle.fs_codec.specs.Modes.{file_type, is_device, is_large, holds_blocks}
+use Rattle.fs_codec.specs.Modes.{is_device, is_large, holds_blocks}
 use Rattle.fs_codec.specs.Disk.{Disk}
-use Rattle.fs_codec.specs.Held.{entries, addresses, held_blocks, in_indirect, in_double, indirect_at, address}
+use Rattle.fs_codec.specs.Held.{entries, addresses, held_blocks, in_indirect, in_double, address}
 use Rattle.bmap_path.specs.declared.BlockName.{BlockName}
 use Rattle.bmap_path.specs.declared.BlockName.TheVariants.{Data, Ind, Dbl}
 use Rattle.fs_codec.specs.Store.{Node}

@@ -1,6 +1,6 @@
 -- The node of a file that gains a block.
-use Rattle.std.proofs.Common.{◌≡◌, ◌≢◌, ◌+◌, ◌-◌, ◌<◌, ◌&&◌, ◌||◌, ◌==◌, not, ℕ, Bool, true, false, cond, length, slice_index, nat_lt, Option, Some, None, bit_or, refl, sym, ap, ◌∙◌, arith}
-use Rattle.std.proofs.lemmas.Bool.{eqb-false, ne_eqb, lt-ltb, le-ltb}
+use Rattle.std.proofs.Common.{◌≡◌, ◌≢◌, ◌+◌, ◌-◌, ◌<◌, ◌&&◌, ◌||◌, ◌==◌, not, ℕ, Bool, true, false, cond, length, slice_index, nat_lt, Some, bit_or, refl, sym, ap, ◌∙◌, arith}
+use Rattle.std.proofs.lemmas.Bool.{ne_eqb, lt-ltb, le-ltb}
 use Rattle.std.proofs.lemmas.List.FromFn.{get_or-map-range_with_len}
 use Rattle.bmap_path.specs.declared.BlockName.{BlockName}
 use Rattle.bmap_path.specs.declared.BlockName.TheVariants.{Data, Ind, Dbl}
@@ -9,7 +9,7 @@ use Rattle.fs_codec.specs.Modes.{is_large, is_device, holds_blocks}
 use Rattle.fs_codec.specs.Disk.{Disk}
 use Rattle.fs_codec.specs.Held.{address}
 use Rattle.fs_codec.specs.Store.{Node, rank, holds}
-use Rattle.fs_codec.specs.Stands.{name_of, is_held, held_of, data_of, body_of, node_of}
+use Rattle.fs_codec.specs.Stands.{name_of, is_held, held_of, data_of, node_of}
 use Rattle.fs_laws.specs.Shown.{file_of}
 use Rattle.fs_laws.specs.Touch.{mode_with, gained}
 use Rattle.fs_laws.specs.Grows.{Grows, IsPlace}

@@ -10,7 +10,8 @@ use Rattle.fs_codec.specs.declared.layout.TheConstants.{DISK_BLOCKS}
 -- from this group on, these blocks are taken in this order, and then the list ends
 abbrev pub IsChain : Disk → Group → List ℕ → Type 0
 IsChain disk group [] = top disk group ≡ 0
-IsChain disk group (b ∷ bs) = (top disk group ≡ b) × (b ≢ 0) × (is_data disk b ≡ true) × ((after disk group).left ≤ 100) × IsChain disk (after disk group) bs
+IsChain disk group (b ∷ bs) = (top disk group ≡ b) × (b ≢ 0) × (is_data disk b ≡ true) × ((after disk group).left ≤ 100)
+    × IsChain disk (after disk group) bs
 
 -- the group of the super-block
 abbrev pub first_group : Disk → Group

@@ -11,4 +11,5 @@ pub record Gains (old : Disk) (node : Inode) (new : Disk) (next : Inode) (p : Bl
   pub takes : Takes old b new
   pub here : address new next p ≡ b
   pub others : (q : BlockName) → q ≢ p → address new next q ≡ address old node q
-  pub count : (k : ℕ) → k ≢ 0 → count_by (nat_eq k) (addresses new next) ≡ count_by (nat_eq k) (addresses old node) + (if nat_eq k b then 1 else 0)
+  pub count : (k : ℕ) → k ≢ 0
+      → count_by (nat_eq k) (addresses new next) ≡ count_by (nat_eq k) (addresses old node) + (if nat_eq k b then 1 else 0)

@@ -1,5 +1,5 @@
--- Inodes are taken and given back, and the super-block is written: ialloc, ifree and update in Lions' Commentary, `alloc.c`, and
--- iput in `iget.c`.
+-- Inodes are taken and given back, and the super-block is written: ialloc, ifree and update in Lions' Commentary, `alloc.c`,
+-- and iput in `iget.c`.
 use Rattle.std.specs.Prelude.{ℕ, Bool, false, not, ◌+◌, ◌&&◌, ◌||◌, ◌==◌, nat_le, nat_lt, min, if◌then◌else◌, List, [], ◌∷◌, ◌++◌, length, take, filter, reverse, slice_set, Option, Some, None, is_some, is_none, bit_or}
 use Rattle.std.specs.List.{range_with_len}
 use Rattle.fs_codec.specs.Modes.{is_device}
@@ -21,7 +21,8 @@ pub record Draw : Type 0 where
 -- in the other order.
 abbrev pub drawn : Store → List ℕ → Draw
 drawn store [] = record { number = None; spare = [] }
-drawn store (i ∷ below) = if is_free_number store i then record { number = Some i; spare = reverse below } else drawn store below
+drawn store (i ∷ below) =
+    if is_free_number store i then record { number = Some i; spare = reverse below } else drawn store below
 
 -- An empty list is filled with the first hundred free numbers to which nothing refers, in rising order. A number in the list
 -- is a word.

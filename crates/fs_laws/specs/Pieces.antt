@@ -13,7 +13,8 @@ use Rattle.fs_laws.specs.Touch.{Touching, touching}
 abbrev pub pieces : ℕ → ℕ → List (ℕ × ℕ)
 pieces at end =
     if nat_le end at then []
-    else map (λ n. (max at (BLOCK_SIZE * n), min end (BLOCK_SIZE * (n + 1)))) (range_with_len (at / BLOCK_SIZE) ((end + 511) / BLOCK_SIZE - at / BLOCK_SIZE))
+    else map (λ n. (max at (BLOCK_SIZE * n), min end (BLOCK_SIZE * (n + 1))))
+    (range_with_len (at / BLOCK_SIZE) ((end + 511) / BLOCK_SIZE - at / BLOCK_SIZE))
 
 -- where the piece that begins at a byte ends
 abbrev pub piece_end : ℕ → ℕ → ℕ
@@ -45,7 +46,8 @@ reading put (piece ∷ rest) m =
     let t : Touching = touching m.node m.room (piece.0 / BLOCK_SIZE) in
     if not t.is_done then stopped m t ENOSPC else
     going_on (put m.memory m.done (slice_range t.node.body piece.0 piece.1))
-    (λ memory. reading put rest (record { node = t.node; room = t.room; memory = memory; done = m.done + (piece.1 - piece.0); error = None }))
+    (λ memory. reading put rest
+    (record { node = t.node; room = t.room; memory = memory; done = m.done + (piece.1 - piece.0); error = None }))
     (stopped m t EFAULT)
 
 -- The greatest size that a write may give a file. A directory that is longer already can be written within itself.
@@ -65,7 +67,14 @@ writing get (piece ∷ rest) m =
     (let t : Touching = touching m.node m.room (piece.0 / BLOCK_SIZE) in
     if not t.is_done then stopped m t ENOSPC else
     going_on (get m.done (piece.1 - piece.0))
-    (λ bytes. writing get rest (record { node = with_bytes t.node piece.0 bytes; room = t.room; memory = m.memory; done = m.done + (piece.1 - piece.0); error = None }))
+    (λ bytes. writing get rest
+    (record {
+      node = with_bytes t.node piece.0 bytes;
+      room = t.room;
+      memory = m.memory;
+      done = m.done + (piece.1 - piece.0);
+      error = None;
+    }))
     (stopped m t EFAULT))
 
 abbrev pub beginning : {Memory : Type 0} → Node → ℕ → Memory → Moving Memory

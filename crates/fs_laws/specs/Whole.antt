@@ -27,7 +27,8 @@ pub record IsApart (disk : Disk) (blocks : List ℕ) : Type 0 where
 pub record ChangesFile (old new : Disk) (i : ℕ) : Type 0 where
   pub zone : SameZone old new
   pub nodes : (j : ℕ) → 1 ≤ j → j ≤ inode_count old → j ≢ i → inode new j ≡ inode old j
-  pub blocks : (k : ℕ) → is_data old k ≡ true → count_by (nat_eq k) (free old) ≡ 0 → count_by (nat_eq k) (held_by old i) ≡ 0 → new k ≡ old k
+  pub blocks : (k : ℕ) → is_data old k ≡ true → count_by (nat_eq k) (free old) ≡ 0 → count_by (nat_eq k) (held_by old i) ≡ 0
+      → new k ≡ old k
 
 -- A file takes free blocks and gives blocks back, which leaves a disk in between, and then its inode is written. The
 -- blocks that the file holds then, and the free ones, are among those of before.

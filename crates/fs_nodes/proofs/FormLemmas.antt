@@ -1,14 +1,16 @@
 -- What is so of all file systems, from what is so of each.
-use Rattle.std.proofs.Common.{◌≡◌, ◌+◌, ◌-◌, ◌<◌, ◌≤◌, ℕ, false, nat_lt, Option, Some, None, IsSome, inl, inr, refl, sym, ◌∙◌, subst, arith}
+use Rattle.std.proofs.Common.{◌≡◌, ◌+◌, ◌-◌, ◌<◌, ◌≤◌, ℕ, false, nat_lt, List, Option, Some, None, IsSome, inl, inr, refl, sym, ap, ◌∙◌, subst, arith}
+use Rattle.std.specs.Prelude.{IsSomeAnd}
 use Rattle.std.proofs.lemmas.Bool.{cases_lt}
 use Rattle.std.proofs.lemmas.List.{get_or_past}
 use Rattle.std.proofs.lemmas.Bool.Decides.{nat_tests}
+use Rattle.buf_cache.specs.Blocks.{block_at}
 use Rattle.fs_codec.specs.Store.{Node}
 use Rattle.fs_codec.specs.Store as codec
 use Rattle.fs_nodes.specs.one_disk.FileSystem as disk
 use Rattle.fs_nodes.specs.Disks.{OfSecond}
 use Rattle.fs_nodes.proofs.JoinedLemmas.{joined_long}
-use Rattle.fs_nodes.specs.FileSystem.{AreDisks, IsFileSystem, together, referenced}
+use Rattle.fs_nodes.specs.FileSystem.{FileSystem, AreDisks, IsFileSystem, together, referenced}
 use Rattle.fs_nodes.proofs.SideLemmas.{root_side, second_side, node_is, total_is, low_used}
 
 one_form : (root : disk.FileSystem) → disk.IsFileSystem root → IsFileSystem (together (record { root = root; second = None }))
@@ -27,6 +29,8 @@ one_form root form =
       keys = λ some. absurd (cc);
       blocks = form.blocks;
       second_blocks = tt;
+      second_there = refl;
+      second_stored = refl;
     }
 
 two_form : (root second : disk.FileSystem) → disk.IsFileSystem root → disk.IsFileSystem second
@@ -63,6 +67,8 @@ two_form root second form form' few keys some_root =
       keys = λ there. keys;
       blocks = form.blocks;
       second_blocks = form'.blocks;
+      second_there = refl;
+      second_stored = refl;
     } where
       not_above : (n key : ℕ) → key ≤ n → nat_lt n key ≡ false
       not_above n key le = grind (arith, nat_tests)
@@ -82,3 +88,12 @@ pub form_is : (root : disk.FileSystem) (o : Option disk.FileSystem) (first : ℕ
     → IsFileSystem (together (record { root = root; second = o }))
 form_is root None first are form form' = one_form root form
 form_is root (Some second) first are form form' = two_form root second form form' are.few are.keys.1 (root_there root form)
+
+-- A block that is stored of a second disk.
+pub stored_second : (root second : disk.FileSystem) (o : Option disk.FileSystem) (fs : FileSystem) (bytes : List ℕ) (n : ℕ)
+    → o ≡ Some second → together (record { root = root; second = o }) ≡ fs → bytes ≡ block_at second.stored n
+    → IsSomeAnd fs.stored.second (λ stored. bytes ≡ block_at stored n)
+stored_second root second o fs bytes n is view here =
+    let both : together (record { root = root; second = Some second }) ≡ fs = ap (λ (x : Option disk.FileSystem). together (record { root = root; second = x })) (sym is) ∙ view in
+    let P : FileSystem → Type 0 = λ f. IsSomeAnd f.stored.second (λ stored. bytes ≡ block_at stored n) in
+    subst P both here

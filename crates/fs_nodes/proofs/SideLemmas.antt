@@ -15,7 +15,7 @@ use Rattle.fs_laws.specs.Rest.{SameAround}
 use Rattle.fs_codec.specs.Modes.{is_device}
 use Rattle.fs_laws.specs.Truncation.{truncated, names_held}
 use Rattle.fs_nodes.specs.one_disk.FileSystem as disk
-use Rattle.fs_nodes.specs.Disks.{OfSecond, Between}
+use Rattle.fs_nodes.specs.Disks.{OfSecond}
 use Rattle.fs_nodes.specs.Keys.{Stores, store_at, number_of, node_numbered, room_at, with_store_at, with_node, with_fields, with_truncated, without_reference, joined}
 use Rattle.fs_nodes.proofs.JoinedLemmas.{at_root, at_second, set_root, set_second, counted}
 use Rattle.v6_base.specs.declared.errno.Errno.{Errno}
@@ -48,10 +48,6 @@ pub record Side (whole : FileSystem) (key : ℕ) (own : disk.FileSystem) (number
 rest_refl : (blocks : List (List ℕ)) → SameAround blocks blocks
 rest_refl blocks = record { boot = refl; i_size = refl; f_size = refl; behind = λ n low. refl }
 
-between_refl : (o : Option (List (List ℕ))) → Between SameAround o o
-between_refl None = tt
-between_refl (Some x) = rest_refl x
-
 -- Nothing is written.
 pub nothing_late : (root : disk.FileSystem) (o : Option disk.FileSystem) (fs : FileSystem)
     → together (record { root = root; second = o }) ≡ fs
@@ -61,6 +57,46 @@ nothing_late root o fs view = subst (λ (f : FileSystem). WritesLateEach f.store
       → WritesLateEach (together (record { root = root; second = x })).stored (together (record { root = root; second = x })).blocks (together (record { root = root; second = x })).stored
   by None = record { root = late_stays root.stored root.blocks; second = refl }
   by (Some s) = record { root = late_stays root.stored root.blocks; second = late_stays s.stored s.blocks }
+
+-- A disk has its blocks written late.
+pub late_root : (root new : disk.FileSystem) (o : Option disk.FileSystem) (fs : FileSystem)
+    → together (record { root = root; second = o }) ≡ fs → WritesLate root.stored root.blocks new.stored
+    → WritesLateEach fs.stored fs.blocks (with_root o new).stored
+late_root root new o fs view late = subst (λ (f : FileSystem). WritesLateEach f.stored f.blocks (with_root o new).stored) view (by o) where
+  by : (x : Option disk.FileSystem)
+      → WritesLateEach (together (record { root = root; second = x })).stored (together (record { root = root; second = x })).blocks (with_root x new).stored
+  by None = record { root = late; second = refl }
+  by (Some s) = record { root = late; second = late_stays s.stored s.blocks }
+
+pub late_second : (root second new : disk.FileSystem) (o : Option disk.FileSystem) (fs : FileSystem) → o ≡ Some second
+    → together (record { root = root; second = o }) ≡ fs → WritesLate second.stored second.blocks new.stored
+    → WritesLateEach fs.stored fs.blocks (with_second root new).stored
+late_second root second new o fs is view late =
+    let both : together (record { root = root; second = Some second }) ≡ fs = ap (λ (x : Option disk.FileSystem). together (record { root = root; second = x })) (sym is) ∙ view in
+    let P : FileSystem → Type 0 = λ f. WritesLateEach f.stored f.blocks (with_second root new).stored in
+    subst P both (record { root = late_stays root.stored root.blocks; second = late })
+
+-- A disk has the blocks that it had, and the same is stored of them.
+pub same_root : (root new : disk.FileSystem) (o : Option disk.FileSystem) (fs : FileSystem)
+    → together (record { root = root; second = o }) ≡ fs → new.blocks ≡ root.blocks → new.stored ≡ root.stored
+    → ((with_root o new).blocks ≡ fs.blocks) × ((with_root o new).stored ≡ fs.stored)
+same_root root new o fs view blocks stored =
+    let P : FileSystem → Type 0 = λ f. ((with_root o new).blocks ≡ f.blocks) × ((with_root o new).stored ≡ f.stored) in
+    subst P view (
+      ap (λ (b : List (List ℕ)). record { root = b; second = (with_root o new).blocks.second }) blocks,
+      ap (λ (b : List (List ℕ)). record { root = b; second = (with_root o new).stored.second }) stored,
+    )
+
+pub same_second : (root second new : disk.FileSystem) (o : Option disk.FileSystem) (fs : FileSystem) → o ≡ Some second
+    → together (record { root = root; second = o }) ≡ fs → new.blocks ≡ second.blocks → new.stored ≡ second.stored
+    → ((with_second root new).blocks ≡ fs.blocks) × ((with_second root new).stored ≡ fs.stored)
+same_second root second new o fs is view blocks stored =
+    let both : together (record { root = root; second = Some second }) ≡ fs = ap (λ (x : Option disk.FileSystem). together (record { root = root; second = x })) (sym is) ∙ view in
+    let P : FileSystem → Type 0 = λ f. ((with_second root new).blocks ≡ f.blocks) × ((with_second root new).stored ≡ f.stored) in
+    subst P both (
+      ap (λ (b : List (List ℕ)). record { root = root.blocks; second = Some b }) blocks,
+      ap (λ (b : List (List ℕ)). record { root = root.stored; second = Some b }) stored,
+    )
 
 -- the root's disk
 pub root_side : (root : disk.FileSystem) (second : Option disk.FileSystem) (key : ℕ)
@@ -160,14 +196,6 @@ second_kept root second new o first are is count few =
       few = (let f = are'.few in omega (arith, f, few));
       keys = (are'.keys.0, (let k = are'.keys.1 in omega (arith, k, count)));
     }
-
--- a store put where it stands changes nothing
-stays : (root : Store) (o : Option Store) (t : Bool)
-    → cond {A = Stores} (is_some o && t) (record { root = root; second = Some (unwrap_or o root) }) (record { root = root; second = o })
-    ≡ record { root = root; second = o }
-stays root None t = refl
-stays root (Some x) true = refl
-stays root (Some x) false = refl
 
 module _ {whole : FileSystem} {key : ℕ} {own : disk.FileSystem} {number : ℕ} {with_own : disk.FileSystem → FileSystem} (side : Side whole key own number with_own) where
   -- the node of the key

@@ -1,7 +1,7 @@
 //! The inodes that somebody refers to, of one disk or of two.
-ghost use Rattle.std.specs.Prelude.{bit_and, ◌≡◌, ◌≢◌, ◌+◌, ◌-◌, ◌*◌, ◌<◌, ◌≤◌, ◌⊎◌, ◌==◌, ℕ, if◌then◌else◌, nat_lt, true, false, length, slice_set, slice_index, replicate, None, Some, IsSome, MatchResult, MatchOption, IfSome, IfOk};
+ghost use Rattle.std.specs.Prelude.{bit_and, ◌≡◌, ◌≢◌, ◌+◌, ◌-◌, ◌*◌, ◌<◌, ◌≤◌, ◌⊎◌, ◌==◌, ℕ, if◌then◌else◌, nat_lt, true, false, length, slice_set, slice_index, replicate, None, Some, IsSome, IsSomeAnd, MatchResult, MatchOption, IfOk};
 ghost use Rattle.v6_base.specs.declared.errno.Errno.{Errno};
-ghost use Rattle.buf_cache.specs.Blocks.{block_at};
+ghost use Rattle.buf_cache.specs.Blocks.{block_at, WritesLate};
 ghost use Rattle.fs_codec.specs.Store.{Node};
 ghost use Rattle.fs_codec.specs.Faults.{disk_fault};
 ghost use Rattle.fs_codec.specs.declared.layout.TheConstants.{DISK_BLOCKS};
@@ -11,7 +11,7 @@ ghost use Rattle.fs_laws.specs.Pieces.{read_file, write_file};
 ghost use Rattle.fs_blocks.specs.State.{disk};
 ghost use Rattle.fs_blocks.specs.Store.{store_now};
 ghost use Rattle.fs_nodes.specs.Copy.{put_into, put_kernel, get_from, get_kernel};
-ghost use Rattle.fs_nodes.specs.Disks.{Disks, OfSecond};
+ghost use Rattle.fs_nodes.specs.Disks.{OfSecond};
 ghost use Rattle.fs_nodes.specs.Keys.{node_numbered, without_reference, with_fields, with_truncated, room_at, synced};
 ghost use Rattle.fs_nodes.specs.FileSystem.{FileSystem, referenced, held_on_second, held_by, IsFileSystem, file_byte, SameFiles, ShowsNode, SameRest, WritesLateEach, AllStand, together};
 ghost use Rattle.fs_nodes.specs.Moves.{Moves};
@@ -40,7 +40,6 @@ pub struct Nodes {
 }
 
 impl Model for Nodes {
-    ghost use Rattle.fs_nodes.specs.Disks.{Disks};
     ghost use Rattle.fs_nodes.specs.FileSystem.{FileSystem, together, AreDisks};
 
     ghost Value = { FileSystem };
@@ -85,6 +84,7 @@ fn make_on(
     ensures outcome { MatchResult result
         (λ i. (has_room ≡ true) × one_numbers.MakesNode nodes.old mode uid gid time i nodes.new)
         (λ e. MakesNoneOn nodes.old has_room e nodes.new) }
+    ensures stored { WritesLate nodes.old.stored nodes.old.blocks nodes.new.stored }
     ensures rest { one.SameRest nodes.old nodes.new }
 {
     if has_room {
@@ -180,6 +180,8 @@ impl Nodes {
         ensures store { (node : Node) → node_numbered self.old.store ino ≡ Some node → self.new.store
             ≡ (if slice_index self.old.references ino == 1
             then without_reference self.old.store ino node else self.old.store) }
+        ensures stored { (node : Node) → node_numbered self.old.store ino ≡ Some node → 0 < node.nlink
+            → WritesLateEach self.old.stored self.old.blocks self.new.stored }
         ensures rest { SameRest self.old self.new }
     {
         see(&self.root, &self.second);
@@ -206,6 +208,7 @@ impl Nodes {
         ensures found { MatchOption result (node_numbered self.old.store ino ≡ None)
             (λ inode. ShowsNode (node_numbered self.old.store ino) inode) }
         ensures same { SameFiles self.old self.new }
+        ensures stored { WritesLateEach self.old.stored self.old.blocks self.new.stored }
     {
         see(&self.root, &self.second);
         match &mut self.second {
@@ -248,7 +251,7 @@ impl Nodes {
         requires block { n < DISK_BLOCKS }
         requires there { dev ≢ 0 → IsSome self.now.store.second }
         ensures root { dev ≡ 0 → result.now ≡ block_at self.now.stored.root n }
-        ensures second { dev ≢ 0 → IfSome self.now.stored.second (λ stored. result.now ≡ block_at stored n) }
+        ensures second { dev ≢ 0 → IsSomeAnd self.now.stored.second (λ stored. result.now ≡ block_at stored n) }
     {
         match &self.second {
             Some(second) if dev != 0 => second.on_disk(n),
@@ -262,6 +265,8 @@ impl Nodes {
         ensures store { (node : Node) → node_numbered self.old.store ino ≡ Some node
             → self.new.store ≡ with_fields self.old.store ino (record node { nlink = nlink; modtime = time }) }
         ensures references { self.new.references ≡ self.old.references }
+        ensures blocks { self.new.blocks ≡ self.old.blocks }
+        ensures stored { self.new.stored ≡ self.old.stored }
         ensures rest { SameRest self.old self.new }
     {
         see(&self.root, &self.second);
@@ -315,6 +320,8 @@ impl Nodes {
         ensures store { (node : Node) → node_numbered self.old.store ino ≡ Some node
             → self.new.store ≡ with_fields self.old.store ino (record node { mode = mode; modtime = time }) }
         ensures references { self.new.references ≡ self.old.references }
+        ensures blocks { self.new.blocks ≡ self.old.blocks }
+        ensures stored { self.new.stored ≡ self.old.stored }
         ensures rest { SameRest self.old self.new }
     {
         see(&self.root, &self.second);
@@ -330,6 +337,8 @@ impl Nodes {
         ensures store { (node : Node) → node_numbered self.old.store ino ≡ Some node
             → self.new.store ≡ with_fields self.old.store ino (record node { uid = uid; gid = gid; modtime = time }) }
         ensures references { self.new.references ≡ self.old.references }
+        ensures blocks { self.new.blocks ≡ self.old.blocks }
+        ensures stored { self.new.stored ≡ self.old.stored }
         ensures rest { SameRest self.old self.new }
     {
         see(&self.root, &self.second);
@@ -346,6 +355,8 @@ impl Nodes {
         ensures store { (node : Node) → node_numbered self.old.store ino ≡ Some node
             → self.new.store ≡ with_fields self.old.store ino (record node { device = device }) }
         ensures references { self.new.references ≡ self.old.references }
+        ensures blocks { self.new.blocks ≡ self.old.blocks }
+        ensures stored { self.new.stored ≡ self.old.stored }
         ensures rest { SameRest self.old self.new }
     {
         see(&self.root, &self.second);
@@ -361,6 +372,8 @@ impl Nodes {
         ensures store { (node : Node) → node_numbered self.old.store ino ≡ Some node
             → self.new.store ≡ with_fields self.old.store ino (record node { size = 0 }) }
         ensures references { self.new.references ≡ self.old.references }
+        ensures blocks { self.new.blocks ≡ self.old.blocks }
+        ensures stored { self.new.stored ≡ self.old.stored }
         ensures rest { SameRest self.old self.new }
     {
         see(&self.root, &self.second);
@@ -531,6 +544,7 @@ impl Nodes {
         requires there { dev ≢ 0 → IsSome self.old.store.second }
         ensures outcome { MatchResult result (λ i. MakesNode self.old dev mode uid gid time i self.new)
             (λ e. MakesNone self.old dev e self.new) }
+        ensures stored { WritesLateEach self.old.stored self.old.blocks self.new.stored }
         ensures rest { SameRest self.old self.new }
     {
         see(&self.root, &self.second);
@@ -552,6 +566,7 @@ impl Nodes {
         ensures bytes { (node : Node) → node_numbered self.old.store ino ≡ Some node
             → (k : ℕ) → k < 16 → slice_index buf.new k ≡ file_byte node.size node.body (offset + k) }
         ensures same { SameFiles self.old self.new }
+        ensures stored { WritesLateEach self.old.stored self.old.blocks self.new.stored }
     {
         see(&self.root, &self.second);
         match &mut self.second {
@@ -567,6 +582,7 @@ impl Nodes {
         ensures bytes { (node : Node) → node_numbered self.old.store ino ≡ Some node
             → (k : ℕ) → k < 512 → slice_index buf.new k ≡ slice_index node.body (512 * n + k) }
         ensures same { SameFiles self.old self.new }
+        ensures stored { WritesLateEach self.old.stored self.old.blocks self.new.stored }
     {
         see(&self.root, &self.second);
         match &mut self.second {

@@ -5,3 +5,4 @@ pub mod FindingLemmas
 pub mod EntryLemmas
 pub mod NamingLemmas
 pub mod MountLemmas
+pub mod MarkLemmas

@@ -76,7 +76,8 @@ put_back n ino = record n {
 abbrev pub referring_both : Inodes → ℕ × ℕ × ℕ → Finding (ℕ × ℕ × ℕ)
 referring_both n entry =
     if not (can_refer n entry.0) then refused n ENFILE
-    else (if not (can_refer (with_reference n entry.0) entry.2) then refused (put_back (with_reference n entry.0) entry.0) ENFILE
+    else (
+    if not (can_refer (with_reference n entry.0) entry.2) then refused (put_back (with_reference n entry.0) entry.0) ENFILE
     else record { answer = Ok entry; inodes = with_reference (with_reference n entry.0) entry.2 })
 
 abbrev pub removing : Inodes → Result (ℕ × ℕ × ℕ) Errno → Finding (ℕ × ℕ × ℕ)

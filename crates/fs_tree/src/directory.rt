@@ -1,5 +1,5 @@
 //! The entries of a directory: directory(V).
-ghost use Rattle.std.specs.Prelude.{◌≡◌, ◌≢◌, ◌+◌, ◌*◌, ◌/◌, ◌%◌, ◌<◌, ◌≤◌, ◌==◌, ◌&&◌, ℕ, not, if◌then◌else◌, Some, None, is_some, length, slice_range};
+ghost use Rattle.std.specs.Prelude.{◌≡◌, ◌≢◌, ◌+◌, ◌*◌, ◌/◌, ◌%◌, ◌<◌, ◌≤◌, ◌==◌, ◌&&◌, not, if◌then◌else◌, Some, None, is_some, length, slice_range};
 ghost use Rattle.std.specs.Prelude.{IsSome, bytes_eq};
 ghost use Rattle.fs_codec.specs.Fields.{entry_of};
 ghost use Rattle.fs_codec.specs.Store.{Node};

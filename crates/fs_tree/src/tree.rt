@@ -8,7 +8,7 @@ ghost use Rattle.fs_tree.specs.Marks.{no_marks};
 ghost use Rattle.fs_tree.specs.Permission.{access};
 ghost use Rattle.fs_tree.specs.Finding.{find_in, make_in, remove_in, referring_both, can_refer, with_reference};
 ghost use Rattle.fs_tree.specs.Finding.{put_back, inodes_of};
-ghost use Rattle.fs_nodes.specs.FileSystem.{FileSystem, SameRest};
+ghost use Rattle.fs_nodes.specs.FileSystem.{SameRest};
 
 use crate::access::{grant, may};
 use crate::made::Made;
@@ -109,9 +109,9 @@ impl Tree {
         }
     }
 
-    /// Whether a user may do this with the file of an inode: access in Lions' Commentary, `fio.c`. Nobody may write a file whose
-    /// text is shared, user 0 no more than others. Else user 0 may do all, but needs one of the three bits to execute; another
-    /// is tested against the bits of the first class that fits: the owner, the group, the others.
+    /// Whether a user may do this with the file of an inode: access in Lions' Commentary, `fio.c`. Nobody may write a file
+    /// whose text is shared, user 0 no more than others. Else user 0 may do all, but needs one of the three bits to execute;
+    /// another is tested against the bits of the first class that fits: the owner, the group, the others.
     ///
     /// # Errors
     ///
@@ -157,9 +157,9 @@ impl Tree {
         Ok(ino)
     }
 
-    /// Finds the inode of a name, or the room for a new entry of this name in a directory that the user may write, and refers to
-    /// the inode or to the directory once more. The room is the first empty entry, or the place just after the entries. Nothing
-    /// else changes.
+    /// Finds the inode of a name, or the room for a new entry of this name in a directory that the user may write, and refers
+    /// to the inode or to the directory once more. The room is the first empty entry, or the place just after the entries.
+    /// Nothing else changes.
     ///
     /// # Errors
     ///

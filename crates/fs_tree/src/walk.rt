@@ -1,7 +1,6 @@
 //! The search for a name: namei in Lions' Commentary, `nami.c`.
-ghost use Rattle.std.specs.Prelude.{◌≡◌, ◌≢◌, ◌+◌, ◌*◌, ◌||◌, ◌<◌, ℕ, List, [], ◌∷◌, true, false, not, length, Some};
-ghost use Rattle.std.specs.Prelude.{None, IsSome, IfOk, slice_index};
-ghost use Rattle.fs_codec.specs.Store.{Node};
+ghost use Rattle.std.specs.Prelude.{◌≡◌, ◌+◌, ◌||◌, ◌<◌, ℕ, List, ◌∷◌, true, not, length};
+ghost use Rattle.std.specs.Prelude.{IsSome, IfOk, slice_index};
 ghost use Rattle.fs_nodes.specs.Keys.{node_numbered};
 ghost use Rattle.fs_nodes.specs.FileSystem.{SameFiles};
 ghost use Rattle.fs_tree.specs.Name.{components, is_whole, begins, start_of};

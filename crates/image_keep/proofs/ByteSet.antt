@@ -1,4 +1,5 @@
--- A byte of the line of core and the swap area is another one: it is one of core, or of the swap area, and the other list is as it was.
+-- A byte of the line of core and the swap area is another one: it is one of core, or of the swap area, and the other list is
+-- as it was.
 use Rattle.std.proofs.Common.{◌≡◌, ◌∙◌, ℕ, ◌+◌, ◌-◌, ◌*◌, ◌<◌, Bool, true, false, cond, List, ◌++◌, length, take, set, refl, sym, ap, arith}
 use Rattle.std.proofs.lemmas.List.{take_all, take-append-le, append_cancel_left, set-append_left, set-append_right, length-set}
 use Rattle.v6_base.specs.declared.named.Named.{Named}

@@ -202,5 +202,3 @@ tail_taken v s m place core_map swap_map maps is inside less = (
         meet : AreApart (block v.core x) (place_spot v.core (Swap b) (clicks_in (row_at v.rows s))) → b + blocks m ≤ x → x < b + blocks m + (blocks (clicks_in (row_at v.rows s)) - blocks m) → 4000 ≤ b → ⊥
         meet (inl c) u w j = omega (arith, c, u, w, j, less)
         meet (inr c) u w j = omega (arith, c, u, w, j, less)
-
-pub ruleset cutting = (maps_cut, tail_taken)

@@ -162,5 +162,3 @@ module _ (v : Stock) (k : Kept) (s : ℕ) (swap : Bool) (at p : ℕ) (view : kep
 -- what nobody has
 pub nobodys : (v : Stock) (k : Kept) (swap : Bool) (at p : ℕ) → kept_of v ≡ k → IsSound v → IsCounted v.rows v.texts → p ≡ line_place v.core swap at → position (has_byte v.core p) v.rows ≡ None → IsNobodys k swap at
 nobodys v k swap at p view h c is none = λ s byte of. no_row_has v k s swap at p view h c is none byte of
-
-pub ruleset depositing = (found, nobodys)

@@ -1,5 +1,5 @@
 -- A process ends, is waited for, or gives its image up.
-use Rattle.std.proofs.Common.{◌≡◌, ℕ, ◌+◌, ◌*◌, ◌<◌, ◌≤◌, ◌&&◌, ◌||◌, not, ◌⊎◌, List, length, set, Bool, true, false, Option, Some, None, refl, sym, ap, subst, ◌∙◌, arith}
+use Rattle.std.proofs.Common.{◌≡◌, ℕ, ◌+◌, ◌*◌, ◌<◌, ◌≤◌, ◌&&◌, ◌||◌, not, List, length, set, Bool, true, false, Option, Some, None, refl, sym, ap, subst, ◌∙◌, arith}
 use Rattle.std.proofs.lemmas.Bool.{false_from_ne_true}
 use Rattle.std.proofs.lemmas.Option.{none-some}
 use Rattle.v6_base.specs.declared.entry.Place.{Place}
@@ -153,8 +153,6 @@ freed v k s core_map swap_map core_new swap_new row rows view h maps c low bare 
 pub or_false : (b : Bool) → (b || false) ≡ b
 or_false true = refl
 or_false false = refl
-
-pub ruleset ending = (ended, freed, units_taken, both_room, swap_fits)
 
 pub still_taken : (a b c : Bool) → b ≡ (a && not c) → a ≡ false → b ≡ false
 still_taken a b c e f = e ∙ ap (λ x. x && not c) f

@@ -207,5 +207,3 @@ forks v k from to n a b p q core_map swap_map core_new swap_new row line texts r
 pub forked_long : (texts : List (Option TextRow)) (x : Option ℕ) (place : Place) → length (forked_entries texts x place) ≡ length texts
 forked_long texts None place = refl
 forked_long texts (Some t) place = length-set texts t (Some (forked_row place (text_row texts t)))
-
-pub ruleset forking = (nothing_row_is, bare_counted, forks)

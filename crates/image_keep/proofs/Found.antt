@@ -112,5 +112,3 @@ clicks_apart core n m from to p q e f (inr a) = let b = size_in_place p m in inr
 pub less_in : (core n m : ℕ) (place : Place) → IsIn core place n → m ≤ n → IsIn core place m
 less_in core n m (Core c) i l = let j = i.1 in (i.0, omega (arith, j, l))
 less_in core n m (Swap b) i l = let j = i.1 in (i.0, omega (arith, j, l))
-
-pub ruleset finding = (placed_is, place_found)

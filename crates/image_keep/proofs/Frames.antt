@@ -4,7 +4,7 @@ use Rattle.std.proofs.lemmas.Bool.{cases_lt, cases_eq, false≢true}
 use Rattle.std.proofs.lemmas.List.{get_or-set_same, get_or-set_other, get_or_past, set-get_or, set-set, set_past}
 use Rattle.v6_base.specs.Image.{Image}
 use Rattle.u_area.specs.declared.area.UArea.{UArea}
-use Rattle.image_keep.specs.Kept.{Held, Keeping, Nothing, Alive, Grave, Kept, keeping, with_keeping, place_in, place_of, is_alive, image_in, area_in, image_of, area_of, imaged, described, with_image, with_area, no_image, HasImage}
+use Rattle.image_keep.specs.Kept.{Held, Keeping, Nothing, Alive, Grave, Kept, keeping, with_keeping, is_alive, image_in, area_in, image_of, area_of, imaged, described, with_image, with_area, no_image, HasImage}
 use Rattle.image_keep.specs.Lent.{left_of}
 
 -- a slot after a change of it, and of another one
@@ -96,11 +96,6 @@ area_imaged m Nothing = refl
 area_imaged m (Alive held) = refl
 area_imaged m (Grave u block) = refl
 
-place_imaged : (m : Image) (x : Keeping) → place_in (imaged m x) ≡ place_in x
-place_imaged m Nothing = refl
-place_imaged m (Alive held) = refl
-place_imaged m (Grave u block) = refl
-
 pub with_image_same : (k : Kept) (s : ℕ) (m : Image) → is_alive (keeping k s) ≡ true → image_of (with_image k s m) s ≡ m
 with_image_same k s m is = ap image_in (slot_imaged k s m) ∙ image_imaged m (keeping k s) is
 
@@ -120,17 +115,8 @@ with_image_alive k s t m = kept_by_image is_alive k s t m (alive_imaged m (keepi
 pub with_image_area : (k : Kept) (s t : ℕ) (m : Image) → area_of (with_image k s m) t ≡ area_of k t
 with_image_area k s t m = kept_by_image area_in k s t m (area_imaged m (keeping k s))
 
-pub with_image_place : (k : Kept) (s t : ℕ) (m : Image) → place_of (with_image k s m) t ≡ place_of k t
-with_image_place k s t m = kept_by_image place_in k s t m (place_imaged m (keeping k s))
-
 pub with_image_has : (k : Kept) (s t : ℕ) (m : Image) → HasImage k t → HasImage (with_image k s m) t
 with_image_has k s t m has = alive_image (with_image k s m) t (with_image_alive k s t m ∙ image_alive k t has)
-
-pub keeps_nothing : (k : Kept) (s t : ℕ) (m : Image) → keeping k t ≡ Nothing → keeping (with_image k s m) t ≡ Nothing
-keeps_nothing k s t m none = elim (cases_eq t s) [
-  | inl here ↦ ap (keeping (with_image k s m)) here ∙ (slot_imaged k s m ∙ ap (imaged m) (ap (keeping k) (sym here) ∙ none))
-  | inr other ↦ with_image_other k s t m other ∙ none
-]
 
 -- the texts, and who has which, are the same
 pub record SameTexts (old new : Kept) : Type 0 where

@@ -348,5 +348,3 @@ stays_moved k (Some t) (Swap b) = same_shared k t
 
 pub moved_here : (k : Kept) (s : ℕ) (p : Place) (u : UArea) (m : Image) → place_of k s ≡ Some p → with_image_at k s u m (Some p) ≡ with_image_moved k s u m (Some p)
 moved_here k s p u m at = ap (λ j. with_image_at j s u m (Some p)) (sym (stays_moved k (text_of k s) p)) ∙ ap (λ o. with_image_at (moved_texts k (text_of k s) o p) s u m (Some p)) (sym at)
-
-pub ruleset growing = (resized_kept, cuts, grows, moved_text)

@@ -1,23 +1,22 @@
 -- An image is laid at a free place: a new one, a grown one, a copy; and a byte of an image is read or written.
-use Rattle.std.proofs.Common.{◌≡◌, ◌≢◌, ℕ, ◌+◌, ◌-◌, ◌*◌, ◌<◌, ◌≤◌, List, ◌++◌, length, take, drop, slice_index, slice_set, Some, refl, sym, ap, subst, ◌∙◌, arith, append_assoc, length-append}
-use Rattle.std.proofs.lemmas.List.{take_at, drop_at, take_all, length-set, drop-set-lt, take-set-le, get_or-take, get_or-drop}
+use Rattle.std.proofs.Common.{◌≡◌, ◌≢◌, ℕ, ◌+◌, ◌-◌, ◌*◌, ◌<◌, ◌≤◌, List, ◌++◌, length, take, drop, slice_index, Some, refl, sym, ap, subst, ◌∙◌, arith, append_assoc, length-append}
+use Rattle.std.proofs.lemmas.List.{take_at, drop_at, take_all, get_or-take, get_or-drop}
 use Rattle.v6_base.specs.declared.entry.Place.{Place}
 use Rattle.v6_base.specs.Image.{Image, nseg}
 use Rattle.core_mem.specs.Bytes.{part, over}
-use Rattle.core_mem.proofs.Parts.{part-over_same, part_below, part_above, part-part, part-set_in}
+use Rattle.core_mem.proofs.Parts.{part-over_same}
 use Rattle.u_area.specs.declared.area.UArea.{UArea}
-use Rattle.u_area.specs.Area.{fetched, area_bytes, IsSized, IsStored}
+use Rattle.u_area.specs.Area.{fetched, area_bytes, IsSized}
 use Rattle.u_area.proofs.AreaLemmas.{fetched_is}
 use Rattle.text_tab.specs.declared.row.TextRow.{TextRow}
 use Rattle.text_tab.specs.Table.{text_at}
 use Rattle.image_keep.specs.declared.row.State.TheVariants as state
 use Rattle.image_keep.specs.declared.row.Row.{Row}
-use Rattle.image_keep.specs.Kept.{Alive, keeping, with_keeping, with_text_of, with_image, imaged, image_of, image_in, at_place}
+use Rattle.image_keep.specs.Kept.{Alive, keeping, with_keeping, with_text_of, at_place}
 use Rattle.image_keep.specs.Memory.{Stock, row_at, at_row, place_at, place_size, clicks_in, spot_by, Owner, RowOf, OutOf, spot, AreApart, text_in, text_for, image_by, keeping_by, kept_of, IsIn, IsAlive, HoldsBy, IsSound}
 use Rattle.image_keep.proofs.Writes.{Wrote, wrote_over, put_row, put_sound, text_for_off}
 use Rattle.image_keep.proofs.Places.{slot_at}
 use Rattle.image_keep.proofs.Moves.{Moves, moves, moved_line, off_of, size_in, fits_in}
-use Rattle.image_keep.proofs.Own.{OwnWrite, with_line, own_means, own_kept, front, text_stays}
 use Rattle.image_keep.proofs.Leaving.{put_text_kept}
 
 first_part : (a y : List ℕ) (n : ℕ) → length a ≡ n → part (a ++ y) 0 n ≡ a
@@ -109,77 +108,6 @@ forked v from to p q h l is inside free =
           ∙ ap (λ x. with_text_of (with_keeping (kept_of v) to x) to r.text) (m.means ∙ ap (at_place q) (sym (slot_at v from))),
     )
 
--- A byte of the data or of the stack is written, in core or in the swap area.
-set_wrote : (line : List ℕ) (a e i b : ℕ) → a ≤ i → i < e → Wrote line (slice_set line i b) a e
-set_wrote line a e i b l m = record {
-  below = take-set-le a line i b l;
-  above = drop-set-lt e line i b m;
-  size = length-set line i b;
-}
-
-pub byte_write : (v : Stock) (s : ℕ) (place : Place) (i b : ℕ) → IsSound v → (row_at v.rows s).state ≡ state.Alive place → 1024 ≤ i → i < 64 * clicks_in (row_at v.rows s)
-    → OwnWrite v s place (slice_set v.line (place_at v.core place + i) b)
-byte_write v s place i b h is low high =
-    let r : Row = row_at v.rows s in
-    let n : ℕ = clicks_in r in
-    let own : IsAlive (part v.line (place_at v.core place) (64 * n)) v.core r.data_size r.stack_size place = subst (λ st. HoldsBy v.line v.core st r.data_size r.stack_size) is (h.rows s) in
-    let at : ℕ = place_at v.core place in
-    let new = slice_set v.line (at + i) b in
-    let same : part new at 1024 ≡ part v.line at 1024 = part_below new v.line (at + 1024) at 1024 (take-set-le (at + 1024) v.line (at + i) b (omega arith)) (omega arith) in
-    let f : part (part v.line at (64 * n)) 0 1024 ≡ part v.line at 1024 = front v.line at n (omega arith) in
-    record {
-      wrote = set_wrote v.line at (at + 64 * n) (at + i) b (omega arith) (omega arith);
-      is = is;
-      stored = subst IsStored (f ∙ sym same) own.stored;
-      data_size = ap (λ x. (fetched x).data_size) (same ∙ sym f) ∙ own.data_size;
-      stack_size = ap (λ x. (fetched x).stack_size) (same ∙ sym f) ∙ own.stack_size;
-    }
-
-pub data_stored : (v : Stock) (s : ℕ) (place : Place) (i b : ℕ) → IsSound v → (row_at v.rows s).state ≡ state.Alive place → i < 64 * (row_at v.rows s).data_size
-    → kept_of (with_line v (slice_set v.line (place_at v.core place + (1024 + i)) b)) ≡ with_image (kept_of v) s (record (image_of (kept_of v) s) { «data» = slice_set (image_of (kept_of v) s).data i b })
-unfolding with_image image_by
-data_stored v s place i b h is low =
-    let r : Row = row_at v.rows s in
-    let n : ℕ = clicks_in r in
-    let own : IsAlive (part v.line (place_at v.core place) (64 * n)) v.core r.data_size r.stack_size place = subst (λ st. HoldsBy v.line v.core st r.data_size r.stack_size) is (h.rows s) in
-    let f = fits_in v.core n 0 place own.inside in
-    let z = h.size in
-    let at : ℕ = place_at v.core place in
-    let new = slice_set v.line (at + (1024 + i)) b in
-    let w : OwnWrite v s place new = byte_write v s place (1024 + i) b h is (omega arith) (omega arith) in
-    let area : part new at 1024 ≡ part v.line at 1024 = part_below new v.line (at + 1024) at 1024 (take-set-le (at + 1024) v.line (at + (1024 + i)) b (omega arith)) (omega arith) in
-    let assoc : at + (1024 + i) ≡ at + 1024 + i = omega arith in
-    let one : part (part new at (64 * n)) 1024 (64 * r.data_size) ≡ slice_set (part (part v.line at (64 * n)) 1024 (64 * r.data_size)) i b =
-    part-part new at (64 * n) 1024 (64 * r.data_size) (omega arith)
-    ∙ ap (λ j. part (slice_set v.line j b) (at + 1024) (64 * r.data_size)) assoc
-    ∙ part-set_in v.line (at + 1024) (64 * r.data_size) i b low (omega (arith, f, z))
-    ∙ ap (λ x. slice_set x i b) (sym (part-part v.line at (64 * n) 1024 (64 * r.data_size) (omega arith))) in
-    let two : part (part new at (64 * n)) (1024 + 64 * r.data_size) (64 * r.stack_size) ≡ part (part v.line at (64 * n)) (1024 + 64 * r.data_size) (64 * r.stack_size) =
-    part-part new at (64 * n) (1024 + 64 * r.data_size) (64 * r.stack_size) (omega arith)
-    ∙ part_above new v.line (at + (1024 + 64 * r.data_size)) (at + (1024 + 64 * r.data_size)) (64 * r.stack_size) (drop-set-lt (at + (1024 + 64 * r.data_size)) v.line (at + (1024 + i)) b (omega arith)) (omega arith)
-    ∙ sym (part-part v.line at (64 * n) (1024 + 64 * r.data_size) (64 * r.stack_size) (omega arith)) in
-    own_kept v s place new h w
-    ∙ ap (with_keeping (kept_of v) s)
-    (own_means v s place new is
-    ∙ stored_so new (fetched (part new at 1024)) (fetched (part v.line at 1024)) (ap fetched area) (text_stays v s place new h w) one two
-    ∙ sym (ap (λ x. imaged (record (image_in x) { «data» = slice_set (image_in x).data i b }) x) (slot_at v s ∙ own_means v s place v.line is)))
-  where
-    stored_so : (new : List ℕ) (u u2 : UArea) → u ≡ u2 → text_for new v.core v.texts (row_at v.rows s).text ≡ text_for v.line v.core v.texts (row_at v.rows s).text
-        → part (part new (place_at v.core place) (64 * clicks_in (row_at v.rows s))) 1024 (64 * (row_at v.rows s).data_size) ≡ slice_set (part (part v.line (place_at v.core place) (64 * clicks_in (row_at v.rows s))) 1024 (64 * (row_at v.rows s).data_size)) i b
-        → part (part new (place_at v.core place) (64 * clicks_in (row_at v.rows s))) (1024 + 64 * (row_at v.rows s).data_size) (64 * (row_at v.rows s).stack_size)
-        ≡ part (part v.line (place_at v.core place) (64 * clicks_in (row_at v.rows s))) (1024 + 64 * (row_at v.rows s).data_size) (64 * (row_at v.rows s).stack_size)
-        → Alive (record { u = u; image = image_by (part new (place_at v.core place) (64 * clicks_in (row_at v.rows s))) (row_at v.rows s).data_size (row_at v.rows s).stack_size (text_for new v.core v.texts (row_at v.rows s).text); place = place })
-        ≡ Alive (record {
-          u = u2;
-          image = record {
-            text = text_for v.line v.core v.texts (row_at v.rows s).text;
-            «data» = slice_set (part (part v.line (place_at v.core place) (64 * clicks_in (row_at v.rows s))) 1024 (64 * (row_at v.rows s).data_size)) i b;
-            stack = part (part v.line (place_at v.core place) (64 * clicks_in (row_at v.rows s))) (1024 + 64 * (row_at v.rows s).data_size) (64 * (row_at v.rows s).stack_size);
-          };
-          place = place;
-        })
-    stored_so new u u2 e f g k = cc
-
 -- The text that a process in core reads is the copy in core.
 pub text_copy : (v : Stock) (t i : ℕ) (row : TextRow) → IsSound v → text_at v.texts t ≡ Some row → row.loaded ≢ 0 → i < 64 * row.clicks
     → slice_index (text_for v.line v.core v.texts (Some t)) i ≡ slice_index v.line (64 * (row.at - 1) + i)
@@ -189,5 +117,3 @@ text_copy v t i row h here some low =
     ap (λ o. slice_index (text_in v.line v.core o) i) here
     ∙ ap (λ x. slice_index x i) (sym copy)
     ∙ get_or-take (64 * row.clicks) (drop (64 * (row.at - 1)) v.line) i 0 low ∙ get_or-drop (64 * (row.at - 1)) v.line i 0
-
-pub ruleset laying = (laid_image, forked, byte_write, data_stored, text_copy)

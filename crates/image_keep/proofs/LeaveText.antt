@@ -467,5 +467,3 @@ kept_long v k view = (
   sym (ap (λ (j : Kept). length j.slots) view) ∙ length-map v.rows (keeping_in v.line v.core v.texts),
   sym (ap (λ (j : Kept). length j.users) view) ∙ length-map v.rows (λ (r : Row). r.text),
 )
-
-pub ruleset leaving_texts = (row_left, stored_by, entry_left, left_counted, has_text_of, unloads, detaches, text_left, told_answer, others_stay, kept_long)

@@ -184,5 +184,3 @@ emptied v s h l = (
   put_sound v s (nothing_row (row_at v.rows s)) v.line 0 0 h l (wrote_none v.line 0 0) (λ p ne. inr (omega arith)) (λ p ne. apart_none (spot v p)) tt,
   put_kept v s (nothing_row (row_at v.rows s)) v.line 0 0 (wrote_none v.line 0 0) (λ p ne. inr (omega arith)) refl,
 )
-
-pub ruleset leaving = (leaves_row, entry_kept, gone_kept, nobody_else, dies, half_read, emptied)

@@ -120,5 +120,3 @@ starts_are v k s click t text image row place x view h c has here is at size tex
       where
         same_some : Some has.0.place ≡ Some place → has.0.place ≡ place
         same_some z = same_Some has.0.place place z
-
-pub ruleset lending = (start_low, segments_fit, starts_are)

@@ -158,5 +158,3 @@ makes v k s t d n b q text area core_map swap_map core_new swap_new row line tex
     made_order : (j : Kept) (x : Option ℕ) (y : Keeping) → moved_texts (with_keeping j s y) x None q ≡ with_keeping (moved_texts j x None q) s y
     made_order j None y = refl
     made_order j (Some i) y = refl
-
-pub ruleset making = (cleared_line, makes)

@@ -230,5 +230,3 @@ has_come v (Some t) at h used low high free = by (text_at v.texts t) refl (used 
               ≡ with_shared (kept_of v) t (changed (loaded_at at) (shared (kept_of v) t))) (sym e)
               (k.1 ∙ sym (ap (λ o. with_shared (kept_of v) t (changed (loaded_at at) o)) (shared_at v t ∙ ap (shared_in v.line v.core) e)));
         }
-
-pub ruleset moving = (moves, has_come)

@@ -1,5 +1,5 @@
--- A process at hand in core: its parts are bytes of core, and what its instructions leave of core is what is kept, with this image
--- and these registers and codes.
+-- A process at hand in core: its parts are bytes of core, and what its instructions leave of core is what is kept, with this
+-- image and these registers and codes.
 use Rattle.std.proofs.Common.{◌≡◌, ℕ, ◌+◌, ◌-◌, ◌<◌, ◌≤◌, inl, inr, Bool, true, false, List, ◌++◌, length, Option, Some, None, refl, sym, ap, subst, ◌∙◌, arith}
 use Rattle.std.specs.Prelude.{IfSome, IsTrue}
 use Rattle.std.proofs.lemmas.Bool.{cases_lt}

@@ -12,7 +12,7 @@ use Rattle.image_keep.specs.declared.row.State.{State}
 use Rattle.image_keep.specs.declared.row.State.TheVariants as state
 use Rattle.image_keep.specs.declared.row.Row.{Row}
 use Rattle.image_keep.specs.Kept.{Kept, Nothing, keeping, text_of, shared, with_shared, with_text_of, changed}
-use Rattle.image_keep.specs.Memory.{Stock, row_at, given_text, swap_at, Spot, no_spot, row_spot, out_spot, in_spot, Owner, RowOf, OutOf, InOf, spot, AreApart, text_for, keeping_by, shared_in, kept_of, IsSound}
+use Rattle.image_keep.specs.Memory.{Stock, row_at, given_text, swap_at, no_spot, row_spot, out_spot, in_spot, Owner, RowOf, OutOf, InOf, spot, AreApart, text_for, keeping_by, shared_in, kept_of, IsSound}
 use Rattle.image_keep.specs.Places.{blocks}
 use Rattle.image_keep.specs.Places.{swap_fit}
 use Rattle.image_keep.specs.Maps.{click, block, IsFreeSwap, AreMaps}
@@ -153,9 +153,6 @@ made_maps v t ino clicks b line core_map swap_map swap_new h maps e first free s
   where
     new : Option TextRow
     new = Some (new_text ino clicks b)
-
-    range : Spot
-    range = record { at = swap_at v.core b; size = 512 * blocks clicks }
 
     old : spot v (OutOf t) ≡ no_spot
     old = ap (out_spot v.core) e.free
@@ -331,5 +328,3 @@ nobody_has v k t view c e u has = no_text (text_at v.texts t) (entry_free v.text
 
 pub few_users : (v : Stock) (t : ℕ) → IsSound v → IsCounted v.rows v.texts → IsUsed v.texts t → (text_row v.texts t).users < 65535
 few_users v t h c used = let f = (few_loaded v.rows v.texts t (text_row v.texts t) c h.slots (some_row (text_at v.texts t) used)).0 in omega (arith, f)
-
-pub ruleset making_texts = (text_made, text_joined, nobody_has, few_users)

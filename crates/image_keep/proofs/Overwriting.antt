@@ -216,5 +216,3 @@ resized_line line l1 l2 l3 l4 row from to d stack x m gap stack_from stack_to ga
         (ap (λ i. over line (64 * i) (part line (64 * from) (64 * (16 + x)))) (sym e) ∙ over-self line (64 * from) (64 * (16 + x)) (let a = hx.left in omega (arith, fl, a)))
     stays (inr (inl e)) n = part-over_apart line (64 * to) (part line (64 * from) (64 * (16 + x))) (64 * stack_from) (64 * m) (let c = hx.right in omega (arith, n, tl, c)) (inl (let b = hm.left in omega (arith, sf, e, b)))
     stays (inr (inr e)) n = part-over_apart line (64 * to) (part line (64 * from) (64 * (16 + x))) (64 * stack_from) (64 * m) (let c = hx.right in omega (arith, n, tl, c)) (inr (let c = hx.right in omega (arith, sf, e, n, c)))
-
-pub ruleset overwriting = (over_before, over_again, over_none, laid_again, resized_line)

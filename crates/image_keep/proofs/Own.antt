@@ -151,5 +151,3 @@ area_read v s place h is =
     let r : Row = row_at v.rows s in
     let own : IsAlive (part v.line (place_at v.core place) (64 * clicks_in r)) v.core r.data_size r.stack_size place = subst (λ st. HoldsBy v.line v.core st r.data_size r.stack_size) is (h.rows s) in
     (subst IsStored (front v.line (place_at v.core place) (clicks_in r) (omega arith)) own.stored, ap area_in (slot_at v s ∙ own_means v s place v.line is))
-
-pub ruleset owns = (own_sound, own_kept, area_write, area_kept, area_read)

@@ -372,5 +372,3 @@ swap_map_is v core_map swap_map h maps = record {
       (λ e. let f = three 4000 4871 x (is_clear (swap_taken (kept_of v)) 1 x) e in
       (maps.swap x).1 (f.0, f.1, swap_clear v x 1 h f.0 f.2));
 }
-
-pub ruleset places = (core_found, swap_found, core_map_is, swap_map_is)

@@ -89,5 +89,3 @@ pub puts_byte : (v : Stock) (k : Kept) (s : ℕ) (x : Starts) (p : Named) (b : �
 puts_byte v k s x p b line view h c told a low is inside line_is =
     subst (λ m. Put (with_line v line) (with_image k s m) s x) (byte_run (image_of k s) p b low is)
     (puts v k s x p (b ∷ []) line view h c told a low is (one_room (image_of k s) p low is) (omega arith) (line_is ∙ set_over v.line (start_of x p) b inside))
-
-pub ruleset putting = (low_of, puts, puts_byte)

@@ -195,5 +195,3 @@ starts_after k s x m a same =
       stack_start = omega (arith, z, n);
       core = a.core;
     }
-
-pub ruleset reading = (find_is, there_within, byte_read, starts_after)

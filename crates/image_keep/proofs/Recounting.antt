@@ -224,5 +224,3 @@ change_twice texts t f g used =
 
     low : t < length texts
     low = elim (cases_lt t (length texts)) [ inl y ↦ y | inr y ↦ absurd (past (text_at texts t) (get_or_past texts t None y) used) ]
-
-pub ruleset recounting = (recounted, text_moved, text_forked, entry_counted)

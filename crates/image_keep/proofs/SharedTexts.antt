@@ -216,5 +216,3 @@ fills v t row at bytes h here out fits =
                 ap (λ x. keeping_by (over v.line (swap_at v.core row.block + at) bytes) v.core x (row_at v.rows s).state (row_at v.rows s).data_size (row_at v.rows s).stack_size)
                 (text_off v.line (over v.line (swap_at v.core row.block + at) bytes) v.core (swap_at v.core row.block) (swap_at v.core row.block + 512 * blocks row.clicks) (text_at v.texts k) w (off (OutOf k) (λ x. eqb-false k t g (out_numbers k t x))))
                 ∙ keeping_off v.line (over v.line (swap_at v.core row.block + at) bytes) v.core (swap_at v.core row.block) (swap_at v.core row.block + 512 * blocks row.clicks) (text_in v.line v.core (text_at v.texts k)) (row_at v.rows s).state (row_at v.rows s).data_size (row_at v.rows s).stack_size w (off (RowOf s) (λ x. cc x))
-
-pub ruleset sharing = (made_text, text_row_kept, text_row_sound, new_text_kept, fills)

@@ -133,5 +133,3 @@ told_imaged clicks text (Grave u b) m h = h
 pub told_image : (i j k : Kept) (s : ℕ) (m : Image) → i ≡ k → j ≡ with_image k s m → AreTold i → AreTold j
 unfolding with_image
 told_image i j k s m view is told = let t : AreTold k = subst AreTold view told in subst AreTold (sym is) (told_slot k s (imaged m (keeping k s)) t (told_imaged _ _ (keeping k s) m (t s)))
-
-pub ruleset storing = (set_over, data_put, stack_put, told_image)

@@ -315,5 +315,3 @@ module _ (v : Stock) (s b at : ℕ) (h : IsSound v) (low : s < length v.rows) (i
                 let y : is_text t (row_at v.rows s).text ≡ false = ap (is_text t) e ∙ not_same k t ne in
                 (new, sym (get_or-set_other v.texts k t (Some (loaded_at at (text_row (text_at v.texts k)))) None ne) ∙ f, refl, rw (a, y) refl))
           ]
-
-pub ruleset coming = (in_sound, in_kept, in_core_map, in_swap_map, in_counted)

@@ -310,11 +310,6 @@ out_text v k s c b core_map swap_map core_one swap_one swap_new row n view h map
     own : (t : ℕ) → (row_at v.rows s).text ≡ Some t → IsText v.line v.core (text_row v.texts t)
     own t e = h.texts t (text_row v.texts t) (there (text_at v.texts t) (counts.used s t e))
 
--- where the clicks are that go out
-pub out_inside : (core c b n from to a w : ℕ) → IsIn core (Core c) n → 4000 ≤ b → b + blocks n ≤ 4872 → 64 * from ≡ place_at core (Core c) → 64 * to ≡ swap_at core b → a ≡ 64 * core → w ≡ 64 * core + 446464
-    → (64 * (from + n) ≤ a) × (a ≤ 64 * to) × (64 * (from + n) ≤ w) × (64 * (to + n) ≤ w)
-out_inside core c b n from to a w i g h e f j k = let x = i.0 in let y = i.1 in (omega (arith, x, y, e, j), omega (arith, f, g, j), omega (arith, x, y, e, k), omega (arith, f, g, h, k))
-
 pub out_none : (k : Kept) (s : ℕ) → swapped_out k s None ≡ k
 unfolding swapped_out
 out_none k s = refl
@@ -325,5 +320,3 @@ out_clicks v k s place row n view h is at size = ap (λ j. clicks_of (area_of j 
 pub out_long : (texts : List (Option TextRow)) (x : Option ℕ) → length (leave_texts texts x) ≡ length texts
 out_long texts None = refl
 out_long texts (Some t) = length-set texts t (Some (unloaded (text_row texts t)))
-
-pub ruleset going_out = (left_core, row_out, loaded_some, gone_out, out_text, out_inside)

@@ -170,5 +170,3 @@ text_goes v t row core_map swap_map swap_new h maps here out_is step = record {
       | inl e ↦ subst (λ o. AreApart (click x) (spot v o)) (sym e) (subst (AreApart (click x)) (sym old) (inl (omega (arith, high))))
       | inr ne ↦ subst (AreApart (click x)) (same p ne) f
     ]
-
-pub ruleset text_maps = (maps_same, text_leaves, text_goes)

@@ -80,5 +80,3 @@ finds_text v k ino (Some t) view h = (
   sym (ap (λ j. shared j t) view) ∙ shared_at v t ∙ ap (shared_in v.line v.core) (entry_is (text_at v.texts t) h.used),
   h.is,
 )
-
-pub ruleset searching = (found_is, free_is, entry_free, row_is, used_is, finds_text)

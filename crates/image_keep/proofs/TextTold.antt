@@ -90,5 +90,3 @@ told_left k s t sticky low seat h stays =
     told_entry now t (shared_left (is_loaded (keeping k s)) sticky (shared k t))
     (λ u e. left_clicks (is_loaded (keeping k s)) sticky (shared k t) (stays u e))
     (told_other k s x low seat h (told_textless (text_clicks k (text_of k s)) (text_of k s) (keeping k s) (h s)))
-
-pub ruleset telling_texts = (told_new, told_joined, told_left)

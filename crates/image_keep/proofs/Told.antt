@@ -81,8 +81,6 @@ pub clicks_changed : (rule : TextRow → TextRow) → ((row : TextRow) → (rule
 clicks_changed rule same None = refl
 clicks_changed rule same (Some x) = same x.row
 
-pub ruleset telling = (told_slot, told_nothing, told_grave, told_alive, told_place, told_text, told_area, told_shared, clicks_changed)
-
 -- a slot has another text, and keeps something else
 pub told_user : (k : Kept) (s : ℕ) (x : Keeping) (t : Option ℕ) → s < length k.slots → s < length k.users → AreTold k → IsTold (text_clicks k t) t x → AreTold (with_text_of (with_keeping k s x) s t)
 told_user k s x t low seat h own u = elim (cases_eq u s) [

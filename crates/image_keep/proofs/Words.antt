@@ -108,8 +108,6 @@ word_loaded m v low high p even is next first second =
     let b : byte_at m (named m (v + 1)) ≡ Ok high = ap (byte_at m) next ∙ second in
     rw (even, a, b) refl
 
-pub ruleset wording = (refused_kept, byte_refused, byte_stored, word_refused, word_stored, put_twice, byte_loaded, odd_loaded, word_unloaded, word_loaded)
-
 -- a run that is done
 pub loaded_whole : (m : Image) (at n i : ℕ) (front : List ℕ) → n ≤ i → put_front front (load_bytes m (at + i) (n - i)) ≡ Some front
 loaded_whole m at n i front l = let z : n - i ≡ 0 = omega (arith, l) in ap (λ k. put_front front (load_bytes m (at + i) k)) z ∙ ap Some (append-nil front)

@@ -85,5 +85,3 @@ puts_word v k s x p w line view h c told a low next is line_is =
     puts_byte (with_line v first) (with_image k s half) s x (next_byte p) (w / 256) line one.kept one.sound c one.told one.starts there (next_storable p is) (omega (arith, fits, long, at))
     (line_is ∙ ap (λ i. slice_set first i (w / 256)) (sym at)) in
     subst (λ j. Put (with_line v line) j s x) (put_twice k (with_image k s half) _ s w p (next_byte p) a.alive is refl refl refl) two
-
-pub ruleset words = (word_read, puts_word)

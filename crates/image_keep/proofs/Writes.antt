@@ -223,5 +223,3 @@ put_sound v s row new a e h l w own free holds = record {
       (λ p ne. subst (λ r. AreApart (row_spot v.core r) (spot v p)) (sym (row_same v.rows s row l)) (free p ne))
       h.apart;
 }
-
-pub ruleset frames = (put_kept, put_sound, apart_changed)

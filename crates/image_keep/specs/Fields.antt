@@ -27,7 +27,8 @@ pub record IsPut (own : UArea) (field : ℕ) (bytes : List ℕ) (u : UArea) : Ty
 
 -- Something is written where a slot's u area stands, and nothing else of core and the swap area behind it.
 abbrev pub IsWritten : ImagesState → ImagesState → ℕ → (ℕ → List ℕ → List ℕ) → Type 0
-IsWritten x y s put = (held : Held) → Has x.kept s held → (length y.core ≡ length x.core) × (y.core ++ y.swap ≡ put (place_at x.kept.core held.place) (x.core ++ x.swap))
+IsWritten x y s put = (held : Held) → Has x.kept s held → (length y.core ≡ length x.core)
+    × (y.core ++ y.swap ≡ put (place_at x.kept.core held.place) (x.core ++ x.swap))
 
 -- these bytes are, at one place of the u area
 abbrev pub AreWritten : ImagesState → ImagesState → ℕ → ℕ → List ℕ → Type 0
@@ -43,4 +44,5 @@ abbrev pub over_call : ℕ → List ℕ → ℕ → List ℕ → List ℕ
 over_call pending call at line = over (over line (at + 30) (pending ∷ [])) (at + 32) (bytes_of call)
 
 abbrev pub over_end : ℕ → List ℕ → ℕ → List ℕ → List ℕ
-over_end status handlers at line = over (over (over line (at + 22) (bytes_of (0 ∷ []))) (at + 60) (bytes_of (status ∷ []))) (at + 64) (bytes_of handlers)
+over_end status handlers at line =
+    over (over (over line (at + 22) (bytes_of (0 ∷ []))) (at + 60) (bytes_of (status ∷ []))) (at + 64) (bytes_of handlers)

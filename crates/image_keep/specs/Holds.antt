@@ -40,14 +40,18 @@ AreRangesApart k = (o p : Owner) → o ≢ p → AreApart (spot_of k o) (spot_of
 -- Core holds the images and the texts that are there.
 pub record CoreHolds (core : List ℕ) (k : Kept) : Type 0 where
   pub size : length core ≡ 64 * k.core
-  pub images : (s : ℕ) (held : Held) (click : ℕ) → Has k s held → held.place ≡ Core click → part core (64 * (click - 1)) (64 * clicks_of held.u) ≡ image_bytes held
-  pub texts : (t : ℕ) (x : Shared) → shared k t ≡ Some x → x.row.loaded ≢ 0 → part core (64 * (x.row.at - 1)) (64 * x.row.clicks) ≡ x.bytes
+  pub images : (s : ℕ) (held : Held) (click : ℕ) → Has k s held → held.place ≡ Core click
+      → part core (64 * (click - 1)) (64 * clicks_of held.u) ≡ image_bytes held
+  pub texts : (t : ℕ) (x : Shared) → shared k t ≡ Some x → x.row.loaded ≢ 0
+      → part core (64 * (x.row.at - 1)) (64 * x.row.clicks) ≡ x.bytes
 
 -- The swap area holds the images that are out of core, half of the u area of each process that has ended, and all texts.
 pub record SwapHolds (swap : List ℕ) (k : Kept) : Type 0 where
   pub size : length swap ≡ SWAP_BYTES
-  pub images : (s : ℕ) (held : Held) (block : ℕ) → Has k s held → held.place ≡ Swap block → part swap (512 * (block - 4000)) (64 * clicks_of held.u) ≡ image_bytes held
-  pub graves : (s : ℕ) (u : UArea) (block : ℕ) → keeping k s ≡ Grave u block → part swap (512 * (block - 4000)) 512 ≡ half_bytes u
+  pub images : (s : ℕ) (held : Held) (block : ℕ) → Has k s held → held.place ≡ Swap block
+      → part swap (512 * (block - 4000)) (64 * clicks_of held.u) ≡ image_bytes held
+  pub graves : (s : ℕ) (u : UArea) (block : ℕ) → keeping k s ≡ Grave u block
+      → part swap (512 * (block - 4000)) 512 ≡ half_bytes u
   pub texts : (t : ℕ) (x : Shared) → shared k t ≡ Some x → part swap (512 * (x.row.block - 4000)) (64 * x.row.clicks) ≡ x.bytes
 
 -- Both hold what is kept.

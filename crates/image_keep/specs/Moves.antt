@@ -27,7 +27,8 @@ need_for texts (Some t) = need_in (text_at texts t)
 
 -- a text comes into core, where it isn't there
 abbrev pub come_by : List ℕ → ℕ → ℕ → TextRow → List ℕ
-come_by line core at row = if row.loaded == 0 then over line (64 * (at - 1)) (part line (swap_at core row.block) (64 * row.clicks)) else line
+come_by line core at row =
+    if row.loaded == 0 then over line (64 * (at - 1)) (part line (swap_at core row.block) (64 * row.clicks)) else line
 
 abbrev pub come_in : List ℕ → ℕ → ℕ → Option TextRow → List ℕ
 come_in line core at None = line
@@ -115,7 +116,8 @@ moving_units texts text (Some (Swap block)) to x = false
 -- A slot has an image at a place that was found, and its text goes with it; or nothing changes.
 abbrev pub with_image_moved : Kept → ℕ → UArea → Image → Option Place → Kept
 with_image_moved k s u image None = k
-with_image_moved k s u image (Some place) = with_image_at (moved_texts k (text_of k s) (place_of k s) place) s u image (Some place)
+with_image_moved k s u image (Some place) =
+    with_image_at (moved_texts k (text_of k s) (place_of k s) place) s u image (Some place)
 
 -- what the table knows of a text that a child shares, whose image is at this place
 abbrev pub forked_row : Place → TextRow → TextRow
@@ -133,4 +135,5 @@ forked_texts k (Some t) place = with_shared k t (changed (forked_row place) (sha
 abbrev pub forked_at : Kept → ℕ → ℕ → Option Place → Kept
 forked_at k from to None = k
 forked_at k from to (Some place) =
-    with_text_of (with_image_at (forked_texts k (text_of k from) place) to (area_of k from) (image_of k from) (Some place)) to (text_of k from)
+    with_text_of (with_image_at (forked_texts k (text_of k from) place) to (area_of k from) (image_of k from) (Some place))
+    to (text_of k from)

@@ -1,5 +1,5 @@
--- A process that executes instructions, over the bytes in which it stands: what an instruction works on, and what it leaves as it
--- is. Its registers and condition codes are those in front of its u area.
+-- A process that executes instructions, over the bytes in which it stands: what an instruction works on, and what it leaves
+-- as it is. Its registers and condition codes are those in front of its u area.
 use Rattle.std.specs.Prelude.{◌≡◌, ℕ, ◌+◌, ◌-◌, ◌%◌, List, length}
 use Rattle.std.specs.Borrow.{GName}
 use Rattle.core_mem.specs.Bytes.{part}

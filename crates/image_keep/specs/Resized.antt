@@ -18,7 +18,9 @@ pub record IsLess (x d e : ℕ) : Type 0 where
 -- an image that stands from `at` on, with other sizes and this u area
 abbrev pub resized_bytes : List ℕ → ℕ → Row → ℕ → ℕ → List ℕ → List ℕ
 resized_bytes line at row d stack area =
-    area ++ (cut_back (64 * d) (part line (at + 1024) (64 * row.data_size)) ++ cut_front (64 * stack) (part line (at + 1024 + 64 * row.data_size) (64 * row.stack_size)))
+    area
+    ++ (cut_back (64 * d) (part line (at + 1024) (64 * row.data_size))
+    ++ cut_front (64 * stack) (part line (at + 1024 + 64 * row.data_size) (64 * row.stack_size)))
 
 -- the units that are free when of `n` clicks at a place the first `m` stay
 abbrev pub core_tail : Place → ℕ → ℕ → ℕ → Bool

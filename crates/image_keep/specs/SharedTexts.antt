@@ -91,8 +91,8 @@ is_loaded Nothing = false
 is_loaded (Alive held) = is_place_in_core held.place
 is_loaded (Grave u block) = false
 
--- What holds of the texts that are kept: no two are of one inode, and the text of a slot is there, has a user, and has one in core
--- where the slot's image is there.
+-- What holds of the texts that are kept: no two are of one inode, and the text of a slot is there, has a user, and has one in
+-- core where the slot's image is there.
 pub record IsTextOfSlot (k : Kept) (s t : ℕ) : Type 0 where
   pub text : Shared
   pub there : shared k t ≡ Some text
@@ -123,4 +123,6 @@ shared_left is_in sticky (Some x) = with_row x.bytes (remaining (left x.row stic
 unfoldable pub with_left_text : Kept → ℕ → Bool → Option ℕ → Kept
 with_left_text k s sticky None = k
 with_left_text k s sticky (Some t) =
-    with_text_of (with_shared (with_keeping k s (textless (keeping k s))) t (shared_left (is_loaded (keeping k s)) sticky (shared k t))) s None
+    with_text_of
+    (with_shared (with_keeping k s (textless (keeping k s))) t (shared_left (is_loaded (keeping k s)) sticky (shared k t)))
+    s None

@@ -1,10 +1,8 @@
 //! Loads and stores of one image, where it stands.
-ghost use Rattle.std.specs.Prelude.{◌≡◌, ◌≢◌, ◌-◌, ◌+◌, ◌*◌, ◌%◌, ◌<◌, ◌≤◌, ◌↔◌, ℕ, List, true, false, Ok, Some, None, IsTrue, length, ◌++◌, slice_set};
-ghost use Rattle.v6_base.specs.Image.{IsImage, named, named_by, nseg};
+ghost use Rattle.std.specs.Prelude.{◌≡◌, ◌≢◌, ◌-◌, ◌+◌, ◌*◌, ◌%◌, ◌≤◌, ◌↔◌, ℕ, Ok, Some, IsTrue, length, ◌++◌, slice_set};
+ghost use Rattle.v6_base.specs.Image.{named, named_by, nseg};
 ghost use Rattle.v6_base.specs.Access.{load_byte, load_word, store_byte, store_word, byte_at, with_byte, image_after, answer_of};
-ghost use Rattle.v6_base.specs.Copy.{load_bytes, store_bytes, is_writable};
 ghost use Rattle.v6_base.specs.Words.{IsWithin, IsStorable, next_byte, with_word};
-ghost use Rattle.v6_base.specs.Runs.{room, run_at, with_run};
 ghost use Rattle.image_keep.specs.Kept.{HasImage, IsKept, image_of, with_image};
 ghost use Rattle.text_tab.specs.Table.{IsUsed, row_at as text_row};
 ghost use Rattle.image_keep.specs.Starts.{text_clicks_in, row_start, start_in, AreStarts, IsLow, IsThere, start_of};
@@ -181,7 +179,8 @@ impl Images {
         requires within { IsWithin (image_of self.now.kept s) at }
         requires next { IsWithin (image_of self.now.kept s) (next_byte at) }
         requires some { at ≢ Named.Nothing }
-        ensures { (low high : ℕ) × (byte_at (image_of self.now.kept s) at ≡ Ok low) × (byte_at (image_of self.now.kept s) (next_byte at) ≡ Ok high) × (result ≡ low + 256 * high) }
+        ensures { (low high : ℕ) × (byte_at (image_of self.now.kept s) at ≡ Ok low)
+            × (byte_at (image_of self.now.kept s) (next_byte at) ≡ Ok high) × (result ≡ low + 256 * high) }
     {
         self.memory.word(starts.start_of(at))
     }
@@ -192,7 +191,9 @@ impl Images {
         requires starts { AreStarts self.old.kept s starts.now }
         requires within { IsWithin (image_of self.old.kept s) at }
         requires storable { IsStorable at }
-        ensures kept { self.new.kept ≡ with_image self.old.kept s (image_after (image_of self.old.kept s) (with_byte (image_of self.old.kept s) at value)) }
+        ensures kept { self.new.kept
+            ≡ with_image self.old.kept s
+            (image_after (image_of self.old.kept s) (with_byte (image_of self.old.kept s) at value)) }
         ensures bytes { self.new.core ++ self.new.swap ≡ slice_set (self.old.core ++ self.old.swap) (start_of starts.now at) value }
         ensures core { length self.new.core ≡ length self.old.core }
         ensures starts { AreStarts self.new.kept s starts.now }
@@ -207,7 +208,9 @@ impl Images {
         requires within { IsWithin (image_of self.old.kept s) at }
         requires next { IsWithin (image_of self.old.kept s) (next_byte at) }
         requires storable { IsStorable at }
-        ensures kept { self.new.kept ≡ with_image self.old.kept s (image_after (image_of self.old.kept s) (with_word (image_of self.old.kept s) at value)) }
+        ensures kept { self.new.kept
+            ≡ with_image self.old.kept s
+            (image_after (image_of self.old.kept s) (with_word (image_of self.old.kept s) at value)) }
         ensures starts { AreStarts self.new.kept s starts.now }
     {
         self.memory.set_word(starts.start_of(at), value);
@@ -251,7 +254,9 @@ impl Images {
     ) -> Result<(), Trap>
         requires { AreStarts self.old.kept s starts.now }
         ensures answer { result ≡ answer_of (store_byte (image_of self.old.kept s) at value) }
-        ensures kept { self.new.kept ≡ with_image self.old.kept s (image_after (image_of self.old.kept s) (store_byte (image_of self.old.kept s) at value)) }
+        ensures kept { self.new.kept
+            ≡ with_image self.old.kept s
+            (image_after (image_of self.old.kept s) (store_byte (image_of self.old.kept s) at value)) }
         ensures starts { AreStarts self.new.kept s starts.now }
     {
         let named = self.find(s, starts, at);
@@ -273,7 +278,9 @@ impl Images {
     ) -> Result<(), Trap>
         requires { AreStarts self.old.kept s starts.now }
         ensures answer { result ≡ answer_of (store_word (image_of self.old.kept s) at value) }
-        ensures kept { self.new.kept ≡ with_image self.old.kept s (image_after (image_of self.old.kept s) (store_word (image_of self.old.kept s) at value)) }
+        ensures kept { self.new.kept
+            ≡ with_image self.old.kept s
+            (image_after (image_of self.old.kept s) (store_word (image_of self.old.kept s) at value)) }
         ensures starts { AreStarts self.new.kept s starts.now }
     {
         if at % 2 == 1 {

@@ -4,7 +4,7 @@ ghost use Rattle.pdp_decode.specs.Handlers.{Handles};
 ghost use Rattle.pdp_decode.specs.declared.instr.Reg.{Reg};
 ghost use Rattle.pdp_step.specs.Machine.{with_reg};
 ghost use Rattle.image_keep.specs.Standing.{standing_image};
-ghost use Rattle.image_keep.specs.Attempted.{IsAtHand, Attempted, Called};
+ghost use Rattle.image_keep.specs.Attempted.{IsAtHand, IsRowAt, Attempted, Called};
 ghost use Rattle.image_keep.specs.Near.{StandsWith, IsRowDone, standing_machine, around};
 
 use crate::near::processor;
@@ -119,10 +119,7 @@ fn attempt_bytes(
     pc: usize,
     word: u32,
 ) -> bool
-    requires stands { StandsWith core.old standing.now }
-    requires handles { Handles handler word }
-    requires word { word < 65536 }
-    requires room { pc ≤ 65538 }
+    requires { IsRowAt standing.now core.old handler pc word }
     ensures row { IsTrue result → IsRowDone (standing_machine core.old standing.now) pc word (standing_machine core.new standing.now) }
     ensures missed { result ≡ false → standing_machine core.new standing.now ≡ standing_machine core.old standing.now }
     ensures around { around core.new standing.now ≡ around core.old standing.now }
@@ -140,10 +137,7 @@ fn attempt_apart(
     pc: usize,
     word: u32,
 ) -> bool
-    requires stands { StandsWith core.old standing.now }
-    requires handles { Handles handler word }
-    requires word { word < 65536 }
-    requires room { pc ≤ 65538 }
+    requires { IsRowAt standing.now core.old handler pc word }
     ensures row { IsTrue result → IsRowDone (standing_machine core.old standing.now) pc word (standing_machine core.new standing.now) }
     ensures missed { result ≡ false → standing_machine core.new standing.now ≡ standing_machine core.old standing.now }
     ensures around { around core.new standing.now ≡ around core.old standing.now }
@@ -161,10 +155,7 @@ fn attempt_between(
     pc: usize,
     word: u32,
 ) -> bool
-    requires stands { StandsWith core.old standing.now }
-    requires handles { Handles handler word }
-    requires word { word < 65536 }
-    requires room { pc ≤ 65538 }
+    requires { IsRowAt standing.now core.old handler pc word }
     ensures row { IsTrue result → IsRowDone (standing_machine core.old standing.now) pc word (standing_machine core.new standing.now) }
     ensures missed { result ≡ false → standing_machine core.new standing.now ≡ standing_machine core.old standing.now }
     ensures around { around core.new standing.now ≡ around core.old standing.now }
@@ -182,10 +173,7 @@ fn attempt_extended(
     pc: usize,
     word: u32,
 ) -> bool
-    requires stands { StandsWith core.old standing.now }
-    requires handles { Handles handler word }
-    requires word { word < 65536 }
-    requires room { pc ≤ 65538 }
+    requires { IsRowAt standing.now core.old handler pc word }
     ensures row { IsTrue result → IsRowDone (standing_machine core.old standing.now) pc word (standing_machine core.new standing.now) }
     ensures missed { result ≡ false → standing_machine core.new standing.now ≡ standing_machine core.old standing.now }
     ensures around { around core.new standing.now ≡ around core.old standing.now }
@@ -203,10 +191,7 @@ fn attempt_stepping(
     pc: usize,
     word: u32,
 ) -> bool
-    requires stands { StandsWith core.old standing.now }
-    requires handles { Handles handler word }
-    requires word { word < 65536 }
-    requires room { pc ≤ 65538 }
+    requires { IsRowAt standing.now core.old handler pc word }
     ensures row { IsTrue result → IsRowDone (standing_machine core.old standing.now) pc word (standing_machine core.new standing.now) }
     ensures missed { result ≡ false → standing_machine core.new standing.now ≡ standing_machine core.old standing.now }
     ensures around { around core.new standing.now ≡ around core.old standing.now }
@@ -223,10 +208,7 @@ fn attempt_stepping(
 // The same with the registers as they were by then.
 #[inline(always)]
 fn step_row(core: &mut [u8], standing: &Standing, handler: Handler, pc: usize, word: u32) -> bool
-    requires stands { StandsWith core.old standing.now }
-    requires handles { Handles handler word }
-    requires word { word < 65536 }
-    requires room { pc ≤ 65538 }
+    requires { IsRowAt standing.now core.old handler pc word }
     ensures row { IsTrue result → IsRowDone (standing_machine core.old standing.now) pc word (standing_machine core.new standing.now) }
     ensures image { result ≡ false → standing_image core.new standing.now ≡ standing_image core.old standing.now }
     ensures around { around core.new standing.now ≡ around core.old standing.now }

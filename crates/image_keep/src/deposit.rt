@@ -2,7 +2,7 @@
 ghost use Rattle.std.specs.Prelude.{◌≡◌, ◌+◌, ◌<◌, true, false, if◌then◌else◌, slice_set};
 ghost use Rattle.std.specs.List.{position};
 ghost use Rattle.image_keep.specs.Memory.{place_at};
-ghost use Rattle.image_keep.specs.ByteOf.{line_place, byte_from, byte_of, is_some_byte, has_byte};
+ghost use Rattle.image_keep.specs.ByteOf.{line_place, byte_from, byte_of, has_byte};
 ghost use Rattle.image_keep.specs.Deposits.{memory_size, IsNobodys, IsPut, HasByte};
 
 use crate::images::Images;

@@ -86,7 +86,8 @@ impl Images {
     fn execute_near(&mut self, fixed: &Fixed, dispatch: &Dispatch) -> bool
         requires { IsFixed self.old.kept fixed.now }
         ensures outcome { IsTrue result → (instr (machine_in self.old.kept fixed.now.slot)).outcome ≡ Next }
-        ensures done { IsTrue result → self.new.kept ≡ with_machine_in self.old.kept fixed.now.slot (instr (machine_in self.old.kept fixed.now.slot)).machine }
+        ensures done { IsTrue result → self.new.kept
+            ≡ with_machine_in self.old.kept fixed.now.slot (instr (machine_in self.old.kept fixed.now.slot)).machine }
         ensures kept { result ≡ false → self.new.kept ≡ self.old.kept }
         ensures fixed { IsFixed self.new.kept fixed.now }
     {
@@ -100,7 +101,9 @@ impl Images {
     fn call_near(&mut self, fixed: &Fixed) -> Option<u8>
         requires { IsFixed self.old.kept fixed.now }
         ensures outcome { IfSome result (λ n. (instr (machine_in self.old.kept fixed.now.slot)).outcome ≡ Call n) }
-        ensures done { IfSome result (λ n. self.new.kept ≡ with_machine_in self.old.kept fixed.now.slot (instr (machine_in self.old.kept fixed.now.slot)).machine) }
+        ensures done { IfSome result
+            (λ n. self.new.kept
+            ≡ with_machine_in self.old.kept fixed.now.slot (instr (machine_in self.old.kept fixed.now.slot)).machine) }
         ensures kept { result ≡ None → self.new.kept ≡ self.old.kept }
         ensures fixed { IsFixed self.new.kept fixed.now }
     {

@@ -145,6 +145,7 @@ impl Images {
     #[inline(always)]
     pub fn area_bytes_at(&self, fixed: &Fixed) -> &[u8]
         requires { IsFixed self.now.kept fixed.now }
+        ensures there { (held : Held) → Has self.now.kept fixed.now.slot held → result.now ≡ area_there self.now held.place }
         ensures read { fetched result.now ≡ area_of self.now.kept fixed.now.slot }
         ensures stored { IsStored result.now }
         ensures size { length result.now ≡ 1024 }
@@ -157,6 +158,8 @@ impl Images {
     #[inline(never)]
     pub fn area_at(&self, fixed: &Fixed) -> UArea
         requires { IsFixed self.now.kept fixed.now }
+        ensures fetch { (held : Held) → Has self.now.kept fixed.now.slot held
+            → result ≡ fetched (area_there self.now held.place) }
         ensures u { result ≡ area_of self.now.kept fixed.now.slot }
         ensures sizes { HasSizes result (image_of self.now.kept fixed.now.slot) }
         ensures holds { IsKept self.now.kept }
@@ -182,8 +185,8 @@ impl Images {
         self.memory.put(at + field, bytes);
     }
 
-    /// Gives a slot with an image another u area, with the sizes of that image: its first 120 bytes are written, behind which all
-    /// is 0.
+    /// Gives a slot with an image another u area, with the sizes of that image: its first 120 bytes are written, behind which
+    /// all is 0.
     pub fn set_area(&mut self, s: Slot, u: &UArea)
         requires image { HasImage self.old.kept s }
         requires sizes { HasSizes u.now (image_of self.old.kept s) }

@@ -26,7 +26,8 @@ pub(crate) fn may_stand(texts: &Texts, text: Option<TextId>) -> bool
 /// Takes so many clicks of core in one piece, where an image may stand there.
 fn take_core(core_map: &mut Holes, may_stand: bool, clicks: u16) -> Option<u16>
     requires { 0 < clicks }
-    ensures fit { (taken : List Range) (first last : ℕ) → IsMap core_map.old taken first last → result ≡ (if may_stand then first_fit taken first last clicks else None) }
+    ensures fit { (taken : List Range) (first last : ℕ) → IsMap core_map.old taken first last
+        → result ≡ (if may_stand then first_fit taken first last clicks else None) }
     ensures left { MatchOption result (core_map.new ≡ core_map.old)
         (λ a. (x : ℕ) → is_free core_map.new x ≡ (is_free core_map.old x && not (is_within a clicks x))) }
     ensures few { length core_map.new ≤ length core_map.old }
@@ -41,8 +42,10 @@ fn take_core(core_map: &mut Holes, may_stand: bool, clicks: u16) -> Option<u16>
 /// Takes so many blocks of the swap area in one piece.
 fn take_swap(swap_map: &mut Holes, count: u16) -> Option<Place>
     requires { 0 < count }
-    ensures fit { (taken : List Range) (first last : ℕ) → IsMap swap_map.old taken first last → result ≡ option_map Place.Swap (first_fit taken first last count) }
-    ensures left { (clicks : ℕ) → count ≡ blocks clicks → (x : ℕ) → is_free swap_map.new x ≡ (is_free swap_map.old x && not (found_swap result clicks x)) }
+    ensures fit { (taken : List Range) (first last : ℕ) → IsMap swap_map.old taken first last
+        → result ≡ option_map Place.Swap (first_fit taken first last count) }
+    ensures left { (clicks : ℕ) → count ≡ blocks clicks → (x : ℕ)
+        → is_free swap_map.new x ≡ (is_free swap_map.old x && not (found_swap result clicks x)) }
     ensures few { length swap_map.new ≤ length swap_map.old }
     ensures core { (clicks x : ℕ) → found_core result clicks x ≡ false }
     ensures none { result ≡ None → swap_map.new ≡ swap_map.old }
@@ -62,8 +65,10 @@ pub(crate) fn take_place(
 ) -> Option<Place>
     requires some { 0 < clicks }
     requires few { clicks ≤ 60000 }
-    ensures fit { (core_taken swap_taken : List Range) (core : ℕ) → IsMap core_map.old core_taken 1 core → IsMap swap_map.old swap_taken 4000 4871
-        → result ≡ option_or (if may_stand then option_map Place.Core (first_fit core_taken 1 core clicks) else None) (option_map Place.Swap (first_fit swap_taken 4000 4871 (blocks clicks))) }
+    ensures fit { (core_taken swap_taken : List Range) (core : ℕ) → IsMap core_map.old core_taken 1 core
+        → IsMap swap_map.old swap_taken 4000 4871
+        → result ≡ option_or (if may_stand then option_map Place.Core (first_fit core_taken 1 core clicks) else None)
+        (option_map Place.Swap (first_fit swap_taken 4000 4871 (blocks clicks))) }
     ensures core { (x : ℕ) → is_free core_map.new x ≡ (is_free core_map.old x && not (found_core result clicks x)) }
     ensures swap { (x : ℕ) → is_free swap_map.new x ≡ (is_free swap_map.old x && not (found_swap result clicks x)) }
     ensures few_core { length core_map.new ≤ length core_map.old }

@@ -81,7 +81,8 @@ pub(crate) fn lay_resized(
     requires from_inside { 64 * (from + clicks_in row) ≤ length (line_of memory.old) }
     requires to_inside { 64 * (to + (16 + d + stack)) ≤ length (line_of memory.old) }
     requires apart { (from ≡ to) ⊎ ((from + clicks_in row ≤ to) ⊎ (to + (16 + d + stack) ≤ from)) }
-    ensures line { line_of memory.new ≡ over (line_of memory.old) (64 * to) (resized_bytes (line_of memory.old) (64 * from) row d stack area.now) }
+    ensures line { line_of memory.new
+        ≡ over (line_of memory.old) (64 * to) (resized_bytes (line_of memory.old) (64 * from) row d stack area.now) }
     ensures core { length memory.new.core ≡ length memory.old.core }
     ensures swap { length memory.new.swap ≡ length memory.old.swap }
 {
@@ -244,7 +245,9 @@ impl Images {
         requires segments { nseg (area_of self.old.kept s).text_size + nseg d + nseg stack ≤ 8 }
         requires small { 16 + d + stack ≤ clicks_of (area_of self.old.kept s) }
         ensures place { place_of self.old.kept s ≡ Some result }
-        ensures kept { self.new.kept ≡ with_image_at self.old.kept s (area_resized (area_of self.old.kept s) d stack) (image_resized (image_of self.old.kept s) d stack) (Some result) }
+        ensures kept { self.new.kept
+            ≡ with_image_at self.old.kept s (area_resized (area_of self.old.kept s) d stack)
+            (image_resized (image_of self.old.kept s) d stack) (Some result) }
     {
         let bytes = sized_bytes(&self.area(s), d, stack);
         let row = row_of(&self.rows, s as usize);
@@ -269,8 +272,11 @@ impl Images {
     fn grow(&mut self, s: Slot, d: u16, stack: u16) -> Result<Place, NoSwap>
         requires image { HasImage self.old.kept s }
         requires segments { nseg (area_of self.old.kept s).text_size + nseg d + nseg stack ≤ 8 }
-        ensures place { MatchResult result (λ place. placed self.old.kept s (16 + d + stack) ≡ Some place) (λ _. placed self.old.kept s (16 + d + stack) ≡ None) }
-        ensures kept { self.new.kept ≡ with_image_moved self.old.kept s (area_resized (area_of self.old.kept s) d stack) (image_resized (image_of self.old.kept s) d stack) (placed self.old.kept s (16 + d + stack)) }
+        ensures place { MatchResult result (λ place. placed self.old.kept s (16 + d + stack) ≡ Some place)
+            (λ _. placed self.old.kept s (16 + d + stack) ≡ None) }
+        ensures kept { self.new.kept
+            ≡ with_image_moved self.old.kept s (area_resized (area_of self.old.kept s) d stack)
+            (image_resized (image_of self.old.kept s) d stack) (placed self.old.kept s (16 + d + stack)) }
     {
         let bytes = sized_bytes(&self.area(s), d, stack);
         let row = row_of(&self.rows, s as usize);
@@ -312,7 +318,9 @@ impl Images {
         ensures place { MatchResult result
             (λ place. expanded self.old.kept s (16 + d + stack) ≡ Some place)
             (λ _. expanded self.old.kept s (16 + d + stack) ≡ None) }
-        ensures kept { self.new.kept ≡ with_image_moved self.old.kept s (area_resized (area_of self.old.kept s) d stack) (image_resized (image_of self.old.kept s) d stack) (expanded self.old.kept s (16 + d + stack)) }
+        ensures kept { self.new.kept
+            ≡ with_image_moved self.old.kept s (area_resized (area_of self.old.kept s) d stack)
+            (image_resized (image_of self.old.kept s) d stack) (expanded self.old.kept s (16 + d + stack)) }
     {
         if 16 + d + stack <= self.clicks(s) {
             return Ok(self.cut(s, d, stack));

@@ -1,5 +1,5 @@
 //! The images of all slots, in core and in the swap area.
-ghost use Rattle.std.specs.Prelude.{◌≡◌, ◌⊎◌, ◌+◌, ◌*◌, ◌-◌, ◌<◌, ◌≤◌, ℕ, ◌||◌, true, false, None, Some, IfOk, MatchResult, List, length, slice_index, slice_index_or, slice_set, replicate};
+ghost use Rattle.std.specs.Prelude.{◌≡◌, ◌*◌, ◌<◌, ◌≤◌, None, Some, IfOk, MatchResult, length, replicate};
 ghost use Rattle.image_keep.specs.declared.memory.TheConstants.{SWAP_BYTES};
 ghost use Rattle.image_keep.specs.Kept.{first_kept, IsKept, HasImage, HasGrave, place_of, area_of, with_keeping, text_of, Nothing};
 ghost use Rattle.image_keep.specs.Growth.{most_clicks};

@@ -1,5 +1,5 @@
 //! The memory of one process, lent out of all images.
-ghost use Rattle.std.specs.Prelude.{◌≡◌, true};
+ghost use Rattle.std.specs.Prelude.{◌≡◌};
 ghost use Rattle.v6_base.specs.Image.{IsImage};
 ghost use Rattle.image_keep.specs.Kept.{image_of, HasImage};
 ghost use Rattle.image_keep.specs.Running.{IsFixed};

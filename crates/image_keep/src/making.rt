@@ -1,5 +1,5 @@
 //! Images that are made anew: `exec` in Lions' Commentary, `sys1.c`.
-ghost use Rattle.std.specs.Prelude.{◌≡◌, ◌⊎◌, ◌+◌, ◌*◌, ◌<◌, ◌≤◌, None, Some, MatchResult, length, replicate};
+ghost use Rattle.std.specs.Prelude.{◌≡◌, ◌⊎◌, ◌+◌, ◌*◌, ◌<◌, ◌≤◌, None, Some, MatchResult, length};
 ghost use Rattle.core_mem.specs.Bytes.{over};
 ghost use Rattle.u_area.specs.Area.{area_bytes, IsSized};
 ghost use Rattle.image_keep.specs.Area.{made_area};
@@ -86,7 +86,10 @@ impl Images {
         ensures place { MatchResult result
             (λ place. placed self.old.kept s (16 + p.data_size + p.stack_size) ≡ Some place)
             (λ _. placed self.old.kept s (16 + p.data_size + p.stack_size) ≡ None) }
-        ensures kept { self.new.kept ≡ with_image_moved self.old.kept s (made_area p.text_size p.data_size p.stack_size) (made_image (text_bytes self.old.kept text) p.data_size p.stack_size) (placed self.old.kept s (16 + p.data_size + p.stack_size)) }
+        ensures kept { self.new.kept
+            ≡ with_image_moved self.old.kept s (made_area p.text_size p.data_size p.stack_size)
+            (made_image (text_bytes self.old.kept text) p.data_size p.stack_size)
+            (placed self.old.kept s (16 + p.data_size + p.stack_size)) }
     {
         let bytes = made_bytes(p.text_size, p.data_size, p.stack_size);
         let row = row_of(&self.rows, s as usize);

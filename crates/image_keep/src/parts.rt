@@ -1,5 +1,5 @@
 //! Rows, and where in core and in the swap area they stand.
-ghost use Rattle.std.specs.Prelude.{◌≡◌, ◌⊎◌, ◌+◌, ◌*◌, ◌-◌, ◌<◌, ◌≤◌, ℕ, ◌||◌, true, false, None, Some, IfOk, MatchResult, List, length, slice_index, slice_index_or, slice_set};
+ghost use Rattle.std.specs.Prelude.{◌≡◌, ◌+◌, ◌*◌, ◌<◌, ◌≤◌, ℕ, ◌||◌, true, false, length, slice_set};
 ghost use Rattle.map_fit.specs.Free.{is_free};
 ghost use Rattle.image_keep.specs.Maps.{InsideBy, core_units, swap_units};
 ghost use Rattle.image_keep.specs.Memory.{swap_at, clicks_in, row_at, at_row, IsIn, place_at, is_alive, place_by, grave_row, nothing_row};

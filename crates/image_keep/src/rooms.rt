@@ -9,7 +9,8 @@ use map_fit::Holes;
 
 /// Whether so many units are free in one piece.
 fn is_room_in(map: &Holes, n: u16) -> bool
-    ensures some { 0 < n → (taken : List Range) (first last : ℕ) → IsMap map.now taken first last → result ≡ is_some (first_fit taken first last n) }
+    ensures some { 0 < n → (taken : List Range) (first last : ℕ) → IsMap map.now taken first last
+        → result ≡ is_some (first_fit taken first last n) }
     ensures none { n ≡ 0 → result ≡ true }
 {
     if n == 0 {

@@ -1,7 +1,7 @@
 //! Runs of bytes of one image, where it stands.
-ghost use Rattle.std.specs.Prelude.{◌≡◌, ◌-◌, ◌+◌, ◌*◌, ◌%◌, ◌<◌, ◌≤◌, ℕ, List, true, false, Some, None, length};
+ghost use Rattle.std.specs.Prelude.{◌≡◌, ◌+◌, ◌%◌, ◌<◌, ◌≤◌, ℕ, List, true, false, Some, None, length};
 ghost use Rattle.std.specs.Option.{is_some};
-ghost use Rattle.v6_base.specs.Image.{IsImage, named};
+ghost use Rattle.v6_base.specs.Image.{IsImage};
 ghost use Rattle.v6_base.specs.Copy.{load_bytes, store_bytes, image_or, is_writable};
 ghost use Rattle.v6_base.specs.Words.{IsWithin, IsStorable};
 ghost use Rattle.v6_base.specs.Runs.{room, run_at, with_run};
@@ -103,7 +103,9 @@ impl Images {
         requires few { length bytes.now ≤ 512 }
         requires formed { IsImage (image_of self.old.kept s) }
         ensures done { result ≡ is_some (store_bytes (image_of self.old.kept s) at bytes.now) }
-        ensures kept { self.new.kept ≡ with_image self.old.kept s (image_or (image_of self.old.kept s) (store_bytes (image_of self.old.kept s) at bytes.now)) }
+        ensures kept { self.new.kept
+            ≡ with_image self.old.kept s
+            (image_or (image_of self.old.kept s) (store_bytes (image_of self.old.kept s) at bytes.now)) }
         ensures starts { AreStarts self.new.kept s starts.now }
     {
         let first = self.find(s, starts, at);
@@ -122,7 +124,9 @@ impl Images {
         requires few { length bytes.now ≤ 512 }
         requires formed { IsImage (image_of self.old.kept s) }
         ensures done { result ≡ is_some (store_bytes (image_of self.old.kept s) at bytes.now) }
-        ensures kept { self.new.kept ≡ with_image self.old.kept s (image_or (image_of self.old.kept s) (store_bytes (image_of self.old.kept s) at bytes.now)) }
+        ensures kept { self.new.kept
+            ≡ with_image self.old.kept s
+            (image_or (image_of self.old.kept s) (store_bytes (image_of self.old.kept s) at bytes.now)) }
         ensures starts { AreStarts self.new.kept s starts.now }
     {
         if !self.can_set(s, starts, at, bytes.len()) {

@@ -1,5 +1,5 @@
 //! A process where it stands in core: what an instruction reads and writes of it, in place.
-ghost use Rattle.std.specs.Prelude.{◌≡◌, ℕ, ◌+◌, ◌*◌, ◌%◌, ◌<◌, ◌≤◌, ◌⊎◌, IfSome, Ok, false, length, slice_index, slice_set};
+ghost use Rattle.std.specs.Prelude.{◌≡◌, ℕ, ◌+◌, ◌%◌, ◌<◌, ◌≤◌, ◌⊎◌, IfSome, Ok, false, length, slice_index, slice_set};
 ghost use Rattle.v6_base.specs.Access.{load_byte, load_word, store_byte, store_word};
 ghost use Rattle.v6_base.specs.Words.{word_set};
 ghost use Rattle.core_mem.specs.Bytes.{part, over};

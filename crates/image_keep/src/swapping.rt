@@ -1,5 +1,5 @@
 //! Images come into core, and go out of it.
-ghost use Rattle.std.specs.Prelude.{◌≡◌, ◌⊎◌, ◌+◌, ◌*◌, ◌-◌, ◌<◌, ◌≤◌, ℕ, ◌||◌, true, false, None, Some, IfOk, MatchResult, List, length, slice_index, slice_index_or, slice_set};
+ghost use Rattle.std.specs.Prelude.{◌≡◌, ◌+◌, ◌*◌, ◌-◌, ◌<◌, ◌≤◌, ℕ, ◌||◌, true, false, None, Some, MatchResult, length};
 ghost use Rattle.core_mem.specs.Bytes.{part, over};
 ghost use Rattle.map_fit.specs.Free.{is_free};
 ghost use Rattle.text_tab.specs.Table.{row_at as text_row, IsUsed, unloaded, with_change};
@@ -101,7 +101,8 @@ fn copy_image(memory: &mut Memory, core: u16, block: u16, to: u16, clicks: u16)
     requires end { block + blocks clicks ≤ 4872 }
     requires core { length memory.old.core ≡ 64 * core }
     requires swap { length memory.old.swap ≡ SWAP_BYTES }
-    ensures line { line_of memory.new ≡ over (line_of memory.old) (64 * (to - 1)) (part (line_of memory.old) (swap_at core block) (64 * clicks)) }
+    ensures line { line_of memory.new
+        ≡ over (line_of memory.old) (64 * (to - 1)) (part (line_of memory.old) (swap_at core block) (64 * clicks)) }
     ensures new_core { length memory.new.core ≡ length memory.old.core }
     ensures new_swap { length memory.new.swap ≡ length memory.old.swap }
 {
@@ -153,7 +154,8 @@ impl Images {
     /// `NoCore`: exactly where core has no room. Nothing has changed then.
     pub fn swap_in(&mut self, s: Slot) -> Result<u16, NoCore>
         requires { IsOut self.old.kept s }
-        ensures place { MatchResult result (λ at. core_fit self.old.kept (clicks_to_load self.old.kept s) ≡ Some at) (λ _. core_fit self.old.kept (clicks_to_load self.old.kept s) ≡ None) }
+        ensures place { MatchResult result (λ at. core_fit self.old.kept (clicks_to_load self.old.kept s) ≡ Some at)
+            (λ _. core_fit self.old.kept (clicks_to_load self.old.kept s) ≡ None) }
         ensures kept { self.new.kept ≡ swapped_in self.old.kept s (core_fit self.old.kept (clicks_to_load self.old.kept s)) }
     {
         let row = row_of(&self.rows, s as usize);

@@ -1,8 +1,8 @@
 //! The texts that images share.
-ghost use Rattle.std.specs.Prelude.{◌≡◌, ◌⊎◌, ◌+◌, ◌*◌, ◌-◌, ◌<◌, ◌≤◌, ℕ, ◌||◌, true, false, None, Some, is_none, IsSome, IfOk, MatchResult, List, length, slice_index, slice_index_or, slice_set};
+ghost use Rattle.std.specs.Prelude.{◌≡◌, ◌+◌, ◌*◌, ◌<◌, ◌≤◌, ℕ, ◌||◌, true, false, None, Some, is_none, IsSome, length, slice_set};
 ghost use Rattle.core_mem.specs.Bytes.{part, over};
 ghost use Rattle.map_fit.specs.Free.{is_free, is_within};
-ghost use Rattle.text_tab.specs.Table.{row_at as text_row, found, free_entry, new_text as new_row, joined, IsUsed, left, detached};
+ghost use Rattle.text_tab.specs.Table.{row_at as text_row, found, free_entry, new_text as new_row, IsUsed, left, detached};
 ghost use Rattle.u_area.specs.Area.{area_bytes, IsStored};
 ghost use Rattle.image_keep.specs.declared.memory.TheConstants.{SWAP_BYTES};
 ghost use Rattle.image_keep.specs.Line.{line_of};
@@ -76,7 +76,8 @@ fn clear_size_at(memory: &mut Memory, core: u16, place: Place)
     requires stored { IsStored (part (line_of memory.old) (place_at core place) 1024) }
     requires core { length memory.old.core ≡ 64 * core }
     requires swap { length memory.old.swap ≡ SWAP_BYTES }
-    ensures line { line_of memory.new ≡ over (line_of memory.old) (place_at core place) (area_bytes (textless_at (line_of memory.old) core place)) }
+    ensures line { line_of memory.new
+        ≡ over (line_of memory.old) (place_at core place) (area_bytes (textless_at (line_of memory.old) core place)) }
     ensures long { length (area_bytes (textless_at (line_of memory.old) core place)) ≡ 1024 }
     ensures new_core { length memory.new.core ≡ length memory.old.core }
     ensures new_swap { length memory.new.swap ≡ length memory.old.swap }
@@ -114,11 +115,13 @@ fn detach(texts: &mut Texts, swap_map: &mut Holes, t: TextId, sticky: bool) -> L
     requires users { 0 < (text_row texts.old t).users }
     requires clicks { 0 < (text_row texts.old t).clicks }
     requires small { (text_row texts.old t).block + blocks (text_row texts.old t).clicks ≤ 65535 }
-    requires taken { (x : ℕ) → is_within (text_row texts.old t).block (blocks (text_row texts.old t).clicks) x ≡ true → is_free swap_map.old x ≡ false }
+    requires taken { (x : ℕ) → is_within (text_row texts.old t).block (blocks (text_row texts.old t).clicks) x ≡ true
+        → is_free swap_map.old x ≡ false }
     requires room { length swap_map.old < 100 }
     ensures left { result ≡ left (text_row texts.old t) sticky }
     ensures table { texts.new ≡ detached texts.old t sticky }
-    ensures swap { (x : ℕ) → is_free swap_map.new x ≡ (is_free swap_map.old x || gone_units (left (text_row texts.old t) sticky) (text_row texts.old t) x) }
+    ensures swap { (x : ℕ) → is_free swap_map.new x
+        ≡ (is_free swap_map.old x || gone_units (left (text_row texts.old t) sticky) (text_row texts.old t) x) }
 {
     let row = *texts.row(t);
     let left = texts.detach(t, sticky);
@@ -172,7 +175,8 @@ impl Images {
         requires unknown { found_text self.old.kept ino ≡ None }
         requires some { 0 < clicks }
         ensures text { result ≡ making (free_text self.old.kept) (swap_fit self.old.kept (blocks clicks)) }
-        ensures kept { self.new.kept ≡ with_made_text self.old.kept s ino clicks (free_text self.old.kept) (swap_fit self.old.kept (blocks clicks)) }
+        ensures kept { self.new.kept
+            ≡ with_made_text self.old.kept s ino clicks (free_text self.old.kept) (swap_fit self.old.kept (blocks clicks)) }
     {
         if self.texts.is_full() {
             return Err(TextRefusal::Full);
@@ -222,7 +226,10 @@ impl Images {
     pub fn text_bytes(&mut self, t: TextId, at: u32, bytes: &[u8])
         requires { (x : Shared) × (shared self.old.kept t ≡ Some x) × (x.row.loaded ≡ 0) × (at + length bytes.now ≤ 64 * x.row.clicks) }
         ensures texts { self.new.kept.texts ≡ slice_set self.old.kept.texts t (filled at bytes.now (shared self.old.kept t)) }
-        ensures slots { (s : ℕ) → keeping self.new.kept s ≡ retexted t (bytes_in (filled at bytes.now (shared self.old.kept t))) (text_of self.old.kept s) (keeping self.old.kept s) }
+        ensures slots { (s : ℕ)
+            → keeping self.new.kept s
+            ≡ retexted t (bytes_in (filled at bytes.now (shared self.old.kept t))) (text_of self.old.kept s)
+            (keeping self.old.kept s) }
         ensures users { self.new.kept.users ≡ self.old.kept.users }
         ensures core { self.new.kept.core ≡ self.old.kept.core }
     {

@@ -19,8 +19,8 @@ use v6_base::{LINES, Space, Trace};
 /// For how many lines there is room.
 const ROOM: usize = LINES as usize;
 
-/// One terminal line or eight, numbered from 0, which is the console's: the character devices 0,0 to 0,7. Each call of a line is that
-/// of `Line` with the same name, and leaves the other lines alone; what goes out goes out under the line's number.
+/// One terminal line or eight, numbered from 0, which is the console's: the character devices 0,0 to 0,7. Each call of a line
+/// is that of `Line` with the same name, and leaves the other lines alone; what goes out goes out under the line's number.
 #[derive(Drop)]
 pub struct Lines {
     lines: ArrayVec<Line, ROOM>,
@@ -93,7 +93,8 @@ fn any_holds(lines: &[Line]) -> bool
 }
 
 impl Lines {
-    /// So many lines that nobody has opened yet.
+    /// So many lines that nobody has opened yet. It stands out of line: they take 12,672 bytes of a frame.
+    #[inline(never)]
     pub fn new(count: u8) -> Lines
         requires { (count ≡ 1) ⊎ (count ≡ 8) }
         ensures { result ≡ first_lines count }
@@ -158,7 +159,8 @@ impl Lines {
     /// Reads bytes of a line into a memory.
     pub fn read<S: Space>(&mut self, l: u8, space: &mut S, at: u16, count: u16) -> Took
         requires { l < length self.old }
-        ensures line { self.new ≡ with_terminal self.old l (reads (terminal_at self.old l) (S.image space.old) at count).terminal }
+        ensures line { self.new
+            ≡ with_terminal self.old l (reads (terminal_at self.old l) (S.image space.old) at count).terminal }
         ensures image { S.image space.new ≡ (reads (terminal_at self.old l) (S.image space.old) at count).image }
         ensures took { result ≡ (reads (terminal_at self.old l) (S.image space.old) at count).took }
         ensures memory { S.rest space.new ≡ S.rest space.old }
@@ -186,7 +188,8 @@ impl Lines {
         requires { l < length self.old }
         ensures line { self.new ≡ with_terminal self.old l (with_modes (terminal_at self.old l) v).terminal }
         ensures show { result ≡ (with_modes (terminal_at self.old l) v).show }
-        ensures items { items.Took (T.taken trace.old) (sent l (with_modes (terminal_at self.old l) v).shown) (T.taken trace.new) }
+        ensures items { items.Took (T.taken trace.old) (sent l (with_modes (terminal_at self.old l) v).shown)
+            (T.taken trace.new) }
         ensures frame { T.leads_to trace.old trace.new }
     {
         let lines = self.lines.as_mut_slice();
@@ -237,7 +240,8 @@ impl Lines {
         requires few { length bytes.now ≤ 65535 }
         ensures taken { result ≡ written (terminal_at self.old l) bytes.now }
         ensures line { self.new ≡ with_terminal self.old l (after_shown (terminal_at self.old l) (take result bytes.now)) }
-        ensures items { items.Took (T.taken trace.old) (sent l (shows (terminal_at self.old l) (take result bytes.now))) (T.taken trace.new) }
+        ensures items { items.Took (T.taken trace.old) (sent l (shows (terminal_at self.old l) (take result bytes.now)))
+            (T.taken trace.new) }
         ensures frame { T.leads_to trace.old trace.new }
     {
         let lines = self.lines.as_mut_slice();

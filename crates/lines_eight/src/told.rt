@@ -19,9 +19,11 @@ pub fn show_of(l: u8) -> Chan
     if l == 0 { Chan::Show } else { Chan::ShowOf(l) }
 }
 
-/// Writes down who is woken by a flush of a line: who waits for keys, and then, where bytes waited to go out, who waits for room.
+/// Writes down who is woken by a flush of a line: who waits for keys, and then, where bytes waited to go out, who waits for
+/// room.
 pub fn tell_flushed<T: Trace>(l: u8, show: bool, trace: &mut T)
-    ensures items { items.Took (T.taken trace.old) (wakes_if true (keys_of l) ++ wakes_if show (show_of l)) (T.taken trace.new) }
+    ensures items { items.Took (T.taken trace.old) (wakes_if true (keys_of l) ++ wakes_if show (show_of l))
+        (T.taken trace.new) }
     ensures frame { T.leads_to trace.old trace.new }
 {
     trace.entry(Entry::Wake(keys_of(l)));

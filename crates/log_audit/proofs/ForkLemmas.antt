@@ -1,7 +1,6 @@
 -- A child that comes into a slot: what becomes of the board, and that its image may stand where its parent's may.
-use Rattle.std.proofs.Common.{◌≡◌, ◌≢◌, ◌∙◌, ◌<◌, ◌≤◌, ◌+◌, ℕ, zero, suc, Bool, true, false, List, [], ◌∷◌, length, map, get_or, set, Option, Some, None, refl, sym, ap, subst, arith, inl}
+use Rattle.std.proofs.Common.{◌≡◌, ◌≢◌, ◌∙◌, ◌<◌, ◌+◌, ℕ, zero, suc, true, List, [], ◌∷◌, length, map, get_or, set, Option, Some, None, refl, sym, ap, arith, inl}
 use Rattle.std.proofs.lemmas.List.{get_or-set_same}
-use Rattle.map_fit.specs.Fit.{Range}
 use Rattle.v6_base.specs.declared.entry.Place.TheVariants.{Core, Swap}
 use Rattle.pick_rules.specs.declared.row.Stat.TheVariants.{Ready}
 use Rattle.pick_rules.specs.declared.row.TableRow.{TableRow}
@@ -22,13 +21,6 @@ use Rattle.log_audit.proofs.RowLemmas.{row_whole, told_whole}
 -- the row of a child whose parent has this nice and this text
 abbrev child_of : TableRow → Option ℕ → TableRow
 child_of parent o = record empty_row { stat = Ready; nice = parent.nice; text = o }
-
-pub plain_table : (t : Table) (child : ℕ) (parent : TableRow) → parent.text ≡ None → with_row t child (born parent.nice) ≡ with_row t child (child_row parent)
-plain_table t child parent e = ap (λ o. with_row t child (child_of parent o)) (sym e)
-
-pub plain_board : (w : World) (child : ℕ) (parent : TableRow) → parent.text ≡ None
-    → board_of (record w { table = with_row w.table child (born parent.nice) }) ≡ joins (in_table (board_of w) (λ t. with_row t child (child_row parent))) parent.text
-plain_board w child parent e = ap (λ o. joins (in_table (board_of w) (λ t. with_row t child (child_of parent o))) o) (sym e)
 
 abbrev pub with_child : World → ℕ → TableRow → World
 with_child w child parent = record w { table = with_row w.table child (born parent.nice) }

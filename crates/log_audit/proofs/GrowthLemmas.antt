@@ -1,5 +1,5 @@
 -- An image that grows and takes a new place in core: what becomes of the board.
-use Rattle.std.proofs.Common.{◌≡◌, ◌∙◌, ◌<◌, ◌≤◌, ◌+◌, ◌-◌, ℕ, Bool, true, false, cond, List, [], length, map, get_or, set, set-set, Option, Some, None, refl, sym, ap, arith}
+use Rattle.std.proofs.Common.{◌≡◌, ◌∙◌, ◌<◌, ◌≤◌, ◌+◌, ◌-◌, ℕ, true, cond, List, [], length, map, get_or, set, set-set, Option, Some, None, refl, sym, ap, arith}
 use Rattle.std.proofs.lemmas.List.{length-map, set-get_or, get_or-set_same}
 use Rattle.map_fit.specs.Fit.{Range}
 use Rattle.v6_base.specs.declared.entry.Place.TheVariants.{Core}
@@ -10,7 +10,7 @@ use Rattle.pick_rules.specs.Apply.{in_table, change_row, changed, leaves_core, e
 use Rattle.pick_rules.proofs.Placing.{moved_in, moved_core}
 use Rattle.log_audit.specs.declared.world.World.{World}
 use Rattle.log_audit.specs.World.{text_place, board_of, unplaced, in_at}
-use Rattle.log_audit.specs.Sound.{IsLoose, entry_at}
+use Rattle.log_audit.specs.Sound.{IsLoose}
 use Rattle.log_audit.proofs.MapLemmas.{text_is}
 use Rattle.log_audit.proofs.Shared.{HasEntry, has_entry, loaded_is}
 

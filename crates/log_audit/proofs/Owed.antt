@@ -1,14 +1,14 @@
 -- What a line that fits owes to the call that takes it.
-use Rattle.std.proofs.Common.{◌≡◌, ◌≢◌, ◌⊎◌, ◌∙◌, ◌<◌, ◌≤◌, ℕ, Bool, true, false, Option, Some, None, is_none, refl, sym, ap, subst, arith, inl, inr}
+use Rattle.std.proofs.Common.{◌≡◌, ◌≢◌, ◌∙◌, ◌<◌, ◌≤◌, ℕ, true, false, Option, Some, None, is_none, refl, sym, ap, subst, arith, inl, inr}
 use Rattle.v6_base.specs.declared.entry.Place.{Place}
 use Rattle.v6_base.specs.declared.entry.Place.TheVariants.{Swap}
 use Rattle.v6_base.specs.declared.entry.Entry.{Entry}
 use Rattle.v6_base.specs.declared.entry.Entry.TheVariants.{Boot, Go, Idle, Trap, TickUser, TickKernel, TickIdle, Sleep, Wake, Signal, Nice, Time, Size, SizeKeep, Fork, Leave, Bare, Text, Share, Image, SwapIn, SwapOut, Exit, Reap, Panic, End}
 use Rattle.pick_rules.specs.Table.{row_at, is_empty, is_zombie}
-use Rattle.pick_rules.specs.Board.{Board, TextPlace, blocks, text_at, placed, core_fit, swap_fit, free_text}
+use Rattle.pick_rules.specs.Board.{blocks, text_at, placed, core_fit, swap_fit}
 use Rattle.pick_rules.specs.Choice.{chosen}
 use Rattle.pick_rules.specs.Swapper.{need}
-use Rattle.pick_rules.specs.Fits.{FitsBoard, FitsSleep, IsRunning, IsBare, IsSize, free_slot}
+use Rattle.pick_rules.specs.Fits.{FitsBoard, IsRunning, IsSize}
 use Rattle.pick_rules.specs.Lawful as log
 use Rattle.pick_rules.specs.Lawful.{FitsStage, IsOfExec}
 use Rattle.pick_rules.proofs.Found.{IsFound, found_in}

@@ -1,10 +1,8 @@
 -- A slot that leaves its text, and a text that goes with its last user: what becomes of the board.
-use Rattle.std.proofs.Common.{◌≡◌, ◌≢◌, ◌∙◌, ◌<◌, ◌≤◌, ◌+◌, ◌-◌, ◌==◌, ℕ, Bool, true, false, cond, List, [], length, map, get_or, set, set-set, Option, Some, None, refl, sym, ap, subst, arith}
+use Rattle.std.proofs.Common.{◌≡◌, ◌≢◌, ◌∙◌, ◌<◌, ◌≤◌, ◌-◌, ◌==◌, ℕ, true, false, cond, List, [], length, map, get_or, set, set-set, Option, Some, None, refl, sym, ap, subst, arith}
 use Rattle.std.proofs.lemmas.Bool.{eq-eqb}
 use Rattle.std.proofs.lemmas.List.{length-map, set-get_or, get_or-set_same}
-use Rattle.pick_rules.specs.declared.row.TableRow.{TableRow}
-use Rattle.pick_rules.specs.declared.table.Table.{Table}
-use Rattle.pick_rules.specs.Table.{row_at, with_row, is_loaded, is_in_core}
+use Rattle.pick_rules.specs.Table.{row_at, with_row, is_in_core}
 use Rattle.pick_rules.specs.Board.{TextPlace, Board}
 use Rattle.pick_rules.specs.Apply.{in_table, change_row, changed, leaves_core, parted, left_text, kept, goes_if_unused}
 use Rattle.log_audit.specs.declared.world.TextRow.{TextRow}

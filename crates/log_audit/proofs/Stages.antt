@@ -1,5 +1,5 @@
 -- How far a log has come after a line, and what holds there.
-use Rattle.std.proofs.Common.{◌≡◌, ◌≢◌, ◌∙◌, ◌<◌, ◌≤◌, ℕ, [], Option, Some, None, refl, sym, ap, subst, arith, inr}
+use Rattle.std.proofs.Common.{◌≡◌, ◌≢◌, ◌∙◌, ◌<◌, ◌≤◌, ℕ, [], Some, None, refl, sym, ap, subst, arith, inr}
 use Rattle.v6_base.specs.declared.entry.Entry.{Entry}
 use Rattle.v6_base.specs.declared.entry.Entry.TheVariants.{Boot, Go, Idle, Trap, TickUser, TickKernel, TickIdle, Sleep, Wake, Signal, Nice, Time, Size, SizeKeep, Fork, Leave, Bare, Text, Share, Image, SwapIn, SwapOut, Exit, Reap, Panic, End}
 use Rattle.pick_rules.specs.declared.table.Table.{Table}
@@ -7,7 +7,7 @@ use Rattle.pick_rules.specs.Ranges.{IsInRange}
 use Rattle.pick_rules.specs.Board.{Board}
 use Rattle.pick_rules.specs.Apply.{applied}
 use Rattle.pick_rules.specs.Lawful as log
-use Rattle.pick_rules.specs.Lawful.{Seen, IsFirstLine, IsOfExec, FitsStage, seen_after}
+use Rattle.pick_rules.specs.Lawful.{IsFirstLine, IsOfExec, FitsStage, seen_after}
 use Rattle.pick_rules.specs.Fits.{FitsBoard}
 use Rattle.pick_rules.specs.Priority.{pswp}
 use Rattle.v6_base.specs.declared.entry.Chan.TheVariants.{RunOut}

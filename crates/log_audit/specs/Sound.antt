@@ -1,13 +1,10 @@
 -- What holds of what the auditor keeps: each unit of core and of the swap area has one owner at most, or is free, and the users
 -- of a text are those rows that share it.
-use Rattle.std.specs.Prelude.{◌≡◌, ◌≢◌, ◌⊎◌, ℕ, ◌+◌, ◌<◌, ◌≤◌, ◌==◌, Bool, true, false, ◌&&◌, if◌then◌else◌, List, [], length, sum_by, slice_index_or, Option, Some, None}
-use Rattle.map_fit.specs.declared.holes.Hole.{Hole}
+use Rattle.std.specs.Prelude.{◌≡◌, ◌≢◌, ℕ, ◌+◌, ◌<◌, ◌≤◌, ◌==◌, Bool, true, false, ◌&&◌, if◌then◌else◌, List, [], length, sum_by, slice_index_or, Option, Some, None}
 use Rattle.map_fit.specs.Fit.{Range}
 use Rattle.map_fit.specs.Free.{is_free, is_within, ArePositive}
 use Rattle.v6_base.specs.declared.entry.Place.{Place}
 use Rattle.v6_base.specs.declared.entry.Place.TheVariants.{Core, Swap}
-use Rattle.pick_rules.specs.declared.row.Stat.{Stat}
-use Rattle.pick_rules.specs.declared.row.Stat.TheVariants.{Empty, Sleeping, Waiting, Ready, Zombie}
 use Rattle.pick_rules.specs.declared.row.TableRow.{TableRow}
 use Rattle.pick_rules.specs.declared.table.Table.{Table}
 use Rattle.pick_rules.specs.Table.{IsTable, row_at, is_empty, is_zombie, is_in_core}

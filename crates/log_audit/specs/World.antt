@@ -1,5 +1,5 @@
 -- What the auditor keeps, as the board that the lines so far give and how far they have come.
-use Rattle.std.specs.Prelude.{ℕ, ℤ, ◌+◌, ◌-◌, List, map, Option, Some, None}
+use Rattle.std.specs.Prelude.{ℕ, ℤ, ◌+◌, ◌-◌, map, Option, Some, None}
 use Rattle.v6_base.specs.declared.entry.Place.TheVariants.{Core, Swap}
 use Rattle.pick_rules.specs.declared.row.Stat.TheVariants.{Ready, Zombie}
 use Rattle.pick_rules.specs.declared.row.TableRow.{TableRow}

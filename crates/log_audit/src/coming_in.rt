@@ -1,5 +1,5 @@
 //! Images that come into core: Lions' Commentary, `sched` in `slp.c`.
-ghost use Rattle.std.specs.Prelude.{◌≡◌, ◌<◌, ◌≤◌, ◌+◌, ◌==◌, ℕ, List, [], ◌∷◌, Some, None, true, false, slice_set};
+ghost use Rattle.std.specs.Prelude.{◌≡◌, ◌<◌, ◌+◌, ℕ, List, [], Some, true, false, slice_set};
 ghost use Rattle.map_fit.specs.Fit.{Range};
 ghost use Rattle.v6_base.specs.declared.entry.Entry.TheVariants as line;
 ghost use Rattle.pick_rules.specs.Table.{row_at, with_row, is_empty, is_zombie};

@@ -1,5 +1,5 @@
 //! Lines by which a slot gives up its image: exec(II) and wait(II).
-ghost use Rattle.std.specs.Prelude.{◌≡◌, ◌≢◌, ◌<◌, ◌≤◌, List, [], ◌∷◌, Some, None, true, false};
+ghost use Rattle.std.specs.Prelude.{◌≡◌, ◌≢◌, ◌<◌, List, ◌∷◌, Some, None, true, false};
 ghost use Rattle.map_fit.specs.Fit.{Range};
 ghost use Rattle.v6_base.specs.declared.entry.Entry.TheVariants as line;
 ghost use Rattle.pick_rules.specs.Table.{empty_row, row_at, with_row, is_zombie};
@@ -102,7 +102,10 @@ impl World {
         requires bare { (row_at self.old.table s).place ≡ None }
         requires plain { (row_at self.old.table s).text ≡ None }
         ensures same { self.new
-            ≡ record self.old { table = record (with_row self.old.table s (ended (row_at self.old.table s) block)) { running = None } } }
+            ≡ record self.old {
+              table = record (with_row self.old.table s
+                  (ended (row_at self.old.table s) block)) { running = None };
+            } }
         ensures loose { (cl sl : List Range) → IsLoose self.old cl (record { at = block; size = 1 } ∷ sl)
             → IsLoose self.new cl sl }
     {

@@ -1,8 +1,8 @@
 //! Processes that make a child: fork(II).
-ghost use Rattle.std.specs.Prelude.{◌≡◌, ◌≢◌, ◌<◌, ◌≤◌, ℕ, List, [], ◌∷◌, Some, None, true, false};
+ghost use Rattle.std.specs.Prelude.{◌≡◌, ◌≢◌, ◌<◌, ◌≤◌, ℕ, List, Some, None, true};
 ghost use Rattle.map_fit.specs.Fit.{Range};
 ghost use Rattle.v6_base.specs.declared.entry.Entry.TheVariants as line;
-ghost use Rattle.pick_rules.specs.Table.{row_at, with_row, child_row, is_empty, is_zombie};
+ghost use Rattle.pick_rules.specs.Table.{row_at, with_row, child_row, is_empty};
 ghost use Rattle.pick_rules.specs.Board.{blocks, placed, may_load, core_fit, swap_fit};
 ghost use Rattle.pick_rules.specs.Apply.{applied, in_table, joins};
 ghost use Rattle.log_audit.specs.World.{board_of, born};

@@ -1,5 +1,5 @@
 //! Images that grow, and take a new place: break(II), and a stack that needs more.
-ghost use Rattle.std.specs.Prelude.{◌≡◌, ◌≢◌, ◌<◌, ◌≤◌, List, [], ◌∷◌, Some, None, true, false};
+ghost use Rattle.std.specs.Prelude.{◌≡◌, ◌≢◌, ◌<◌, ◌≤◌, List, ◌∷◌, Some, None, true, false};
 ghost use Rattle.map_fit.specs.Fit.{Range};
 ghost use Rattle.v6_base.specs.declared.entry.Entry.TheVariants as line;
 ghost use Rattle.pick_rules.specs.Table.{row_at, with_row, is_empty, is_zombie};

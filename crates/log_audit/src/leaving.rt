@@ -1,5 +1,5 @@
 //! Images that leave their places.
-ghost use Rattle.std.specs.Prelude.{◌≡◌, ◌≢◌, ◌<◌, ◌≤◌, ◌-◌, ◌==◌, ℕ, List, ◌∷◌, length, Some, None, false, if◌then◌else◌};
+ghost use Rattle.std.specs.Prelude.{◌≡◌, ◌≢◌, ◌<◌, ◌≤◌, ◌-◌, ◌==◌, List, ◌∷◌, length, Some, None, false, if◌then◌else◌};
 ghost use Rattle.map_fit.specs.Fit.{Range};
 ghost use Rattle.pick_rules.specs.Table.{row_at, with_row, is_zombie};
 ghost use Rattle.pick_rules.specs.Apply.{without_place};

@@ -1,5 +1,5 @@
 //! Processes that leave their text: exec(II) and exit(II).
-ghost use Rattle.std.specs.Prelude.{◌≡◌, ◌≢◌, ◌<◌, ◌≤◌, ◌-◌, ◌==◌, ℕ, List, [], ◌∷◌, Some, None, true, false, slice_set, if◌then◌else◌};
+ghost use Rattle.std.specs.Prelude.{◌≡◌, ◌≢◌, ◌<◌, ◌≤◌, ◌-◌, ◌==◌, List, ◌∷◌, Some, None, true, false, slice_set, if◌then◌else◌};
 ghost use Rattle.map_fit.specs.Fit.{Range};
 ghost use Rattle.v6_base.specs.declared.entry.Entry.TheVariants as line;
 ghost use Rattle.pick_rules.specs.Table.{row_at, with_row, is_in_core};

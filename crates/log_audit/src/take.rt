@@ -1,6 +1,5 @@
 //! What a line that fits does.
-ghost use Rattle.std.specs.Prelude.{◌≡◌, ◌<◌, ◌≤◌};
-ghost use Rattle.v6_base.specs.declared.entry.Entry.TheVariants as line;
+ghost use Rattle.std.specs.Prelude.{◌≡◌, ◌<◌};
 ghost use Rattle.pick_rules.specs.Ranges.{IsInRange};
 ghost use Rattle.pick_rules.specs.Apply.{applied};
 ghost use Rattle.pick_rules.specs.Fits.{FitsBoard};

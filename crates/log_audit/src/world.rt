@@ -1,13 +1,13 @@
 //! What the lines of a log give: the table, the places of texts, and what is free.
-ghost use Rattle.std.specs.Prelude.{◌≡◌, ◌≤◌, slice_set};
+ghost use Rattle.std.specs.Prelude.{◌≡◌, ◌≤◌};
 ghost use Rattle.log_audit.specs.World.{board_of};
 ghost use Rattle.log_audit.specs.Sound.{entry_at, IsWhole};
 ghost use Rattle.pick_rules.specs.Board as board;
 ghost use Rattle.pick_rules.specs.Board.{blocks};
 
 use map_fit::Holes;
-use pick_rules::{LAST_BLOCK, SWAP_START, Table};
-use v6_base::Slot;
+use pick_rules::{LAST_BLOCK, Table};
+use v6_base::{SWAP_START, Slot};
 
 /// How many blocks the swap area has.
 const SWAP_BLOCKS: u16 = LAST_BLOCK - SWAP_START + 1;

@@ -1,5 +1,5 @@
 //! What the words of a line say.
-ghost use Rattle.std.specs.Prelude.{◌≡◌, option_map};
+ghost use Rattle.std.specs.Prelude.{◌≡◌};
 ghost use Rattle.log_text.specs.inside.Reading as read;
 ghost use Rattle.log_text.specs.inside.Reading.{words_of, channel_of, entry_of};
 

@@ -2,8 +2,8 @@
 ghost use Rattle.std.specs.Prelude.{◌↔◌, IsTrue};
 ghost use Rattle.pick_rules.specs.Ranges.{IsSlot, IsText, IsBlock, IsSignal, IsInode, IsLine, IsChannel, IsPlace, IsInRange};
 
-use pick_rules::{LAST_BLOCK, LAST_LINE, LAST_SIGNAL, LAST_SLOT, LAST_TEXT, SWAP_START};
-use v6_base::{Chan, Entry, Place, Slot};
+use pick_rules::{LAST_BLOCK, LAST_LINE, LAST_SIGNAL, LAST_SLOT, LAST_TEXT};
+use v6_base::{Chan, Entry, Place, SWAP_START, Slot};
 
 fn is_slot(slot: Slot) -> bool
     ensures { IsTrue result ↔ IsSlot slot }

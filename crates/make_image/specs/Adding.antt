@@ -10,7 +10,8 @@ use Rattle.make_image.specs.Image.{bytes_in, blocks_of, inode, inodes, contents}
 
 -- a node is added, with the blocks that come next
 pub record AddsNode (node : Node) (old new : Files) : Type 0 where
-  pub inode : new.inodes.items ≡ old.inodes.items ++ inode_bytes (inode (FIRST_BLOCK + length old.contents.items / BLOCK_SIZE) node)
+  pub inode : new.inodes.items ≡ old.inodes.items
+      ++ inode_bytes (inode (FIRST_BLOCK + length old.contents.items / BLOCK_SIZE) node)
   pub content : new.contents.items ≡ old.contents.items ++ padded (BLOCK_SIZE * blocks_of node.content) (bytes_in node.content)
   pub one : length new.inodes.items ≡ length old.inodes.items + INODE_SIZE
   pub small : length new.contents.items ≤ length old.contents.items + 4096

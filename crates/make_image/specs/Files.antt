@@ -21,7 +21,8 @@ unfoldable pub entry : ℕ → List ℕ → DirEntry
 entry ino name = record { ino = ino; name = padded 14 name }
 
 abbrev pub directory : ℕ → List DirEntry → Node
-directory nlink entries = record { mode = IALLOC + IFDIR + 0o755; nlink = nlink; content = Bytes (flat_map entry_bytes entries) }
+directory nlink entries =
+    record { mode = IALLOC + IFDIR + 0o755; nlink = nlink; content = Bytes (flat_map entry_bytes entries) }
 
 abbrev pub device : ℕ → Node
 device numbers = record { mode = IALLOC + IFCHR + 0o666; nlink = 1; content = Device numbers }
@@ -63,7 +64,8 @@ abbrev pub byte_of : ℕ → ℕ → ℕ → ℕ
 byte_of n k i = (n + k + i) % 256
 
 abbrev pub plain_file : ℕ → ℕ → Node
-plain_file n k = record { mode = IALLOC + 0o644; nlink = 1; content = Bytes (map (byte_of n k) (range_with_len 0 (size_of n k))) }
+plain_file n k =
+    record { mode = IALLOC + 0o644; nlink = 1; content = Bytes (map (byte_of n k) (range_with_len 0 (size_of n k))) }
 
 -- inodes 1 to 7: the root, /etc, /dev, /u, /dev/tty8, /dev/null, /etc/init
 unfoldable pub fixed_nodes : ℕ → List Node

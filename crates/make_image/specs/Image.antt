@@ -69,4 +69,5 @@ first_free n = FIRST_BLOCK + length (contents (nodes n)) / BLOCK_SIZE
 unfoldable pub build_of : ℕ → List ℕ
 build_of n =
     let list = freed_down (SWAP_START - first_free n) in
-    padded BLOCK_SIZE [] ++ padded BLOCK_SIZE (super_bytes (super_block list)) ++ padded (INODE_BLOCKS * BLOCK_SIZE) (inodes FIRST_BLOCK (nodes n)) ++ contents (nodes n) ++ list.blocks
+    padded BLOCK_SIZE [] ++ padded BLOCK_SIZE (super_bytes (super_block list))
+    ++ padded (INODE_BLOCKS * BLOCK_SIZE) (inodes FIRST_BLOCK (nodes n)) ++ contents (nodes n) ++ list.blocks

@@ -38,7 +38,9 @@ pub fn build(alloc: Global, n: u32) -> Result<Vec<u8>, AllocError>
 fn push_super(image: &mut Vec<u8>, first_free: u16) -> Result<(), AllocError>
     requires below { first_free < SWAP_START }
     requires above { 0 < first_free }
-    ensures items { OnOk result (image.new.items ≡ image.old.items ++ padded BLOCK_SIZE (super_bytes (super_block (freed_down (SWAP_START - first_free))))) }
+    ensures items { OnOk result
+        (image.new.items
+        ≡ image.old.items ++ padded BLOCK_SIZE (super_bytes (super_block (freed_down (SWAP_START - first_free))))) }
     ensures len { OnOk result (vec_len image.new ≡ vec_len image.old + BLOCK_SIZE) }
 {
     let head = SuperBlock {

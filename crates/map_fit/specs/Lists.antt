@@ -21,7 +21,8 @@ cut_at (h ∷ hs) (suc i) n = h ∷ cut_at hs i n
 -- with a range at an index, which is one with the hole after it where it touches that
 abbrev pub joined_at : List Hole → ℕ → ℕ → ℕ → List Hole
 joined_at [] i at n = record { at = at; size = n } ∷ []
-joined_at (h ∷ hs) zero at n = if at + n == h.at then record { at = at; size = n + h.size } ∷ hs else record { at = at; size = n } ∷ h ∷ hs
+joined_at (h ∷ hs) zero at n =
+    if at + n == h.at then record { at = at; size = n + h.size } ∷ hs else record { at = at; size = n } ∷ h ∷ hs
 joined_at (h ∷ hs) (suc i) at n = h ∷ joined_at hs i at n
 
 -- with a range at an index, which is one with the hole before it, too, where it touches that

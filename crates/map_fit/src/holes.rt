@@ -1,6 +1,6 @@
 //! Maps of what is free: `coremap` and `swapmap` in Lions' Commentary, `malloc.c`.
-ghost use Rattle.std.specs.Prelude.{◌≡◌, ◌↔◌, ℕ, ◌+◌, ◌<◌, ◌≤◌, ◌&&◌, ◌||◌, not, true, false, List, ◌∷◌, length, nat_le, position, IfSome, None, MatchOption, slice_index_or, slice_set};
-ghost use Rattle.std.specs.List.{position_or_len, list_all};
+ghost use Rattle.std.specs.Prelude.{◌≡◌, ◌↔◌, ℕ, ◌+◌, ◌<◌, ◌≤◌, ◌&&◌, ◌||◌, not, true, false, List, length, nat_le, position, IfSome, MatchOption, slice_set};
+ghost use Rattle.std.specs.List.{list_all};
 ghost use Rattle.arrayvec.specs.ArrayVec.{array_vec_len};
 ghost use Rattle.map_fit.specs.Fit.{Range, first_fit};
 ghost use Rattle.map_fit.specs.Free.{IsMap, AreHoles, is_free, is_within};
@@ -166,7 +166,8 @@ impl Holes {
     /// first fit over whatever is taken. `None` comes exactly where no hole has `n` units; nothing has changed then.
     pub fn take(&mut self, n: u16) -> Option<u16>
         requires { 0 < n }
-        ensures fit { (taken : List Range) (first last : ℕ) → IsMap self.old taken first last → result ≡ first_fit taken first last n }
+        ensures fit { (taken : List Range) (first last : ℕ) → IsMap self.old taken first last
+            → result ≡ first_fit taken first last n }
         ensures left { MatchOption result (self.new ≡ self.old)
             (λ a. (x : ℕ) → is_free self.new x ≡ (is_free self.old x && not (is_within a n x))) }
         ensures few { length self.new ≤ length self.old }
@@ -180,7 +181,8 @@ impl Holes {
     /// Where `take` would find `n` units. Nothing changes.
     pub fn find(&self, n: u16) -> Option<u16>
         requires { 0 < n }
-        ensures { (taken : List Range) (first last : ℕ) → IsMap self.now taken first last → result ≡ first_fit taken first last n }
+        ensures { (taken : List Range) (first last : ℕ) → IsMap self.now taken first last
+            → result ≡ first_fit taken first last n }
     {
         let holes = self.holes.as_slice();
         match large_enough(holes, n) {
@@ -212,7 +214,8 @@ impl Holes {
     /// How many holes there are: no more than one more than there are ranges that are taken.
     pub fn count(&self) -> usize
         ensures count { result ≡ length self.now }
-        ensures few { (taken : List Range) (first last : ℕ) → IsMap self.now taken first last → length self.now ≤ length taken + 1 }
+        ensures few { (taken : List Range) (first last : ℕ) → IsMap self.now taken first last
+            → length self.now ≤ length taken + 1 }
         ensures are { AreHoles self.now }
     {
         self.holes.as_slice().len()

@@ -1,7 +1,7 @@
 //! The table of open files.
 ghost use Rattle.std.specs.Prelude.{◌≡◌, ◌<◌, ◌+◌, length, replicate, None, Some, is_some, IsSome, MatchResult, slice_index, slice_set};
 ghost use Rattle.v6_base.specs.declared.errno.Errno.{Errno};
-ghost use Rattle.open_files.specs.Files.{file_at, AreOpen, HaveRoom, AreNamed, opened, closed, left, changed, with_more, with_offset, with_change, shared, times, Adds, Dups, Drops, add_error, dup_error};
+ghost use Rattle.open_files.specs.Files.{file_at, AreOpen, HaveRoom, AreNamed, opened, closed, left, with_more, with_offset, with_change, shared, Adds, Dups, Drops, add_error, dup_error};
 
 use crate::file::{Closed, FileKind, OpenFile};
 use crate::places::{free_entry, free_number, is_used};

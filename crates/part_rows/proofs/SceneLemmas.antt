@@ -1,5 +1,5 @@
 -- A scene's table is that of its images.
-use Rattle.std.proofs.Common.{◌≡◌, ◌∙◌, ◌<◌, ◌+◌, ◌&&◌, ℕ, zero, suc, Bool, true, false, not, List, [], ◌∷◌, length, length-set, get_or, set, replicate, Option, Some, None, refl, sym, ap, subst, inl, inr, ◌⊎◌, arith}
+use Rattle.std.proofs.Common.{◌≡◌, ◌∙◌, ◌<◌, ℕ, zero, suc, true, false, not, List, length, length-set, get_or, set, replicate, Option, Some, None, refl, sym, ap, subst, inl, inr, ◌⊎◌, arith}
 use Rattle.std.proofs.lemmas.Bool.{cases_eq, and_parts, not-true}
 use Rattle.std.proofs.lemmas.List.{get_or-set_same, get_or-set_other}
 use Rattle.v6_base.specs.declared.entry.Place.{Place}
@@ -7,7 +7,7 @@ use Rattle.v6_base.specs.Image.{Image}
 use Rattle.u_area.specs.declared.area.UArea.{UArea}
 use Rattle.pick_rules.specs.declared.row.TableRow.{TableRow}
 use Rattle.pick_rules.specs.declared.table.Table.{Table}
-use Rattle.pick_rules.specs.Table.{IsTable, empty_row, row_at, with_row, first_table, is_empty, is_zombie}
+use Rattle.pick_rules.specs.Table.{empty_row, row_at, with_row, first_table, is_empty, is_zombie}
 use Rattle.image_keep.specs.Kept.{Kept, Keeping, Nothing, Alive, Grave, Held, keeping, with_keeping, text_of, clicks_of, first_kept, no_users}
 use Rattle.image_keep.specs.Places.{with_image_at}
 use Rattle.image_keep.proofs.PlaceFrames.{bare_moved}

@@ -1,6 +1,6 @@
 //! Passes of process 0, by hand from `sched` of Lions' Commentary, `slp.c`: who comes in, who goes out for it, and when the
 //! swapper sleeps. A scene is what fifty slots have, placed by first fit in their order, and the lines that its pass leaves.
-ghost use Rattle.std.specs.Prelude.{◌≡◌, ◌≤◌, ◌<◌, false};
+ghost use Rattle.std.specs.Prelude.{◌≡◌, ◌≤◌};
 ghost use Rattle.std.proofs.Props.{props};
 ghost use Rattle.image_keep.specs.Kept.{no_users};
 ghost use Rattle.pick_rules.specs.Table.{is_empty};

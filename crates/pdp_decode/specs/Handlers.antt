@@ -304,7 +304,8 @@ abbrev pub IsSource : Addressing → Width → Type 0
 IsSource a w = (a ≡ Register) ⊎ ((w ≡ Word) × ((a ≡ Immediate) ⊎ ((a ≡ Absolute) ⊎ (a ≡ Indexed))))
 
 abbrev pub IsFromSource : Width → Operand → Type 0
-IsFromSource w s = IsAddressed Register w s ⊎ ((w ≡ Word) × (IsAddressed Immediate w s ⊎ (IsAddressed Absolute w s ⊎ IsAddressed Indexed w s)))
+IsFromSource w s =
+    IsAddressed Register w s ⊎ ((w ≡ Word) × (IsAddressed Immediate w s ⊎ (IsAddressed Absolute w s ⊎ IsAddressed Indexed w s)))
 
 -- a label: an absolute address, or one relative to PC
 abbrev pub IsLabel : Addressing → Type 0

@@ -1,5 +1,5 @@
 //! A word to an instruction, by its octal digits from the left.
-ghost use Rattle.std.specs.Prelude.{◌≡◌, ◌≢◌, ℕ, ◌+◌, ◌*◌, ◌/◌, ◌%◌, ◌<◌, ◌≤◌, ◌⊎◌};
+ghost use Rattle.std.specs.Prelude.{◌≡◌, ◌+◌, ◌*◌, ◌/◌, ◌%◌, ◌<◌, ◌≤◌, ◌⊎◌};
 ghost use Rattle.pdp_decode.specs.declared.instr.Instr.{Instr};
 ghost use Rattle.pdp_decode.specs.Numbers.{mode_code, reg_code, code, byte_bit, flag_bits, branch_code};
 ghost use Rattle.pdp_decode.specs.Table.{IsWordOf};

@@ -1,5 +1,5 @@
 -- The end of a row, by what its parts answer: a source is read, a destination is located, and what is made is stored.
-use Rattle.std.proofs.Common.{◌≡◌, ℕ, ◌/◌, ◌%◌, Bool, false, ◌&&◌, ◌||◌, ◌⊎◌, Result, Ok, Err, refl, sym, ap, ◌∙◌, subst, arith}
+use Rattle.std.proofs.Common.{◌≡◌, ℕ, ◌/◌, ◌%◌, Bool, false, Result, Ok, Err, refl, sym, ap, ◌∙◌, subst, arith}
 use Rattle.v6_base.specs.declared.space.Trap.{Trap}
 use Rattle.v6_base.specs.Image.{Image}
 use Rattle.v6_base.specs.Access.{then_do}

@@ -1,11 +1,10 @@
 //! Addressing modes as types: a row is built for each pair of them that is common, and once for any mode.
-ghost use Rattle.std.specs.Prelude.{◌≡◌, ◌≢◌, ◌+◌, ◌%◌, ◌<◌, ◌≤◌, Bool, true, false, IsTrue, ℕ, IfOk, IfErr, IsErr};
+ghost use Rattle.std.specs.Prelude.{◌≡◌, ◌≢◌, ◌+◌, ◌%◌, ◌<◌, ◌≤◌, Bool, IsTrue, IfOk, IfErr, IsErr};
 ghost use Rattle.pdp_decode.specs.declared.instr.Mode.{Mode};
 ghost use Rattle.pdp_decode.specs.declared.addressing.Addressing.{Addressing};
 ghost use Rattle.pdp_decode.specs.Decode.{operand_of};
 ghost use Rattle.pdp_decode.specs.Handlers.{IsAddressed};
 ghost use Rattle.v6_base.specs.Access.{load_word};
-ghost use Rattle.pdp_step.specs.Machine.{reg_in};
 ghost use Rattle.pdp_step.specs.Operands.{at_memory, value_at, formed, fetched};
 ghost use Rattle.pdp_step.specs.Arithmetic.{size};
 ghost use Rattle.pdp_step.specs.Rows.{stored_result, moved_result};
@@ -18,8 +17,8 @@ use crate::processor::Processor;
 use crate::size::Size;
 use v6_base::Trap;
 
-/// An addressing mode, as a way to an operand. `pc` is where the program goes on, while PC itself is set last; `n` is a number whose two low octal
-/// digits are the operand's.
+/// An addressing mode, as a way to an operand. `pc` is where the program goes on, while PC itself is set last; `n` is a
+/// number whose two low octal digits are the operand's.
 pub trait AddressingMode {
     ghost addressing: { Addressing };
 
@@ -37,7 +36,8 @@ pub trait AddressingMode {
         requires way { IsAddressed addressing W.width (operand_of n) }
         requires memory { (operand_of n).mode ≡ Mode.Register → P.MayMiss }
         requires room { pc.old ≤ 1000000 }
-        ensures formed { IsReached result (at_pc (P.machine p.new) pc.new) (formed (at_pc (P.machine p.old) pc.old) W.width (operand_of n).mode (operand_of n).reg) }
+        ensures formed { IsReached result (at_pc (P.machine p.new) pc.new)
+            (formed (at_pc (P.machine p.old) pc.old) W.width (operand_of n).mode (operand_of n).reg) }
         ensures image { (P.machine p.new).image ≡ (P.machine p.old).image }
         ensures codes { (P.machine p.new).cc ≡ (P.machine p.old).cc }
         ensures steady { IsTrue steady → P.machine p.new ≡ P.machine p.old }
@@ -51,7 +51,8 @@ pub trait AddressingMode {
     fn value<P: Processor, W: Size>(p: &mut P, pc: &mut usize, n: u32) -> Result<u16, Halt>
         requires way { IsAddressed addressing W.width (operand_of n) }
         requires room { pc.old ≤ 1000000 }
-        ensures source { IsSource result (at_pc (P.machine p.new) pc.new) (fetched (at_pc (P.machine p.old) pc.old) W.width (operand_of n)) }
+        ensures source { IsSource result (at_pc (P.machine p.new) pc.new)
+            (fetched (at_pc (P.machine p.old) pc.old) W.width (operand_of n)) }
         ensures small { IfOk result (λ value. value < size W.width) }
         ensures image { (P.machine p.new).image ≡ (P.machine p.old).image }
         ensures codes { (P.machine p.new).cc ≡ (P.machine p.old).cc }
@@ -67,7 +68,10 @@ pub trait AddressingMode {
     fn locate<P: Processor, W: Size>(p: &mut P, pc: &mut usize, n: u32) -> Result<usize, Halt>
         requires way { IsAddressed addressing W.width (operand_of n) }
         requires room { pc.old ≤ 1000000 }
-        ensures formed { IsLocated result (λ place. location_at (operand_of n).mode (operand_of n).reg (P.address (P.rest p.new) place)) (at_pc (P.machine p.new) pc.new) (formed (at_pc (P.machine p.old) pc.old) W.width (operand_of n).mode (operand_of n).reg) }
+        ensures formed { IsLocated result
+            (λ place. location_at (operand_of n).mode (operand_of n).reg (P.address (P.rest p.new) place))
+            (at_pc (P.machine p.new) pc.new)
+            (formed (at_pc (P.machine p.old) pc.old) W.width (operand_of n).mode (operand_of n).reg) }
         ensures place { (operand_of n).mode ≢ Mode.Register → IfOk result (λ place. P.IsPlace (P.rest p.new) W.width place) }
         ensures image { (P.machine p.new).image ≡ (P.machine p.old).image }
         ensures codes { (P.machine p.new).cc ≡ (P.machine p.old).cc }
@@ -82,7 +86,9 @@ pub trait AddressingMode {
     fn get<P: Processor, W: Size>(p: &P, n: u32, place: usize) -> Result<u16, Trap>
         requires way { IsAddressed addressing W.width (operand_of n) }
         requires place { (operand_of n).mode ≢ Mode.Register → P.IsPlace (P.rest p.now) W.width place }
-        ensures value { at_memory (P.machine p.now) result ≡ value_at (P.machine p.now) W.width (location_at (operand_of n).mode (operand_of n).reg (P.address (P.rest p.now) place)) }
+        ensures value { at_memory (P.machine p.now) result
+            ≡ value_at (P.machine p.now) W.width
+            (location_at (operand_of n).mode (operand_of n).reg (P.address (P.rest p.now) place)) }
         ensures small { IfOk result (λ value. value < size W.width) }
         ensures trapped { IsErr result → P.MayTrap };
 
@@ -92,7 +98,10 @@ pub trait AddressingMode {
         requires place { (operand_of n).mode ≢ Mode.Register → P.IsPlace (P.rest p.old) W.width place }
         requires codes { made.cc < 16 }
         requires small { made.value < size W.width }
-        ensures stored { stored_by result (P.machine p.new) ≡ finish_of (P.machine p.old).image (stored_result (P.machine p.old) W.width (location_at (operand_of n).mode (operand_of n).reg (P.address (P.rest p.old) place)) made) }
+        ensures stored { stored_by result (P.machine p.new)
+            ≡ finish_of (P.machine p.old).image
+            (stored_result (P.machine p.old) W.width
+            (location_at (operand_of n).mode (operand_of n).reg (P.address (P.rest p.old) place)) made) }
         ensures trapped { IsErr result → P.MayTrap }
         ensures rest { P.rest p.new ≡ P.rest p.old };
 
@@ -107,7 +116,10 @@ pub trait AddressingMode {
         requires place { (operand_of n).mode ≢ Mode.Register → P.IsPlace (P.rest p.old) W.width place }
         requires codes { made.cc < 16 }
         requires small { made.value < size W.width }
-        ensures stored { stored_by result (P.machine p.new) ≡ finish_of (P.machine p.old).image (moved_result (P.machine p.old) W.width (location_at (operand_of n).mode (operand_of n).reg (P.address (P.rest p.old) place)) made) }
+        ensures stored { stored_by result (P.machine p.new)
+            ≡ finish_of (P.machine p.old).image
+            (moved_result (P.machine p.old) W.width
+            (location_at (operand_of n).mode (operand_of n).reg (P.address (P.rest p.old) place)) made) }
         ensures trapped { IsErr result → P.MayTrap }
         ensures rest { P.rest p.new ≡ P.rest p.old };
 }

@@ -1,5 +1,5 @@
 //! Any addressing mode: the registers step as it says, before anything is read, and PC with them.
-ghost use Rattle.std.specs.Prelude.{◌≡◌, ◌≢◌, ◌+◌, ◌%◌, ◌≤◌, false, ℕ, IsTrue};
+ghost use Rattle.std.specs.Prelude.{◌≡◌, ◌≢◌, ◌+◌, ◌%◌, ◌≤◌, false, IsTrue};
 ghost use Rattle.pdp_decode.specs.declared.instr.Mode.{Mode};
 ghost use Rattle.pdp_decode.specs.declared.instr.Reg.{Reg};
 ghost use Rattle.pdp_decode.specs.declared.addressing.Addressing.{Addressing};
@@ -34,7 +34,9 @@ fn word<P: Processor>(p: &P, at: u16) -> Result<u16, Halt>
 
 // A register plus the word at PC, which passes it.
 fn index<P: Processor>(p: &mut P, n: u32) -> Result<u16, Halt>
-    ensures formed { IsReached result (P.machine p.new) (then_do (word_at (P.machine p.old) (reg_in (P.machine p.old) Reg.Pc)) (λ x. formed_at (passed (P.machine p.old)) (plus (reg_in (passed (P.machine p.old)) (reg_of (n % 8))) x))) }
+    ensures formed { IsReached result (P.machine p.new)
+        (then_do (word_at (P.machine p.old) (reg_in (P.machine p.old) Reg.Pc))
+        (λ x. formed_at (passed (P.machine p.old)) (plus (reg_in (passed (P.machine p.old)) (reg_of (n % 8))) x))) }
     ensures image { (P.machine p.new).image ≡ (P.machine p.old).image }
     ensures codes { (P.machine p.new).cc ≡ (P.machine p.old).cc }
     ensures missed { IsMissed result → P.MayMiss }
@@ -128,7 +130,8 @@ fn is_in_register(n: u32) -> bool
 // Puts PC into its register, forms an address, and takes PC out again.
 fn reach<P: Processor, W: Size>(p: &mut P, pc: &mut usize, n: u32) -> Result<u16, Halt>
     requires memory { (operand_of n).mode ≢ Mode.Register }
-    ensures formed { IsReached result (at_pc (P.machine p.new) pc.new) (formed (at_pc (P.machine p.old) pc.old) W.width (operand_of n).mode (operand_of n).reg) }
+    ensures formed { IsReached result (at_pc (P.machine p.new) pc.new)
+        (formed (at_pc (P.machine p.old) pc.old) W.width (operand_of n).mode (operand_of n).reg) }
     ensures image { (P.machine p.new).image ≡ (P.machine p.old).image }
     ensures codes { (P.machine p.new).cc ≡ (P.machine p.old).cc }
     ensures missed { IsMissed result → P.MayMiss }

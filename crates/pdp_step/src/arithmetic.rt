@@ -1,7 +1,6 @@
 //! Results and condition codes, for words and for bytes.
-ghost use Rattle.std.specs.Prelude.{◌≡◌, ℕ, ◌+◌, ◌<◌, ◌≤◌, ◌%◌, ◌/◌, ◌==◌, not, Bool, if◌then◌else◌};
+ghost use Rattle.std.specs.Prelude.{◌≡◌, ◌+◌, ◌<◌, ◌≤◌, ◌/◌, ◌==◌, not, if◌then◌else◌};
 ghost use Rattle.pdp_decode.specs.Numbers.{one_if};
-ghost use Rattle.pdp_step.specs.Registers.{codes_in};
 ghost use Rattle.pdp_step.specs.Arithmetic.{half, size, is_negative, is_below, result_of, shifted_of, swapped, is_taken};
 
 use crate::regs::pack;

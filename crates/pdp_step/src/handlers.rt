@@ -1,5 +1,5 @@
 //! The rows of the words that have a handler: each with one addressing mode for each operand.
-ghost use Rattle.std.specs.Prelude.{◌≡◌, ◌<◌, ◌≤◌, ℕ};
+ghost use Rattle.std.specs.Prelude.{◌≡◌, ◌<◌, ◌≤◌};
 ghost use Rattle.pdp_decode.specs.Decode.{decode_of};
 ghost use Rattle.pdp_decode.specs.Handlers.{Handles};
 ghost use Rattle.pdp_step.specs.Instruction.{row_of};
@@ -34,7 +34,8 @@ pub fn perform<P: Processor>(p: &mut P, handler: Handler, pc: usize, word: u32) 
     requires handles { Handles handler word }
     requires word { word < 65536 }
     requires room { pc ≤ 65538 }
-    ensures row { Ends result (P.machine p.new) (finished (P.machine p.old).image (row_of (at_pc (P.machine p.old) pc) word (decode_of word))) }
+    ensures row { Ends result (P.machine p.new)
+        (finished (P.machine p.old).image (row_of (at_pc (P.machine p.old) pc) word (decode_of word))) }
     ensures kept { IsMissed result → P.machine p.new ≡ P.machine p.old }
     ensures missed { family_of handler ≡ Frequent → IsMissed result → P.MayMiss }
     ensures trapped { IsTrapped result → P.MayTrap }
@@ -136,8 +137,8 @@ pub fn perform<P: Processor>(p: &mut P, handler: Handler, pc: usize, word: u32) 
     }
 }
 
-/// The row of a word by its handler, for the less frequent ones. Where it misses, nothing has changed. The rows stand in several
-/// functions, since the compiler makes code in place of a call of none that is too large.
+/// The row of a word by its handler, for the less frequent ones. Where it misses, nothing has changed. The rows stand in
+/// several functions, since the compiler makes code in place of a call of none that is too large.
 #[inline(always)]
 pub fn perform_apart<P: Processor>(
     p: &mut P,
@@ -148,7 +149,8 @@ pub fn perform_apart<P: Processor>(
     requires handles { Handles handler word }
     requires word { word < 65536 }
     requires room { pc ≤ 65538 }
-    ensures row { Ends result (P.machine p.new) (finished (P.machine p.old).image (row_of (at_pc (P.machine p.old) pc) word (decode_of word))) }
+    ensures row { Ends result (P.machine p.new)
+        (finished (P.machine p.old).image (row_of (at_pc (P.machine p.old) pc) word (decode_of word))) }
     ensures kept { IsMissed result → P.machine p.new ≡ P.machine p.old }
     ensures missed { family_of handler ≡ Apart → IsMissed result → P.MayMiss }
     ensures trapped { IsTrapped result → P.MayTrap }
@@ -220,7 +222,8 @@ pub fn perform_between<P: Processor>(
     requires handles { Handles handler word }
     requires word { word < 65536 }
     requires room { pc ≤ 65538 }
-    ensures row { Ends result (P.machine p.new) (finished (P.machine p.old).image (row_of (at_pc (P.machine p.old) pc) word (decode_of word))) }
+    ensures row { Ends result (P.machine p.new)
+        (finished (P.machine p.old).image (row_of (at_pc (P.machine p.old) pc) word (decode_of word))) }
     ensures kept { IsMissed result → P.machine p.new ≡ P.machine p.old }
     ensures missed { family_of handler ≡ Between → IsMissed result → P.MayMiss }
     ensures trapped { IsTrapped result → P.MayTrap }
@@ -262,7 +265,8 @@ pub fn perform_extended<P: Processor>(
     requires handles { Handles handler word }
     requires word { word < 65536 }
     requires room { pc ≤ 65538 }
-    ensures row { Ends result (P.machine p.new) (finished (P.machine p.old).image (row_of (at_pc (P.machine p.old) pc) word (decode_of word))) }
+    ensures row { Ends result (P.machine p.new)
+        (finished (P.machine p.old).image (row_of (at_pc (P.machine p.old) pc) word (decode_of word))) }
     ensures kept { IsMissed result → P.machine p.new ≡ P.machine p.old }
     ensures missed { family_of handler ≡ Extended → IsMissed result → P.MayMiss }
     ensures trapped { IsTrapped result → P.MayTrap }
@@ -305,7 +309,8 @@ pub fn perform_bytes<P: Processor>(
     requires handles { Handles handler word }
     requires word { word < 65536 }
     requires room { pc ≤ 65538 }
-    ensures row { Ends result (P.machine p.new) (finished (P.machine p.old).image (row_of (at_pc (P.machine p.old) pc) word (decode_of word))) }
+    ensures row { Ends result (P.machine p.new)
+        (finished (P.machine p.old).image (row_of (at_pc (P.machine p.old) pc) word (decode_of word))) }
     ensures kept { IsMissed result → P.machine p.new ≡ P.machine p.old }
     ensures missed { family_of handler ≡ OfBytes → IsMissed result → P.MayMiss }
     ensures trapped { IsTrapped result → P.MayTrap }
@@ -387,7 +392,8 @@ pub fn perform_stepping<P: Processor>(
     requires handles { Handles handler word }
     requires word { word < 65536 }
     requires room { pc ≤ 65538 }
-    ensures row { Ends result (P.machine p.new) (finished (P.machine p.old).image (row_of (at_pc (P.machine p.old) pc) word (decode_of word))) }
+    ensures row { Ends result (P.machine p.new)
+        (finished (P.machine p.old).image (row_of (at_pc (P.machine p.old) pc) word (decode_of word))) }
     ensures image { IsMissed result → (P.machine p.new).image ≡ (P.machine p.old).image }
     ensures missed { family_of handler ≡ Stepping → IsMissed result → P.MayMiss }
     ensures trapped { IsTrapped result → P.MayTrap }

@@ -1,5 +1,5 @@
 //! Operands in memory.
-ghost use Rattle.std.specs.Prelude.{◌≡◌, ◌<◌, true, false, IfOk, IfSome, IfErr, ℕ};
+ghost use Rattle.std.specs.Prelude.{◌≡◌, ◌<◌, true, false, IfOk, IfErr};
 ghost use Rattle.pdp_decode.specs.declared.addressing.Addressing.{Addressing};
 ghost use Rattle.pdp_step.specs.declared.halt.Halt.{Halt};
 ghost use Rattle.pdp_step.specs.Arithmetic.{size};

@@ -1,10 +1,9 @@
 //! The rows of the instructions with operands, each over any addressing modes: an operand is formed and read, a result is made,
 //! and stored last.
-ghost use Rattle.std.specs.Prelude.{◌≡◌, ◌||◌, ◌&&◌, ◌/◌, ◌%◌, ◌<◌, ◌≤◌, IsTrue, false, Ok, ℕ};
+ghost use Rattle.std.specs.Prelude.{◌≡◌, ◌||◌, ◌&&◌, ◌/◌, ◌%◌, ◌<◌, ◌≤◌, IsTrue, false, Ok};
 ghost use Rattle.v6_base.specs.Access.{then_do};
 ghost use Rattle.pdp_decode.specs.Decode.{operand_of, reg_of};
 ghost use Rattle.pdp_decode.specs.Handlers.{IsAddressed};
-ghost use Rattle.pdp_decode.specs.declared.instr.Mode.{Mode};
 ghost use Rattle.pdp_decode.specs.declared.instr.Width.{Width};
 ghost use Rattle.pdp_step.specs.Machine.{reg_in, carry_in};
 ghost use Rattle.pdp_step.specs.Operands.{formed};
@@ -35,7 +34,11 @@ pub fn put_moved<P: Processor, W: Size, D: AddressingMode>(
     requires dest { IsAddressed D.addressing W.width (operand_of word) }
     requires small { value < size W.width }
     requires room { from ≤ 200000 }
-    ensures row { Ends result (P.machine p.new) (finished (P.machine p.old).image (go (then_do (formed (at_pc (P.machine p.old) from) W.width (operand_of word).mode (operand_of word).reg) (λ dest. Ok (moved_result dest.machine W.width dest.location (result_of W.width value false (carry_in (P.machine p.old)))))))) }
+    ensures row { Ends result (P.machine p.new)
+        (finished (P.machine p.old).image
+        (go (then_do (formed (at_pc (P.machine p.old) from) W.width (operand_of word).mode (operand_of word).reg)
+        (λ dest. Ok (moved_result dest.machine W.width dest.location
+        (result_of W.width value false (carry_in (P.machine p.old)))))))) }
     ensures kept { IsTrue D.late → IsMissed result → P.machine p.new ≡ P.machine p.old }
     ensures sure { IsTrue D.sure → IsMissed result → ⊥ }
     ensures image { IsMissed result → (P.machine p.new).image ≡ (P.machine p.old).image }
@@ -64,7 +67,9 @@ pub fn move_to<P: Processor, W: Size, S: AddressingMode, D: AddressingMode>(
     requires source { IsAddressed S.addressing W.width (operand_of (word / 64)) }
     requires dest { IsAddressed D.addressing W.width (operand_of word) }
     requires room { from ≤ 65538 }
-    ensures row { Ends result (P.machine p.new) (finished (P.machine p.old).image (go (moved (at_pc (P.machine p.old) from) W.width (operand_of (word / 64)) (operand_of word)))) }
+    ensures row { Ends result (P.machine p.new)
+        (finished (P.machine p.old).image
+        (go (moved (at_pc (P.machine p.old) from) W.width (operand_of (word / 64)) (operand_of word)))) }
     ensures kept { IsTrue (S.late && (D.late && (S.steady || D.sure))) → IsMissed result → P.machine p.new ≡ P.machine p.old }
     ensures image { IsMissed result → (P.machine p.new).image ≡ (P.machine p.old).image }
     ensures missed { IsMissed result → P.MayMiss }
@@ -89,7 +94,10 @@ pub fn test_with<P: Processor, W: Size, D: AddressingMode, A: Alteration>(
     requires dest { IsAddressed D.addressing W.width (operand_of word) }
     requires size { A.IsFor alteration.now W.width }
     requires room { from ≤ 200000 }
-    ensures row { Ends result (P.machine p.new) (finished (P.machine p.old).image (go (tested (at_pc (P.machine p.old) from) W.width (operand_of word) (A.made alteration.now W.width (carry_in (P.machine p.old)))))) }
+    ensures row { Ends result (P.machine p.new)
+        (finished (P.machine p.old).image
+        (go (tested (at_pc (P.machine p.old) from) W.width (operand_of word)
+        (A.made alteration.now W.width (carry_in (P.machine p.old)))))) }
     ensures kept { IsTrue D.late → IsMissed result → P.machine p.new ≡ P.machine p.old }
     ensures sure { IsTrue D.sure → IsMissed result → ⊥ }
     ensures image { IsMissed result → (P.machine p.new).image ≡ (P.machine p.old).image }
@@ -119,7 +127,10 @@ pub fn compare<P: Processor, W: Size, S: AddressingMode, D: AddressingMode, O: O
     requires source { IsAddressed S.addressing W.width (operand_of (word / 64)) }
     requires dest { IsAddressed D.addressing W.width (operand_of word) }
     requires room { from ≤ 65538 }
-    ensures row { Ends result (P.machine p.new) (finished (P.machine p.old).image (go (compared (at_pc (P.machine p.old) from) W.width (operand_of (word / 64)) (operand_of word) (O.made W.width (carry_in (P.machine p.old)))))) }
+    ensures row { Ends result (P.machine p.new)
+        (finished (P.machine p.old).image
+        (go (compared (at_pc (P.machine p.old) from) W.width (operand_of (word / 64)) (operand_of word)
+        (O.made W.width (carry_in (P.machine p.old)))))) }
     ensures kept { IsTrue (S.late && (D.late && (S.steady || D.sure))) → IsMissed result → P.machine p.new ≡ P.machine p.old }
     ensures image { IsMissed result → (P.machine p.new).image ≡ (P.machine p.old).image }
     ensures missed { IsMissed result → P.MayMiss }
@@ -150,7 +161,10 @@ pub fn alter_with<P: Processor, W: Size, D: AddressingMode, A: Alteration>(
     requires dest { IsAddressed D.addressing W.width (operand_of word) }
     requires size { A.IsFor alteration.now W.width }
     requires room { from ≤ 200000 }
-    ensures row { Ends result (P.machine p.new) (finished (P.machine p.old).image (go (modified (at_pc (P.machine p.old) from) W.width (operand_of word) (A.made alteration.now W.width (carry_in (P.machine p.old)))))) }
+    ensures row { Ends result (P.machine p.new)
+        (finished (P.machine p.old).image
+        (go (modified (at_pc (P.machine p.old) from) W.width (operand_of word)
+        (A.made alteration.now W.width (carry_in (P.machine p.old)))))) }
     ensures kept { IsTrue D.late → IsMissed result → P.machine p.new ≡ P.machine p.old }
     ensures sure { IsTrue D.sure → IsMissed result → ⊥ }
     ensures image { IsMissed result → (P.machine p.new).image ≡ (P.machine p.old).image }
@@ -184,7 +198,10 @@ pub fn join<P: Processor, W: Size, S: AddressingMode, D: AddressingMode, O: Oper
     requires source { IsAddressed S.addressing W.width (operand_of (word / 64)) }
     requires dest { IsAddressed D.addressing W.width (operand_of word) }
     requires room { from ≤ 65538 }
-    ensures row { Ends result (P.machine p.new) (finished (P.machine p.old).image (go (joined (at_pc (P.machine p.old) from) W.width (operand_of (word / 64)) (operand_of word) (O.made W.width (carry_in (P.machine p.old)))))) }
+    ensures row { Ends result (P.machine p.new)
+        (finished (P.machine p.old).image
+        (go (joined (at_pc (P.machine p.old) from) W.width (operand_of (word / 64)) (operand_of word)
+        (O.made W.width (carry_in (P.machine p.old)))))) }
     ensures kept { IsTrue (S.late && (D.late && (S.steady || D.sure))) → IsMissed result → P.machine p.new ≡ P.machine p.old }
     ensures image { IsMissed result → (P.machine p.new).image ≡ (P.machine p.old).image }
     ensures missed { IsMissed result → P.MayMiss }
@@ -214,7 +231,11 @@ pub fn exclusive_or<P: Processor, S: AddressingMode, D: AddressingMode>(
     requires source { IsAddressed S.addressing Width.Word (operand_of (word / 64 % 8)) }
     requires dest { IsAddressed D.addressing Width.Word (operand_of word) }
     requires room { from ≤ 65538 }
-    ensures row { Ends result (P.machine p.new) (finished (P.machine p.old).image (go (modified (at_pc (P.machine p.old) from) Width.Word (operand_of word) (combine_of ExclusiveOr Width.Word (carry_in (P.machine p.old)) (reg_in (at_pc (P.machine p.old) from) (reg_of (word / 64 % 8))))))) }
+    ensures row { Ends result (P.machine p.new)
+        (finished (P.machine p.old).image
+        (go (modified (at_pc (P.machine p.old) from) Width.Word (operand_of word)
+        (combine_of ExclusiveOr Width.Word (carry_in (P.machine p.old))
+        (reg_in (at_pc (P.machine p.old) from) (reg_of (word / 64 % 8))))))) }
     ensures kept { IsTrue (S.late && (D.late && (S.steady || D.sure))) → IsMissed result → P.machine p.new ≡ P.machine p.old }
     ensures image { IsMissed result → (P.machine p.new).image ≡ (P.machine p.old).image }
     ensures missed { IsMissed result → P.MayMiss }
@@ -245,7 +266,10 @@ pub fn modify<P: Processor, W: Size, D: AddressingMode, A: Alteration>(
     requires dest { IsAddressed D.addressing W.width (operand_of word) }
     requires size { A.IsFor alteration.now W.width }
     requires room { from ≤ 65538 }
-    ensures row { Ends result (P.machine p.new) (finished (P.machine p.old).image (go (modified (at_pc (P.machine p.old) from) W.width (operand_of word) (A.made alteration.now W.width (carry_in (P.machine p.old)))))) }
+    ensures row { Ends result (P.machine p.new)
+        (finished (P.machine p.old).image
+        (go (modified (at_pc (P.machine p.old) from) W.width (operand_of word)
+        (A.made alteration.now W.width (carry_in (P.machine p.old)))))) }
     ensures kept { IsTrue D.late → IsMissed result → P.machine p.new ≡ P.machine p.old }
     ensures image { IsMissed result → (P.machine p.new).image ≡ (P.machine p.old).image }
     ensures missed { IsMissed result → P.MayMiss }
@@ -264,7 +288,8 @@ pub fn exchange<P: Processor, D: AddressingMode>(
 ) -> Result<(), Halt>
     requires dest { IsAddressed D.addressing Width.Word (operand_of word) }
     requires room { from ≤ 65538 }
-    ensures row { Ends result (P.machine p.new) (finished (P.machine p.old).image (go (modified (at_pc (P.machine p.old) from) Width.Word (operand_of word) swapped))) }
+    ensures row { Ends result (P.machine p.new)
+        (finished (P.machine p.old).image (go (modified (at_pc (P.machine p.old) from) Width.Word (operand_of word) swapped))) }
     ensures kept { IsTrue D.late → IsMissed result → P.machine p.new ≡ P.machine p.old }
     ensures image { IsMissed result → (P.machine p.new).image ≡ (P.machine p.old).image }
     ensures missed { IsMissed result → P.MayMiss }
@@ -283,7 +308,9 @@ pub fn test<P: Processor, W: Size, D: AddressingMode>(
 ) -> Result<(), Halt>
     requires dest { IsAddressed D.addressing W.width (operand_of word) }
     requires room { from ≤ 65538 }
-    ensures row { Ends result (P.machine p.new) (finished (P.machine p.old).image (go (tested (at_pc (P.machine p.old) from) W.width (operand_of word) (λ x. result_of W.width x false false)))) }
+    ensures row { Ends result (P.machine p.new)
+        (finished (P.machine p.old).image
+        (go (tested (at_pc (P.machine p.old) from) W.width (operand_of word) (λ x. result_of W.width x false false)))) }
     ensures kept { IsTrue D.late → IsMissed result → P.machine p.new ≡ P.machine p.old }
     ensures image { IsMissed result → (P.machine p.new).image ≡ (P.machine p.old).image }
     ensures missed { IsMissed result → P.MayMiss }
@@ -305,7 +332,8 @@ fn replace<P: Processor, W: Size, D: AddressingMode>(
     requires codes { made.cc < 16 }
     requires small { made.value < size W.width }
     requires room { from ≤ 65538 }
-    ensures row { Ends result (P.machine p.new) (finished (P.machine p.old).image (go (replaced (at_pc (P.machine p.old) from) W.width (operand_of word) made))) }
+    ensures row { Ends result (P.machine p.new)
+        (finished (P.machine p.old).image (go (replaced (at_pc (P.machine p.old) from) W.width (operand_of word) made))) }
     ensures kept { IsTrue D.late → IsMissed result → P.machine p.new ≡ P.machine p.old }
     ensures image { IsMissed result → (P.machine p.new).image ≡ (P.machine p.old).image }
     ensures missed { IsMissed result → P.MayMiss }
@@ -331,7 +359,9 @@ pub fn clear<P: Processor, W: Size, D: AddressingMode>(
 ) -> Result<(), Halt>
     requires dest { IsAddressed D.addressing W.width (operand_of word) }
     requires room { from ≤ 65538 }
-    ensures row { Ends result (P.machine p.new) (finished (P.machine p.old).image (go (replaced (at_pc (P.machine p.old) from) W.width (operand_of word) (result_of W.width 0 false false)))) }
+    ensures row { Ends result (P.machine p.new)
+        (finished (P.machine p.old).image
+        (go (replaced (at_pc (P.machine p.old) from) W.width (operand_of word) (result_of W.width 0 false false)))) }
     ensures kept { IsTrue D.late → IsMissed result → P.machine p.new ≡ P.machine p.old }
     ensures image { IsMissed result → (P.machine p.new).image ≡ (P.machine p.old).image }
     ensures missed { IsMissed result → P.MayMiss }
@@ -364,7 +394,9 @@ pub fn extend_sign<P: Processor, D: AddressingMode>(
 ) -> Result<(), Halt>
     requires dest { IsAddressed D.addressing Width.Word (operand_of word) }
     requires room { from ≤ 65538 }
-    ensures row { Ends result (P.machine p.new) (finished (P.machine p.old).image (go (replaced (at_pc (P.machine p.old) from) Width.Word (operand_of word) (sign_made (P.machine p.old).cc)))) }
+    ensures row { Ends result (P.machine p.new)
+        (finished (P.machine p.old).image
+        (go (replaced (at_pc (P.machine p.old) from) Width.Word (operand_of word) (sign_made (P.machine p.old).cc)))) }
     ensures kept { IsTrue D.late → IsMissed result → P.machine p.new ≡ P.machine p.old }
     ensures image { IsMissed result → (P.machine p.new).image ≡ (P.machine p.old).image }
     ensures missed { IsMissed result → P.MayMiss }

@@ -37,7 +37,6 @@ fn index(n: u32) -> usize
 }
 
 impl<S: Space> Processor for Pair<'_, S> {
-    ghost use Rattle.std.specs.Prelude.{ℕ};
     ghost use Rattle.pdp_step.specs.Machine.{machine_of};
     ghost use Rattle.pdp_step.specs.Held.{Held};
 

@@ -1,5 +1,5 @@
 //! The rows of MUL, DIV, ASH and ASHC, over any addressing mode.
-ghost use Rattle.std.specs.Prelude.{◌≡◌, ◌&&◌, ◌/◌, ◌%◌, ◌≤◌, ◌+◌, ◌*◌, ◌<◌, IsTrue, ℕ};
+ghost use Rattle.std.specs.Prelude.{◌≡◌, ◌/◌, ◌%◌, ◌≤◌, ◌<◌, IsTrue};
 ghost use Rattle.pdp_decode.specs.declared.instr.Width.{Width};
 ghost use Rattle.pdp_decode.specs.Decode.{reg_of, operand_of};
 ghost use Rattle.pdp_decode.specs.Handlers.{IsAddressed};
@@ -63,7 +63,9 @@ pub fn multiply<P: Processor, S: AddressingMode>(
 ) -> Result<(), Halt>
     requires source { IsAddressed S.addressing Width.Word (operand_of word) }
     requires room { from ≤ 65538 }
-    ensures row { Ends result (P.machine p.new) (finished (P.machine p.old).image (go (multiplied (at_pc (P.machine p.old) from) (reg_of (word / 64 % 8)) (operand_of word)))) }
+    ensures row { Ends result (P.machine p.new)
+        (finished (P.machine p.old).image
+        (go (multiplied (at_pc (P.machine p.old) from) (reg_of (word / 64 % 8)) (operand_of word)))) }
     ensures kept { IsTrue S.late → IsMissed result → P.machine p.new ≡ P.machine p.old }
     ensures image { IsMissed result → (P.machine p.new).image ≡ (P.machine p.old).image }
     ensures missed { IsMissed result → P.MayMiss }
@@ -117,7 +119,9 @@ pub fn divide<P: Processor, S: AddressingMode>(
 ) -> Result<(), Halt>
     requires source { IsAddressed S.addressing Width.Word (operand_of word) }
     requires room { from ≤ 65538 }
-    ensures row { Ends result (P.machine p.new) (finished (P.machine p.old).image (go (divided (at_pc (P.machine p.old) from) (reg_of (word / 64 % 8)) (operand_of word)))) }
+    ensures row { Ends result (P.machine p.new)
+        (finished (P.machine p.old).image
+        (go (divided (at_pc (P.machine p.old) from) (reg_of (word / 64 % 8)) (operand_of word)))) }
     ensures kept { IsTrue S.late → IsMissed result → P.machine p.new ≡ P.machine p.old }
     ensures image { IsMissed result → (P.machine p.new).image ≡ (P.machine p.old).image }
     ensures missed { IsMissed result → P.MayMiss }
@@ -144,7 +148,9 @@ pub fn shift_reg<P: Processor, S: AddressingMode>(
 ) -> Result<(), Halt>
     requires source { IsAddressed S.addressing Width.Word (operand_of word) }
     requires room { from ≤ 65538 }
-    ensures row { Ends result (P.machine p.new) (finished (P.machine p.old).image (go (shifted_reg (at_pc (P.machine p.old) from) (reg_of (word / 64 % 8)) (operand_of word)))) }
+    ensures row { Ends result (P.machine p.new)
+        (finished (P.machine p.old).image
+        (go (shifted_reg (at_pc (P.machine p.old) from) (reg_of (word / 64 % 8)) (operand_of word)))) }
     ensures kept { IsTrue S.late → IsMissed result → P.machine p.new ≡ P.machine p.old }
     ensures image { IsMissed result → (P.machine p.new).image ≡ (P.machine p.old).image }
     ensures missed { IsMissed result → P.MayMiss }
@@ -173,7 +179,9 @@ pub fn shift_pair<P: Processor, S: AddressingMode>(
 ) -> Result<(), Halt>
     requires source { IsAddressed S.addressing Width.Word (operand_of word) }
     requires room { from ≤ 65538 }
-    ensures row { Ends result (P.machine p.new) (finished (P.machine p.old).image (go (shifted_pair (at_pc (P.machine p.old) from) (reg_of (word / 64 % 8)) (operand_of word)))) }
+    ensures row { Ends result (P.machine p.new)
+        (finished (P.machine p.old).image
+        (go (shifted_pair (at_pc (P.machine p.old) from) (reg_of (word / 64 % 8)) (operand_of word)))) }
     ensures kept { IsTrue S.late → IsMissed result → P.machine p.new ≡ P.machine p.old }
     ensures image { IsMissed result → (P.machine p.new).image ≡ (P.machine p.old).image }
     ensures missed { IsMissed result → P.MayMiss }

@@ -1,5 +1,5 @@
 //! A processor: the registers, the condition codes and the memory of a program as one value.
-ghost use Rattle.std.specs.Prelude.{◌≡◌, ◌%◌, ◌<◌, ◌≤◌, ℕ, length, IfSome, IfOk, IsErr, None};
+ghost use Rattle.std.specs.Prelude.{◌≡◌, ◌%◌, ◌<◌, ℕ, length, IfSome, IfOk, IsErr, None};
 ghost use Rattle.v6_base.specs.Access.{load_byte, load_word, store_byte, store_word, image_after, answer_of};
 ghost use Rattle.pdp_decode.specs.Decode.{reg_of};
 ghost use Rattle.pdp_decode.specs.declared.instr.Width.{Width};
@@ -86,14 +86,22 @@ pub trait Processor {
     fn store_word(&mut self, place: usize, value: u16) -> Result<(), Trap>
         requires { IsPlace (rest self.old) Width.Word place }
         ensures answer { result ≡ answer_of (store_word (machine self.old).image (address (rest self.old) place) value) }
-        ensures machine { machine self.new ≡ record (machine self.old) { image = image_after (machine self.old).image (store_word (machine self.old).image (address (rest self.old) place) value) } }
+        ensures machine { machine self.new
+            ≡ record (machine self.old) {
+              image = image_after (machine self.old).image
+                  (store_word (machine self.old).image (address (rest self.old) place) value);
+            } }
         ensures trapped { IsErr result → MayTrap }
         ensures rest { rest self.new ≡ rest self.old };
 
     fn store_byte(&mut self, place: usize, value: u8) -> Result<(), Trap>
         requires { IsPlace (rest self.old) Width.Byte place }
         ensures answer { result ≡ answer_of (store_byte (machine self.old).image (address (rest self.old) place) value) }
-        ensures machine { machine self.new ≡ record (machine self.old) { image = image_after (machine self.old).image (store_byte (machine self.old).image (address (rest self.old) place) value) } }
+        ensures machine { machine self.new
+            ≡ record (machine self.old) {
+              image = image_after (machine self.old).image
+                  (store_byte (machine self.old).image (address (rest self.old) place) value);
+            } }
         ensures trapped { IsErr result → MayTrap }
         ensures rest { rest self.new ≡ rest self.old };
 

@@ -1,10 +1,9 @@
 //! The sizes of operands: words and bytes, as types.
-ghost use Rattle.std.specs.Prelude.{◌≡◌, ◌≢◌, ◌*◌, ◌%◌, ◌<◌, ◌≤◌, ℕ, IfOk, IfSome, Ok, None, IsErr};
+ghost use Rattle.std.specs.Prelude.{◌≡◌, ◌*◌, ◌%◌, ◌<◌, ◌≤◌, IfOk, IfSome, Ok, None, IsErr};
 ghost use Rattle.pdp_decode.specs.declared.instr.Width.{Width};
 ghost use Rattle.pdp_decode.specs.declared.instr.Reg.{Reg};
 ghost use Rattle.pdp_decode.specs.Decode.{reg_of};
 ghost use Rattle.pdp_decode.specs.Handlers.{IsStepped};
-ghost use Rattle.v6_base.specs.Access.{load_word, load_byte};
 ghost use Rattle.pdp_step.specs.Machine.{reg_in, with_reg, with_codes};
 ghost use Rattle.pdp_step.specs.Operands.{InRegister, InMemory, step_size, value_at};
 ghost use Rattle.pdp_step.specs.Arithmetic.{half, size};
@@ -75,7 +74,9 @@ pub trait Size {
         requires place { P.IsPlace (P.rest p.old) width place }
         requires codes { made.cc < 16 }
         requires small { made.value < size width }
-        ensures stored { stored_by result (P.machine p.new) ≡ finish_of (P.machine p.old).image (stored_result (P.machine p.old) width (InMemory (P.address (P.rest p.old) place)) made) }
+        ensures stored { stored_by result (P.machine p.new)
+            ≡ finish_of (P.machine p.old).image
+            (stored_result (P.machine p.old) width (InMemory (P.address (P.rest p.old) place)) made) }
         ensures trapped { IsErr result → P.MayTrap }
         ensures rest { P.rest p.new ≡ P.rest p.old };
 
@@ -83,14 +84,17 @@ pub trait Size {
     fn hold<P: Processor>(p: &mut P, n: u32, made: Made)
         requires codes { made.cc < 16 }
         requires small { made.value < size width }
-        ensures held { P.machine p.new ≡ with_codes (with_reg (P.machine p.old) (reg_of (n % 8)) (merged width (reg_in (P.machine p.old) (reg_of (n % 8))) made.value)) made.cc }
+        ensures held { P.machine p.new
+            ≡ with_codes (with_reg (P.machine p.old) (reg_of (n % 8))
+            (merged width (reg_in (P.machine p.old) (reg_of (n % 8))) made.value)) made.cc }
         ensures rest { P.rest p.new ≡ P.rest p.old };
 
     /// What was moved to a register: a byte carries its sign on.
     fn hold_moved<P: Processor>(p: &mut P, n: u32, made: Made)
         requires codes { made.cc < 16 }
         requires small { made.value < size width }
-        ensures held { P.machine p.new ≡ with_codes (with_reg (P.machine p.old) (reg_of (n % 8)) (moved_value width made.value)) made.cc }
+        ensures held { P.machine p.new
+            ≡ with_codes (with_reg (P.machine p.old) (reg_of (n % 8)) (moved_value width made.value)) made.cc }
         ensures rest { P.rest p.new ≡ P.rest p.old };
 }
 

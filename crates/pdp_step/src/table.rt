@@ -1,5 +1,5 @@
 //! The table of instructions over any addressing modes.
-ghost use Rattle.std.specs.Prelude.{◌≡◌, ◌<◌, ◌≤◌, ◌/◌, false, ℕ};
+ghost use Rattle.std.specs.Prelude.{◌≡◌, ◌<◌, ◌≤◌, ◌/◌, false};
 ghost use Rattle.pdp_decode.specs.Decode.{decode_of, operand_of};
 ghost use Rattle.pdp_decode.specs.declared.instr.Width.{Width};
 ghost use Rattle.pdp_step.specs.Machine.{carry_in};
@@ -48,7 +48,9 @@ pub fn attempt<P: Processor>(p: &mut P) -> Result<(), Refusal>
 #[inline(always)]
 fn any_move<P: Processor>(p: &mut P, pc: usize, word: u32, w: Width) -> Result<(), Halt>
     requires room { pc ≤ 65538 }
-    ensures row { Ends result (P.machine p.new) (finished (P.machine p.old).image (go (moved (at_pc (P.machine p.old) pc) w (operand_of (word / 64)) (operand_of word)))) }
+    ensures row { Ends result (P.machine p.new)
+        (finished (P.machine p.old).image
+        (go (moved (at_pc (P.machine p.old) pc) w (operand_of (word / 64)) (operand_of word)))) }
     ensures missed { IsMissed result → P.MayMiss }
     ensures rest { P.rest p.new ≡ P.rest p.old }
 {
@@ -67,7 +69,10 @@ fn any_compare<P: Processor, O: Operation>(
     w: Width,
 ) -> Result<(), Halt>
     requires room { pc ≤ 65538 }
-    ensures row { Ends result (P.machine p.new) (finished (P.machine p.old).image (go (compared (at_pc (P.machine p.old) pc) w (operand_of (word / 64)) (operand_of word) (O.made w (carry_in (P.machine p.old)))))) }
+    ensures row { Ends result (P.machine p.new)
+        (finished (P.machine p.old).image
+        (go (compared (at_pc (P.machine p.old) pc) w (operand_of (word / 64)) (operand_of word)
+        (O.made w (carry_in (P.machine p.old)))))) }
     ensures missed { IsMissed result → P.MayMiss }
     ensures rest { P.rest p.new ≡ P.rest p.old }
 {
@@ -86,7 +91,10 @@ fn any_join<P: Processor, O: Operation>(
     w: Width,
 ) -> Result<(), Halt>
     requires room { pc ≤ 65538 }
-    ensures row { Ends result (P.machine p.new) (finished (P.machine p.old).image (go (joined (at_pc (P.machine p.old) pc) w (operand_of (word / 64)) (operand_of word) (O.made w (carry_in (P.machine p.old)))))) }
+    ensures row { Ends result (P.machine p.new)
+        (finished (P.machine p.old).image
+        (go (joined (at_pc (P.machine p.old) pc) w (operand_of (word / 64)) (operand_of word)
+        (O.made w (carry_in (P.machine p.old)))))) }
     ensures missed { IsMissed result → P.MayMiss }
     ensures rest { P.rest p.new ≡ P.rest p.old }
 {
@@ -107,7 +115,10 @@ fn any_modify<P: Processor, A: Alteration>(
 ) -> Result<(), Halt>
     requires room { pc ≤ 65538 }
     requires size { (x : Width) → A.IsFor alteration.now x }
-    ensures row { Ends result (P.machine p.new) (finished (P.machine p.old).image (go (modified (at_pc (P.machine p.old) pc) w (operand_of word) (A.made alteration.now w (carry_in (P.machine p.old)))))) }
+    ensures row { Ends result (P.machine p.new)
+        (finished (P.machine p.old).image
+        (go (modified (at_pc (P.machine p.old) pc) w (operand_of word)
+        (A.made alteration.now w (carry_in (P.machine p.old)))))) }
     ensures missed { IsMissed result → P.MayMiss }
     ensures rest { P.rest p.new ≡ P.rest p.old }
 {
@@ -121,7 +132,9 @@ fn any_modify<P: Processor, A: Alteration>(
 #[inline(always)]
 fn any_clear<P: Processor>(p: &mut P, pc: usize, word: u32, w: Width) -> Result<(), Halt>
     requires room { pc ≤ 65538 }
-    ensures row { Ends result (P.machine p.new) (finished (P.machine p.old).image (go (replaced (at_pc (P.machine p.old) pc) w (operand_of word) (result_of w 0 false false)))) }
+    ensures row { Ends result (P.machine p.new)
+        (finished (P.machine p.old).image
+        (go (replaced (at_pc (P.machine p.old) pc) w (operand_of word) (result_of w 0 false false)))) }
     ensures missed { IsMissed result → P.MayMiss }
     ensures rest { P.rest p.new ≡ P.rest p.old }
 {
@@ -135,7 +148,9 @@ fn any_clear<P: Processor>(p: &mut P, pc: usize, word: u32, w: Width) -> Result<
 #[inline(always)]
 fn any_test<P: Processor>(p: &mut P, pc: usize, word: u32, w: Width) -> Result<(), Halt>
     requires room { pc ≤ 65538 }
-    ensures row { Ends result (P.machine p.new) (finished (P.machine p.old).image (go (tested (at_pc (P.machine p.old) pc) w (operand_of word) (λ x. result_of w x false false)))) }
+    ensures row { Ends result (P.machine p.new)
+        (finished (P.machine p.old).image
+        (go (tested (at_pc (P.machine p.old) pc) w (operand_of word) (λ x. result_of w x false false)))) }
     ensures missed { IsMissed result → P.MayMiss }
     ensures rest { P.rest p.new ≡ P.rest p.old }
 {
@@ -151,7 +166,8 @@ fn any_test<P: Processor>(p: &mut P, pc: usize, word: u32, w: Width) -> Result<(
 fn perform_instruction<P: Processor>(p: &mut P, pc: usize, word: u32) -> Result<(), Refusal>
     requires word { word < 65536 }
     requires room { pc ≤ 65538 }
-    ensures row { Finishes result (P.machine p.new) (finished (P.machine p.old).image (row_of (at_pc (P.machine p.old) pc) word (decode_of word))) }
+    ensures row { Finishes result (P.machine p.new)
+        (finished (P.machine p.old).image (row_of (at_pc (P.machine p.old) pc) word (decode_of word))) }
     ensures number { RefusesNumbered result }
     ensures missed { RefusesMissed result → P.MayMiss }
     ensures rest { P.rest p.new ≡ P.rest p.old }

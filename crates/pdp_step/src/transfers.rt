@@ -1,5 +1,5 @@
 //! The rows of the instructions that move PC.
-ghost use Rattle.std.specs.Prelude.{◌≡◌, ◌≢◌, ◌&&◌, ◌/◌, ◌%◌, ◌+◌, ◌*◌, ◌<◌, ◌≤◌, Bool, IsTrue, false, ℕ, if◌then◌else◌, IsErr};
+ghost use Rattle.std.specs.Prelude.{◌≡◌, ◌≢◌, ◌&&◌, ◌/◌, ◌%◌, ◌<◌, ◌≤◌, IsTrue, false, if◌then◌else◌, IsErr};
 ghost use Rattle.pdp_decode.specs.declared.instr.Mode.{Mode};
 ghost use Rattle.pdp_decode.specs.declared.instr.Reg.{Reg};
 ghost use Rattle.pdp_decode.specs.declared.instr.Width.{Width};
@@ -54,7 +54,10 @@ pub fn branch_if<P: Processor>(
     word: u32,
     condition: Condition,
 ) -> Result<(), Halt>
-    ensures row { Ends result (P.machine p.new) (finished (P.machine p.old).image (on_registers (at_pc (P.machine p.old) pc) (branched (at_pc (P.machine p.old) pc).r (is_taken condition (codes_in (P.machine p.old).cc)) (word % 256)))) }
+    ensures row { Ends result (P.machine p.new)
+        (finished (P.machine p.old).image
+        (on_registers (at_pc (P.machine p.old) pc)
+        (branched (at_pc (P.machine p.old) pc).r (is_taken condition (codes_in (P.machine p.old).cc)) (word % 256)))) }
     ensures sure { IsMissed result → ⊥ }
     ensures trapped { IsTrapped result → P.MayTrap }
     ensures rest { P.rest p.new ≡ P.rest p.old }
@@ -69,7 +72,8 @@ pub fn branch_if<P: Processor>(
 #[inline(always)]
 #[tactic(auto, unfolding(pdp_decode::specs::Decode::reg_of, crate::specs::Rows::counted))]
 fn count_down<P: Processor>(p: &mut P, pc: usize, word: u32)
-    ensures machine { P.machine p.new ≡ record (P.machine p.old) { r = counted (at_pc (P.machine p.old) pc).r (reg_of (word / 64 % 8)) (word % 64) } }
+    ensures machine { P.machine p.new
+        ≡ record (P.machine p.old) { r = counted (at_pc (P.machine p.old) pc).r (reg_of (word / 64 % 8)) (word % 64) } }
     ensures rest { P.rest p.new ≡ P.rest p.old }
 {
     set_pc(p, pc);
@@ -84,7 +88,10 @@ fn count_down<P: Processor>(p: &mut P, pc: usize, word: u32)
 /// SOB.
 #[inline(always)]
 pub fn count<P: Processor>(p: &mut P, pc: usize, word: u32) -> Result<(), Halt>
-    ensures row { Ends result (P.machine p.new) (finished (P.machine p.old).image (on_registers (at_pc (P.machine p.old) pc) (counted (at_pc (P.machine p.old) pc).r (reg_of (word / 64 % 8)) (word % 64)))) }
+    ensures row { Ends result (P.machine p.new)
+        (finished (P.machine p.old).image
+        (on_registers (at_pc (P.machine p.old) pc)
+        (counted (at_pc (P.machine p.old) pc).r (reg_of (word / 64 % 8)) (word % 64)))) }
     ensures sure { IsMissed result → ⊥ }
     ensures trapped { IsTrapped result → P.MayTrap }
     ensures rest { P.rest p.new ≡ P.rest p.old }
@@ -99,7 +106,8 @@ pub fn jump<P: Processor, D: AddressingMode>(p: &mut P, from: usize, word: u32) 
     requires dest { IsAddressed D.addressing Width.Word (operand_of word) }
     requires memory { (operand_of word).mode ≢ Mode.Register }
     requires room { from ≤ 65538 }
-    ensures row { Ends result (P.machine p.new) (finished (P.machine p.old).image (go (jumped (at_pc (P.machine p.old) from) (operand_of word)))) }
+    ensures row { Ends result (P.machine p.new)
+        (finished (P.machine p.old).image (go (jumped (at_pc (P.machine p.old) from) (operand_of word)))) }
     ensures kept { IsTrue D.late → IsMissed result → P.machine p.new ≡ P.machine p.old }
     ensures image { IsMissed result → (P.machine p.new).image ≡ (P.machine p.old).image }
     ensures missed { IsMissed result → P.MayMiss }
@@ -121,7 +129,8 @@ pub fn jump<P: Processor, D: AddressingMode>(p: &mut P, from: usize, word: u32) 
 fn push_link<P: Processor>(p: &mut P, pc: usize, n: u32, place: usize, at: u16) -> Result<(), Trap>
     requires place { P.IsPlace (P.rest p.old) Width.Word place }
     requires top { P.address (P.rest p.old) place ≡ minus (reg_in (P.machine p.old) Reg.Sp) 2 }
-    ensures row { stored_by result (P.machine p.new) ≡ finish_of (P.machine p.old).image (link_effect (at_pc (P.machine p.old) pc) (reg_of (n % 8)) at) }
+    ensures row { stored_by result (P.machine p.new)
+        ≡ finish_of (P.machine p.old).image (link_effect (at_pc (P.machine p.old) pc) (reg_of (n % 8)) at) }
     ensures trapped { IsErr result → P.MayTrap }
     ensures rest { P.rest p.new ≡ P.rest p.old }
 {
@@ -149,7 +158,9 @@ pub fn jump_to_subroutine<P: Processor, D: AddressingMode>(
     requires dest { IsAddressed D.addressing Width.Word (operand_of word) }
     requires memory { (operand_of word).mode ≢ Mode.Register }
     requires room { from ≤ 65538 }
-    ensures row { Ends result (P.machine p.new) (finished (P.machine p.old).image (go (jumped_to_subroutine (at_pc (P.machine p.old) from) (reg_of (word / 64 % 8)) (operand_of word)))) }
+    ensures row { Ends result (P.machine p.new)
+        (finished (P.machine p.old).image
+        (go (jumped_to_subroutine (at_pc (P.machine p.old) from) (reg_of (word / 64 % 8)) (operand_of word)))) }
     ensures kept { IsTrue (D.late && D.steady) → IsMissed result → P.machine p.new ≡ P.machine p.old }
     ensures image { IsMissed result → (P.machine p.new).image ≡ (P.machine p.old).image }
     ensures missed { IsMissed result → P.MayMiss }
@@ -189,7 +200,8 @@ fn pop<P: Processor>(p: &mut P, place: usize) -> Result<u16, Trap>
 /// RTS.
 #[inline(always)]
 pub fn return_by<P: Processor>(p: &mut P, pc: usize, word: u32) -> Result<(), Halt>
-    ensures row { Ends result (P.machine p.new) (finished (P.machine p.old).image (go (returned (at_pc (P.machine p.old) pc) (reg_of (word % 8))))) }
+    ensures row { Ends result (P.machine p.new)
+        (finished (P.machine p.old).image (go (returned (at_pc (P.machine p.old) pc) (reg_of (word % 8))))) }
     ensures kept { IsMissed result → P.machine p.new ≡ P.machine p.old }
     ensures image { IsMissed result → (P.machine p.new).image ≡ (P.machine p.old).image }
     ensures missed { IsMissed result → P.MayMiss }
@@ -217,7 +229,8 @@ pub fn return_by<P: Processor>(p: &mut P, pc: usize, word: u32) -> Result<(), Ha
 /// MARK.
 #[inline(always)]
 pub fn mark<P: Processor>(p: &mut P, pc: usize, word: u32) -> Result<(), Halt>
-    ensures row { Ends result (P.machine p.new) (finished (P.machine p.old).image (go (marked (at_pc (P.machine p.old) pc) (word % 64)))) }
+    ensures row { Ends result (P.machine p.new)
+        (finished (P.machine p.old).image (go (marked (at_pc (P.machine p.old) pc) (word % 64)))) }
     ensures image { IsMissed result → (P.machine p.new).image ≡ (P.machine p.old).image }
     ensures missed { IsMissed result → P.MayMiss }
     ensures trapped { IsTrapped result → P.MayTrap }
@@ -317,7 +330,9 @@ pub fn names_in(word: u32) -> Flags
 /// The instructions that set and clear codes.
 #[inline(always)]
 pub fn set_codes<P: Processor>(p: &mut P, pc: usize, set: bool, names: Flags) -> Result<(), Halt>
-    ensures row { Ends result (P.machine p.new) (finished (P.machine p.old).image (on_codes (at_pc (P.machine p.old) pc) (flag_bits (named_codes set names (codes_in (P.machine p.old).cc))))) }
+    ensures row { Ends result (P.machine p.new)
+        (finished (P.machine p.old).image
+        (on_codes (at_pc (P.machine p.old) pc) (flag_bits (named_codes set names (codes_in (P.machine p.old).cc))))) }
     ensures sure { IsMissed result → ⊥ }
     ensures trapped { IsTrapped result → P.MayTrap }
     ensures rest { P.rest p.new ≡ P.rest p.old }
@@ -331,7 +346,8 @@ pub fn set_codes<P: Processor>(p: &mut P, pc: usize, set: bool, names: Flags) ->
 /// WAIT and RESET.
 #[inline(always)]
 pub fn wait<P: Processor>(p: &mut P, pc: usize) -> Result<(), Halt>
-    ensures row { Ends result (P.machine p.new) (finished (P.machine p.old).image (Go (without_write (at_pc (P.machine p.old) pc)))) }
+    ensures row { Ends result (P.machine p.new)
+        (finished (P.machine p.old).image (Go (without_write (at_pc (P.machine p.old) pc)))) }
     ensures sure { IsMissed result → ⊥ }
     ensures trapped { IsTrapped result → P.MayTrap }
     ensures rest { P.rest p.new ≡ P.rest p.old }

@@ -1,4 +1,5 @@
--- What first fit finds is a click of core, or a block of the swap area; and where it finds none, a larger piece isn't found either.
+-- What first fit finds is a click of core, or a block of the swap area; and where it finds none, a larger piece isn't found
+-- either.
 use Rattle.std.proofs.Common.{◌≡◌, ◌≤◌, ℕ, Bool, true, false, cond, List, Option, Some, None, option_map, refl, subst, arith}
 use Rattle.std.specs.Option.{option_or}
 use Rattle.v6_base.specs.declared.entry.Place.{Place}

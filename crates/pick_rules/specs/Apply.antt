@@ -42,7 +42,8 @@ leaves_core b k = change_text b k (λ text. record text { loaded = text.loaded -
 -- an image goes to a place; in the swap area its time begins anew, and process 0 is told
 abbrev pub at_place : Board → ℕ → ℕ → Place → Board
 at_place b s clicks (Core c) =
-    in_table (enters_core b (row_at b.table s).text) (λ t. change_row t s (λ row. record row { size = clicks; place = Some (Core c) }))
+    in_table (enters_core b (row_at b.table s).text)
+    (λ t. change_row t s (λ row. record row { size = clicks; place = Some (Core c) }))
 at_place b s clicks (Swap block) =
     in_table b (λ t. runout_told (change_row t s (λ row. record row { size = clicks; place = Some (Swap block); time = 0 })))
 
@@ -78,7 +79,8 @@ with_text_of b s k = in_table b (λ t. change_row t s (λ row. record row { text
 abbrev pub brought_by : Board → ℕ → ℕ → Option TextPlace → ℕ → Board
 brought_by b s k None c = at_place b s (row_at b.table s).size (Core c)
 brought_by b s k (Some text) c =
-    if text.loaded == 0 then at_place (with_text b k (Some (record text { click = c }))) s (row_at b.table s).size (Core (c + text.clicks))
+    if text.loaded == 0
+    then at_place (with_text b k (Some (record text { click = c }))) s (row_at b.table s).size (Core (c + text.clicks))
     else at_place b s (row_at b.table s).size (Core c)
 
 abbrev pub brought : Board → ℕ → Option ℕ → ℕ → Board
@@ -101,7 +103,8 @@ applied b (Time time) = in_table b (λ t. record t { now = time })
 applied b (Size s clicks place) = at_place (without_place b s) s clicks place
 applied b (SizeKeep s clicks) = in_table b (λ t. change_row t s (λ row. record row { size = clicks }))
 applied b (Fork s child place) =
-    at_place (joins (in_table b (λ t. with_row t child (child_row (row_at t s)))) (row_at b.table s).text) child (row_at b.table s).size place
+    at_place (joins (in_table b (λ t. with_row t child (child_row (row_at t s)))) (row_at b.table s).text)
+    child (row_at b.table s).size place
 applied b (Leave s k sticky) = let left : Board = parted (left_text b s) k in if sticky then left else goes_if_unused left k
 applied b (Bare s) = in_table (without_place b s) (λ t. change_row t s (λ row. record row { size = 0 }))
 applied b (Text s k clicks block) =
@@ -111,7 +114,8 @@ applied b (Image s clicks place) = at_place b s clicks place
 applied b (SwapIn s c) = in_table (brought b s (row_at b.table s).text c) (λ t. change_row t s (λ row. record row { time = 0 }))
 applied b (SwapOut s block) = at_place (without_place b s) s (row_at b.table s).size (Swap block)
 applied b (Exit s block) =
-    in_table b (λ t. record (change_row t s (λ row. record row { stat = Zombie; channel = None; place = Some (Swap block) })) { running = None })
+    in_table b (λ t. record (change_row t s (λ row.
+    record row { stat = Zombie; channel = None; place = Some (Swap block) })) { running = None })
 applied b (Reap s) = in_table b (λ t. with_row t s empty_row)
 applied b (Panic kind) = b
 applied b End = b

@@ -17,7 +17,9 @@ abbrev pub charged_slot : Table → ℕ
 charged_slot t = unwrap_or t.running 0
 
 abbrev pub charged : Table → Table
-charged t = let row : TableRow = row_at t (charged_slot t) in with_row t (charged_slot t) (record row { cpu = min (row.cpu + 1) 255 })
+charged t =
+    let row : TableRow = row_at t (charged_slot t) in
+    with_row t (charged_slot t) (record row { cpu = min (row.cpu + 1) 255 })
 
 -- a second passes for a slot in use
 unfoldable pub aged : Table → ℕ → Table

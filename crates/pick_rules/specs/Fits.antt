@@ -91,17 +91,21 @@ FitsBoard b (Wake chan) = Unit {0}
 FitsBoard b (Signal s n) = (0 < s) × ((row_at b.table s).stat ≢ Empty)
 FitsBoard b (Nice s nice) = IsRunning b s
 FitsBoard b (Time time) = (s : ℕ) × IsRunning b s
-FitsBoard b (Size s clicks place) = IsRunning b s × IsSize b clicks × ((row_at b.table s).size < clicks) × (placed b s clicks ≡ Some place)
+FitsBoard b (Size s clicks place) =
+    IsRunning b s × IsSize b clicks × ((row_at b.table s).size < clicks) × (placed b s clicks ≡ Some place)
 FitsBoard b (SizeKeep s clicks) = IsRunning b s × IsSize b clicks × (clicks ≤ (row_at b.table s).size)
-FitsBoard b (Fork s child place) = IsRunning b s × (free_slot b ≡ Some child) × (placed b s (row_at b.table s).size ≡ Some place)
+FitsBoard b (Fork s child place) =
+    IsRunning b s × (free_slot b ≡ Some child) × (placed b s (row_at b.table s).size ≡ Some place)
 FitsBoard b (Leave s k sticky) = IsRunning b s × ((row_at b.table s).text ≡ Some k)
 FitsBoard b (Bare s) = IsRunning b s × ((row_at b.table s).place ≢ None) × ((row_at b.table s).text ≡ None)
 FitsBoard b (Text s k clicks block) =
     IsBare b s × (free_text b ≡ Some k) × (1 ≤ clicks) × (clicks ≤ limit b.core) × (swap_fit b (blocks clicks) ≡ Some block)
 FitsBoard b (Share s k) = IsBare b s × (text_at b k ≢ None)
-FitsBoard b (Image s clicks place) = IsRunning b s × ((row_at b.table s).place ≡ None) × IsSize b clicks × (placed b s clicks ≡ Some place)
+FitsBoard b (Image s clicks place) =
+    IsRunning b s × ((row_at b.table s).place ≡ None) × IsSize b clicks × (placed b s clicks ≡ Some place)
 FitsBoard b (SwapIn s c) = (b.table.running ≡ Some 0) × (swap_move b ≡ In s c)
-FitsBoard b (SwapOut s block) = (b.table.running ≡ Some 0) × (swap_move b ≡ Out s) × (swap_fit b (blocks (row_at b.table s).size) ≡ Some block)
+FitsBoard b (SwapOut s block) =
+    (b.table.running ≡ Some 0) × (swap_move b ≡ Out s) × (swap_fit b (blocks (row_at b.table s).size) ≡ Some block)
 FitsBoard b (Exit s block) = IsRunning b s × ((row_at b.table s).text ≡ None) × (swap_fit b 1 ≡ Some block)
 FitsBoard b (Reap s) = ((r : ℕ) × IsRunning b r) × ((row_at b.table s).stat ≡ Zombie)
 FitsBoard b (Panic kind) = FitsPanic b kind

@@ -5,7 +5,8 @@ use Rattle.pick_rules.specs.declared.row.TableRow.{TableRow}
 use Rattle.pick_rules.specs.declared.table.Table.{Table}
 use Rattle.pick_rules.specs.Table.{row_at, with_row}
 
--- what a process sleeps at: process 0, at the disk, at a pipe, for keys of a terminal, for room on one, for a child, for a time. Below 0 no signal wakes it.
+-- what a process sleeps at: process 0, at the disk, at a pipe, for keys of a terminal, for room on one, for a child, for a
+-- time. Below 0 no signal wakes it.
 abbrev pub pswp : ℤ
 pswp = negsuc 99
 

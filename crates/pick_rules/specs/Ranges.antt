@@ -6,7 +6,8 @@ use Rattle.v6_base.specs.declared.entry.Place.{Place}
 use Rattle.v6_base.specs.declared.entry.Place.TheVariants as place
 use Rattle.v6_base.specs.declared.entry.Entry.{Entry}
 use Rattle.v6_base.specs.declared.entry.Entry.TheVariants.{Boot, Go, Idle, Trap, TickUser, TickKernel, TickIdle, Sleep, Wake, Signal, Nice, Time, Size, SizeKeep, Fork, Leave, Bare, Text, Share, Image, SwapIn, SwapOut, Exit, Reap, Panic, End}
-use Rattle.pick_rules.specs.declared.ranges.TheConstants.{LAST_SLOT, LAST_TEXT, SWAP_START, LAST_BLOCK, LAST_SIGNAL, LAST_LINE}
+use Rattle.v6_base.specs.declared.entry.TheConstants.{SWAP_START}
+use Rattle.pick_rules.specs.declared.ranges.TheConstants.{LAST_SLOT, LAST_TEXT, LAST_BLOCK, LAST_SIGNAL, LAST_LINE}
 
 -- a slot of the table of processes
 abbrev pub IsSlot : ℕ → Type 0

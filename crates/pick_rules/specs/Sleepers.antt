@@ -47,7 +47,9 @@ flagged t s w =
     else t
 
 abbrev pub asleep : Table → ℕ → ℤ → Chan → Table
-asleep t s pri w = record (with_row t s (record (row_at t s) { stat = sleep_stat pri; pri = pri; channel = Some w; calling = true })) { running = None }
+asleep t s pri w =
+    record (with_row t s (
+    record (row_at t s) { stat = sleep_stat pri; pri = pri; channel = Some w; calling = true })) { running = None }
 
 -- the slot sleeps; where signals may wake it, its image may be put out of core
 unfoldable pub fall_asleep : Table → ℕ → ℤ → Chan → Table

@@ -10,7 +10,18 @@ use Rattle.pick_rules.specs.declared.row.TableRow.{TableRow}
 use Rattle.pick_rules.specs.declared.table.Table.{Table}
 
 abbrev pub empty_row : TableRow
-empty_row = record { stat = Empty; pri = pos 0; cpu = 0; time = 0; nice = pos 0; size = 0; text = None; place = None; channel = None; calling = false }
+empty_row = record {
+  stat = Empty;
+  pri = pos 0;
+  cpu = 0;
+  time = 0;
+  nice = pos 0;
+  size = 0;
+  text = None;
+  place = None;
+  channel = None;
+  calling = false;
+}
 
 abbrev pub row_at : Table → ℕ → TableRow
 row_at t s = slice_index_or t.rows s empty_row
@@ -52,7 +63,8 @@ is_on (Some c) w = same_chan c w
 -- slots 0 and 1, of which slot 1 has 17 clicks at click 1; process 0 runs
 abbrev pub first_table : ℕ → Table
 first_table now = record {
-  rows = record empty_row { stat = Ready } ∷ record empty_row { stat = Ready; size = 17; place = Some (Core 1) } ∷ replicate 48 empty_row;
+  rows = record empty_row { stat = Ready } ∷ record empty_row { stat = Ready; size = 17; place = Some (Core 1) }
+      ∷ replicate 48 empty_row;
   curpri = pos 0;
   runrun = false;
   runin = false;

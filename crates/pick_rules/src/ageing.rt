@@ -3,7 +3,7 @@ ghost use Rattle.std.specs.Prelude.{◌≡◌, ◌<◌, ◌+◌, min};
 ghost use Rattle.std.specs.Option.{unwrap_or};
 ghost use Rattle.pick_rules.specs.Search.{each_slot};
 ghost use Rattle.pick_rules.specs.Table.{IsTable};
-ghost use Rattle.pick_rules.specs.Clock.{charged, aged, second, ticked, tick, told};
+ghost use Rattle.pick_rules.specs.Clock.{charged, aged, second, tick, told};
 
 use crate::row::{Mode, Second, Stat, TableRow};
 use crate::sleepers::tell_runin;

@@ -1,5 +1,5 @@
 //! The choice of who runs: `swtch` in Lions' Commentary, `slp.c`.
-ghost use Rattle.std.specs.Prelude.{◌≡◌, ◌<◌, ◌&&◌, ◌||◌, ◌==◌, ℕ, MatchOption, ⊤, Some, int_lt, slice_index_or, if◌then◌else◌};
+ghost use Rattle.std.specs.Prelude.{◌≡◌, ◌<◌, ◌&&◌, ◌||◌, ◌==◌, MatchOption, ⊤, Some, int_lt, slice_index_or, if◌then◌else◌};
 ghost use Rattle.pick_rules.specs.declared.table.Table.{Table};
 ghost use Rattle.pick_rules.specs.Table.{empty_row, is_ready, is_in_core};
 ghost use Rattle.pick_rules.specs.Choice.{IsChoice, chosen};

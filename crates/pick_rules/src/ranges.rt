@@ -7,9 +7,6 @@ pub const LAST_SLOT: Slot = 49;
 /// The last of the texts.
 pub const LAST_TEXT: u8 = 39;
 
-/// The first block of the swap area.
-pub const SWAP_START: u16 = 4000;
-
 /// The last block of the swap area, and of the disk.
 pub const LAST_BLOCK: u16 = 4871;
 

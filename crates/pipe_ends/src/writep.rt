@@ -75,7 +75,8 @@ fn repeat_tests<S: Space>(
 
 /// Writes bytes from the memory of a process into a pipe, `count` from address `at` on. What fits is appended, and a reader
 /// that waits is woken; where bytes are left and the pipe is full the writer waits, with the number of bytes that are left.
-/// Where nobody can read them the pipe is broken. A reader is woken exactly where `reader_waits` is cleared. write(II), pipe(II).
+/// Where nobody can read them the pipe is broken. A reader is woken exactly where `reader_waits` is cleared. write(II),
+/// pipe(II).
 ///
 /// # Errors
 ///

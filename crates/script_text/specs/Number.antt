@@ -17,5 +17,6 @@ is_octal_digit byte = nat_le 0o060 byte && nat_le byte 0o067
 -- so many octal digits that write a number of at most this
 abbrev pub octal_of : ℕ → ℕ → List ℕ → Option ℕ
 octal_of count most text =
-    if (length text == count) && list_all is_octal_digit text && nat_le (digits_value 8 text) most then Some (digits_value 8 text)
+    if (length text == count) && list_all is_octal_digit text && nat_le (digits_value 8 text) most
+    then Some (digits_value 8 text)
     else None

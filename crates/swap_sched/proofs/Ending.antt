@@ -1,5 +1,5 @@
--- A pass comes to an end: each move but the last takes one from a sum over the slots. Who is in core and may still go out counts
--- two, who is out of core one, and who is in core to stay nothing.
+-- A pass comes to an end: each move but the last takes one from a sum over the slots. Who is in core and may still go out
+-- counts two, who is out of core one, and who is in core to stay nothing.
 use Rattle.std.proofs.Common.{◌≡◌, ◌∙◌, ◌+◌, ◌*◌, ◌<◌, ◌≤◌, ◌&&◌, ◌||◌, ℕ, zero, suc, Bool, true, false, cond, not, nat_lt, nat_le, List, slice_index_or, length, length-set, Option, Some, None, Ok, refl, sym, ap, subst, inl, inr, ◌⊎◌, arith}
 use Rattle.std.specs.List.{sum_by, All}
 use Rattle.std.proofs.lemmas.Bool.{and_parts, not-true}
@@ -27,7 +27,7 @@ use Rattle.pick_rules.specs.Logged.{Stop, Logged, nothing_logged, with_what_came
 use Rattle.pick_rules.specs.Swapper.{SwapMove, In, Out, Waits, candidate, need, loaded_waiter, loaded_runner, out_if_old, makes_room, comes_in, move_for, swap_move}
 use Rattle.pick_rules.proofs.Found.{IsFound, found_in, least_in}
 use Rattle.pick_rules.proofs.Movers.{Lives, IsMover, mover}
-use Rattle.pick_rules.proofs.Placing.{row_in, row_out, loaded_row, HasCome, goes_out}
+use Rattle.pick_rules.proofs.Placing.{row_out, loaded_row, HasCome, goes_out}
 use Rattle.pick_rules.proofs.Placing as placing
 use Rattle.swap_sched.specs.Pass.{moved, moves_after, pass}
 use Rattle.swap_sched.specs.inside.Does.{logged_move, next_logged}

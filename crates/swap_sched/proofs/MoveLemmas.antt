@@ -11,7 +11,6 @@ use Rattle.pick_rules.specs.declared.table.Table.{Table}
 use Rattle.pick_rules.specs.Priority.{pswp}
 use Rattle.pick_rules.specs.Table.{IsTable, row_at, with_row, is_in_core, same_chan}
 use Rattle.pick_rules.specs.Sleepers.{made_ready, sleeps_on, runout_told, asleep, fall_asleep}
-use Rattle.pick_rules.specs.Board.{Board}
 use Rattle.pick_rules.specs.Board as board
 use Rattle.pick_rules.specs.Apply.{applied}
 use Rattle.pick_rules.specs.Effects.{Came, Lets, at_fit}

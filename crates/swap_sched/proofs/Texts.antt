@@ -6,7 +6,7 @@ use Rattle.text_tab.specs.Table.{loaded_at, unloaded}
 use Rattle.pick_rules.specs.Board.{TextPlace}
 use Rattle.pick_rules.specs.Apply.{changed}
 use Rattle.pick_rules.specs.Swapper.{clicks_to_load}
-use Rattle.image_keep.specs.Kept.{Kept, Shared, shared}
+use Rattle.image_keep.specs.Kept.{Shared}
 use Rattle.image_keep.specs.Kept as kept
 use Rattle.image_keep.specs.Moves.{need_shared}
 use Rattle.swap_sched.specs.Match.{text_place}

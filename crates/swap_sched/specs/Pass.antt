@@ -28,7 +28,8 @@ while_it_runs (Some s) l next = next
 -- the next move, unless process 0 sleeps or has panicked
 unfoldable pub moved : Logged (Unit {0}) → Logged (Unit {0})
 moved l =
-    while_it_runs l.board.table.running l (unless_stopped l.stop l (with_what_came l (came_of_move l.board (swap_move l.board))))
+    while_it_runs l.board.table.running l
+    (unless_stopped l.stop l (with_what_came l (came_of_move l.board (swap_move l.board))))
 
 -- what is logged of so many moves
 abbrev pub moves_after : Board → ℕ → Logged (Unit {0})

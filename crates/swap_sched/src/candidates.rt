@@ -1,6 +1,6 @@
 //! Who comes in and who goes out: the searches of `sched` in Lions' Commentary, `slp.c`.
-ghost use Rattle.std.specs.Prelude.{◌≡◌, ◌<◌, ◌≤◌, ◌&&◌, ◌||◌, not, nat_lt, if◌then◌else◌, ℕ, MatchOption, IfSome, Some, None, ⊤};
-ghost use Rattle.pick_rules.specs.Table.{is_ready, is_waiting, is_sleeping, is_in_core, row_at};
+ghost use Rattle.std.specs.Prelude.{◌≡◌, ◌<◌, if◌then◌else◌, MatchOption, Some, None, ⊤};
+ghost use Rattle.pick_rules.specs.Table.{is_in_core};
 ghost use Rattle.pick_rules.specs.Swapper.{candidate, loaded_waiter, loaded_runner, out_if_old, makes_room};
 ghost use Rattle.swap_sched.specs.inside.Searches.{asks, asks_at, waits, older, oldest_of, out_or_waits};
 

@@ -2,7 +2,6 @@
 ghost use Rattle.std.specs.Prelude.{◌≡◌, ◌<◌, ◌∷◌, [], Ok, Some};
 ghost use Rattle.v6_base.specs.Trace.{Took, Log};
 ghost use Rattle.pick_rules.specs.Table.{IsTable, row_at, with_row};
-ghost use Rattle.pick_rules.specs.Board.{core_fit};
 ghost use Rattle.pick_rules.specs.Swapper.{Out, Waits, candidate, loaded_waiter, makes_room, swap_move};
 ghost use Rattle.image_keep.specs.Kept.{place_of};
 ghost use Rattle.swap_sched.specs.Match.{Matches, board_of};
@@ -21,7 +20,8 @@ const PSWP: i8 = -100;
 fn sleep<T: Trace>(table: &mut Table, images: &Images, chan: Chan, trace: &mut T)
     requires matches { Matches table.old images.now.kept }
     requires comes { swap_move (board_of table.old images.now.kept) ≡ Waits chan }
-    ensures does { MakesMove table.old images.now.kept (T.taken trace.old) (Ok tt) table.new images.now.kept (T.taken trace.new) }
+    ensures does { MakesMove table.old images.now.kept (T.taken trace.old) (Ok tt) table.new images.now.kept
+        (T.taken trace.new) }
     ensures frame { T.leads_to trace.old trace.new }
 {
     trace.entry(Entry::Sleep {
@@ -46,7 +46,8 @@ fn go_out<T: Trace>(
     requires matches { Matches table.old images.old.kept }
     requires slot { s < 50 }
     requires comes { swap_move (board_of table.old images.old.kept) ≡ Out s }
-    ensures does { MakesMove table.old images.old.kept (T.taken trace.old) result table.new images.new.kept (T.taken trace.new) }
+    ensures does { MakesMove table.old images.old.kept (T.taken trace.old) result table.new images.new.kept
+        (T.taken trace.new) }
     ensures frame { T.leads_to trace.old trace.new }
 {
     let _ = images.place(s);
@@ -77,7 +78,8 @@ fn make_room<T: Trace>(
     requires matches { Matches table.old images.old.kept }
     requires slot { s < 50 }
     requires comes { swap_move (board_of table.old images.old.kept) ≡ makes_room table.old s (loaded_waiter table.old) }
-    ensures does { MakesMove table.old images.old.kept (T.taken trace.old) result table.new images.new.kept (T.taken trace.new) }
+    ensures does { MakesMove table.old images.old.kept (T.taken trace.old) result table.new images.new.kept
+        (T.taken trace.new) }
     ensures frame { T.leads_to trace.old trace.new }
 {
     match who_goes(table, s) {
@@ -120,7 +122,8 @@ fn serve<T: Trace>(
     requires matches { Matches table.old images.old.kept }
     requires slot { s < 50 }
     requires next { candidate table.old ≡ Some s }
-    ensures does { MakesMove table.old images.old.kept (T.taken trace.old) result table.new images.new.kept (T.taken trace.new) }
+    ensures does { MakesMove table.old images.old.kept (T.taken trace.old) result table.new images.new.kept
+        (T.taken trace.new) }
     ensures frame { T.leads_to trace.old trace.new }
 {
     let _ = images.place(s);
@@ -144,7 +147,8 @@ pub(crate) fn make_move<T: Trace>(
     trace: &mut T,
 ) -> Result<(), PanicKind>
     requires { Matches table.old images.old.kept }
-    ensures does { MakesMove table.old images.old.kept (T.taken trace.old) result table.new images.new.kept (T.taken trace.new) }
+    ensures does { MakesMove table.old images.old.kept (T.taken trace.old) result table.new images.new.kept
+        (T.taken trace.new) }
     ensures frame { T.leads_to trace.old trace.new }
 {
     match candidate(table) {

@@ -35,9 +35,11 @@ pub fn pass<T: Trace>(
 ) -> Result<(), PanicKind>
     requires matches { Matches table.old images.old.kept }
     requires runs { table.old.running ≡ Some 0 }
-    ensures does { HasMoved table.old images.old.kept (T.taken trace.old) (passes.pass (board_of table.old images.old.kept)) table.new images.new.kept (T.taken trace.new) }
+    ensures does { HasMoved table.old images.old.kept (T.taken trace.old) (passes.pass (board_of table.old images.old.kept))
+        table.new images.new.kept (T.taken trace.new) }
     ensures answer { result ≡ answered (passes.pass (board_of table.old images.old.kept)).stop }
-    ensures fits { FitEach (board_of table.old images.old.kept) (entries_of (passes.pass (board_of table.old images.old.kept)).items) }
+    ensures fits { FitEach (board_of table.old images.old.kept)
+        (entries_of (passes.pass (board_of table.old images.old.kept)).items) }
     ensures same { SameImages images.old.kept images.new.kept }
     ensures sleeps { IfOk result (λ _. table.new.running ≡ None) }
     ensures frame { T.leads_to trace.old trace.new }

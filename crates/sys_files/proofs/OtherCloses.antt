@@ -166,6 +166,3 @@ module _ {X : Type 0} (pick : Stores → X) (dev : ℕ)
 
     pub closed_apart : IsApart pick h.inodes.store (close_all h).state.inodes.store (close_all h).state.mounts.first
     closed_apart = all_leave.apart
-
-    pub closed_dir : (close_all h).state.u.dir ≡ h.u.dir
-    closed_dir = all_leave.dir

@@ -8,7 +8,7 @@ ghost use Rattle.fs_nodes.specs.FileSystem.{SameRest};
 ghost use Rattle.fs_tree.specs.Finding.{inodes_of};
 ghost use Rattle.fs_tree.specs.Mounting.{AreMounts};
 ghost use Rattle.mount_tab.specs.Mounted.{split_of};
-ghost use Rattle.sys_files.specs.Handed.{handed, node_in, user_of};
+ghost use Rattle.sys_files.specs.Handed.{handed, node_in};
 ghost use Rattle.sys_files.specs.Pipes.{ArePipes};
 ghost use Rattle.sys_files.specs.Sound.{IsSound, IsKept};
 ghost use Rattle.sys_files.specs.Does.{Does};

@@ -1,12 +1,11 @@
 //! Files are made: `creat` and `mknod` in Lions' Commentary, `sys2.c`, and `maknode` in `iget.c`.
 ghost use Rattle.std.specs.Prelude.{◌≡◌, ◌<◌, ◌≤◌, ℕ, slice_index};
 ghost use Rattle.v6_base.specs.Image.{Image};
-ghost use Rattle.fs_codec.specs.Modes.{is_device};
 ghost use Rattle.fs_nodes.specs.FileSystem.{SameRest};
 ghost use Rattle.fs_tree.specs.Finding.{inodes_of};
 ghost use Rattle.fs_tree.specs.Mounting.{AreMounts};
 ghost use Rattle.mount_tab.specs.Mounted.{split_of};
-ghost use Rattle.sys_files.specs.Handed.{handed, node_in};
+ghost use Rattle.sys_files.specs.Handed.{handed};
 ghost use Rattle.sys_files.specs.Sound.{IsSound};
 ghost use Rattle.sys_files.specs.Does.{Does};
 ghost use Rattle.sys_files.specs.Did.{is_done, unnamed};
@@ -16,22 +15,15 @@ ghost use Rattle.sys_files.specs.Entering.{HasEntry, SameReferences, did_of};
 use crate::answers::answer_of;
 use crate::entering::{Room, enter_new, find_room, make_inode};
 use crate::files::Files;
-use crate::inodes::{disk_of, inode_of};
+use crate::inodes::disk_of;
+use crate::moving::is_device_at;
 use crate::naming::user_of;
-use fs_codec::{ILARG, is_device};
+use fs_codec::ILARG;
 use fs_nodes::Nodes;
 use fs_tree::let_go;
 use proc_tab::Row;
 use u_area::UArea;
 use v6_base::{Answer, Errno, Slot, Space, Trace};
-
-/// Whether an inode is a device.
-fn is_device_at(nodes: &Nodes, ino: u16) -> bool
-    requires referenced { 0 < slice_index nodes.now.references ino }
-    ensures { result ≡ is_device (node_in nodes.now.store ino).mode }
-{
-    is_device(inode_of(nodes, ino).mode)
-}
 
 /// Sets the number of a device. Another file stays as it is.
 fn set_device(nodes: &mut Nodes, ino: u16, device: u16)

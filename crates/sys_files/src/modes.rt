@@ -11,7 +11,7 @@ ghost use Rattle.lines_eight.specs.Lines.{terminal_at, with_terminal};
 ghost use Rattle.lines_eight.specs.Told.{told};
 ghost use Rattle.sys_files.specs.Handed.{Handed, handed, node_in};
 ghost use Rattle.sys_files.specs.Did.{Did, check};
-ghost use Rattle.sys_files.specs.Modes.{terminal_line, of_terminal, words_at, sets_modes, tells_modes, stty_set, gtty_get};
+ghost use Rattle.sys_files.specs.Modes.{terminal_line, of_terminal, words_at, tells_modes, stty_set, gtty_get};
 ghost use Rattle.sys_files.specs.Sound.{IsSound};
 ghost use Rattle.sys_files.specs.Does.{Does};
 ghost use Rattle.sys_files.specs.Entering.{did_with};

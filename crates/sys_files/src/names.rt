@@ -1,6 +1,6 @@
 //! A directory is entered, a file's permissions and its owner are changed: chdir(II), chmod(II), chown(II), sync(II).
 //! Lions' Commentary, `sys4.c`.
-ghost use Rattle.std.specs.Prelude.{◌≡◌, ◌+◌, ◌/◌, ◌%◌, ◌<◌, ◌≤◌, ◌==◌, ◌||◌, if◌then◌else◌, ℕ, [], slice_index};
+ghost use Rattle.std.specs.Prelude.{◌≡◌, ◌/◌, ◌%◌, ◌<◌, ◌==◌, ◌||◌, if◌then◌else◌, [], slice_index};
 ghost use Rattle.fs_nodes.specs.FileSystem.{SameRest, AllStand};
 ghost use Rattle.fs_tree.specs.Finding.{inodes_of, with_reference, put_back};
 ghost use Rattle.proc_tab.specs.declared.row.Row.{Row};

@@ -1,5 +1,5 @@
 -- A process without an image takes a text and an image, and executes a program: what that comes to.
-use Rattle.std.proofs.Common.{◌≡◌, ◌∙◌, ℕ, ◌+◌, ◌<◌, [], ◌∷◌, length, Option, Some, None, is_some, IfSome, IsSome, Result, Ok, Err, slice_index, min, refl, sym, ap, subst, arith}
+use Rattle.std.proofs.Common.{◌≡◌, ◌∙◌, ℕ, ◌+◌, ◌<◌, [], ◌∷◌, length, Option, Some, None, is_some, IfSome, IsSome, Result, Ok, Err, slice_index, refl, sym, ap, subst, arith}
 use Rattle.v6_base.specs.Trace.{Taken}
 use Rattle.v6_base.specs.declared.answer.Answer.{Answer}
 use Rattle.v6_base.specs.declared.answer.Answer.TheVariants.{Ret}
@@ -35,7 +35,7 @@ use Rattle.sys_procs.proofs.Dones.{done_as, done_none, not_stopped}
 use Rattle.sys_procs.proofs.Following.{both, done_after, done_first}
 use Rattle.sys_procs.proofs.KeptOwner.{SameOwner, text_owner}
 use Rattle.sys_procs.proofs.LoadForms.{anew_is, begun_is, answer_is, row_kept, area_kept}
-use Rattle.sys_procs.proofs.TakenText.{Stopped, goes_on, bare_text, taken_clicks, taken_row, taken_long, taken_store, taken_limit, taken_references}
+use Rattle.sys_procs.proofs.TakenText.{Stopped, goes_on, bare_text, taken_clicks, taken_row, taken_long, taken_store, taken_references}
 
 fresh_by : (k : Kept) (s size : ℕ) (o : Option ℕ) → IfSome o (λ t. text_of k s ≡ Some t)
     → IfSome o (λ t. (x : Shared) × (shared k t ≡ Some x) × (x.row.loaded ≡ 0) × (x.row.clicks ≡ size))
@@ -130,9 +130,6 @@ module _ (p q : Procs) (fs gs : FileSystem) (s : ℕ) (program : Program) (bare 
     pub referenced_still : 0 < slice_index fs.references ino → 0 < slice_index gs.references ino
     referenced_still some =
         subst (λ (v : World). 0 < slice_index v.inodes.references ino) (sym after_is) (taken_references w s ino size ino some)
-
-    pub most_still : min q.images.kept.core 2048 ≡ w.limit
-    most_still = ap (λ (v : World). v.limit) after_is ∙ taken_limit w s ino size
 
     pub clicks_are : AreLong q.images.kept → IsBare q s → text_of p.images.kept s ≡ None → (0 < size → AreSized w.texts ino size)
         → IfSome new (λ t. text_of q.images.kept s ≡ Some t)

@@ -14,7 +14,7 @@ use Rattle.sys_procs.specs.declared.procs.Procs.{Procs}
 use Rattle.sys_procs.specs.World.{World}
 use Rattle.sys_procs.specs.Comes.{Comes}
 use Rattle.sys_procs.specs.Agree.{answered}
-use Rattle.sys_procs.specs.Handed.{board, handed}
+use Rattle.sys_procs.specs.Handed.{board}
 use Rattle.sys_procs.specs.Handed as parts
 use Rattle.sys_procs.specs.Done.{HasDone, HasLeft}
 

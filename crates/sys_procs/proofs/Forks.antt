@@ -317,7 +317,3 @@ still_alive p q s child u alive apart e a = record {
   image = subst (λ k. HasImage k s) (sym e)
       (alive.image.0, get_or-set_other p.images.kept.slots child s (described u (keeping p.images.kept child)) Nothing apart ∙ alive.image.1);
 }
-
-pub still_here : (w v : World) (s child : ℕ) (q : Process) → s ≢ child → v ≡ with_process w child q → process_of v s ≡ process_of w s
-still_here w v s child q apart e =
-    ap (λ (x : World). process_of x s) e ∙ ap (λ (o : Option Process). unwrap_or o no_process) (get_or-set_other w.processes child s (Some q) None apart)

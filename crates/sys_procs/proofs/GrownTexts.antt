@@ -15,7 +15,7 @@ use Rattle.pick_rules.specs.Apply.{applied, in_table, change_row, change_text, a
 use Rattle.pick_rules.proofs.Placing.{bare_table, moved_in, moved_out, moved_core}
 use Rattle.text_tab.specs.declared.row.TextRow.{TextRow}
 use Rattle.proc_tab.specs.declared.member.Member.{Member}
-use Rattle.image_keep.specs.Kept.{Shared, Keeping, Kept, with_keeping, shared, changed}
+use Rattle.image_keep.specs.Kept.{Shared, Keeping, Kept, with_keeping, changed}
 use Rattle.image_keep.specs.Moves.{moved_row, moved_texts}
 use Rattle.image_keep.specs.Places.{may_load, core_fit, swap_fit, placed, blocks}
 use Rattle.image_keep.specs.Kept as kept

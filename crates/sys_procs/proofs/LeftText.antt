@@ -24,7 +24,7 @@ use Rattle.proc_tab.specs.Processes.{member_at}
 use Rattle.text_tab.specs.declared.left.Left.{Left}
 use Rattle.text_tab.specs.declared.left.Left.TheVariants.{Used, Kept, Gone}
 use Rattle.text_tab.specs.Table.{left, remaining}
-use Rattle.image_keep.specs.Kept.{Keeping, Nothing, Alive, Grave, Held, Shared, keeping, shared, text_of, place_in, clicks_of, area_in, HasImage, IsKept}
+use Rattle.image_keep.specs.Kept.{Keeping, Nothing, Alive, Grave, Shared, keeping, shared, text_of, place_in, clicks_of, area_in, IsKept}
 use Rattle.image_keep.specs.Kept as kept
 use Rattle.image_keep.specs.State.{ImagesState}
 use Rattle.image_keep.specs.SharedTexts.{AreShared, is_loaded, left_core, with_row, shared_left, textless, with_left_text, row_of_text, row_in}

@@ -182,9 +182,6 @@ module _ (p : Procs) (s t d : ℕ) (bare : IsBare p s) (all : IsKept p.images.ke
     pub made_now : image_of images s ≡ made_image text d 20
     made_now = ap image_in image_now
 
-    alone : (m : Member) → process_by m (Alive held) (text_of p.images.kept s) ≡ sized t d (process_by m Nothing (text_of p.images.kept s))
-    alone m = refl
-
     processes_now : processes_in p.rows.slots images ≡ set (processes_in p.rows.slots p.images.kept) s
         (Some (sized t d (process_here p s)))
     processes_now =

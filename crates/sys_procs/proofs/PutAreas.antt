@@ -4,22 +4,13 @@ use Rattle.std.specs.Option.{unwrap_or}
 use Rattle.u_area.specs.declared.area.UArea.{UArea}
 use Rattle.image_keep.specs.Kept.{area_of, with_area}
 use Rattle.image_keep.specs.State.{ImagesState}
-use Rattle.fs_nodes.specs.FileSystem.{FileSystem}
 use Rattle.sys_procs.specs.declared.procs.Procs.{Procs}
 use Rattle.sys_procs.specs.Process.{Process, no_process}
-use Rattle.sys_procs.specs.World.{processes_in, with_process}
-use Rattle.sys_procs.specs.Handed.{handed, board, process_here, IsAlive}
+use Rattle.sys_procs.specs.World.{processes_in}
+use Rattle.sys_procs.specs.Handed.{handed, process_here, IsAlive, HasArea}
 use Rattle.sys_procs.proofs.SameKept.{SameKept, same_handed, same_board, same_here, same_alive}
 use Rattle.sys_procs.proofs.Slots.{fifty_processes}
 use Rattle.sys_procs.proofs.Alive.{area_here, put_here, SameSizes, area_put, area_state, area_board, area_alive}
-
--- this is its u area, and all else is as it was
-pub record HasArea (p q : Procs) (s : ℕ) (u : UArea) : Type 0 where
-  pub state : (fs : FileSystem) → handed q fs ≡ with_process (handed p fs) s (record (process_here p s) { u = u })
-  pub here : process_here q s ≡ record (process_here p s) { u = u }
-  pub images : q.images.kept ≡ with_area p.images.kept s u
-  pub shown : board q ≡ board p
-  pub alive : IsAlive q s
 
 -- by what was made of the u area where it stands
 pub area_set : (p : Procs) (s : ℕ) → IsAlive p s → length p.images.kept.slots ≡ 50 → (i : ImagesState) (made : UArea → UArea)
@@ -37,6 +28,9 @@ area_set p s alive long i made kept same =
       here = same_here put s ∙ (ap at (area_put p s u alive long)
           ∙ put_here (processes_in p.rows.slots p.images.kept) s (record (process_here p s) { u = u }) (omega (arith, alive.below, fifty_processes p.rows.slots p.images.kept)));
       images = images;
-      shown = same_board put ∙ area_board p s u;
+      rows = refl;
+      table = refl;
+      switches = refl;
+      board = same_board put ∙ area_board p s u;
       alive = same_alive put (area_alive p s u alive long same);
     }

@@ -1,8 +1,7 @@
 -- A signal that is sent to a slot in use: what becomes of its process, of the tables and of the board.
-use Rattle.std.proofs.Common.{◌≡◌, ◌∙◌, ℕ, suc, ◌<◌, Bool, true, false, ◌&&◌, ◌==◌, not, cond, nat_le, nat_lt, List, [], ◌∷◌, length, map, get_or, set, pos, Option, Some, None, is_some, IsSome, refl, sym, ap, subst, arith}
+use Rattle.std.proofs.Common.{◌≡◌, ◌∙◌, ℕ, ◌<◌, Bool, true, false, ◌&&◌, ◌==◌, not, cond, List, [], ◌∷◌, length, get_or, set, pos, Option, Some, None, is_some, IsSome, refl, sym, ap, subst, arith}
 use Rattle.std.specs.Int.{int_min}
 use Rattle.std.specs.Option.{unwrap_or}
-use Rattle.std.proofs.lemmas.Bool.{leb-true}
 use Rattle.std.proofs.lemmas.List.{length-set, set-get_or, get_or-set_same, get_or-set_other}
 use Rattle.v6_base.specs.Trace.{Log}
 use Rattle.v6_base.specs.declared.entry.Entry.TheVariants as line
@@ -18,7 +17,7 @@ use Rattle.pick_rules.proofs.Laws.{Stays, runout_stays, setrun_kept}
 use Rattle.proc_tab.specs.declared.member.Member.{Member}
 use Rattle.proc_tab.specs.declared.row.Row.{Row}
 use Rattle.proc_tab.specs.Processes as processes
-use Rattle.proc_tab.specs.Processes.{Processes, IsUsed, member_at, row_of, changed, with_change}
+use Rattle.proc_tab.specs.Processes.{Processes, IsUsed, member_at, changed, with_change}
 use Rattle.sig_core.specs.declared.numbers.TheConstants.{SIGKIL}
 use Rattle.sig_core.specs.Signals.{is_signal, posted}
 use Rattle.image_keep.specs.Kept.{Keeping, Nothing, Alive, Grave, Kept, keeping, text_of}

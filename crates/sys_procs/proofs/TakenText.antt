@@ -97,14 +97,6 @@ module _ (w : World) (s ino size : ℕ) where
   pub taken_store : after.inodes.store ≡ w.inodes.store
   taken_store = store_by (size == 0) (entry_of w.texts ino)
 
-  limit_by : (b : Bool) (o : Option ℕ) → (taken b o).state.limit ≡ w.limit
-  limit_by true o = refl
-  limit_by false (Some k) = refl
-  limit_by false None = refl
-
-  pub taken_limit : after.limit ≡ w.limit
-  taken_limit = limit_by (size == 0) (entry_of w.texts ino)
-
   references_by : (b : Bool) (o : Option ℕ) (j : ℕ) → 0 < slice_index w.inodes.references j
       → 0 < slice_index (taken b o).state.inodes.references j
   references_by true o j some = some

@@ -1,15 +1,16 @@
 -- The parts that a call on processes is handed, as the kernel keeps them.
-use Rattle.std.specs.Prelude.{ℕ, ◌<◌, Bool, List, None, slice_index, slice_index_or}
+use Rattle.std.specs.Prelude.{◌≡◌, ℕ, ◌<◌, Bool, List, None, slice_index, slice_index_or}
 use Rattle.std.specs.Option.{unwrap_or}
 use Rattle.pick_rules.specs.Board.{Board}
 use Rattle.pick_rules.specs.Logged.{Logged, logged}
 use Rattle.fs_nodes.specs.FileSystem.{FileSystem}
 use Rattle.fs_tree.specs.Finding.{inodes_of}
 use Rattle.sys_procs.specs.declared.procs.Procs.{Procs}
-use Rattle.image_keep.specs.Kept.{HasImage}
+use Rattle.image_keep.specs.Kept.{HasImage, with_area}
+use Rattle.u_area.specs.declared.area.UArea.{UArea}
 use Rattle.v6_base.specs.Image.{Image}
 use Rattle.sys_procs.specs.Process.{Process, no_process, image_of}
-use Rattle.sys_procs.specs.World.{World, processes_in, texts_in, world_in}
+use Rattle.sys_procs.specs.World.{World, processes_in, texts_in, world_in, with_process}
 use Rattle.sys_procs.specs.Comes.{Comes}
 use Rattle.sys_procs.specs.Agree.{board_of, Agree, AgreeBare, AreMarks, IsCalling}
 
@@ -56,3 +57,14 @@ pub record IsBare (p : Procs) (s : ℕ) : Type 0 where
   pub agree : AreBare p s
   pub above : 0 < s
   pub below : s < 50
+
+-- A process has this u area, for the image that it has, and all else is as it was.
+pub record HasArea (p q : Procs) (s : ℕ) (u : UArea) : Type 0 where
+  pub state : (fs : FileSystem) → handed q fs ≡ with_process (handed p fs) s (record (process_here p s) { u = u })
+  pub here : process_here q s ≡ record (process_here p s) { u = u }
+  pub images : q.images.kept ≡ with_area p.images.kept s u
+  pub rows : q.rows ≡ p.rows
+  pub table : q.table ≡ p.table
+  pub switches : q.switches ≡ p.switches
+  pub board : board q ≡ board p
+  pub alive : IsAlive q s

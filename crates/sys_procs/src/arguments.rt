@@ -1,5 +1,5 @@
 //! The arguments of a new program: `exec` in Lions' Commentary, `sys1.c`.
-ghost use Rattle.std.specs.Prelude.{◌≡◌, ◌≤◌, ◌-◌, length};
+ghost use Rattle.std.specs.Prelude.{◌≡◌, ◌≤◌, length};
 ghost use Rattle.std.specs.List.{concat};
 ghost use Rattle.image_keep.specs.Kept.{HasImage, image_of};
 ghost use Rattle.sys_procs.specs.inside.Packed.{split};

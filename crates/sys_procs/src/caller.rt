@@ -4,9 +4,8 @@ ghost use Rattle.u_area.specs.Area.{fetched, IsStored};
 ghost use Rattle.sig_core.specs.Signals.{due};
 ghost use Rattle.fs_nodes.specs.FileSystem.{FileSystem};
 ghost use Rattle.u_area.specs.Fields.{with_register, with_call, with_ids, with_handler, with_no_times, with_child_times, with_end};
-ghost use Rattle.image_keep.specs.Kept.{with_area};
 ghost use Rattle.sys_procs.specs.World.{with_process};
-ghost use Rattle.sys_procs.specs.Handed.{handed, board, process_here, IsAlive};
+ghost use Rattle.sys_procs.specs.Handed.{handed, board, process_here, IsAlive, HasArea};
 
 use crate::procs::Procs;
 use proc_tab::Row;
@@ -55,15 +54,7 @@ impl Procs {
         requires text { u.now.text_size ≡ (process_here self.old s).u.text_size }
         requires data_size { u.now.data_size ≡ (process_here self.old s).u.data_size }
         requires stack_size { u.now.stack_size ≡ (process_here self.old s).u.stack_size }
-        ensures state { (fs : FileSystem) → handed self.new fs
-            ≡ with_process (handed self.old fs) s (record (process_here self.old s) { u = u.now }) }
-        ensures here { process_here self.new s ≡ record (process_here self.old s) { u = u.now } }
-        ensures images { self.new.images.kept ≡ with_area self.old.images.kept s u.now }
-        ensures rows { self.new.rows ≡ self.old.rows }
-        ensures table { self.new.table ≡ self.old.table }
-        ensures switches { self.new.switches ≡ self.old.switches }
-        ensures board { board self.new ≡ board self.old }
-        ensures alive { IsAlive self.new s }
+        ensures { HasArea self.old self.new s u.now }
     {
         self.images.see_kept();
         self.images.set_area(s, u);
@@ -73,18 +64,7 @@ impl Procs {
     pub(crate) fn put_register(&mut self, s: Slot, n: usize, value: u16)
         requires alive { IsAlive self.old s }
         requires number { n < 8 }
-        ensures state { (fs : FileSystem) → handed self.new fs
-            ≡ with_process (handed self.old fs) s
-            (record (process_here self.old s) { u = with_register (process_here self.old s).u n value }) }
-        ensures here { process_here self.new s
-            ≡ record (process_here self.old s) { u = with_register (process_here self.old s).u n value } }
-        ensures images { self.new.images.kept
-            ≡ with_area self.old.images.kept s (with_register (process_here self.old s).u n value) }
-        ensures rows { self.new.rows ≡ self.old.rows }
-        ensures table { self.new.table ≡ self.old.table }
-        ensures switches { self.new.switches ≡ self.old.switches }
-        ensures board { board self.new ≡ board self.old }
-        ensures alive { IsAlive self.new s }
+        ensures { HasArea self.old self.new s (with_register (process_here self.old s).u n value) }
     {
         self.images.see_kept();
         self.images.set_register(s, n, value);
@@ -93,18 +73,7 @@ impl Procs {
     /// Gives a process a call to go on with, or none.
     pub(crate) fn put_call(&mut self, s: Slot, pending: u8, call: &[u16; 8])
         requires alive { IsAlive self.old s }
-        ensures state { (fs : FileSystem) → handed self.new fs
-            ≡ with_process (handed self.old fs) s
-            (record (process_here self.old s) { u = with_call (process_here self.old s).u pending call.now }) }
-        ensures here { process_here self.new s
-            ≡ record (process_here self.old s) { u = with_call (process_here self.old s).u pending call.now } }
-        ensures images { self.new.images.kept
-            ≡ with_area self.old.images.kept s (with_call (process_here self.old s).u pending call.now) }
-        ensures rows { self.new.rows ≡ self.old.rows }
-        ensures table { self.new.table ≡ self.old.table }
-        ensures switches { self.new.switches ≡ self.old.switches }
-        ensures board { board self.new ≡ board self.old }
-        ensures alive { IsAlive self.new s }
+        ensures { HasArea self.old self.new s (with_call (process_here self.old s).u pending call.now) }
     {
         self.images.see_kept();
         self.images.set_call(s, pending, call);
@@ -113,17 +82,7 @@ impl Procs {
     /// Gives a process other users and groups.
     pub(crate) fn put_ids(&mut self, s: Slot, ids: [u8; 4])
         requires alive { IsAlive self.old s }
-        ensures state { (fs : FileSystem) → handed self.new fs
-            ≡ with_process (handed self.old fs) s
-            (record (process_here self.old s) { u = with_ids (process_here self.old s).u ids }) }
-        ensures here { process_here self.new s
-            ≡ record (process_here self.old s) { u = with_ids (process_here self.old s).u ids } }
-        ensures images { self.new.images.kept ≡ with_area self.old.images.kept s (with_ids (process_here self.old s).u ids) }
-        ensures rows { self.new.rows ≡ self.old.rows }
-        ensures table { self.new.table ≡ self.old.table }
-        ensures switches { self.new.switches ≡ self.old.switches }
-        ensures board { board self.new ≡ board self.old }
-        ensures alive { IsAlive self.new s }
+        ensures { HasArea self.old self.new s (with_ids (process_here self.old s).u ids) }
     {
         self.images.see_kept();
         self.images.set_ids(s, ids);
@@ -133,18 +92,7 @@ impl Procs {
     pub(crate) fn put_handler(&mut self, s: Slot, sig: usize, handler: u16)
         requires alive { IsAlive self.old s }
         requires number { sig < 20 }
-        ensures state { (fs : FileSystem) → handed self.new fs
-            ≡ with_process (handed self.old fs) s
-            (record (process_here self.old s) { u = with_handler (process_here self.old s).u sig handler }) }
-        ensures here { process_here self.new s
-            ≡ record (process_here self.old s) { u = with_handler (process_here self.old s).u sig handler } }
-        ensures images { self.new.images.kept
-            ≡ with_area self.old.images.kept s (with_handler (process_here self.old s).u sig handler) }
-        ensures rows { self.new.rows ≡ self.old.rows }
-        ensures table { self.new.table ≡ self.old.table }
-        ensures switches { self.new.switches ≡ self.old.switches }
-        ensures board { board self.new ≡ board self.old }
-        ensures alive { IsAlive self.new s }
+        ensures { HasArea self.old self.new s (with_handler (process_here self.old s).u sig handler) }
     {
         self.images.see_kept();
         self.images.set_handler(s, sig, handler);
@@ -153,17 +101,7 @@ impl Procs {
     /// A process has used no time, and no child of it has.
     pub(crate) fn clear_times(&mut self, s: Slot)
         requires alive { IsAlive self.old s }
-        ensures state { (fs : FileSystem) → handed self.new fs
-            ≡ with_process (handed self.old fs) s
-            (record (process_here self.old s) { u = with_no_times (process_here self.old s).u }) }
-        ensures here { process_here self.new s
-            ≡ record (process_here self.old s) { u = with_no_times (process_here self.old s).u } }
-        ensures images { self.new.images.kept ≡ with_area self.old.images.kept s (with_no_times (process_here self.old s).u) }
-        ensures rows { self.new.rows ≡ self.old.rows }
-        ensures table { self.new.table ≡ self.old.table }
-        ensures switches { self.new.switches ≡ self.old.switches }
-        ensures board { board self.new ≡ board self.old }
-        ensures alive { IsAlive self.new s }
+        ensures { HasArea self.old self.new s (with_no_times (process_here self.old s).u) }
     {
         self.images.see_kept();
         self.images.clear_times(s);
@@ -172,18 +110,7 @@ impl Procs {
     /// Gives a process other times of its children.
     pub(crate) fn put_child_times(&mut self, s: Slot, user: u32, system: u32)
         requires alive { IsAlive self.old s }
-        ensures state { (fs : FileSystem) → handed self.new fs
-            ≡ with_process (handed self.old fs) s
-            (record (process_here self.old s) { u = with_child_times (process_here self.old s).u user system }) }
-        ensures here { process_here self.new s
-            ≡ record (process_here self.old s) { u = with_child_times (process_here self.old s).u user system } }
-        ensures images { self.new.images.kept
-            ≡ with_area self.old.images.kept s (with_child_times (process_here self.old s).u user system) }
-        ensures rows { self.new.rows ≡ self.old.rows }
-        ensures table { self.new.table ≡ self.old.table }
-        ensures switches { self.new.switches ≡ self.old.switches }
-        ensures board { board self.new ≡ board self.old }
-        ensures alive { IsAlive self.new s }
+        ensures { HasArea self.old self.new s (with_child_times (process_here self.old s).u user system) }
     {
         self.images.see_kept();
         self.images.set_child_times(s, user, system);
@@ -192,18 +119,7 @@ impl Procs {
     /// A process has ended with a status: it has no directory, and does this where signals come.
     pub(crate) fn put_end(&mut self, s: Slot, status: u16, handlers: &[u16; 20])
         requires alive { IsAlive self.old s }
-        ensures state { (fs : FileSystem) → handed self.new fs
-            ≡ with_process (handed self.old fs) s
-            (record (process_here self.old s) { u = with_end (process_here self.old s).u status handlers.now }) }
-        ensures here { process_here self.new s
-            ≡ record (process_here self.old s) { u = with_end (process_here self.old s).u status handlers.now } }
-        ensures images { self.new.images.kept
-            ≡ with_area self.old.images.kept s (with_end (process_here self.old s).u status handlers.now) }
-        ensures rows { self.new.rows ≡ self.old.rows }
-        ensures table { self.new.table ≡ self.old.table }
-        ensures switches { self.new.switches ≡ self.old.switches }
-        ensures board { board self.new ≡ board self.old }
-        ensures alive { IsAlive self.new s }
+        ensures { HasArea self.old self.new s (with_end (process_here self.old s).u status handlers.now) }
     {
         self.images.see_kept();
         self.images.set_ended(s, status, handlers);

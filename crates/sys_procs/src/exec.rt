@@ -34,8 +34,8 @@ use v6_base::{Answer, PanicKind, Slot, Space, Trace};
 /// Where text and data begin in a file: a.out(V).
 const HEADER: u32 = 16;
 
-/// The bytes of the longest text.
-const LONGEST_TEXT: usize = 65_535;
+/// The bytes of the longest text: seven segments, since the stack has one.
+const LONGEST_TEXT: usize = 57_344;
 
 /// The clicks of the data of a program, with the bss.
 fn data_clicks(plan: &Plan) -> u16
@@ -143,6 +143,15 @@ fn read_bytes(nodes: &mut Nodes, program: &Program, part: &mut [u8], now: u32)
     let _ = nodes.read_kernel(program.ino, HEADER, part, now);
 }
 
+/// How many bytes the text of a program has.
+fn text_room(program: &Program) -> usize
+    requires fits { is_refused program.now.text_clicks (data_clicks program.now.plan) 20 2048 ≡ false }
+    ensures count { result ≡ text_room program.now }
+    ensures few { result ≤ LONGEST_TEXT }
+{
+    usize::from(program.plan.text).min(64 * usize::from(program.text_clicks))
+}
+
 /// Reads the text of a program into one that is zeros. It stands out of line, since a call whose frame had all these bytes would
 /// touch each of their pages, whatever it does.
 #[inline(never)]
@@ -152,6 +161,7 @@ fn read_text(p: &mut Procs, tree: &mut Tree, s: Slot, t: TextId, program: &Progr
     requires out { (x : Shared) × (shared p.old.images.kept t ≡ Some x) × (x.row.loaded ≡ 0)
         × (x.row.clicks ≡ program.now.text_clicks) }
     requires referenced { 0 < slice_index tree.old.nodes.references program.now.ino }
+    requires fits { is_refused program.now.text_clicks (data_clicks program.now.plan) 20 2048 ≡ false }
     ensures state { handed p.new tree.new.nodes ≡ with_text_read (handed p.old tree.old.nodes) s program.now }
     ensures board { board p.new ≡ board p.old }
     ensures references { tree.new.nodes.references ≡ tree.old.nodes.references }
@@ -162,7 +172,7 @@ fn read_text(p: &mut Procs, tree: &mut Tree, s: Slot, t: TextId, program: &Progr
     ensures alive { IsAlive p.new s }
 {
     let mut bytes = [0; LONGEST_TEXT];
-    let count = usize::from(program.plan.text).min(64 * usize::from(program.text_clicks));
+    let count = text_room(program);
     let part = &mut bytes[..count];
     read_bytes(&mut tree.nodes, program, part, p.table.now);
     p.images.text_bytes(t, 0, part);
@@ -175,6 +185,7 @@ fn fill_text(p: &mut Procs, tree: &mut Tree, s: Slot, new: Option<TextId>, progr
     requires out { IfSome new (λ t. (x : Shared) × (shared p.old.images.kept t ≡ Some x) × (x.row.loaded ≡ 0)
         × (x.row.clicks ≡ program.now.text_clicks)) }
     requires referenced { 0 < slice_index tree.old.nodes.references program.now.ino }
+    requires fits { is_refused program.now.text_clicks (data_clicks program.now.plan) 20 2048 ≡ false }
     ensures state { handed p.new tree.new.nodes ≡ reads_text (is_some new) (handed p.old tree.old.nodes) s program.now }
     ensures board { board p.new ≡ board p.old }
     ensures references { tree.new.nodes.references ≡ tree.old.nodes.references }

@@ -1,5 +1,5 @@
 //! exit(II).
-ghost use Rattle.std.specs.Prelude.{◌≡◌, ◌*◌, ◌%◌, ◌<◌, ◌≤◌, ◌∷◌, ℕ, count_by, slice_index, [], ◌==◌, is_none, if◌then◌else◌, Some, None};
+ghost use Rattle.std.specs.Prelude.{◌≡◌, ◌<◌, ◌≤◌, ◌∷◌, ℕ, count_by, slice_index, [], ◌==◌, is_none, if◌then◌else◌, Some, None};
 ghost use Rattle.std.specs.Option.{unwrap_or};
 ghost use Rattle.v6_base.specs.Trace.{Took, Log};
 ghost use Rattle.fs_nodes.specs.FileSystem.{FileSystem, SameRest};

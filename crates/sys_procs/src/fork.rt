@@ -1,6 +1,5 @@
 //! fork(II).
 ghost use Rattle.std.specs.Prelude.{◌≡◌, ◌≢◌, ◌<◌, ◌≤◌, ℕ, is_none, slice_index, Some};
-ghost use Rattle.v6_base.specs.Trace.{Took};
 ghost use Rattle.fs_nodes.specs.FileSystem.{FileSystem, SameRest};
 ghost use Rattle.fs_tree.specs.Finding.{inodes_of, with_reference};
 ghost use Rattle.pick_rules.specs.Table.{IsTable, row_at, child_row};

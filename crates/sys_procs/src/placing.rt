@@ -29,7 +29,7 @@ use v6_base::{Entry, PanicKind, Place, Slot, Trace};
 /// The clicks of a u area: `USIZE`.
 pub(crate) const AREA: u16 = 16;
 
-/// The clicks of the stack of a new program: `SSIZE`.
+/// The clicks of the stack of a new program: `SSIZE` in Lions' Commentary, `param.h`.
 pub(crate) const STACK: u16 = 20;
 
 /// Gives the row of a slot the size and the place of its image. In the swap area its time begins anew, and the swapper is

@@ -53,6 +53,7 @@ pub fn send_signal<T: Trace>(p: &mut Procs, s: Slot, sig: u16, trace: &mut T)
     ensures board { board p.new ≡ (logged {W = World} (board p.old) (map Show (signal_lines sig (s ∷ [])))).board }
     ensures items { Took (T.taken trace.old) (signal_lines sig (s ∷ [])) (T.taken trace.new) }
     ensures frame { T.leads_to trace.old trace.new }
+    ensures images { p.new.images ≡ p.old.images }
     ensures agree { AreProcs p.new }
 {
     let mut row = *p.rows.row(s);
@@ -78,6 +79,7 @@ fn send_where<T: Trace>(p: &mut Procs, s: Slot, sig: u16, means: bool, trace: &m
     ensures board { board p.new ≡ (logged {W = World} (board p.old) (map Show (lines_where means sig s))).board }
     ensures items { Took (T.taken trace.old) (lines_where means sig s) (T.taken trace.new) }
     ensures frame { T.leads_to trace.old trace.new }
+    ensures images { p.new.images ≡ p.old.images }
     ensures agree { AreProcs p.new }
 {
     if means {
@@ -107,6 +109,7 @@ pub fn signal_line<T: Trace>(p: &mut Procs, line: u8, sig: u8, trace: &mut T)
     ensures items { (fs : FileSystem) → Took (T.taken trace.old)
         (signal_lines sig (meant_in (has_line line) (handed p.old fs).processes)) (T.taken trace.new) }
     ensures frame { T.leads_to trace.old trace.new }
+    ensures images { p.new.images ≡ p.old.images }
     ensures agree { AreProcs p.new }
 {
     let _kernel = p.rows.in_use(0);

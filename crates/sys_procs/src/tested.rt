@@ -22,6 +22,7 @@ ghost use Rattle.image_keep.specs.Growth.{most_clicks};
 ghost use Rattle.sys_procs.specs.ExecFile.{is_busy_in, with_moved, header_read, tests_header, tests_file, tests, AreSized, IsTested};
 
 use crate::arguments::{Arguments, read_arguments};
+use crate::placing::STACK;
 use crate::procs::Procs;
 use crate::program::Program;
 use aout_head::{ExecFault, Plan, plan};
@@ -38,9 +39,6 @@ const HEADER_SIZE: u16 = 16;
 
 /// The magic number of a program whose text isn't apart from its data: a.out(V).
 const PLAIN_MAGIC: u16 = 0o407;
-
-/// The clicks of stack that a program begins with: `SSIZE` in Lions' Commentary, `param.h`.
-const STACK_CLICKS: u16 = 20;
 
 /// Who a process is to files.
 fn user_of(u: &UArea) -> User
@@ -196,7 +194,7 @@ fn is_refused(plan: &Plan, text: u16, limit: u16) -> bool
     ensures { result ≡ is_refused text (data_clicks plan.now) stack_clicks limit }
 {
     let filled = clicks(plan.init + u32::from(plan.bss));
-    Proto::make(text, filled, STACK_CLICKS, limit).is_err()
+    Proto::make(text, filled, STACK, limit).is_err()
 }
 
 /// The sizes of a program, where an image can have them. Its file has a text of so many clicks in the table, if any.

@@ -48,11 +48,11 @@ pub enum Keyed {
     Nothing,
     /// It ends a line: who waits for keys is to be woken.
     Ready,
-    /// There was no room for it, and all that was typed is lost: who waits for keys is to be woken, and with `show` who waits for
-    /// room, since bytes that waited to go out are lost too.
+    /// There was no room for it, and all that was typed is lost: who waits for keys is to be woken, and with `show` who waits
+    /// for room, since bytes that waited to go out are lost too.
     Flushed { show: bool },
-    /// It makes this signal, 2 or 3, for those who have the terminal, and all that was typed is lost: who waits for keys is to be
-    /// woken then, and with `show` who waits for room.
+    /// It makes this signal, 2 or 3, for those who have the terminal, and all that was typed is lost: who waits for keys is
+    /// to be woken then, and with `show` who waits for room.
     Signal { sig: u8, show: bool },
 }
 
@@ -157,8 +157,8 @@ impl Line {
         }
     }
 
-    /// Closes the line. The bytes that wait go out, and what was typed is lost. The answer says whether bytes waited: then who waits
-    /// for room is to be woken, after who waits for keys. Lions' Commentary, `klclose` in `kl.c`.
+    /// Closes the line. The bytes that wait go out, and what was typed is lost. The answer says whether bytes waited: then
+    /// who waits for room is to be woken, after who waits for keys. Lions' Commentary, `klclose` in `kl.c`.
     pub fn closed<T: Trace>(&mut self, trace: &mut T) -> bool
         ensures line { self.new ≡ (closed self.old).terminal }
         ensures show { result ≡ (closed self.old).show }
@@ -183,8 +183,8 @@ impl Line {
         held
     }
 
-    /// Sends the first of the bytes that wait, if there is one. The answer says whether who waits for room is to be woken: none or
-    /// 30 are left.
+    /// Sends the first of the bytes that wait, if there is one. The answer says whether who waits for room is to be woken:
+    /// none or 30 are left.
     pub fn send<T: Trace>(&mut self, trace: &mut T) -> bool
         ensures line { self.new ≡ (sends self.old).terminal }
         ensures show { result ≡ (sends self.old).show }
@@ -199,8 +199,8 @@ impl Line {
         left == 0 || left == TTLOWAT
     }
 
-    /// Turns the pace on, with which bytes wait to be sent, or off. Where it is turned off, those that wait go out, and the answer says
-    /// whether there were any.
+    /// Turns the pace on, with which bytes wait to be sent, or off. Where it is turned off, those that wait go out, and the
+    /// answer says whether there were any.
     pub fn set_pace<T: Trace>(&mut self, on: bool, trace: &mut T) -> bool
         ensures line { self.new ≡ (paced self.old on).terminal }
         ensures show { result ≡ (paced self.old on).show }
@@ -249,8 +249,8 @@ impl Line {
         self.hand_out(space, at, count)
     }
 
-    /// Shows bytes, one after another, and says how many were taken: fewer than all where the line is paced and too many wait to go
-    /// out. Lions' Commentary, `ttwrite` and `ttyoutput` in `tty.c`; tty(IV) of the manual.
+    /// Shows bytes, one after another, and says how many were taken: fewer than all where the line is paced and too many wait
+    /// to go out. Lions' Commentary, `ttwrite` and `ttyoutput` in `tty.c`; tty(IV) of the manual.
     pub fn write<T: Trace>(&mut self, bytes: &[u8], trace: &mut T) -> u16
         requires { length bytes.now ≤ 65535 }
         ensures taken { result ≡ written self.old bytes.now }
@@ -274,8 +274,8 @@ impl Line {
         self.modes
     }
 
-    /// Sets the modes of the line. The bytes that wait go out, and what was typed is lost. The answer says whether bytes waited.
-    /// stty(II) of the manual.
+    /// Sets the modes of the line. The bytes that wait go out, and what was typed is lost. The answer says whether bytes
+    /// waited. stty(II) of the manual.
     pub fn set_modes<T: Trace>(&mut self, v: [u16; 3], trace: &mut T) -> bool
         ensures line { self.new ≡ (with_modes self.old v).terminal }
         ensures show { result ≡ (with_modes self.old v).show }

@@ -9,11 +9,12 @@ use arrayvec::ArrayVec;
 use std::marker::Model;
 use v6_base::{Entry, Trace};
 
-/// For how many bytes there is room: one more than ever wait. With 1,000 of them one more is formed, which becomes eight at most.
+/// For how many bytes there is room: one more than ever wait. With 1,000 of them one more is formed, which becomes eight at
+/// most.
 pub(crate) const QUEUE_ROOM: usize = 1009;
 
-/// The bytes of a line that wait to go out: `t_outq` of `tty.h` in Lions' Commentary. What forms bytes sends them to a trace, so this
-/// is one: of line 0 alone, and of no entries.
+/// The bytes of a line that wait to go out: `t_outq` of `tty.h` in Lions' Commentary. What forms bytes sends them to a trace,
+/// so this is one: of line 0 alone, and of no entries.
 #[derive(Drop)]
 pub(crate) struct Queue {
     /// Those that wait, behind some that have gone out.

@@ -19,7 +19,8 @@ with_codes u cc = record u { cc = cc % 16; codes = mod-lt cc (lit< tt) }
 
 -- a user, a group, a real user and a real group
 abbrev pub with_ids : UArea → List ℕ → UArea
-with_ids u ids = record u { uid = slice_index ids 0; gid = slice_index ids 1; ruid = slice_index ids 2; rgid = slice_index ids 3 }
+with_ids u ids =
+    record u { uid = slice_index ids 0; gid = slice_index ids 1; ruid = slice_index ids 2; rgid = slice_index ids 3 }
 
 -- what one signal does
 abbrev pub with_handler : UArea → ℕ → ℕ → UArea

@@ -12,6 +12,7 @@ use Rattle.abstract_unix.specs.Unix.{New, Started}
 use Rattle.abstract_unix.specs.Turn.{pass_of, settled_after}
 use Rattle.abstract_unix.specs.Runs.{start_of, event_of, Switch, Disk, finished}
 use Rattle.unix_core.specs.Memory.{kept_in}
+use Rattle.unix_core.specs.State.{KernelState}
 use Rattle.unix_core.specs.Parts.{unix_of, board_in, system_at, phase_of, IsGood, IsUser, IsCovered, IsKernel}
 use Rattle.unix_core.proofs.SlotWorlds.{kernel_slots}
 use Rattle.unix_core.proofs.GoingLemmas.{going_same}
@@ -32,9 +33,34 @@ start_items w good a b c first second =
     took_then a b c (Log (Boot w.core w.procs.table.now) ∷ []) (settled_after (pass_of (system_at w))).items (start_of (system_at w)).items first second
     (λ i. Log (Boot (core i) w.procs.table.now) ∷ (settled_after (pass_of (system_at w))).items)
 
+-- what a kernel is to its caller, by its parts
+abbrev pub told_by : Stage → World → KernelState
+told_by at w = record {
+  system = system_at w;
+  kept = w.procs.images.kept;
+  core = w.procs.images.core;
+  swap = w.procs.images.swap;
+  blocks = w.files.tree.nodes.blocks;
+  stored = w.files.tree.nodes.stored;
+  phase = phase_of at;
+}
+
+-- Where images and tree are as they were, an event has changed the system alone.
+pub system_alone : (at now : Stage) (w v : World) → v.procs.images ≡ w.procs.images → v.files.tree ≡ w.files.tree → phase_of now ≡ phase_of at
+    → told_by now v ≡ record (told_by at w) { system = system_at v }
+system_alone at now w v images tree phase = λ i. record {
+  system = system_at v;
+  kept = (images i).kept;
+  core = (images i).core;
+  swap = (images i).swap;
+  blocks = (tree i).nodes.blocks;
+  stored = (tree i).nodes.stored;
+  phase = phase i;
+}
+
 -- Nothing of the parts but the Unix itself knows of the switches.
 module _ (w : World) (word : ℕ) where
-  abbrev switched : World
+  abbrev pub switched : World
   switched = record w { procs = record w.procs { switches = word } }
 
   switched_good : IsGood w → IsGood switched
@@ -81,7 +107,7 @@ module _ (w : World) (word : ℕ) where
 
 -- Nor of how long a transfer takes, but for the count.
 module _ (w : World) (count : ℕ) (most : count ≤ 999999999) where
-  abbrev set : World
+  abbrev pub set : World
   set = record w { slots = record w.slots { disk = count } }
 
   pub set_kernel : (at : Stage) → IsKernel at w → IsKernel at set

@@ -1,5 +1,5 @@
 -- A volume on the disk of an image is what a kernel begins with.
-use Rattle.std.proofs.Common.{◌≡◌, ◌≤◌, if◌then◌else◌, ◌||◌, nat_lt, ℕ, Bool, true, false, List, replicate, slice_index, Option, Some, None, is_some, inl, inr, refl, sym, ap, ◌∙◌, subst, arith}
+use Rattle.std.proofs.Common.{◌≡◌, ◌≤◌, if◌then◌else◌, ◌||◌, nat_lt, ℕ, Bool, true, false, List, replicate, slice_index, Option, Some, None, is_some, Result, Ok, Err, IsOk, IfOk, IfErr, inl, inr, refl, sym, ap, ◌∙◌, subst, arith}
 use Rattle.std.proofs.lemmas.Bool.{cases_lt}
 use Rattle.std.proofs.lemmas.List.{get_or-replicate, get_or_past, length-replicate}
 use Rattle.fs_codec.specs.Fields.{super_of}
@@ -110,3 +110,13 @@ boots_as image second core lines store m none fine is system =
 -- A file system that keeps clear of the swap area has no fault there either.
 pub stands_below : (d : Disk) (store : Store) → (head d).f_size ≤ SWAP_START → StandsFor DISK_BLOCKS d store → StandsFor SWAP_START d store
 stands_below d store low stands = record { sound = whole_within SWAP_START d (whole_is d stands.sound) low; same = stands.same }
+
+-- what is said of a value says something else of it
+pub ok_mapped : {T E : Type 0} (r : Result T E) (P Q : T → Type 0) → ((x : T) → P x → Q x) → IfOk r P → IfOk r Q
+ok_mapped (Ok x) P Q follows holds = follows x holds
+ok_mapped (Err e) P Q follows holds = tt
+
+-- where there is a value, anything is so of an error
+pub no_error : {T E : Type 0} (r : Result T E) (P : E → Type 0) → IsOk r → IfErr r P
+no_error (Ok x) P made = tt
+no_error (Err e) P made = absurd (cc made)

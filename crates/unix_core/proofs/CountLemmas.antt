@@ -23,7 +23,6 @@ pub timed_same : (slots : Slots) (u v : Unix) → v.processes ≡ u.processes �
 timed_same slots u v processes passed timed = record {
   within = timed.within;
   disk = timed.disk;
-  pace = timed.pace;
   set = timed.set;
   next = timed.next;
   low = timed.low;
@@ -56,7 +55,6 @@ pub timed_no_new : (slots : Slots) (u v : Unix) → v.timing.passed ≡ u.timing
 timed_no_new slots u v passed waited timed = record {
   within = timed.within;
   disk = timed.disk;
-  pace = timed.pace;
   set = timed.set;
   next = timed.next;
   low = timed.low;
@@ -94,7 +92,6 @@ counted_set slots n u v most processes passed lines counted =
       timed = record {
         within = timed.within;
         disk = most;
-        pace = timed.pace;
         set = timed.set;
         next = timed.next;
         low = timed.low;
@@ -115,7 +112,6 @@ counted_one slots u is more counted =
       timed = record {
         within = omega (arith, within, more);
         disk = timed.disk;
-        pace = timed.pace;
         set = (let set = timed.set in omega (arith, within, more, set));
         next = omega (arith, within, more);
         low = low;
@@ -133,7 +129,6 @@ counted_first slots u within none unpaced unset next low passed nobody = record 
   timed = record {
     within = within;
     disk = omega (arith, none);
-    pace = omega (arith, unpaced);
     set = omega (arith, unset);
     next = next;
     low = low;
@@ -154,7 +149,6 @@ timed_comes u s o old new free here timing timed waited =
     let passed : u.timing.passed ≡ passed_in old = ap (λ (t : Timing). t.passed) timing in
     let disk : u.timing.disk ≡ old.disk = ap (λ (t : Timing). t.disk) timing in
     let kept : new.disk ≡ old.disk = ap (λ (t : Timing). t.disk) waited.timing in
-    let pace : new.pace ≡ old.pace = ap (λ (t : Timing). t.pace) waited.timing in
     let set : new.set_at ≡ old.set_at = waited.set in
     let same : passed_in new ≡ passed_in old = ap (λ (t : Timing). t.passed) waited.timing in
     let ahead = waited.ahead in
@@ -162,7 +156,6 @@ timed_comes u s o old new free here timing timed waited =
     record {
       within = waited.within;
       disk = subst (λ n. n ≤ 999999999) (sym kept) timed.disk;
-      pace = subst (λ n. n ≤ 999999999) (sym pace) timed.pace;
       set = let were = timed.set in omega (arith, were, set, same);
       next = omega (arith, ahead, same);
       low = low;
@@ -177,7 +170,6 @@ pub timed_resumed : (u : Unix) (s : ℕ) (slots : Slots) → CanGoOn u → Lives
 timed_resumed u s slots can here timed = record {
   within = timed.within;
   disk = timed.disk;
-  pace = timed.pace;
   set = timed.set;
   next = timed.next;
   low = timed.low;
@@ -210,20 +202,18 @@ has_not_waited waits old new same can never =
     })
 
 -- the pace is set, and the slots are counted for it from here
-pub timed_paced : (slots paced : Slots) (n : ℕ) (u v : Unix) → n ≤ 999999999 → v.processes ≡ u.processes → v.timing.passed ≡ u.timing.passed
+pub timed_paced : (slots paced : Slots) (n : ℕ) (u v : Unix) → v.processes ≡ u.processes → v.timing.passed ≡ u.timing.passed
     → paced.left ≡ slots.left → paced.due ≡ slots.due → paced.wake ≡ slots.wake → paced.set_at ≡ passed_in slots
     → timing_in paced ≡ record (timing_in slots) { pace = n; since = 0 } → IsTimed slots u → IsTimed paced v
-timed_paced slots paced n u v most processes passed left due wake set timing timed =
+timed_paced slots paced n u v processes passed left due wake set timing timed =
     let same : IsTimed slots v = timed_same slots u v processes passed timed in
     let disk : paced.disk ≡ slots.disk = ap (λ (t : Timing). t.disk) timing in
-    let pace : paced.pace ≡ n = ap (λ (t : Timing). t.pace) timing in
     let within = same.within in
     let next = same.next in
     let low = same.low in
     record {
       within = omega (arith, within, left, due);
       disk = subst (λ k. k ≤ 999999999) (sym disk) same.disk;
-      pace = subst (λ k. k ≤ 999999999) (sym pace) most;
       set = omega (arith, set, left, due);
       next = omega (arith, next, left, due);
       low = omega (arith, low, due, wake);
@@ -237,13 +227,11 @@ pub timed_added : (old new : Slots) (u : Unix) → timing_in new ≡ timing_in o
 timed_added old new u timing wake set within sooner later timed =
     let passed : passed_in new ≡ passed_in old = ap (λ (t : Timing). t.passed) timing in
     let disk : new.disk ≡ old.disk = ap (λ (t : Timing). t.disk) timing in
-    let pace : new.pace ≡ old.pace = ap (λ (t : Timing). t.pace) timing in
     let were = timed.set in
     let low = timed.low in
     record {
       within = within;
       disk = subst (λ k. k ≤ 999999999) (sym disk) timed.disk;
-      pace = subst (λ k. k ≤ 999999999) (sym pace) timed.pace;
       set = omega (arith, were, set, passed);
       next = omega (arith, later, passed);
       low = omega (arith, sooner, low, wake);

@@ -73,9 +73,6 @@ sends_now t some here = λ i. not (ne_eqb t.pace 0 some i) && (here i == 0)
 pub rests_now : (t : Timing) → t.since % t.pace ≢ 0 → is_sending t ≡ false
 rests_now t other = ap (λ b. not (t.pace == 0) && b) (ne_eqb (t.since % t.pace) 0 other) ∙ and_none (not (t.pace == 0))
 
-pub unpaced_now : (t : Timing) → t.pace ≡ 0 → is_sending t ≡ false
-unpaced_now t none = ap (λ n. not (n == 0) && (t.since % n == 0)) none
-
 -- 2. They don't.
 abbrev pub nothing_sent : Unix → AllTold
 nothing_sent u = record { lines = u.lines; items = []; wakes = false }
@@ -139,7 +136,7 @@ pub turned_keys : (on : Bool) (t : Terminal) → (turned_to on t).keys ≡ false
 turned_keys true t = refl
 turned_keys false t = refl
 
-module _ (w : World) (good : IsGood w) (timed : IsTimed w.slots (unix_of w)) (n : ℕ) (few : n ≤ 999999999) (slots : Slots)
+module _ (w : World) (good : IsGood w) (timed : IsTimed w.slots (unix_of w)) (n : ℕ) (slots : Slots)
     (timing : timing_in slots ≡ record (timing_in w.slots) { pace = n; since = 0 }) (lines : List Terminal)
     (lines_are : lines ≡ (each_line (turned_to (not (n == 0))) w.files.lines).lines) (t : Table)
     (is : t ≡ all_woken w.procs.table (entries_of (each_line (turned_to (not (n == 0))) w.files.lines).items)) where
@@ -178,4 +175,4 @@ module _ (w : World) (good : IsGood w) (timed : IsTimed w.slots (unix_of w)) (n 
   pub pace_timed : slots.left ≡ w.slots.left → slots.due ≡ w.slots.due → slots.wake ≡ w.slots.wake → slots.set_at ≡ passed_in w.slots
       → IsTimed slots (unix_of turned)
   pace_timed left due wake set =
-      timed_paced w.slots slots n (unix_of w) (unix_of turned) few refl (ap (λ (x : Timing). x.passed) timing) left due wake set timing timed
+      timed_paced w.slots slots n (unix_of w) (unix_of turned) refl (ap (λ (x : Timing). x.passed) timing) left due wake set timing timed

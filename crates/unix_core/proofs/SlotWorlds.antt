@@ -244,7 +244,6 @@ module _ (w : World) (left : w.slots.left ≡ 0) (good : IsGood (one_before w)) 
       subst (IsTimed anew) (sym reach_unix) (record {
         within = omega arith;
         disk = timed.disk;
-        pace = timed.pace;
         set = omega (arith, were, passed);
         next = omega (arith, passed, late);
         low = omega arith;

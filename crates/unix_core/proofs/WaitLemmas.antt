@@ -126,14 +126,7 @@ same_bits true false c d = sym (and_false (c && d))
     and_false false = refl
 same_bits false b c d = refl
 
--- where no transfer takes time, nothing waits
-pub none_takes : (x : Bool) (n : ℕ) → n ≡ 0 → false ≡ (x && not (n == 0))
-none_takes x n zero = sym (ap (λ b. x && not b) (eq-eqb n 0 zero) ∙ by x)
-  where
-    by : (x : Bool) → (x && false) ≡ false
-    by true = refl
-    by false = refl
-
+-- where a transfer takes time, what has read waits
 pub some_takes : (x : Bool) (n : ℕ) → n ≢ 0 → x ≡ (x && not (n == 0))
 some_takes x n some = sym (ap (λ b. x && not b) (ne_eqb n 0 some) ∙ by x)
   where
@@ -189,9 +182,6 @@ module _ (b : Board) (steps : Steps) (e : Ending) (w : World) (come : HasCome b 
   pub taken_unix : is_over e ≡ false → unix_of w ≡ steps.unix
   taken_unix goes = come.unix ∙ ap (λ o. left_by o steps.unix) (all_taken goes)
 
-  pub taken_ending : is_over e ≡ false → e ≡ steps.ending
-  taken_ending goes = come.ending ∙ ap (λ o. ended_as o steps.ending) (all_taken goes)
-
   module _ (has : Bool) (s : ℕ) where
     abbrev so : Bool → Steps
     so c = cond c (record steps { unix = waits_for_disk steps.unix s; ending = Slept pribio (Disk s) }) steps
@@ -237,42 +227,8 @@ stopped_by b steps e w come over goes = by (logged b steps.effects).stop come.en
 -- 5. Calls of the other kinds.
 pub not_read : (call : FileCall) → call ≢ file.Read → is_read call ≡ false
 not_read file.Read other = absurd (other refl)
-not_read file.Write other = refl
-not_read file.Open other = refl
-not_read file.Close other = refl
-not_read file.Creat other = refl
-not_read file.Link other = refl
-not_read file.Unlink other = refl
-not_read file.Chdir other = refl
-not_read file.Mknod other = refl
-not_read file.Chmod other = refl
-not_read file.Chown other = refl
-not_read file.Stat other = refl
-not_read file.Seek other = refl
-not_read file.Fstat other = refl
-not_read file.Stty other = refl
-not_read file.Gtty other = refl
-not_read file.Sync other = refl
-not_read file.Dup other = refl
-not_read file.Pipe other = refl
-not_read file.Mount other = refl
-not_read file.Umount other = refl
+not_read call other = refl
 
 pub not_exec : (call : ProcessCall) (answer : Answer) → call ≢ process.Exec → loads_program call answer ≡ false
 not_exec process.Exec answer other = absurd (other refl)
-not_exec process.Wait answer other = refl
-not_exec process.Time answer other = refl
-not_exec process.Break answer other = refl
-not_exec process.Getpid answer other = refl
-not_exec process.Setuid answer other = refl
-not_exec process.Getuid answer other = refl
-not_exec process.Stime answer other = refl
-not_exec process.Smdate answer other = refl
-not_exec process.Nice answer other = refl
-not_exec process.Sleep answer other = refl
-not_exec process.Kill answer other = refl
-not_exec process.Csw answer other = refl
-not_exec process.Times answer other = refl
-not_exec process.Setgid answer other = refl
-not_exec process.Getgid answer other = refl
-not_exec process.Signal answer other = refl
+not_exec call answer other = refl

@@ -1,5 +1,5 @@
 -- How the parts of a kernel are the Unix and the board: the world of files and processes.
-use Rattle.std.specs.Prelude.{◌≡◌, ◌<◌, ℕ, min, Bool, true, false, if◌then◌else◌, List, map, Option, Some, None}
+use Rattle.std.specs.Prelude.{◌≡◌, ◌<◌, ◌≤◌, ℕ, min, Bool, true, false, if◌then◌else◌, List, map, Option, Some, None}
 use Rattle.pdp_step.specs.declared.outcome.Outcome.{Outcome}
 use Rattle.pdp_step.specs.Instruction.{instr}
 use Rattle.pick_rules.specs.declared.table.Table.{Table}
@@ -13,9 +13,12 @@ use Rattle.v6_base.specs.declared.entry.Place.TheVariants.{Core}
 use Rattle.fs_tree.specs.Mounting.{AreMounts}
 use Rattle.image_keep.specs.Area.{sized_area}
 use Rattle.image_keep.specs.Places.{cleared}
-use Rattle.image_keep.specs.Kept.{Held, Kept, HasImage}
+use Rattle.image_keep.specs.Kept.{Held, Kept, Alive, HasImage, first_kept, with_keeping}
 use Rattle.image_keep.specs.declared.running.Fixed.{Fixed}
 use Rattle.image_keep.specs.Running.{IsFixed}
+use Rattle.proc_tab.specs.Processes.{first_processes}
+use Rattle.pick_rules.specs.Table.{first_table, IsTable}
+use Rattle.sys_procs.specs.declared.procs.Procs.{Procs}
 use Rattle.sys_procs.specs.World.{clock_of, processes_in, texts_in}
 use Rattle.sys_procs.specs.Agree.{board_of}
 use Rattle.sys_procs.specs.Handed.{AreProcs, IsMarked}
@@ -33,7 +36,7 @@ use Rattle.abstract_unix.specs.Steps.{Steps, returns}
 use Rattle.abstract_unix.specs.Outside.{delivers_to}
 use Rattle.unix_core.specs.Passing.{HaveSlots, shown_by, all_woken}
 use Rattle.unix_core.specs.Memory.{kept_in}
-use Rattle.unix_core.specs.Slots.{timing_in, IsCounted}
+use Rattle.unix_core.specs.Slots.{timing_in, with_sent, slot_items, slot_wakes, IsCounted}
 use Rattle.abstract_unix.specs.declared.ends.Ends.TheVariants.{AtEnd}
 use Rattle.abstract_unix.specs.Turn.{Happened, Turn, machine_of, with_machine, is_user, end_effects, ending_of, after_slot, settled_after, slot_of}
 
@@ -85,6 +88,14 @@ first_held = record {
   image = record (cleared 1 0) { «data» = init_data };
   place = Core 1;
 }
+
+-- Process 1 alone, with its first image, and the table at a time.
+pub record AreFirst (p : Procs) (core time : ℕ) : Type 0 where
+  pub rows : p.rows ≡ first_processes
+  pub table : p.table ≡ first_table time
+  pub good : IsTable p.table
+  pub kept : p.images.kept ≡ with_keeping (first_kept core) 1 (Alive first_held)
+  pub switches : p.switches ≡ 0
 
 -- What is so of a world between two things that the kernel does.
 pub record IsGood (w : parts.World) : Type 0 where
@@ -197,6 +208,26 @@ pub record IsStill (h : Happened) (w : parts.World) : Type 0 where
 -- the world before the last slot up to the one that is due was counted
 abbrev pub one_before : parts.World → parts.World
 one_before w = record w { slots = record w.slots { left = 1 } }
+
+-- The slot that is due has been taken, and nothing has come of it yet.
+pub record IsSlotDue (w : parts.World) : Type 0 where
+  pub left : w.slots.left ≡ 0
+  pub good : IsGood (one_before w)
+  pub counted : IsCounted (one_before w).slots (unix_of (one_before w))
+  pub fresh : w.slots.due ≤ 3000000001
+
+-- A slot has ended, and `u` is the Unix with it: who has waited for the disk up to its end is woken, and the lines have sent
+-- where they do with its end. `wakes` says whether anybody is woken.
+pub record IsSlotEnded (u : Unix) (old new : parts.World) (wakes : Bool) : Type 0 where
+  pub unix : unix_of new ≡ with_sent u
+  pub board : board_in new ≡ (logged {W = Unix} (board_in old) (map Show (slot_items u))).board
+  pub any : wakes ≡ slot_wakes u
+  pub good : IsGood new
+  pub counted : IsCounted new.slots (unix_of new)
+  pub running : new.procs.table.running ≡ old.procs.table.running
+  pub tree : new.files.tree ≡ old.files.tree
+  pub others : new ≡ record old { files = record old.files { lines = new.files.lines }; procs = new.procs; slots = new.slots }
+  pub same : wakes ≡ false → new.procs ≡ old.procs
 
 -- what is so of every kernel
 pub record IsKernel (at : Stage) (w : parts.World) : Type 0 where

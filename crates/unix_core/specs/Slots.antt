@@ -32,7 +32,6 @@ NoneSend n slots = (m : ℕ) → n < m → m < slots.due → is_sending (record 
 pub record IsTimed (slots : Slots) (u : Unix) : Type 0 where
   pub within : slots.left ≤ slots.due
   pub disk : slots.disk ≤ 999999999
-  pub pace : slots.pace ≤ 999999999
   pub set : slots.set_at ≤ passed_in slots
   pub next : passed_in slots < slots.due
   pub low : slots.due ≤ slots.wake

@@ -1,6 +1,6 @@
 //! What a call asks for: its number and its arguments. `trap` in Lions' Commentary, `trap.c`; indirect calls, indir(II)
 //! of the manual.
-ghost use Rattle.std.specs.Prelude.{◌≡◌, ◌%◌, slice_index};
+ghost use Rattle.std.specs.Prelude.{◌≡◌, slice_index};
 ghost use Rattle.image_keep.specs.Kept.{Held, Has, IsKept};
 ghost use Rattle.image_keep.specs.Running.{IsFixed};
 ghost use Rattle.abstract_unix.specs.Calls.{word_at, arguments_at, named_call, asked};

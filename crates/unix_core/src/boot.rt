@@ -1,24 +1,24 @@
 //! What a kernel begins with.
-ghost use Rattle.std.specs.Prelude.{◌≡◌, ◌⊎◌, ℕ, ◌≤◌, ◌==◌, if◌then◌else◌, IfOk, IfErr, Some, None, slice_index, length};
+ghost use Rattle.std.specs.Prelude.{◌≡◌, ◌⊎◌, ◌==◌, if◌then◌else◌, ℕ, ◌≤◌, IfOk, IfErr, Some, None, slice_index, length};
+ghost use Rattle.v6_base.specs.Tape.{blank};
 ghost use Rattle.fs_codec.specs.Disk.{disk_of};
 ghost use Rattle.fs_codec.specs.Faults.{image_fault, fault_within};
 ghost use Rattle.fs_codec.specs.Stands.{store_of};
 ghost use Rattle.fs_codec.specs.declared.layout.TheConstants.{DISK_BLOCKS};
 ghost use Rattle.fs_nodes.specs.Keys.{key_count};
-ghost use Rattle.fs_tree.specs.Marks.{no_marks};
 ghost use Rattle.fs_tree.specs.Mounting.{AreMounts};
 ghost use Rattle.abstract_unix.specs.Runs.{stores_of};
+ghost use Rattle.unix_core.specs.Parts.{AreFirst};
 ghost use Rattle.unix_core.specs.Boots.{counted_fault, second_fault_of, blocks_on};
 
 use crate::files::take_root;
-use crate::kernel::Kernel;
+use crate::kernel::{Kernel, Rooms, first_procs};
 use buf_cache::{Cache, Disk};
 use fs_blocks::Volume;
 use fs_check::{ImageFault, accept, accept_second};
-use fs_codec::{BLOCK_INODES, BLOCK_SIZE, DISK_BYTES, SWAP_START, super_in};
+use fs_codec::{BLOCK_INODES, BLOCK_SIZE, SWAP_START, super_in};
 use fs_nodes::Nodes;
-use fs_tree::Tree;
-use image_keep::Images;
+use image_keep::{Images, SWAP_BYTES};
 use mount_tab::Mounts;
 use pdp_decode::Dispatch;
 use std::alloc::{AllocError, Global};
@@ -31,9 +31,6 @@ const TAPE_BYTES: usize = 524288;
 
 /// Where the swap area begins on the disk, in bytes.
 const SWAP_AT: usize = BLOCK_SIZE * SWAP_START as usize;
-
-/// Its size, up to the end of the disk, in bytes.
-const SWAP_BYTES: usize = DISK_BYTES - SWAP_AT;
 
 /// Why there is no kernel for an image.
 #[derive(Clone, Copy, Debug, PartialEq, Eq)]
@@ -64,11 +61,13 @@ pub enum Boot2Fault {
     NoMemory,
 }
 
-/// The file system on the disk of an image without a fault, and its time.
+/// The file system on the disk of an image without a fault, with the root taken, and its time. It stands out of line, as the next
+/// does, so that its frame doesn't lie beside a kernel.
+#[inline(never)]
 fn file_system_of(alloc: Global, image: &[u8]) -> Result<(Nodes, u32), AllocError>
     requires { image_fault image.now ≡ None }
     ensures store { IfOk result (λ made. made.0.store ≡ stores_of image.now None) }
-    ensures references { IfOk result (λ made. (ino : ℕ) → slice_index made.0.references ino ≡ 0) }
+    ensures referred { IfOk result (λ made. (ino : ℕ) → slice_index made.0.references ino ≡ (if ino == 1 then 2 else 0)) }
     ensures blocks { IfOk result (λ made. made.0.blocks ≡ blocks_on image.now None) }
     ensures stored { IfOk result (λ made. made.0.stored ≡ blocks_on image.now None) }
     ensures time { IfOk result (λ made. made.1 ≡ (store_of (disk_of image.now)).stamp) }
@@ -77,16 +76,19 @@ fn file_system_of(alloc: Global, image: &[u8]) -> Result<(Nodes, u32), AllocErro
     let cache = Cache::new(alloc, disk)?;
     let volume = Volume::open_on(cache);
     let time = volume.head().time;
-    Ok((Nodes::new(volume), time))
+    let mut nodes = Nodes::new(volume);
+    take_root(&mut nodes);
+    Ok((nodes, time))
 }
 
-/// The file systems on the disks of two images without a fault, and the time of the first.
+/// The file systems on the disks of two images without a fault, with the root taken, and the time of the first.
+#[inline(never)]
 fn file_systems_of(alloc: Global, image: &[u8], second: &[u8]) -> Result<(Nodes, u32), AllocError>
     requires root { image_fault image.now ≡ None }
     requires second { fault_within DISK_BLOCKS second.now ≡ None }
     requires few { key_count (stores_of image.now (Some second.now)) ≤ 65535 }
     ensures store { IfOk result (λ made. made.0.store ≡ stores_of image.now (Some second.now)) }
-    ensures references { IfOk result (λ made. (ino : ℕ) → slice_index made.0.references ino ≡ 0) }
+    ensures referred { IfOk result (λ made. (ino : ℕ) → slice_index made.0.references ino ≡ (if ino == 1 then 2 else 0)) }
     ensures blocks { IfOk result (λ made. made.0.blocks ≡ blocks_on image.now (Some second.now)) }
     ensures stored { IfOk result (λ made. made.0.stored ≡ blocks_on image.now (Some second.now)) }
     ensures time { IfOk result (λ made. made.1 ≡ (store_of (disk_of image.now)).stamp) }
@@ -97,7 +99,9 @@ fn file_systems_of(alloc: Global, image: &[u8], second: &[u8]) -> Result<(Nodes,
     let time = volume.head().time;
     let disk = Disk::from_bytes(alloc, second)?;
     let cache = Cache::new(alloc, disk)?;
-    Ok((Nodes::new2(volume, Volume::open_on(cache)), time))
+    let mut nodes = Nodes::new2(volume, Volume::open_on(cache));
+    take_root(&mut nodes);
+    Ok((nodes, time))
 }
 
 /// How many inodes the disk of an image has.
@@ -130,18 +134,6 @@ pub fn second_fault(image: &[u8], second: &[u8]) -> Option<SecondFault>
     }
 }
 
-/// The tree of names of one disk.
-fn one_tree(nodes: Nodes) -> Tree
-    requires one { nodes.store.second ≡ None }
-    requires few { nodes.store.root.count ≤ 65535 }
-    ensures nodes { result.nodes ≡ nodes }
-    ensures unmarked { result.marks ≡ no_marks }
-    ensures mounts { AreMounts result.mounts result.nodes.store }
-    ensures uncovered { result.mounts.covered ≡ None }
-{
-    Tree::new(nodes)
-}
-
 /// A number that is a word.
 fn word(n: u32) -> u16
     requires { n ≤ 65535 }
@@ -150,18 +142,26 @@ fn word(n: u32) -> u16
     n as u16
 }
 
-/// The tree of names of the disks of two images. Nothing is mounted.
-fn two_trees(image: &[u8], second: &[u8], nodes: Nodes) -> Tree
-    requires store { nodes.store ≡ stores_of image.now (Some second.now) }
-    requires few { key_count (stores_of image.now (Some second.now)) ≤ 65535 }
-    ensures nodes { result.nodes ≡ nodes }
-    ensures unmarked { result.marks ≡ no_marks }
-    ensures mounts { AreMounts result.mounts result.nodes.store }
-    ensures uncovered { result.mounts.covered ≡ None }
+/// The mount table of one disk.
+fn one_mounts(nodes: &Nodes) -> Mounts
+    requires one { nodes.now.store.second ≡ None }
+    requires few { nodes.now.store.root.count ≤ 65535 }
+    ensures mounts { AreMounts result nodes.now.store }
+    ensures uncovered { result.covered ≡ None }
+{
+    let first = word(nodes.root_count());
+    Mounts::new(first, 0)
+}
+
+/// The mount table of the disks of two images. Nothing is mounted.
+fn two_mounts(image: &[u8], second: &[u8]) -> Mounts
+    requires { key_count (stores_of image.now (Some second.now)) ≤ 65535 }
+    ensures mounts { AreMounts result (stores_of image.now (Some second.now)) }
+    ensures uncovered { result.covered ≡ None }
 {
     let first = word(inode_count(image));
     let other = word(inode_count(second));
-    Tree::new2(nodes, Mounts::new(first, other))
+    Mounts::new(first, other)
 }
 
 /// Puts what an image has of the swap area there.
@@ -186,13 +186,36 @@ fn swap_area(alloc: Global, image: &[u8]) -> Result<Vec<u8>, AllocError>
     Ok(swap)
 }
 
+/// Takes the memory of a kernel with so many clicks of core, on the swap area of an image. It stands out of line, so that its frame
+/// doesn't lie beside a kernel.
+#[inline(never)]
+fn rooms_of(alloc: Global, image: &[u8], time: u32, core: u16) -> Result<Rooms, AllocError>
+    requires least { 64 ≤ core }
+    requires most { core ≤ 3968 }
+    ensures procs { IfOk result (λ rooms. AreFirst rooms.procs core time) }
+    ensures tape { IfOk result (λ rooms. rooms.tape ≡ blank TAPE_ENTRIES TAPE_BYTES) }
+{
+    let swap = swap_area(alloc, image)?;
+    let images = Images::new(alloc, core, &swap)?;
+    let tape = Tape::new(alloc, TAPE_ENTRIES, TAPE_BYTES)?;
+    let dispatch = Dispatch::new(alloc)?;
+    Ok(Rooms {
+        procs: first_procs(images, time),
+        tape,
+        dispatch,
+    })
+}
+
 impl Kernel {
     ghost use Rattle.unix_core.specs.Boots.{RefusesBoot, RefusesBoot2};
     ghost use Rattle.abstract_unix.specs.Unix.{New};
-    ghost use Rattle.abstract_unix.specs.Runs.{boots, system_with};
+    ghost use Rattle.abstract_unix.specs.Runs.{boots};
 
-    /// Makes the kernel for a disk image, so many clicks of core and so many terminal lines.
-    fn boot_with(alloc: Global, image: &[u8], core: u16, lines: u8) -> Result<Kernel, BootFault>
+    /// Makes the kernel for a disk image, so many clicks of core and so many terminal lines, before the start of its run.
+    ///
+    /// It keeps a disk of its own, and takes all the memory that it will ever use.
+    #[inline(never)]
+    pub fn boot_with(alloc: Global, image: &[u8], core: u16, lines: u8) -> Result<Kernel, BootFault>
         requires least { 64 ≤ core }
         requires most { core ≤ 3968 }
         requires lines { (lines ≡ 1) ⊎ (lines ≡ 8) }
@@ -205,14 +228,14 @@ impl Kernel {
         if let Err(fault) = accept(image) {
             return Err(BootFault::Image(fault));
         }
-        let Ok((mut nodes, time)) = file_system_of(alloc, image) else {
+        let Ok((nodes, time)) = file_system_of(alloc, image) else {
             return Err(BootFault::NoMemory);
         };
-        take_root(&mut nodes);
-        match Kernel::around(alloc, image, one_tree(nodes), time, core, lines) {
-            Ok(kernel) => Ok(kernel),
-            Err(_) => Err(BootFault::NoMemory),
-        }
+        let Ok(rooms) = rooms_of(alloc, image, time, core) else {
+            return Err(BootFault::NoMemory);
+        };
+        let mounts = one_mounts(&nodes);
+        Kernel::new(rooms, nodes, mounts, core, lines)
     }
 
     /// Makes the kernel for a disk image and so many clicks of core, before the start of its run. It has one terminal line, the
@@ -248,6 +271,7 @@ impl Kernel {
     /// nowhere, and there is one terminal line, the console.
     ///
     /// It keeps disks of its own, and takes all the memory that it will ever use.
+    #[inline(never)]
     pub fn boot2(
         alloc: Global,
         image: &[u8],
@@ -268,43 +292,13 @@ impl Kernel {
         if let Some(fault) = second_fault(image, second) {
             return Err(Boot2Fault::Second(fault));
         }
-        let Ok((mut nodes, time)) = file_systems_of(alloc, image, second) else {
+        let Ok((nodes, time)) = file_systems_of(alloc, image, second) else {
             return Err(Boot2Fault::NoMemory);
         };
-        take_root(&mut nodes);
-        let tree = two_trees(image, second, nodes);
-        match Kernel::around(alloc, image, tree, time, core, 1) {
-            Ok(kernel) => Ok(kernel),
-            Err(_) => Err(Boot2Fault::NoMemory),
-        }
-    }
-
-    /// The kernel with a tree of names and so many terminal lines, on the swap area of an image.
-    fn around(
-        alloc: Global,
-        image: &[u8],
-        tree: Tree,
-        time: u32,
-        core: u16,
-        lines: u8,
-    ) -> Result<Kernel, AllocError>
-        requires least { 64 ≤ core }
-        requires most { core ≤ 3968 }
-        requires referred { (ino : ℕ) → slice_index tree.nodes.references ino ≡ (if ino == 1 then 2 else 0) }
-        requires mounts { AreMounts tree.mounts tree.nodes.store }
-        requires uncovered { tree.mounts.covered ≡ None }
-        requires unmarked { tree.marks ≡ no_marks }
-        requires time { time ≡ tree.nodes.store.root.stamp }
-        requires lines { (lines ≡ 1) ⊎ (lines ≡ 8) }
-        ensures system { IfOk result (λ kernel. kernel.system ≡ system_with tree.nodes.store core lines) }
-        ensures blocks { IfOk result (λ kernel. kernel.blocks ≡ tree.nodes.blocks) }
-        ensures stored { IfOk result (λ kernel. kernel.stored ≡ tree.nodes.stored) }
-        ensures phase { IfOk result (λ kernel. kernel.phase ≡ New) }
-    {
-        let swap = swap_area(alloc, image)?;
-        let images = Images::new(alloc, core, &swap)?;
-        let tape = Tape::new(alloc, TAPE_ENTRIES, TAPE_BYTES)?;
-        let dispatch = Dispatch::new(alloc)?;
-        Ok(Kernel::new(images, tape, tree, time, core, lines, dispatch))
+        let Ok(rooms) = rooms_of(alloc, image, time, core) else {
+            return Err(Boot2Fault::NoMemory);
+        };
+        let mounts = two_mounts(image, second);
+        Kernel::new(rooms, nodes, mounts, core, 1)
     }
 }

@@ -7,7 +7,7 @@ ghost use Rattle.pick_rules.specs.Logged.{logged};
 ghost use Rattle.proc_tab.specs.Processes.{IsUsed};
 ghost use Rattle.image_keep.specs.Kept.{HasImage, IsKept, area_of, image_of, with_area, with_image};
 ghost use Rattle.sig_core.specs.Signals.{due, is_signal, handler_of};
-ghost use Rattle.sig_core.specs.Delivery.{makes_core, delivery};
+ghost use Rattle.sig_core.specs.Delivery.{delivery};
 ghost use Rattle.sys_procs.specs.Handed.{IsAlive, process_here};
 ghost use Rattle.abstract_unix.specs.Unix.{process_of};
 ghost use Rattle.abstract_unix.specs.Steps.{Steps};

@@ -1,5 +1,5 @@
 //! The inodes that the kernel and its process refer to.
-ghost use Rattle.std.specs.Prelude.{◌≡◌, ℕ, ◌+◌, ◌≤◌, ◌==◌, if◌then◌else◌, slice_index, length};
+ghost use Rattle.std.specs.Prelude.{◌≡◌, ℕ, ◌≤◌, ◌==◌, if◌then◌else◌, slice_index, length};
 ghost use Rattle.std.specs.List.{All};
 ghost use Rattle.lines_eight.specs.Lines.{HasRoom};
 ghost use Rattle.image_keep.specs.Kept.{IsKept};

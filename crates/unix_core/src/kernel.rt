@@ -1,5 +1,5 @@
 //! The kernel, which takes one event a call.
-ghost use Rattle.std.specs.Prelude.{◌≡◌, ◌≢◌, ◌⊎◌, ◌==◌, ◌<◌, ◌≤◌, ℕ, [], slice_index, slice_set, if◌then◌else◌, true, false, None};
+ghost use Rattle.std.specs.Prelude.{◌≡◌, ◌≢◌, ◌⊎◌, ◌==◌, ◌<◌, ◌≤◌, ℕ, [], slice_index, slice_set, if◌then◌else◌, true, false, None, IsOk, IfOk};
 ghost use Rattle.v6_base.specs.Trace.{Took};
 ghost use Rattle.v6_base.specs.Tape.{blank};
 ghost use Rattle.fs_codec.specs.Disk.{head};
@@ -8,11 +8,10 @@ ghost use Rattle.fs_codec.specs.declared.layout.TheConstants.{SWAP_START};
 ghost use Rattle.buf_cache.specs.Blocks.{block_at, IsDisk};
 ghost use Rattle.fs_nodes.specs.Disks.{OfSecond};
 ghost use Rattle.fs_nodes.specs.FileSystem.{AllStand};
-ghost use Rattle.fs_tree.specs.Marks.{no_marks};
 ghost use Rattle.fs_tree.specs.Mounting.{AreMounts};
 ghost use Rattle.image_keep.specs.Kept.{Alive, first_kept, with_keeping};
 ghost use Rattle.image_keep.specs.Deposits.{memory_size, HasByte, IsNobodys};
-ghost use Rattle.unix_core.specs.Parts.{first_held};
+ghost use Rattle.unix_core.specs.Parts.{first_held, AreFirst};
 ghost use Rattle.unix_core.specs.Deposits.{IsPutIn};
 ghost use Rattle.abstract_unix.specs.declared.ends.Ends.TheVariants.{AtEnd};
 ghost use Rattle.abstract_unix.specs.Turn.{turned, ticked_by, NobodyCanRun};
@@ -27,9 +26,11 @@ use crate::slots::Slots;
 use crate::world::World;
 use abstract_unix::Turned;
 use fs_codec::DISK_BLOCKS;
+use fs_nodes::Nodes;
 use fs_tree::Tree;
 use image_keep::Images;
 use lines_eight::Lines;
+use mount_tab::Mounts;
 use open_files::OpenTable;
 use pdp_decode::Dispatch;
 use pdp_step::Outcome;
@@ -65,6 +66,30 @@ fn make_first(procs: &mut Procs)
     procs.images.set_area(SLOT, &u);
 }
 
+/// Process 1 alone, with its first image, over images of which nothing is used.
+pub(crate) fn first_procs(images: Images, time: u32) -> Procs
+    requires least { 64 ≤ images.kept.core }
+    requires empty { images.kept ≡ first_kept images.kept.core }
+    ensures { AreFirst result images.kept.core time }
+{
+    let mut procs = Procs {
+        rows: Rows::new(),
+        table: Table::new(time),
+        images,
+        switches: 0,
+    };
+    make_first(&mut procs);
+    procs
+}
+
+/// What takes memory beside the disks: the processes with their images, the tape, and the handler of each instruction word.
+#[derive(Drop)]
+pub(crate) struct Rooms {
+    pub(crate) procs: Procs,
+    pub(crate) tape: Tape,
+    pub(crate) dispatch: Dispatch,
+}
+
 /// The kernel with its processes and its disk: the abstract Unix, in fixed memory.
 #[derive(Drop)]
 pub struct Kernel {
@@ -98,47 +123,43 @@ impl Kernel {
     ghost use Rattle.unix_core.specs.Memory.{kept_in};
     ghost use Rattle.abstract_unix.specs.Runs.{Slot, Tick, Byte, Switch, Disk, Pace, Hangup, start_of, event_of, system_with, finished};
 
-    /// A kernel with a file system, whose process 1 is about to execute `/etc/init`, with images and a tape of which nothing
-    /// is used. Inode 1 is referred to as the root and as a directory.
-    pub(crate) fn new(
-        images: Images,
-        tape: Tape,
-        tree: Tree,
-        time: u32,
+    /// A kernel with a file system, whose process 1 is about to execute `/etc/init`, with a tape of which nothing is used. Inode 1
+    /// is referred to as the root and as a directory. It is never an error: a kernel is large, and one that is made as the
+    /// result of its caller stands on the stack once.
+    pub(crate) fn new<E>(
+        rooms: Rooms,
+        nodes: Nodes,
+        mounts: Mounts,
         core: u16,
         lines: u8,
-        dispatch: Dispatch,
-    ) -> Self
+    ) -> Result<Self, E>
         requires least { 64 ≤ core }
         requires most { core ≤ 3968 }
-        requires images { images.kept ≡ first_kept core }
-        requires tape { tape ≡ blank 64 524288 }
-        requires referred { (ino : ℕ) → slice_index tree.nodes.references ino ≡ (if ino == 1 then 2 else 0) }
-        requires mounts { AreMounts tree.mounts tree.nodes.store }
-        requires uncovered { tree.mounts.covered ≡ None }
-        requires unmarked { tree.marks ≡ no_marks }
-        requires time { time ≡ tree.nodes.store.root.stamp }
+        requires procs { AreFirst rooms.procs core nodes.store.root.stamp }
+        requires tape { rooms.tape ≡ blank 64 524288 }
+        requires referred { (ino : ℕ) → slice_index nodes.references ino ≡ (if ino == 1 then 2 else 0) }
+        requires mounts { AreMounts mounts nodes.store }
+        requires uncovered { mounts.covered ≡ None }
         requires lines { (lines ≡ 1) ⊎ (lines ≡ 8) }
-        ensures system { result.system ≡ system_with tree.nodes.store core lines }
-        ensures blocks { result.blocks ≡ tree.nodes.blocks }
-        ensures stored { result.stored ≡ tree.nodes.stored }
-        ensures phase { result.phase ≡ New }
+        ensures made { IsOk result }
+        ensures system { IfOk result (λ kernel. kernel.system ≡ system_with nodes.store core lines) }
+        ensures blocks { IfOk result (λ kernel. kernel.blocks ≡ nodes.blocks) }
+        ensures stored { IfOk result (λ kernel. kernel.stored ≡ nodes.stored) }
+        ensures phase { IfOk result (λ kernel. kernel.phase ≡ New) }
     {
-        tree.nodes.see();
+        nodes.see();
+        let Rooms {
+            procs,
+            tape,
+            dispatch,
+        } = rooms;
         let files = Files {
-            tree,
+            tree: Tree::new2(nodes, mounts),
             table: OpenTable::new(),
             lines: Lines::new(lines),
             pipes: Pipes::new(),
         };
-        let mut procs = Procs {
-            rows: Rows::new(),
-            table: Table::new(time),
-            images,
-            switches: 0,
-        };
-        make_first(&mut procs);
-        Kernel {
+        Ok(Kernel {
             machine: Machine {
                 stage: Stage::New,
                 came: Outcome::Next,
@@ -151,7 +172,7 @@ impl Kernel {
                 },
             },
             dispatch,
-        }
+        })
     }
 
     /// Takes the start of a run, once, before the first event: the swapper finds nobody to bring in, and there is a choice.
@@ -163,6 +184,8 @@ impl Kernel {
         ensures goes { (start_of self.old.system).ending ≡ AtEnd }
         ensures private { AllUndisturbed self.old.system self.new.system }
         ensures texts { AllTextsStay self.old.system self.new.system }
+        ensures blocks { self.new.blocks ≡ self.old.blocks }
+        ensures stored { self.new.stored ≡ self.old.stored }
         ensures rest { KeepsRest self.old self.new }
         ensures items { Took (T.taken trace.old) (start_of self.old.system).items (T.taken trace.new) }
         ensures frame { T.leads_to trace.old trace.new }
@@ -230,6 +253,7 @@ impl Kernel {
         requires { self.old.phase ≡ Started }
         ensures phase { self.new.phase ≡ Started }
         ensures next { self.new.system ≡ (event_of (Byte 0 b) self.old.system).next }
+        ensures others { self.new ≡ record self.old { system = self.new.system } }
         ensures private { AllUndisturbed self.old.system self.new.system }
         ensures texts { AllTextsStay self.old.system self.new.system }
         ensures rest { KeepsRest self.old self.new }
@@ -247,6 +271,7 @@ impl Kernel {
         requires line { l < LINES }
         ensures phase { self.new.phase ≡ Started }
         ensures next { self.new.system ≡ (event_of (Byte l b) self.old.system).next }
+        ensures others { self.new ≡ record self.old { system = self.new.system } }
         ensures private { AllUndisturbed self.old.system self.new.system }
         ensures texts { AllTextsStay self.old.system self.new.system }
         ensures rest { KeepsRest self.old self.new }
@@ -263,6 +288,7 @@ impl Kernel {
         requires line { l < LINES }
         ensures phase { self.new.phase ≡ Started }
         ensures next { self.new.system ≡ (event_of (Hangup l) self.old.system).next }
+        ensures others { self.new ≡ record self.old { system = self.new.system } }
         ensures private { AllUndisturbed self.old.system self.new.system }
         ensures texts { AllTextsStay self.old.system self.new.system }
         ensures rest { KeepsRest self.old self.new }
@@ -277,10 +303,9 @@ impl Kernel {
     /// `ttstart` in Lions' Commentary, `tty.c`.
     pub fn set_pace<T: Trace>(&mut self, n: u32, trace: &mut T)
         requires started { self.old.phase ≡ Started }
-        requires most { n ≤ 999999999 }
-        requires fresh { self.old.system.unix.timing.passed ≤ 3000000001 }
         ensures phase { self.new.phase ≡ Started }
         ensures next { self.new.system ≡ (event_of (Pace n) self.old.system).next }
+        ensures others { self.new ≡ record self.old { system = self.new.system } }
         ensures private { AllUndisturbed self.old.system self.new.system }
         ensures texts { AllTextsStay self.old.system self.new.system }
         ensures rest { KeepsRest self.old self.new }
@@ -295,6 +320,7 @@ impl Kernel {
         requires { self.old.phase ≡ Started }
         ensures phase { self.new.phase ≡ Started }
         ensures next { self.new.system ≡ (event_of (Switch w) self.old.system).next }
+        ensures others { self.new ≡ record self.old { system = self.new.system } }
         ensures private { AllUndisturbed self.old.system self.new.system }
         ensures texts { AllTextsStay self.old.system self.new.system }
         ensures blocks { self.new.blocks ≡ self.old.blocks }
@@ -309,6 +335,7 @@ impl Kernel {
         requires most { n ≤ 999999999 }
         ensures phase { self.new.phase ≡ Started }
         ensures next { self.new.system ≡ (event_of (Disk n) self.old.system).next }
+        ensures others { self.new ≡ record self.old { system = self.new.system } }
         ensures private { AllUndisturbed self.old.system self.new.system }
         ensures texts { AllTextsStay self.old.system self.new.system }
         ensures blocks { self.new.blocks ≡ self.old.blocks }

@@ -7,12 +7,12 @@ ghost use Rattle.pick_rules.specs.Effects.{Show};
 ghost use Rattle.pick_rules.specs.Logged.{logged};
 ghost use Rattle.image_keep.specs.Kept.{HasImage};
 ghost use Rattle.abstract_unix.specs.declared.ends.Ends.TheVariants.{AtEnd};
-ghost use Rattle.abstract_unix.specs.Unix.{Unix, System, Started, process_of};
+ghost use Rattle.abstract_unix.specs.Unix.{Unix, System, Started};
 ghost use Rattle.abstract_unix.specs.Endings.{is_early};
 ghost use Rattle.abstract_unix.specs.Turn.{Happened, after_slot, turned, ticked_by, turned_by, ending_of, turn, turn_of, settled, settled_after, pass_of};
 ghost use Rattle.abstract_unix.specs.Outside.{calls, calls_show, charged, mode_of, tick_entry, is_user_mode, tick_of, with_key, key_lines, typed_of, hangup_of, paced_of};
 ghost use Rattle.unix_core.specs.Slots.{IsTimed, IsCounted};
-ghost use Rattle.unix_core.specs.Parts.{unix_of, board_in, system_at, turn_at, turn_end, phase_of, slot_in, one_before, is_over, IsGood, IsReady, IsUser, IsRunning, IsCovered, IsKernel, IsKnown, IsStill, HasCome, HasStepped, Takes, delivers_where};
+ghost use Rattle.unix_core.specs.Parts.{unix_of, board_in, system_at, turn_at, turn_end, phase_of, slot_in, one_before, is_over, IsGood, IsReady, IsRunning, IsCovered, IsKernel, IsKnown, IsStill, HasCome, HasStepped, Takes, delivers_where};
 
 use crate::delivery::{deliver_after, deliver_due};
 use crate::files::see_procs;
@@ -200,6 +200,7 @@ impl Machine {
         ensures started { phase_of self.new.stage ≡ Started }
         ensures system { system_at self.new.world ≡ record (system_at self.old.world) { board = (settled (board_in self.old.world)).board } }
         ensures files { self.new.world.files ≡ self.old.world.files }
+        ensures images { self.new.world.procs.images ≡ self.old.world.procs.images }
         ensures blocks { self.new.world.files.tree.nodes.blocks ≡ self.old.world.files.tree.nodes.blocks }
         ensures items { Took (T.taken trace.old) (settled (board_in self.old.world)).items (T.taken trace.new) }
         ensures frame { T.leads_to trace.old trace.new }
@@ -218,6 +219,7 @@ impl Machine {
         ensures system { system_at self.new.world
             ≡ record (system_at self.old.world) { board = (settled (board_in self.old.world)).board } }
         ensures files { self.new.world.files ≡ self.old.world.files }
+        ensures images { self.new.world.procs.images ≡ self.old.world.procs.images }
         ensures blocks { self.new.world.files.tree.nodes.blocks ≡ self.old.world.files.tree.nodes.blocks }
         ensures items { Took (T.taken trace.old) (settled (board_in self.old.world)).items (T.taken trace.new) }
         ensures frame { T.leads_to trace.old trace.new }
@@ -279,6 +281,7 @@ impl Machine {
         ensures answer { result ≡ turned (settled_after (pass_of (system_at self.old.world))) }
         ensures takes { Takes (settled_after (pass_of (system_at self.old.world))) self.new.stage self.new.world }
         ensures rest { SameRest self.old.world.files.tree.nodes self.new.world.files.tree.nodes }
+        ensures files { self.new.world.files ≡ self.old.world.files }
         ensures items { Took (T.taken trace.old)
             (settled_after (pass_of (system_at self.old.world))).items (T.taken trace.new) }
         ensures frame { T.leads_to trace.old trace.new }
@@ -567,6 +570,7 @@ impl Machine {
         ensures items { Took (T.taken trace.old) (key_lines l keyed (unix_of self.old.world)) (T.taken trace.new) }
         ensures frame { T.leads_to trace.old trace.new }
         ensures files { self.new.world.files ≡ self.old.world.files }
+        ensures images { self.new.world.procs.images ≡ self.old.world.procs.images }
         ensures slots { self.new.world.slots ≡ self.old.world.slots }
     {
         if let Keyed::Signal { sig, .. } = keyed {
@@ -584,6 +588,7 @@ impl Machine {
         ensures unix { unix_of self.new.world ≡ (typed_of (system_at self.old.world) l byte).unix }
         ensures board { board_in self.new.world ≡ (typed_of (system_at self.old.world) l byte).log.board }
         ensures tree { self.new.world.files.tree ≡ self.old.world.files.tree }
+        ensures images { self.new.world.procs.images ≡ self.old.world.procs.images }
         ensures items { Took (T.taken trace.old) (typed_of (system_at self.old.world) l byte).log.items (T.taken trace.new) }
         ensures frame { T.leads_to trace.old trace.new }
     {
@@ -603,6 +608,8 @@ impl Machine {
         requires started { phase_of self.old.stage ≡ Started }
         ensures takes { Takes (settled_after (typed_of (system_at self.old.world) l byte)) self.new.stage self.new.world }
         ensures rest { SameRest self.old.world.files.tree.nodes self.new.world.files.tree.nodes }
+        ensures tree { self.new.world.files.tree ≡ self.old.world.files.tree }
+        ensures images { self.new.world.procs.images ≡ self.old.world.procs.images }
         ensures items { Took (T.taken trace.old)
             (settled_after (typed_of (system_at self.old.world) l byte)).items (T.taken trace.new) }
         ensures frame { T.leads_to trace.old trace.new }
@@ -621,6 +628,7 @@ impl Machine {
         ensures unix { unix_of self.new.world ≡ (hangup_of (system_at self.old.world) l).unix }
         ensures board { board_in self.new.world ≡ (hangup_of (system_at self.old.world) l).log.board }
         ensures tree { self.new.world.files.tree ≡ self.old.world.files.tree }
+        ensures images { self.new.world.procs.images ≡ self.old.world.procs.images }
         ensures items { Took (T.taken trace.old) (hangup_of (system_at self.old.world) l).log.items (T.taken trace.new) }
         ensures frame { T.leads_to trace.old trace.new }
     {
@@ -644,6 +652,8 @@ impl Machine {
         ensures takes { Takes (settled_after (hangup_of (system_at self.old.world) l)) self.new.stage self.new.world }
         ensures started { phase_of self.new.stage ≡ Started }
         ensures rest { SameRest self.old.world.files.tree.nodes self.new.world.files.tree.nodes }
+        ensures tree { self.new.world.files.tree ≡ self.old.world.files.tree }
+        ensures images { self.new.world.procs.images ≡ self.old.world.procs.images }
         ensures items { Took (T.taken trace.old)
             (settled_after (hangup_of (system_at self.old.world) l)).items (T.taken trace.new) }
         ensures frame { T.leads_to trace.old trace.new }
@@ -656,11 +666,11 @@ impl Machine {
     pub(crate) fn set_pace<T: Trace>(&mut self, n: u32, trace: &mut T)
         requires kernel { IsKernel self.old.stage self.old.world }
         requires started { phase_of self.old.stage ≡ Started }
-        requires few { n ≤ 999999999 }
-        requires fresh { (unix_of self.old.world).timing.passed ≤ 3000000001 }
         ensures takes { Takes (settled_after (paced_of (system_at self.old.world) n)) self.new.stage self.new.world }
         ensures started { phase_of self.new.stage ≡ Started }
         ensures rest { SameRest self.old.world.files.tree.nodes self.new.world.files.tree.nodes }
+        ensures tree { self.new.world.files.tree ≡ self.old.world.files.tree }
+        ensures images { self.new.world.procs.images ≡ self.old.world.procs.images }
         ensures items { Took (T.taken trace.old)
             (settled_after (paced_of (system_at self.old.world) n)).items (T.taken trace.new) }
         ensures frame { T.leads_to trace.old trace.new }

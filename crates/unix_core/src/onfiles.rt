@@ -11,7 +11,7 @@ ghost use Rattle.abstract_unix.specs.Unix.{process_of};
 ghost use Rattle.abstract_unix.specs.Calls.{handed_of, with_handed, file_row};
 ghost use Rattle.u_area.specs.Pending.{is_on_files};
 ghost use Rattle.abstract_unix.specs.Turn.{is_user};
-ghost use Rattle.unix_core.specs.Parts.{unix_of, board_in, IsReady, IsReadyToShow};
+ghost use Rattle.unix_core.specs.Parts.{unix_of, IsReady, IsReadyToShow};
 
 use crate::files::{see_count, see_lines, see_numbers, see_table, see_words};
 use crate::world::World;

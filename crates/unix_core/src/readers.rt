@@ -1,6 +1,6 @@
 //! What a kernel tells of its memory and its disk: the bytes of core and of the swap area, where images stand, and the blocks
 //! that a run leaves.
-ghost use Rattle.std.specs.Prelude.{◌≡◌, ◌<◌, ◌≤◌, ◌+◌, ◌*◌, ◌-◌, ℕ, List, IsSome, IfSome, length, slice_index};
+ghost use Rattle.std.specs.Prelude.{◌≡◌, ◌<◌, ◌≤◌, ◌+◌, ◌*◌, ◌-◌, IsSome, IsSomeAnd, length, slice_index};
 ghost use Rattle.fs_codec.specs.declared.layout.TheConstants.{SWAP_START};
 ghost use Rattle.buf_cache.specs.Blocks.{block_at};
 ghost use Rattle.core_mem.specs.Bytes.{part};
@@ -115,12 +115,13 @@ impl Kernel {
         self.disk_block(n)
     }
 
-    /// Block `n` of the second disk, as a run that has been finished leaves it.
+    /// Block `n` of the second disk, as a run that has been finished leaves it: where the system has a second disk, the kernel has
+    /// its blocks.
     pub fn second_block(&self, n: u16) -> [u8; 512]
         requires finished { self.now.phase ≡ Finished }
         requires block { n < DISK_BLOCKS }
         requires second { IsSome self.now.system.unix.store.second }
-        ensures { IfSome self.now.stored.second (λ stored. result ≡ block_at stored n) }
+        ensures { IsSomeAnd self.now.stored.second (λ stored. result ≡ block_at stored n) }
     {
         *self.machine.world.files.tree.nodes.on_disk(1, n)
     }

@@ -1,10 +1,10 @@
 //! The slots that have been taken, who waits for the disk up to one of them, and with which of them the lines send: `iowait`
 //! and `iodone` in Lions' Commentary, `bio.c`; `ttstart` and `ttrstrt` there, `tty.c`.
-ghost use Rattle.std.specs.Prelude.{◌≡◌, ◌≢◌, ◌<◌, ◌≤◌, ◌+◌, ◌-◌, ◌*◌, ◌%◌, ◌==◌, ◌||◌, ℕ, [], true, false, not, length, map, None, slice_index, slice_index_or};
+ghost use Rattle.std.specs.Prelude.{◌≡◌, ◌≢◌, ◌<◌, ◌≤◌, ◌+◌, ◌-◌, ◌*◌, ◌%◌, ◌==◌, ◌||◌, ℕ, true, false, not, length, map, None, slice_index, slice_index_or};
 ghost use Rattle.v6_base.specs.Trace.{Took, entries_of};
 ghost use Rattle.tty_line.specs.Said.{sends};
 ghost use Rattle.lines_eight.specs.Told.{each_line};
-ghost use Rattle.pick_rules.specs.Table.{IsTable};
+ghost use Rattle.pick_rules.specs.Table.{row_at, IsTable};
 ghost use Rattle.pick_rules.specs.Effects.{Show};
 ghost use Rattle.pick_rules.specs.Logged.{logged};
 ghost use Rattle.pick_rules.specs.Priority.{pribio};
@@ -15,13 +15,12 @@ ghost use Rattle.abstract_unix.specs.Steps.{returns};
 ghost use Rattle.abstract_unix.specs.Calls.{waits_for_disk};
 ghost use Rattle.abstract_unix.specs.Turn.{with_slot, waits_until};
 ghost use Rattle.abstract_unix.specs.Outside.{turned_to, paced_of};
-ghost use Rattle.pick_rules.specs.Table.{row_at};
 ghost use Rattle.sys_procs.specs.Agree.{Lives, kind_of_stat, board_of};
 ghost use Rattle.sys_procs.specs.Handed.{AreProcs};
 ghost use Rattle.sys_procs.specs.Signals.{is_meant};
-ghost use Rattle.unix_core.specs.Parts.{unix_of, board_in, system_at, one_before, IsGood, IsReady, HasCome};
+ghost use Rattle.unix_core.specs.Parts.{unix_of, board_in, system_at, IsGood, IsReady, IsSlotDue, IsSlotEnded, HasCome};
 ghost use Rattle.unix_core.specs.Passing.{all_woken};
-ghost use Rattle.unix_core.specs.Slots.{passed_in, timing_in, NoneSend, CanWait, IsTimed, IsCounted, HasWaited, processes_of, woken_with, AreDueFrom, NoneInGraves, sent_after, with_sent, slot_items, slot_wakes};
+ghost use Rattle.unix_core.specs.Slots.{passed_in, timing_in, NoneSend, CanWait, IsTimed, IsCounted, HasWaited, processes_of, woken_with, AreDueFrom, NoneInGraves, sent_after, with_sent, slot_items};
 ghost use Rattle.unix_core.specs.declared.slots.TheConstants.{NEVER};
 
 use crate::settling::wake;
@@ -429,7 +428,6 @@ pub(crate) fn renew(world: &mut World)
 pub(crate) fn set_pace<T: Trace>(world: &mut World, n: u32, trace: &mut T) -> bool
     requires good { IsGood world.old }
     requires counted { IsCounted world.old.slots (unix_of world.old) }
-    requires few { n ≤ 999999999 }
     ensures unix { unix_of world.new ≡ (paced_of (system_at world.old) n).unix }
     ensures board { board_in world.new ≡ (paced_of (system_at world.old) n).log.board }
     ensures settles { result ≡ (paced_of (system_at world.old) n).settles }
@@ -437,6 +435,7 @@ pub(crate) fn set_pace<T: Trace>(world: &mut World, n: u32, trace: &mut T) -> bo
     ensures counted { IsCounted world.new.slots (unix_of world.new) }
     ensures running { world.new.procs.table.running ≡ world.old.procs.table.running }
     ensures tree { world.new.files.tree ≡ world.old.files.tree }
+    ensures images { world.new.procs.images ≡ world.old.procs.images }
     ensures others { world.new ≡ record world.old {
       files = record world.old.files { lines = world.new.files.lines };
       procs = world.new.procs;
@@ -498,24 +497,8 @@ fn send_after<T: Trace>(world: &mut World, passed: u32, trace: &mut T) -> bool
 #[cold]
 #[inline(never)]
 fn reach_wake<T: Trace>(world: &mut World, trace: &mut T) -> bool
-    requires left { world.old.slots.left ≡ 0 }
-    requires good { IsGood (one_before world.old) }
-    requires counted { IsCounted (one_before world.old).slots (unix_of (one_before world.old)) }
-    requires fresh { world.old.slots.due ≤ 3000000001 }
-    ensures unix { unix_of world.new ≡ with_sent (unix_of world.old) }
-    ensures board { board_in world.new
-        ≡ (logged {W = Unix} (board_in world.old) (map Show (slot_items (unix_of world.old)))).board }
-    ensures any { result ≡ slot_wakes (unix_of world.old) }
-    ensures good { IsGood world.new }
-    ensures counted { IsCounted world.new.slots (unix_of world.new) }
-    ensures running { world.new.procs.table.running ≡ world.old.procs.table.running }
-    ensures tree { world.new.files.tree ≡ world.old.files.tree }
-    ensures others { world.new ≡ record world.old {
-      files = record world.old.files { lines = world.new.files.lines };
-      procs = world.new.procs;
-      slots = world.new.slots;
-    } }
-    ensures same { result ≡ false → world.new.procs ≡ world.old.procs }
+    requires { IsSlotDue world.old }
+    ensures ended { IsSlotEnded (unix_of world.old) world.old world.new result }
     ensures items { Took (T.taken trace.old) (slot_items (unix_of world.old)) (T.taken trace.new) }
     ensures frame { T.leads_to trace.old trace.new }
 {
@@ -532,24 +515,8 @@ fn reach_wake<T: Trace>(world: &mut World, trace: &mut T) -> bool
 /// end they do. Tells whether anybody is woken. Where no wait ends with it nobody is looked at.
 #[inline(always)]
 pub(crate) fn reach<T: Trace>(world: &mut World, trace: &mut T) -> bool
-    requires left { world.old.slots.left ≡ 0 }
-    requires good { IsGood (one_before world.old) }
-    requires counted { IsCounted (one_before world.old).slots (unix_of (one_before world.old)) }
-    requires fresh { world.old.slots.due ≤ 3000000001 }
-    ensures unix { unix_of world.new ≡ with_sent (unix_of world.old) }
-    ensures board { board_in world.new
-        ≡ (logged {W = Unix} (board_in world.old) (map Show (slot_items (unix_of world.old)))).board }
-    ensures any { result ≡ slot_wakes (unix_of world.old) }
-    ensures good { IsGood world.new }
-    ensures counted { IsCounted world.new.slots (unix_of world.new) }
-    ensures running { world.new.procs.table.running ≡ world.old.procs.table.running }
-    ensures tree { world.new.files.tree ≡ world.old.files.tree }
-    ensures others { world.new ≡ record world.old {
-      files = record world.old.files { lines = world.new.files.lines };
-      procs = world.new.procs;
-      slots = world.new.slots;
-    } }
-    ensures same { result ≡ false → world.new.procs ≡ world.old.procs }
+    requires { IsSlotDue world.old }
+    ensures ended { IsSlotEnded (unix_of world.old) world.old world.new result }
     ensures items { Took (T.taken trace.old) (slot_items (unix_of world.old)) (T.taken trace.new) }
     ensures frame { T.leads_to trace.old trace.new }
 {
@@ -567,24 +534,8 @@ pub(crate) fn reach<T: Trace>(world: &mut World, trace: &mut T) -> bool
 #[cold]
 #[inline(never)]
 fn reach_apart<T: Trace>(world: &mut World, trace: &mut T) -> bool
-    requires left { world.old.slots.left ≡ 0 }
-    requires good { IsGood (one_before world.old) }
-    requires counted { IsCounted (one_before world.old).slots (unix_of (one_before world.old)) }
-    requires fresh { world.old.slots.due ≤ 3000000001 }
-    ensures unix { unix_of world.new ≡ with_sent (unix_of world.old) }
-    ensures board { board_in world.new
-        ≡ (logged {W = Unix} (board_in world.old) (map Show (slot_items (unix_of world.old)))).board }
-    ensures any { result ≡ slot_wakes (unix_of world.old) }
-    ensures good { IsGood world.new }
-    ensures counted { IsCounted world.new.slots (unix_of world.new) }
-    ensures running { world.new.procs.table.running ≡ world.old.procs.table.running }
-    ensures tree { world.new.files.tree ≡ world.old.files.tree }
-    ensures others { world.new ≡ record world.old {
-      files = record world.old.files { lines = world.new.files.lines };
-      procs = world.new.procs;
-      slots = world.new.slots;
-    } }
-    ensures same { result ≡ false → world.new.procs ≡ world.old.procs }
+    requires { IsSlotDue world.old }
+    ensures ended { IsSlotEnded (unix_of world.old) world.old world.new result }
     ensures items { Took (T.taken trace.old) (slot_items (unix_of world.old)) (T.taken trace.new) }
     ensures frame { T.leads_to trace.old trace.new }
 {
@@ -598,18 +549,7 @@ pub(crate) fn count<T: Trace>(world: &mut World, trace: &mut T) -> bool
     requires good { IsGood world.old }
     requires counted { IsCounted world.old.slots (unix_of world.old) }
     requires fresh { (unix_of world.old).timing.passed ≤ 3000000000 }
-    ensures unix { unix_of world.new ≡ with_sent (with_slot (unix_of world.old)) }
-    ensures board { board_in world.new
-        ≡ (logged {W = Unix} (board_in world.old) (map Show (slot_items (with_slot (unix_of world.old))))).board }
-    ensures any { result ≡ slot_wakes (with_slot (unix_of world.old)) }
-    ensures good { IsGood world.new }
-    ensures counted { IsCounted world.new.slots (unix_of world.new) }
-    ensures running { world.new.procs.table.running ≡ world.old.procs.table.running }
-    ensures others { world.new ≡ record world.old {
-      files = record world.old.files { lines = world.new.files.lines };
-      procs = world.new.procs;
-      slots = world.new.slots;
-    } }
+    ensures ended { IsSlotEnded (with_slot (unix_of world.old)) world.old world.new result }
     ensures items { Took (T.taken trace.old) (slot_items (with_slot (unix_of world.old))) (T.taken trace.new) }
     ensures frame { T.leads_to trace.old trace.new }
 {
@@ -626,18 +566,7 @@ pub(crate) fn count_turn<T: Trace>(world: &mut World, trace: &mut T) -> bool
     requires good { IsGood world.old }
     requires timed { IsTimed world.old.slots (unix_of world.old) }
     requires fresh { (unix_of world.old).timing.passed ≤ 3000000000 }
-    ensures unix { unix_of world.new ≡ with_sent (with_slot (unix_of world.old)) }
-    ensures board { board_in world.new
-        ≡ (logged {W = Unix} (board_in world.old) (map Show (slot_items (with_slot (unix_of world.old))))).board }
-    ensures any { result ≡ slot_wakes (with_slot (unix_of world.old)) }
-    ensures good { IsGood world.new }
-    ensures counted { IsCounted world.new.slots (unix_of world.new) }
-    ensures running { world.new.procs.table.running ≡ world.old.procs.table.running }
-    ensures others { world.new ≡ record world.old {
-      files = record world.old.files { lines = world.new.files.lines };
-      procs = world.new.procs;
-      slots = world.new.slots;
-    } }
+    ensures ended { IsSlotEnded (with_slot (unix_of world.old)) world.old world.new result }
     ensures items { Took (T.taken trace.old) (slot_items (with_slot (unix_of world.old))) (T.taken trace.new) }
     ensures frame { T.leads_to trace.old trace.new }
 {

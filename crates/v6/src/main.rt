@@ -2,7 +2,7 @@
 #![tactic(auto)]
 
 use std::process::ExitCode;
-use std::rt::Env;
+use std::rt::{Env, Files};
 use std::{env, io};
 use v6_port::FileHost;
 use v6_run::{Status, v6};
@@ -24,11 +24,18 @@ fn words_of(rt: &(impl Env + AllocGlobal)) -> Option<Vec<String>> {
     Some(words)
 }
 
+/// Lets the host go, which gives out what it holds. It stands out of line: its buffers are moved as they go, and would lie beside
+/// themselves.
+#[inline(never)]
+fn let_go<R: Files + Print + Drop>(_host: FileHost<R>) {}
+
 fn main(rt: HostRuntime) -> ExitCode {
     let Some(words) = words_of(&rt) else {
         return ExitCode::from(Status::NoMemory.number());
     };
     let alloc = rt.alloc();
     let mut host = FileHost::new(rt);
-    ExitCode::from(v6(alloc, &words, &mut host).number())
+    let status = v6(alloc, &words, &mut host);
+    let_go(host);
+    ExitCode::from(status.number())
 }

@@ -44,6 +44,9 @@ pub enum PanicKind {
     Text,
 }
 
+/// The block with which the swap area begins on the disk that has the root. The file system there ends before it.
+pub const SWAP_START: u16 = 4000;
+
 /// Where an image stands.
 #[derive(Clone, Copy, Debug, PartialEq, Eq)]
 pub enum Place {

@@ -1,7 +1,7 @@
 //! A trace in memory.
-ghost use Rattle.std.specs.Prelude.{◌≡◌, ◌<◌, ◌++◌, ◌∷◌, [], true, ℕ, IfOk, length};
+ghost use Rattle.std.specs.Prelude.{◌≡◌, ◌↔◌, ◌<◌, IfOk, IsTrue, length};
 ghost use Rattle.v6_base.specs.Trace.{Byte, Log};
-ghost use Rattle.v6_base.specs.Tape.{blank, bytes_of, is_full, taken_on, recorded};
+ghost use Rattle.v6_base.specs.Tape.{blank, bytes_of, is_full, IsSilent, recorded};
 
 use crate::entry::Entry;
 use crate::line_bytes::{LineBytes, clear_all, push_at};
@@ -86,9 +86,9 @@ impl Tape {
         self.lines[usize::from(line)].as_slice()
     }
 
-    /// Whether no byte has gone out on any line, as far as one test tells.
+    /// Whether no byte has gone out on any line, where the tape isn't cut; one test tells both.
     pub fn is_silent(&self) -> bool
-        ensures { result ≡ true → (line : ℕ) → bytes_of self.now line ≡ [] }
+        ensures { IsTrue result ↔ IsSilent self.now }
     {
         self.left == self.byte_room
     }

@@ -56,7 +56,8 @@ pub record Reads (p : InPort) (old : Outside) (buffer : List ℕ) (r : Result �
       (λ _. FailedPlainly (In p) old new)
 
 -- `open_write`: the port is open, and what was written stays.
-pub record OpensWrite (p : OutPort) (name : List ℕ) (old : Outside) (r : Result (Unit {0}) Failed) (new : Outside) : Type 0 where
+pub record OpensWrite (p : OutPort) (name : List ℕ) (old : Outside) (r : Result (Unit {0}) Failed)
+    (new : Outside) : Type 0 where
   pub only : OnlyAt (same (Out p)) old new
   pub outcome : MatchResult r
       (λ _. (new.port (Out p) ≡ record (old.port (Out p)) { is_open = true })

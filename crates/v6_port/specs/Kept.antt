@@ -13,7 +13,8 @@ kept_at ports n = slice_index_or ports n nothing_kept
 
 -- Report is always open.
 abbrev pub state_of : Kept → Port → List ℕ → PortState
-state_of kept q bytes = record { is_open = kept.is_open || is_report q; faults = kept.faults; missing = kept.missing; bytes = bytes }
+state_of kept q bytes =
+    record { is_open = kept.is_open || is_report q; faults = kept.faults; missing = kept.missing; bytes = bytes }
 
 abbrev pub outside_of : Environment → (Port → List ℕ) → List Kept → Outside
 outside_of fixed bytes ports = record { fixed = fixed; port = λ q. state_of (kept_at ports (port_number q)) q (bytes q) }
@@ -51,7 +52,8 @@ or_true true = refl
 or_true false = refl
 
 -- Report is open
-pub outside_of-report : (fixed : Environment) (bytes : Port → List ℕ) (ports : List Kept) → IsOpen (outside_of fixed bytes ports) (Out Report)
+pub outside_of-report : (fixed : Environment) (bytes : Port → List ℕ) (ports : List Kept)
+    → IsOpen (outside_of fixed bytes ports) (Out Report)
 outside_of-report fixed bytes ports = or_true _
 
 pub silent-report : (ports : List Kept) → IsOpen (silent ports) (Out Report)

@@ -27,7 +27,8 @@ pub record Memory : Type 0 where
   pub chunk : Option ℕ
 
 -- the same by what the host keeps
-abbrev pub memory_of : List NamedFile → List (Option (String Global)) → List (Option Reading) → List Room → List Kept → List ℕ → ℕ → Option ℕ → Memory
+abbrev pub memory_of : List NamedFile → List (Option (String Global)) → List (Option Reading) → List Room → List Kept → List ℕ
+    → ℕ → Option ℕ → Memory
 memory_of files names readings rooms ports fails calls chunk = record {
   outside = outside_of (record {
     tells = true;
@@ -75,7 +76,8 @@ pub record AddsFile (name bytes : List ℕ) (old new : Memory) : Type 0 where
 pub record TakesRoom (p : OutPort) (name : List ℕ) (more : ℕ) (old new : Memory) : Type 0 where
   pub expects : new.outside.fixed.expects p ≡ Some name
   pub room : new.room p ≡ old.room p + more
-  pub others : (r : OutPort) → same (Out p) (Out r) ≡ false → (new.outside.fixed.expects r ≡ old.outside.fixed.expects r) × (new.room r ≡ old.room r)
+  pub others : (r : OutPort) → same (Out p) (Out r) ≡ false → (new.outside.fixed.expects r ≡ old.outside.fixed.expects r)
+      × (new.room r ≡ old.room r)
   pub tells : new.outside.fixed.tells ≡ old.outside.fixed.tells
   pub given : new.outside.fixed.given ≡ old.outside.fixed.given
   pub ports : (q : Port) → new.outside.port q ≡ old.outside.port q

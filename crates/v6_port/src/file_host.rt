@@ -18,9 +18,10 @@ use std::{fs, io};
 /// Bytes that can't be given out are a fault of the call that tries to: a later write, or `finish`.
 #[derive(Drop)]
 pub struct FileHost<R: Files + Print + Drop> {
-    rt: R,
-    inputs: [Option<R::File>; INPUTS],
+    // First, so that the buffers are let go before anything else: they are moved once then.
     outputs: [Option<BufferedWriter<R::File>>; OUTPUTS],
+    inputs: [Option<R::File>; INPUTS],
+    rt: R,
     ports: [Kept; PORTS],
 }
 

@@ -1,6 +1,6 @@
 // Named files in memory.
 ghost use Rattle.std.specs.Prelude.{◌≡◌, ◌<◌, ◌+◌, ◌^◌, length, Some, None, MatchOption, drop};
-ghost use Rattle.v6_port.specs.Files.{bytes_at, given_by, left_in};
+ghost use Rattle.v6_port.specs.Files.{bytes_at, given_by};
 
 /// A file to be read.
 #[derive(Drop)]

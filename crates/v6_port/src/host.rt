@@ -5,7 +5,7 @@ ghost use Rattle.v6_port.specs.declared.host.OutPort.TheVariants.{Report};
 ghost use Rattle.v6_port.specs.Calls.{OpensRead, Reads, OpensWrite, Writes, Finishes};
 
 /// What a command reads: the image of a disk, the script of what happens when, a log, and the image of a second disk.
-/// No command opens Second yet.
+/// `run2` alone opens Second.
 #[derive(Clone, Copy, Debug, PartialEq, Eq)]
 pub enum InPort {
     Image,
@@ -16,7 +16,7 @@ pub enum InPort {
 
 /// What a command writes: the bytes of the terminal, the log, the final image of the disk, the report on how the command
 /// ended, the final image of a second disk, and the bytes of the terminal's lines 1 to 7, which stand beside its line 0. Report
-/// is always open. `run8` alone opens the lines 1 to 7, and no command opens Second yet.
+/// is always open. `run8` alone opens the lines 1 to 7, and `run2` alone opens Second.
 #[derive(Clone, Copy, Debug, PartialEq, Eq)]
 pub enum OutPort {
     Term,

@@ -1,5 +1,5 @@
 // What a host keeps of each of its ports, by the port's number: whether it is open, and its counts.
-ghost use Rattle.std.specs.Prelude.{◌≡◌, ◌<◌, length};
+ghost use Rattle.std.specs.Prelude.{◌≡◌, ◌<◌};
 ghost use Rattle.v6_port.specs.Outside.{in_number, out_number, place, IsThere};
 
 use crate::host::{InPort, OutPort};

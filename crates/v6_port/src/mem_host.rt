@@ -32,7 +32,7 @@ pub struct MemHost {
 }
 
 impl MemHost {
-    ghost use Rattle.v6_port.specs.Outside.{Out, IsNew, IsIdle, IsThere};
+    ghost use Rattle.v6_port.specs.Outside.{IsNew, IsIdle, IsThere};
     ghost use Rattle.v6_port.specs.Memory.{memory, written, IsEmpty, AddsFile, TakesRoom};
 
     /// A host with no files, no room, and no call that is to fail.
@@ -174,7 +174,8 @@ impl Host for MemHost {
 
     ghost outside = { λ host. (memory host).outside };
 
-    ghost report_is_open = { λ host. outside_of-report (memory host).outside.fixed (λ q. ((memory host).outside.port q).bytes) host.ports };
+    ghost report_is_open = { λ host. outside_of-report (memory host).outside.fixed (λ q. ((memory host).outside.port q).bytes)
+        host.ports };
 
     fn open_read(&mut self, port: InPort, name: &str) -> Result<(), Failed>
         ensures opens { OpensRead port name.now (memory self.old).outside result (memory self.new).outside }

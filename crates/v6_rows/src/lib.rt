@@ -14,6 +14,8 @@ mod chunks;
 #[cfg(test)]
 mod commands;
 #[cfg(test)]
+mod disks;
+#[cfg(test)]
 mod faults;
 #[cfg(test)]
 mod final_disk;

@@ -17,6 +17,7 @@ use Rattle.abstract_unix.specs.Unix.{System}
 use Rattle.abstract_unix.specs.declared.ends.Ends.{Ends}
 use Rattle.abstract_unix.specs.declared.ends.Ends.TheVariants as ends
 use Rattle.abstract_unix.specs.Runs.{Course, system_of, boots, started, course, run_of}
+use Rattle.unix_core.specs.State.{KernelState}
 use Rattle.v6_run.specs.declared.status.Status.{Status}
 use Rattle.v6_run.specs.declared.status.Status.TheVariants.{Done, ReadFault, WriteFault, ScriptFault, Panic, NoMemory}
 use Rattle.v6_run.specs.declared.run.RunError.{RunError}
@@ -123,12 +124,24 @@ module _ (number : ℕ) (o : Outside) where
       same : course (started booted) (events_of events) ≡ all
       same = ap (λ m. course (started m) (events_of events)) (sym (of_disk (image_fault (build_of number)) boots_is))
 
-      module _ (r : Result Summary RunError) (outcome : MatchResult r (EndsCourse number (course (started booted) (events_of events))) (StopsCourse (course (started booted) (events_of events)))) where
-        outcome_all : MatchResult r (EndsCourse number all) (StopsCourse all)
-        outcome_all = subst (λ c. MatchResult r (EndsCourse number c) (StopsCourse c)) same outcome
+      outcome_all : (r : Result Summary RunError) → MatchResult r (EndsCourse number (course (started booted) (events_of events))) (StopsCourse (course (started booted) (events_of events)))
+          → MatchResult r (EndsCourse number all) (StopsCourse all)
+      outcome_all r = subst (λ c. MatchResult r (EndsCourse number c) (StopsCourse c)) same
 
+    -- a kernel was made, or there was no memory for one
+    module _ {E : Type 0} (r : Result Summary RunError) where
+      made_outcome : (made : Result KernelState E) → IfOk made (λ kernel. boots (build_of number) None DEMO_CORE 1 ≡ Some kernel.system)
+          → MatchResult made (λ kernel. MatchResult r (EndsCourse number (course (started kernel.system) (events_of events)))
+          (StopsCourse (course (started kernel.system) (events_of events)))) (λ _. r ≡ Err run.NoMemory)
+          → MatchResult r (EndsCourse number all) (StopsCourse all)
+      made_outcome (Ok kernel) boots_is outcome = outcome_all kernel.system boots_is r outcome
+      made_outcome (Err e) boots_is outcome = subst (λ q. MatchResult q (EndsCourse number all) (StopsCourse all)) (sym outcome) tt
+
+      module _ (made : Result KernelState E) (boots_is : IfOk made (λ kernel. boots (build_of number) None DEMO_CORE 1 ≡ Some kernel.system))
+          (outcome : MatchResult made (λ kernel. MatchResult r (EndsCourse number (course (started kernel.system) (events_of events)))
+          (StopsCourse (course (started kernel.system) (events_of events)))) (λ _. r ≡ Err run.NoMemory)) where
         pub demo_answers : Answers (Demo number) (end_of run_status r) o o
-        demo_answers = outcome_so r outcome_all
+        demo_answers = outcome_so r (made_outcome made boots_is outcome)
 
         pub demo_tells : IfOk r (λ summary. run_line number (script_of demo_text) ≡ summary_line summary)
-        demo_tells = line_so r outcome_all
+        demo_tells = line_so r (made_outcome made boots_is outcome)

@@ -18,6 +18,7 @@ pub mod LogLemmas
 pub mod CauseLemmas
 pub mod AnswerLemmas
 pub mod RunLemmas
+pub mod BootedLemmas
 pub mod CheckLemmas
 pub mod CommandLemmas
 pub mod OneWay

@@ -25,15 +25,13 @@ use Rattle.fs_laws.proofs.ImageLemmas.{block_of_image}
 use Rattle.std.specs.Option.{option_map}
 use Rattle.fs_nodes.specs.Disks.{OfSecond, Between}
 use Rattle.fs_nodes.specs.FileSystem.{SameAroundEach, AllStand}
-use Rattle.v6_run.specs.declared.run.RunError.{RunError}
-use Rattle.v6_run.specs.declared.run.RunError.TheVariants as run_error
 use Rattle.v6_run.specs.Ports.{HasShown, HasShownFronts}
 use Rattle.v6_run.specs.Fronts.{HoldsFront, HoldsSome, HoldsFrontOfSome}
 use Rattle.v6_run.specs.Final.{IsFinal, disk_text, second_text}
 use Rattle.v6_run.specs.Words.{DiskFiles, Outputs, ToDisk, ToMemory}
 use Rattle.v6_run.specs.Opened.{output_ports, ports_before, AreGood}
 use Rattle.v6_run.specs.Opening.{Leaves}
-use Rattle.v6_run.specs.Outputs.{is_shown, is_other, is_left, is_disk_output, shown_text, second_writes, disk_writes, run_writes, IsLog, EndsRun, StopsRun, StopsBy}
+use Rattle.v6_run.specs.Outputs.{is_shown, is_other, is_left, is_disk_output, shown_text, second_writes, disk_writes, run_writes, IsLog, EndsRun, StopsRun}
 use Rattle.v6_port.proofs.CauseLemmas.{still_tells, calm_then, fault_then, not_line}
 use Rattle.v6_run.proofs.LinePorts.{right_true}
 use Rattle.v6_run.proofs.OpenedLemmas.{good_before}
@@ -260,13 +258,3 @@ module _ (d e : Disk) (d2 e2 : Option Disk) (same_disk : (n : ℕ) → n < DISK_
     opened = stops.opened;
     fault = stops.fault;
   }
-
-  pub stops_over_by : (outputs : Outputs) (run : Course) (error : RunError) (old new : Outside) → StopsBy outputs (run_writes outputs e e2 run) error old new
-      → StopsBy outputs (run_writes outputs d d2 run) error old new
-  stops_over_by outputs run (run_error.Write port) old new stops = stops_over outputs run port old new stops
-  stops_over_by outputs run run_error.NoMemory old new stops = stops
-  stops_over_by outputs run (run_error.Image error) old new stops = absurd stops
-  stops_over_by outputs run (run_error.Second error) old new stops = absurd stops
-  stops_over_by outputs run (run_error.Script error) old new stops = absurd stops
-  stops_over_by outputs run (run_error.Refused error) old new stops = absurd stops
-  stops_over_by outputs run (run_error.Panic kind) old new stops = absurd stops

@@ -1,21 +1,18 @@
 -- What `run` answers, exit by exit.
-use Rattle.std.proofs.Common.{◌≡◌, ◌≢◌, ℕ, Bool, true, false, ◌&&◌, Option, Some, None, IsSome, IfSome, IsSomeAnd, List, ◌∷◌, take, refl, sym, Ok, Err, IsOk, ◌∙◌, ap, subst, is_some, if◌then◌else◌, ◌||◌, lit<}
+use Rattle.std.proofs.Common.{◌≡◌, ◌≢◌, ℕ, Bool, true, false, ◌&&◌, Option, Some, None, IfSome, IsSomeAnd, List, [], ◌∷◌, ◌++◌, take, refl, sym, Ok, Err, IsOk, ◌∙◌, ap, subst, is_some, if◌then◌else◌, ◌||◌, lit<}
 use Rattle.std.specs.Option.{option_map}
 use Rattle.v6_port.specs.declared.host.InPort.TheVariants as in_port
 use Rattle.v6_port.specs.declared.host.OutPort.{OutPort}
 use Rattle.v6_port.specs.declared.host.OutPort.TheVariants as out_port
-use Rattle.v6_port.specs.Outside.{In, Out, same, is_report, PortState, Environment, Outside, Tells, OnlyAt}
+use Rattle.v6_port.specs.Outside.{Port, In, Out, same, is_report, PortState, Environment, Outside, Tells, OnlyAt}
 use Rattle.v6_port.specs.Calls.{is_given}
 use Rattle.v6_port.specs.Causes.{Calm}
 use Rattle.fs_codec.specs.Disk.{disk_of}
-use Rattle.fs_codec.specs.Faults.{image_fault, fault_within}
-use Rattle.fs_codec.specs.declared.layout.TheConstants.{DISK_BLOCKS}
-use Rattle.fs_codec.specs.declared.fault.ImageFault as codec
+use Rattle.fs_codec.specs.Faults.{image_fault}
 use Rattle.abstract_unix.specs.Unix.{System}
-use Rattle.fs_nodes.specs.Keys.{key_count}
-use Rattle.abstract_unix.specs.Runs.{Course, stores_of, system_of, is_second_bad, started, boots, course}
+use Rattle.abstract_unix.specs.Runs.{Course, system_of, is_second_bad, started, boots, course}
 use Rattle.unix_core.specs.declared.boot.SecondFault.{SecondFault}
-use Rattle.unix_core.specs.Boots.{fault_or_count, second_fault_of}
+use Rattle.unix_core.specs.Boots.{second_fault_of}
 use Rattle.v6_run.specs.declared.image.TheConstants.{IMAGE_LIMIT}
 use Rattle.v6_run.specs.declared.run.TheConstants.{SCRIPT_LIMIT}
 use Rattle.v6_run.specs.declared.status.Status.{Status}
@@ -29,8 +26,6 @@ use Rattle.v6_run.specs.declared.files.ReadError.TheVariants as reading
 use Rattle.v6_run.specs.declared.image.ImageError.{ImageError}
 use Rattle.v6_run.specs.declared.image.SecondError.{SecondError}
 use Rattle.v6_run.specs.declared.image.SecondError.TheVariants as second_error
-use Rattle.v6_run.specs.declared.run.RunError.{RunError}
-use Rattle.v6_run.specs.declared.run.RunError.TheVariants as run_error
 use Rattle.std.specs.declared.alloc.Global.{Global}
 use Rattle.std.specs.Prelude.{Vec}
 use Rattle.v6_run.specs.declared.words.Outputs as written
@@ -44,15 +39,15 @@ use Rattle.script_text.specs.declared.script.ScriptFault.TheVariants as fault
 use Rattle.script_text.specs.Script.{script_of, Refuses}
 use Rattle.v6_run.specs.Events.{events_of}
 use Rattle.v6_run.specs.Status.{is_decided, has_written}
-use Rattle.v6_run.specs.Errors.{read_status, image_status, second_status, script_status, run_status}
+use Rattle.v6_run.specs.Errors.{read_status, image_status, second_status, script_status}
 use Rattle.v6_run.specs.Fronts.{HoldsSome, HoldsFrontOfSome}
-use Rattle.v6_run.specs.Opened.{NamedPort, input, second_inputs, output_ports, has_port, ports_before, command_ports, knows_port, TellsInputs, IsGoodAt, AreGood, ports_passed}
-use Rattle.v6_run.specs.Outputs.{is_output, run_writes, EndsRun, StopsRun, StopsBy}
+use Rattle.v6_run.specs.Opened.{NamedPort, input, second_inputs, output_ports, has_port, ports_before, command_ports, knows_port, TellsInputs, IsGoodAt, AreGood, ports_passed, AreGoodAfter}
+use Rattle.v6_run.specs.Outputs.{is_output, run_writes, EndsRun, StopsRun}
 use Rattle.v6_run.specs.Causes.{IsCaused}
 use Rattle.v6_run.specs.Steps.{StopsReading, StopsImage, StopsSecond}
 use Rattle.v6_run.specs.Headline.{MaybeCompletion, Known, IsKnownAnd, ends_with, course_completion, lines_completion, bytes_completion, script_completion, fault_completion, image_completion, second_fault_completion, given_second, second_completion, command_completion, IsComplete, IsPartial, status_at, is_named, may_end, is_known}
 use Rattle.v6_run.specs.Answers.{Answers, HasSecond, HasFiles}
-use Rattle.v6_run.proofs.OpenedLemmas.{good_first, good_both, good_through, given_and}
+use Rattle.v6_run.proofs.OpenedLemmas.{good_first, good_later, given_and, with_image, with_images, with_images_before}
 use Rattle.v6_run.proofs.LinePorts.{or_false}
 use Rattle.v6_port.proofs.CauseLemmas.{still_tells, only_then, calm_then, fault_then}
 use Rattle.v6_run.proofs.CauseLemmas.{fault_known, only_within, not_input, second_unread, names_image, names_second, names_script, names_outputs, named_outputs, known_outputs, named_script, known_script, before_script, named_second, known_second, before_second, named_report}
@@ -95,19 +90,12 @@ script_done words None image second bytes is = cc
 script_done words (Some b) image second bytes is =
     let read : take SCRIPT_LIMIT b ≡ bytes = cc in ap (λ l. Known (bytes_completion words image second l)) read
 
--- a second image without a fault has none of its own
-no_second_fault : (image bytes : List ℕ) → second_fault_of image bytes ≡ None → fault_within DISK_BLOCKS bytes ≡ None
-no_second_fault image bytes = by (fault_within DISK_BLOCKS bytes)
-  where
-    by : (f : Option codec.ImageFault) → fault_or_count f (key_count (stores_of image (Some bytes))) ≡ None → f ≡ None
-    by None none = refl
-    by (Some fault) none = absurd (cc none)
-
-second_good : (image : List ℕ) (name second : Option (List ℕ)) (o : Outside) → HasSecond image name second o → Tells o → AreGood o.fixed (second_inputs name)
+second_good : (image : List ℕ) (name second : Option (List ℕ)) (o : Outside) → HasSecond image name second o → Tells o
+    → AreGoodAfter (Some image) o.fixed (second_inputs name)
 second_good image None second o has told = tt
 second_good image (Some name) None o has told = absurd has
 second_good image (Some name) (Some bytes) o has told =
-    (given_and IMAGE_LIMIT _ bytes (λ l. fault_within DISK_BLOCKS l ≡ None) (has.1 told) (no_second_fault image bytes has.0), tt)
+    (given_and IMAGE_LIMIT _ bytes (λ l. second_fault_of image l ≡ None) (has.1 told) has.0, tt)
 
 second_before : (image : List ℕ) (name second : Option (List ℕ)) (old middle : Outside) → middle.fixed ≡ old.fixed → (Tells old → Tells middle)
     → HasSecond image name second middle → HasSecond image name second old
@@ -142,9 +130,6 @@ other_stops P o name is stops = subst (λ n. IsSomeAnd n P) (sym is) stops
 module _ (words : RunWords) (image : List ℕ) (old middle new : Outside) (first : OnlyAt (same (In in_port.Image)) old middle) (calm : Calm old middle)
     (good : image_fault image ≡ None) (image_is : Tells old → option_map (take IMAGE_LIMIT) (old.fixed.given words.image) ≡ Some image)
     (second : OnlyAt (has_port (second_inputs (second_image words.outputs))) middle new) where
-  image_good : Tells old → IsGoodAt old.fixed words.image (In in_port.Image)
-  image_good told = given_and IMAGE_LIMIT _ image (λ l. image_fault l ≡ None) (image_is told) good
-
   only_both : OnlyAt (is_named (Run words)) old new
   only_both = only_then _ _ _ _ (only_within _ _ _ _ (names_image words) first) (only_within _ _ _ _ (names_second words) second)
 
@@ -154,7 +139,8 @@ module _ (words : RunWords) (image : List ℕ) (old middle new : Outside) (first
   -- the second one could not be read, or something is wrong with it
   module _ (name : List ℕ) (is : second_image words.outputs ≡ Some name) where
     order : Tells old → AreGood old.fixed (ports_before (command_ports (Run words)) (In in_port.Second))
-    order told = subst (AreGood old.fixed) (sym (before_second words name is)) (image_good told, tt)
+    order told = subst (AreGood old.fixed) (sym (before_second words name is))
+        (with_image old.fixed words.image image None (image_is told) good [] tt)
 
     faulty_is : (fault : SecondFault) → IsSomeAnd (old.fixed.given name) (λ bytes. second_fault_of image (take IMAGE_LIMIT bytes) ≡ Some fault) → Tells old
         → command_completion (Run words) old.fixed ≡ Known (ends_with (status.SecondFault fault))
@@ -217,7 +203,9 @@ module _ (words : RunWords) (image : List ℕ) (old middle new : Outside) (first
         let known : is_known (Some (Run words)) old.fixed (In in_port.Script) ≡ is_given (new.fixed.given words.script) =
         known_script words old.fixed ∙ ap (λ (f : Environment). is_given (f.given words.script)) (sym fixed_so) in
         unwritten (Run words) (ReadFault in_port.Script) old last only_all (named_script words) refl none_last
-        (λ told. subst (AreGood old.fixed) (sym (before_script words)) (image_good told, second_good image (second_image words.outputs) bytes_second old has_old told))
+        (λ told. subst (AreGood old.fixed) (sym (before_script words))
+        (with_image old.fixed words.image image None (image_is told) good (second_inputs (second_image words.outputs))
+        (second_good image (second_image words.outputs) bytes_second old has_old told)))
         (λ decided. not_so _ decided)
         (fault_known (In in_port.Script) _ _ old last known (fault_then (In in_port.Script) _ old new last fixed_so both_calm stops))
     script_unread reading.NoMemory stops =
@@ -248,9 +236,10 @@ second_read image None second o has = ap is_some has
 second_read image (Some name) None o has = absurd has
 second_read image (Some name) (Some bytes) o has = refl
 
-pub value_there : (second : Option (Vec ℕ Global)) → IsSome second → is_some (bytes_value second) ≡ true
-value_there None some = some
-value_there (Some bytes) some = refl
+-- whether there is one
+pub read_there : (second : Option (Vec ℕ Global)) → is_some (bytes_value second) ≡ is_some second
+read_there None = refl
+read_there (Some bytes) = refl
 
 pub some_mapped : {X Y : Type 0} (f : X → Y) (o : Option X) → is_some (option_map f o) ≡ is_some o
 some_mapped f None = refl
@@ -284,14 +273,23 @@ module _ (words : RunWords) (image : List ℕ) (second : Option (List ℕ)) (byt
       ∙ second_done image (second_image words.outputs) second old (script_completion words (old.fixed.given words.script) image) files.second told
       ∙ script_done words (old.fixed.given words.script) image second bytes (files.script_is told)
 
-  images_good : Tells old → AreGood old.fixed (input in_port.Image words.image ∷ second_inputs (second_image words.outputs))
-  images_good told = (
-    given_and IMAGE_LIMIT _ image (λ l. image_fault l ≡ None) (files.image_is told) files.good,
-    second_good image (second_image words.outputs) second old files.second told,
-  )
+  other_good : Tells old → AreGoodAfter (Some image) old.fixed (second_inputs (second_image words.outputs))
+  other_good told = second_good image (second_image words.outputs) second old files.second told
 
   before_good : Tells old → AreGood old.fixed (ports_before (command_ports (Run words)) (In in_port.Script))
-  before_good told = subst (AreGood old.fixed) (sym (before_script words)) (images_good told)
+  before_good told = subst (AreGood old.fixed) (sym (before_script words))
+      (with_image old.fixed words.image image None (files.image_is told) files.good (second_inputs (second_image words.outputs)) (other_good told))
+
+  -- the images are good, and so is what is opened after them, or a front of it
+  past_images : (ports : List NamedPort) → Tells old → AreGoodAfter (Some image) old.fixed ports
+      → AreGood old.fixed (input in_port.Image words.image ∷ second_inputs (second_image words.outputs) ++ ports)
+  past_images ports told good =
+      with_images old.fixed words.image image (second_image words.outputs) (files.image_is told) files.good (other_good told) ports good
+
+  past_images_before : (ports : List NamedPort) (q : Port) → Tells old → AreGoodAfter (Some image) old.fixed (ports_before ports q)
+      → AreGood old.fixed (ports_before (input in_port.Image words.image ∷ second_inputs (second_image words.outputs) ++ ports) q)
+  past_images_before ports q told good =
+      with_images_before old.fixed words.image image (second_image words.outputs) (files.image_is told) files.good (other_good told) ports q good
 
   -- the texts that the run may write
   abbrev writes : Course → OutPort → List ℕ → Type 0
@@ -337,12 +335,13 @@ module _ (words : RunWords) (image : List ℕ) (second : Option (List ℕ)) (byt
     pub boot_refused : Answers (Run words) NoMemory old middle
     boot_refused = before_run NoMemory refl refl (λ told. tt) (λ decided. not_so _ decided) files.calm
 
-    script_good : Tells old → IsGoodAt old.fixed words.script (In in_port.Script)
+    script_good : Tells old → IsGoodAt (Some image) old.fixed words.script (In in_port.Script)
     script_good told = given_and SCRIPT_LIMIT _ bytes (λ l. IsOk (script_of l)) (files.script_is told) (subst IsOk (sym script_is) refl)
 
     -- and so are the outputs, as far as those are
-    with_inputs : (outputs : List NamedPort) → (Tells middle → AreGood middle.fixed outputs) → Tells old → AreGood old.fixed outputs
-    with_inputs outputs good told = subst (λ f. AreGood f outputs) files.only.fixed (good (still_tells _ _ _ files.only told))
+    with_inputs : (outputs : List NamedPort) → (Tells middle → AreGood middle.fixed outputs) → Tells old → AreGoodAfter (Some image) old.fixed outputs
+    with_inputs outputs good told =
+        good_later old.fixed (Some image) outputs (subst (λ f. AreGood f outputs) files.only.fixed (good (still_tells _ _ _ files.only told)))
 
     -- the run, with its files
     module _ (system : System) (boots_is : boots image second words.core lines ≡ Some system) (new : Outside) (only : OnlyAt (is_output words.outputs) middle new) where
@@ -364,12 +363,8 @@ module _ (words : RunWords) (image : List ℕ) (second : Option (List ℕ)) (byt
       })
 
       all_good : (ended : Ends) → EndsRun words.outputs (writes run) run ended middle new → Tells old → AreGood old.fixed (command_ports (Run words))
-      all_good ended all told =
-          let images = images_good told in (
-            images.0,
-            good_both old.fixed (second_inputs (second_image words.outputs)) _ images.1
-                (script_good told, with_inputs (output_ports words.outputs) all.order told),
-          )
+      all_good ended all told = past_images (input in_port.Script words.script ∷ output_ports words.outputs) told
+          (script_good told, with_inputs (output_ports words.outputs) all.order told)
 
       pub run_ended : (ended : Ends) → EndsRun words.outputs (writes run) run ended middle new → Answers (Run words) (status_at ended) old new
       run_ended AtEnd ended = record {
@@ -419,27 +414,12 @@ module _ (words : RunWords) (image : List ℕ) (second : Option (List ℕ)) (byt
               unreported = not_report words.outputs port stops.named;
               complete = λ decided. not_so _ decided;
               partial = λ p is told. let same_port : port ≡ p = cc in subst (λ q. IsKnownAnd (command_completion (Run words) old.fixed) (IsPartial q old new)) same_port (run_partial (told refl));
-              order = λ told. good_through old.fixed (input in_port.Image words.image ∷ second_inputs (second_image words.outputs)) (input in_port.Script words.script ∷ output_ports words.outputs)
-                  (Out port) (images_good told) (good_first old.fixed (input in_port.Script words.script) (output_ports words.outputs) (Out port) (script_good told)
+              order = λ told. past_images_before (input in_port.Script words.script ∷ output_ports words.outputs) (Out port) told
+                  (good_first old.fixed (Some image) (input in_port.Script words.script) (output_ports words.outputs) (Out port) (script_good told)
                   (with_inputs (ports_before (output_ports words.outputs) (Out port)) stops.order told));
-              opened = λ told p grew.
-                  let images = images_good told in (
-                    images.0,
-                    good_both old.fixed (second_inputs (second_image words.outputs)) _ images.1
-                        (script_good told, with_inputs (output_ports words.outputs) (λ so. stops.opened so p (grown p grew)) told),
-                  );
+              opened = λ told p grew. past_images (input in_port.Script words.script ∷ output_ports words.outputs) told
+                  (script_good told, with_inputs (output_ports words.outputs) (λ so. stops.opened so p (grown p grew)) told);
               none = λ before. not_so _ (sym before);
               closed = λ is. absurd (cc);
               cause = fault_known (Out port) _ _ old new known (fault_then _ _ old middle new files.only.fixed files.calm stops.fault);
             }
-
-      -- it stops for want of memory, or at one of its files
-      pub run_stopped_by : (error : RunError) → StopsBy words.outputs (writes run) error middle new
-          → Answers (Run words) (run_status error) old new
-      run_stopped_by (run_error.Write port) stops = run_stopped port stops
-      run_stopped_by run_error.NoMemory stops = subst (λ o. Answers (Run words) NoMemory old o) (sym stops) boot_refused
-      run_stopped_by (run_error.Image e) stops = absurd stops
-      run_stopped_by (run_error.Second e) stops = absurd stops
-      run_stopped_by (run_error.Script e) stops = absurd stops
-      run_stopped_by (run_error.Refused e) stops = absurd stops
-      run_stopped_by (run_error.Panic kind) stops = absurd stops

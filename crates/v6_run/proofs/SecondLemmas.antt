@@ -1,5 +1,5 @@
 -- The text of a second disk reads as its blocks, and is written block by block.
-use Rattle.std.proofs.Common.{◌≡◌, ◌+◌, ◌-◌, ◌*◌, ◌<◌, ◌≤◌, ℕ, Option, Some, None, IfSome, IsSome, List, [], ◌++◌, length, slice_index, refl, sym, ap, ◌∙◌, subst, append_assoc, arith}
+use Rattle.std.proofs.Common.{◌≡◌, ◌+◌, ◌-◌, ◌*◌, ◌<◌, ◌≤◌, ℕ, Option, Some, None, IsSomeAnd, IsSome, List, [], ◌++◌, length, slice_index, refl, sym, ap, ◌∙◌, subst, append_assoc, arith}
 use Rattle.std.specs.List.{flat_map, range_with_len}
 use Rattle.std.specs.Option.{option_map}
 use Rattle.fs_codec.specs.Disk.{Disk, disk_of, head}
@@ -140,15 +140,15 @@ pub no_second : (stored : Option (List (List ℕ))) (old : List ℕ) → IsSome 
 no_second None old some = absurd (cc)
 no_second (Some blocks) old some = no_blocks blocks old
 
-pub second_more : (stored : Option (List (List ℕ))) (old now new piece : List ℕ) (n : ℕ) → IsSome stored → now ≡ old ++ second_so_far stored n
-    → IfSome stored (λ blocks. piece ≡ block_at blocks n) → new ≡ now ++ piece → new ≡ old ++ second_so_far stored (n + 1)
-second_more None old now new piece n some was is more = absurd (cc)
-second_more (Some blocks) old now new piece n some was is more = bytes_more blocks old now new piece n was is more
+pub second_more : (stored : Option (List (List ℕ))) (old now new piece : List ℕ) (n : ℕ) → now ≡ old ++ second_so_far stored n
+    → IsSomeAnd stored (λ blocks. piece ≡ block_at blocks n) → new ≡ now ++ piece → new ≡ old ++ second_so_far stored (n + 1)
+second_more None old now new piece n was is more = absurd is
+second_more (Some blocks) old now new piece n was is more = bytes_more blocks old now new piece n was is more
 
-pub second_front : (stored : Option (List (List ℕ))) (old now new piece : List ℕ) (n : ℕ) → IsSome stored → n < DISK_BLOCKS → now ≡ old ++ second_so_far stored n
-    → IfSome stored (λ blocks. piece ≡ block_at blocks n) → HoldsFront now piece new → HoldsFront old (second_text stored) new
-second_front None old now new piece n some low was is front = absurd (cc)
-second_front (Some blocks) old now new piece n some low was is front =
+pub second_front : (stored : Option (List (List ℕ))) (old now new piece : List ℕ) (n : ℕ) → n < DISK_BLOCKS → now ≡ old ++ second_so_far stored n
+    → IsSomeAnd stored (λ blocks. piece ≡ block_at blocks n) → HoldsFront now piece new → HoldsFront old (second_text stored) new
+second_front None old now new piece n low was is front = absurd is
+second_front (Some blocks) old now new piece n low was is front =
     whole_front blocks old now new n low was (subst (λ l. HoldsFront now l new) is front)
 
 pub second_all : (stored : Option (List (List ℕ))) (n : ℕ) → IsSome stored → DISK_BLOCKS ≤ n → n ≤ DISK_BLOCKS → second_so_far stored n ≡ second_text stored

@@ -16,6 +16,7 @@ pub mod Opening
 pub mod Logs
 pub mod Audit
 pub mod Outputs
+pub mod Booted
 pub mod Headline
 pub mod Demo
 pub mod Answers

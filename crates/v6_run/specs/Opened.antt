@@ -1,14 +1,15 @@
 -- The files that a command opens, in the order of docs/manual/commands.md, and what lets it go on after each.
 use Rattle.std.specs.Prelude.{◌≡◌, ⊤, ℕ, zero, suc, ◌-◌, Bool, true, false, ◌||◌, if◌then◌else◌, Option, Some, None, IsSomeAnd, IsOk, List, [], ◌∷◌, ◌++◌, map, take, codes, decimal}
 use Rattle.std.specs.List.{range_with_len}
+use Rattle.std.specs.Option.{option_map}
 use Rattle.v6_port.specs.declared.host.InPort.{InPort}
 use Rattle.v6_port.specs.declared.host.InPort.TheVariants as in_port
 use Rattle.v6_port.specs.declared.host.OutPort.{OutPort}
 use Rattle.v6_port.specs.declared.host.OutPort.TheVariants as out_port
 use Rattle.v6_port.specs.Outside.{Port, In, Out, same, Environment, Outside, Tells}
 use Rattle.v6_port.specs.Calls.{is_given, is_expected}
-use Rattle.fs_codec.specs.Faults.{image_fault, fault_within}
-use Rattle.fs_codec.specs.declared.layout.TheConstants.{DISK_BLOCKS}
+use Rattle.fs_codec.specs.Faults.{image_fault}
+use Rattle.unix_core.specs.Boots.{second_fault_of}
 use Rattle.script_text.specs.Script.{script_of}
 use Rattle.v6_run.specs.declared.image.TheConstants.{IMAGE_LIMIT}
 use Rattle.v6_run.specs.declared.run.TheConstants.{SCRIPT_LIMIT}
@@ -110,17 +111,29 @@ abbrev pub knows_port : List NamedPort → Environment → Port → Bool
 knows_port [] fixed q = true
 knows_port (p ∷ ports) fixed q = if same p.port q then knows_name fixed p.name p.port else knows_port ports fixed q
 
--- What lets a command go on: an image is given and has no fault, nor has a second one, nor a script, and an output is expected under its name.
-abbrev pub IsGoodAt : Environment → List ℕ → Port → Type 0
-IsGoodAt fixed name (In in_port.Image) = IsSomeAnd (fixed.given name) (λ bytes. image_fault (take IMAGE_LIMIT bytes) ≡ None)
-IsGoodAt fixed name (In in_port.Script) = IsSomeAnd (fixed.given name) (λ bytes. IsOk (script_of (take SCRIPT_LIMIT bytes)))
-IsGoodAt fixed name (In in_port.Second) =
-    IsSomeAnd (fixed.given name) (λ bytes. fault_within DISK_BLOCKS (take IMAGE_LIMIT bytes) ≡ None)
-IsGoodAt fixed name q = knows_name fixed name q ≡ true
+-- What lets a command go on: an image is given and has no fault, nothing is wrong with a second one beside the first, which was
+-- read before it, a script has no fault, and an output is expected under its name.
+abbrev pub IsGoodAt : Option (List ℕ) → Environment → List ℕ → Port → Type 0
+IsGoodAt first fixed name (In in_port.Image) =
+    IsSomeAnd (fixed.given name) (λ bytes. image_fault (take IMAGE_LIMIT bytes) ≡ None)
+IsGoodAt first fixed name (In in_port.Script) =
+    IsSomeAnd (fixed.given name) (λ bytes. IsOk (script_of (take SCRIPT_LIMIT bytes)))
+IsGoodAt first fixed name (In in_port.Second) = IsSomeAnd first (λ image.
+    IsSomeAnd (fixed.given name) (λ bytes. second_fault_of image (take IMAGE_LIMIT bytes) ≡ None))
+IsGoodAt first fixed name q = knows_name fixed name q ≡ true
+
+-- the bytes of the first image, once it has been read
+abbrev pub image_read : Environment → Option (List ℕ) → List ℕ → Port → Option (List ℕ)
+image_read fixed first name (In in_port.Image) = option_map (take IMAGE_LIMIT) (fixed.given name)
+image_read fixed first name q = first
+
+abbrev pub AreGoodAfter : Option (List ℕ) → Environment → List NamedPort → Type 0
+AreGoodAfter first fixed [] = ⊤
+AreGoodAfter first fixed (p ∷ ports) =
+    IsGoodAt first fixed p.name p.port × AreGoodAfter (image_read fixed first p.name p.port) fixed ports
 
 abbrev pub AreGood : Environment → List NamedPort → Type 0
-AreGood fixed [] = ⊤
-AreGood fixed (p ∷ ports) = IsGoodAt fixed p.name p.port × AreGood fixed ports
+AreGood fixed ports = AreGoodAfter None fixed ports
 
 -- the ports that a command which ends so has come past
 abbrev pub ports_passed : Status → List NamedPort → List NamedPort

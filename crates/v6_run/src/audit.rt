@@ -155,6 +155,7 @@ fn read_log<H: Host>(host: &mut H) -> Result<u64, LogError>
 }
 
 /// The command `audit`: how many lines the lawful log of this name has.
+#[inline(never)]
 pub(crate) fn audit<H: Host>(name: &str, host: &mut H) -> Result<u64, LogError>
     ensures answers { Answers (words.Audit name.now) (end_of log_status result) (H.outside host.old) (H.outside host.new) }
     ensures line { IfOk result (λ lines. Tells (H.outside host.old)

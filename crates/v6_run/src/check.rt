@@ -13,6 +13,7 @@ use std::alloc::Global;
 use v6_port::Host;
 
 /// The command `check`: what the image of this name holds.
+#[inline(never)]
 pub(crate) fn check<H: Host>(alloc: Global, name: &str, host: &mut H) -> Result<Tally, ImageError>
     ensures answers { Answers (Check name.now) (end_of image_status result) (H.outside host.old) (H.outside host.new) }
     ensures line { IfOk result (λ tally. Tells (H.outside host.old)

@@ -33,7 +33,7 @@ use fs_codec::{BLOCK_SIZE, SWAP_START};
 use make_image::{build, demo_script};
 use script_text::{Event, Script, read};
 use std::alloc::Global;
-use unix_core::{Ends, Kernel};
+use unix_core::{BootFault, Ends, Kernel};
 use v6_port::Host;
 
 /// The clicks of core: the processes of the demo don't all fit.
@@ -143,6 +143,31 @@ fn run_counted<H: Host>(
     }
 }
 
+/// Takes a kernel through a script, where one was made, and sums up. The kernel stays where it is handed over.
+#[inline(never)]
+fn run_made<H: Host>(
+    mut made: Result<Kernel, BootFault>,
+    number: u32,
+    events: &[Event],
+    image: &mut [u8],
+    host: &mut H,
+) -> Result<Summary, RunError>
+    requires new { IfOk made (λ kernel. kernel.phase ≡ New) }
+    requires root { IfOk made (λ kernel. (head (block_at kernel.blocks.root)).f_size ≤ SWAP_START) }
+    requires long { length image.old ≡ 512 * SWAP_START }
+    requires can { IfOk made (λ kernel. CanTake kernel.system events.now) }
+    ensures outside { H.outside host.new ≡ H.outside host.old }
+    ensures outcome { MatchResult made
+        (λ kernel. MatchResult result (EndsCourse number (course (started kernel.system) (events_of events.now)))
+        (StopsCourse (course (started kernel.system) (events_of events.now))))
+        (λ _. result ≡ Err RunError.NoMemory) }
+{
+    match &mut made {
+        Ok(kernel) => run_counted(kernel, number, events, image, host),
+        Err(_) => Err(RunError::NoMemory),
+    }
+}
+
 /// The disk of a number.
 fn demo_disk(alloc: Global, number: u32) -> Result<Vec<u8>, RunError>
     ensures bytes { IfOk result (λ image. image.items ≡ build_of number) }
@@ -175,13 +200,20 @@ fn demo_events(alloc: Global) -> Result<Script, RunError>
     }
 }
 
-/// The command `demo`: takes the disk of this number through the script of the demo.
+/// The command `demo`: takes the disk of this number through the script of the demo. It stands out of line, since a kernel lies
+/// in its frame.
+#[inline(never)]
 pub(crate) fn demo<H: Host>(alloc: Global, number: u32, host: &mut H) -> Result<Summary, RunError>
     ensures answers { Answers (Demo number) (end_of run_status result) (H.outside host.old) (H.outside host.new) }
     ensures line { IfOk result (λ summary. run_line number (script_of demo_text) ≡ summary_line summary) }
 {
     let mut image = demo_disk(alloc, number)?;
     let script = demo_events(alloc)?;
-    let mut kernel = boot(alloc, &image, DEMO_CORE, Lines::One)?;
-    run_counted(&mut kernel, number, &script.events, &mut image, host)
+    run_made(
+        boot(alloc, &image, DEMO_CORE, Lines::One),
+        number,
+        &script.events,
+        &mut image,
+        host,
+    )
 }

@@ -21,6 +21,7 @@ pub(crate) enum MakeError {
 }
 
 /// The command `make`: writes the disk image of this number as the file of this name.
+#[inline(never)]
 pub(crate) fn make<H: Host>(
     alloc: Global,
     number: u32,

@@ -1,6 +1,5 @@
 //! What a run shows, written to the ports of a host.
 ghost use Rattle.std.specs.Prelude.{◌≡◌, ℕ, true, false, ◌++◌, ◌∷◌, [], ◌<◌, ◌≤◌, drop, length, IfSome, OnOk, OnErr, MatchResult};
-ghost use Rattle.v6_base.specs.LogLine.{entry_line};
 ghost use Rattle.v6_port.specs.Outside.{Out, IsOpen, IsThere, OnlyAt, Tells, same};
 ghost use Rattle.v6_port.specs.Causes.{Calm, FaultAt};
 ghost use Rattle.v6_port.specs.declared.host.OutPort.TheVariants.{Log};
@@ -56,7 +55,7 @@ pub(crate) struct Ports<'a, H: Host> {
 }
 
 impl<'a, H: Host> Ports<'a, H> {
-    ghost use Rattle.std.specs.Prelude.{◌∷◌, []};
+    ghost use Rattle.std.specs.Prelude.{[]};
     ghost use Rattle.v6_run.specs.declared.ports.Kept.TheVariants.{Nothing, Unwanted, Screen};
 
     /// A trace over so many lines of which nothing is taken yet.

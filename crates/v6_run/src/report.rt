@@ -209,6 +209,7 @@ fn write_line<H: Host>(host: &mut H, line: &Line) -> Result<(), Failed>
 
 /// Reports what a command came to: its status, or what it has found where it was done. Where the status can't be written, it
 /// stays; where the command was done and its finding can't be written, that is the fault.
+#[inline(never)]
 pub(crate) fn report<H: Host>(answer: Result<Option<Found>, CommandError>, host: &mut H) -> Status
     requires { (report (H.outside host.old)).faults < 2 ^ 64 - 1 }
     ensures { Reports answer result (H.outside host.old) (H.outside host.new) }

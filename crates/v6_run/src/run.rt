@@ -1,5 +1,5 @@
 //! The commands `run`, `run8`, `run2` and `memory`: a run, and what it leaves.
-ghost use Rattle.std.specs.Prelude.{◌≡◌, ℕ, ◌<◌, ◌≤◌, ◌^◌, length, map, true, false, is_some, None, Some, IsSome, IsSomeAnd, IfSome, IfOk, OnOk, IfErr, MatchResult, ◌++◌};
+ghost use Rattle.std.specs.Prelude.{◌≡◌, ℕ, ◌<◌, ◌≤◌, ◌^◌, length, map, sum_by, true, false, is_some, None, Some, IsSomeAnd, IfSome, IfOk, OnOk, IfErr, MatchResult, ◌++◌};
 ghost use Rattle.std.specs.Option.{option_map};
 ghost use Rattle.v6_port.specs.Outside.{Out, IsOpen, OnlyAt, Tells, same};
 ghost use Rattle.v6_port.specs.declared.host.OutPort.{OutPort};
@@ -12,8 +12,9 @@ ghost use Rattle.buf_cache.specs.Blocks.{block_at};
 ghost use Rattle.abstract_unix.specs.Unix.{New};
 ghost use Rattle.abstract_unix.specs.Endings.{phase_after};
 ghost use Rattle.abstract_unix.specs.Runs.{boots, started, course, shown_by};
-ghost use Rattle.unix_core.specs.Boots.{RefusesBoot, blocks_on, second_fault_of};
+ghost use Rattle.unix_core.specs.Boots.{blocks_on, second_fault_of};
 ghost use Rattle.unix_core.specs.State.{KeepsRest};
+ghost use Rattle.script_text.specs.Script.{slots_of, AreRates};
 ghost use Rattle.v6_run.specs.Courses.{CanTake};
 ghost use Rattle.v6_run.specs.Words.{Run, ToDisk, lines_value, disk_files_value, run_words_value, second_files, second_image, bytes_value};
 ghost use Rattle.v6_run.specs.Opened.{line_port, second_inputs, output_ports, has_port};
@@ -23,6 +24,7 @@ ghost use Rattle.v6_run.specs.Ports.{HasShown, HasShownFronts};
 ghost use Rattle.v6_run.specs.Errors.{end_of, run_status};
 ghost use Rattle.v6_run.specs.Outputs.{is_shown, is_disk_output, is_output, disk_writes, run_writes, HasLawfulLogs, EndsRun, StopsRun, StopsBy};
 ghost use Rattle.v6_run.specs.Answers.{Answers, HasSecond, HasFiles};
+ghost use Rattle.v6_run.specs.Booted.{EndsOrStops, EndsFrom, FailsFrom};
 ghost use Rattle.v6_run.specs.Steps.{StopsSecond};
 
 use crate::files::{ReadError, read_file};
@@ -112,23 +114,14 @@ fn see_bytes(bytes: &[u8])
     let _ = bytes;
 }
 
-/// The kernel for an image, so many clicks of core and so many terminal lines, or what hinders it.
-fn kernel_with(alloc: Global, image: &[u8], core: u16, lines: Lines) -> Result<Kernel, BootFault>
-    requires least { 64 ≤ core }
-    requires most { core ≤ 3968 }
-    ensures system { IfOk result (λ kernel. boots image.now None core (lines_value lines) ≡ Some kernel.system) }
-    ensures blocks { IfOk result (λ kernel. kernel.blocks ≡ blocks_on image.now None) }
-    ensures phase { IfOk result (λ kernel. kernel.phase ≡ New) }
-    ensures refused { IfErr result (RefusesBoot image.now) }
-{
-    match lines {
-        Lines::One => Kernel::boot(alloc, image, core),
-        Lines::Eight => Kernel::boot8(alloc, image, core),
-    }
-}
-
-/// The kernel for an image, so many clicks of core and so many terminal lines. Each of its runs has a lawful log.
-pub(crate) fn boot(alloc: Global, image: &[u8], core: u32, lines: Lines) -> Result<Kernel, RunError>
+/// The kernel for an image, so many clicks of core and so many terminal lines. Each of its runs has a lawful log. The fault is that
+/// of the kernel's own boot, here and in `boot2`: to change it would move the kernel, which would stand on the stack twice.
+pub(crate) fn boot(
+    alloc: Global,
+    image: &[u8],
+    core: u32,
+    lines: Lines,
+) -> Result<Kernel, BootFault>
     requires least { 64 ≤ core }
     requires most { core ≤ 3968 }
     requires good { image_fault image.now ≡ None }
@@ -136,18 +129,14 @@ pub(crate) fn boot(alloc: Global, image: &[u8], core: u32, lines: Lines) -> Resu
     ensures blocks { IfOk result (λ kernel. kernel.blocks ≡ blocks_on image.now None) }
     ensures phase { IfOk result (λ kernel. kernel.phase ≡ New) }
     ensures lawful { IfOk result (λ kernel. HasLawfulLogs kernel.system) }
-    ensures memory { IfErr result (λ error. error ≡ RunError.NoMemory) }
+    ensures memory { IfErr result (λ fault. fault ≡ BootFault.NoMemory) }
 {
     see_bytes(image);
-    match kernel_with(alloc, image, core as u16, lines) {
-        Ok(kernel) => Ok(kernel),
-        Err(BootFault::Image(_)) => unreachable!(),
-        Err(BootFault::NoMemory) => Err(RunError::NoMemory),
-    }
+    Kernel::boot_with(alloc, image, core as u16, lines.count())
 }
 
 /// The kernel for two images and so many clicks of core. Each of its runs has a lawful log.
-fn boot2(alloc: Global, image: &[u8], second: &[u8], core: u32) -> Result<Kernel, RunError>
+fn boot2(alloc: Global, image: &[u8], second: &[u8], core: u32) -> Result<Kernel, Boot2Fault>
     requires least { 64 ≤ core }
     requires most { core ≤ 3968 }
     requires good { image_fault image.now ≡ None }
@@ -156,35 +145,10 @@ fn boot2(alloc: Global, image: &[u8], second: &[u8], core: u32) -> Result<Kernel
     ensures blocks { IfOk result (λ kernel. kernel.blocks ≡ blocks_on image.now (Some second.now)) }
     ensures phase { IfOk result (λ kernel. kernel.phase ≡ New) }
     ensures lawful { IfOk result (λ kernel. HasLawfulLogs kernel.system) }
-    ensures memory { IfErr result (λ error. error ≡ RunError.NoMemory) }
+    ensures memory { IfErr result (λ fault. fault ≡ Boot2Fault.NoMemory) }
 {
     see_bytes(image);
-    match Kernel::boot2(alloc, image, second, core as u16) {
-        Ok(kernel) => Ok(kernel),
-        Err(Boot2Fault::Image(_)) => unreachable!(),
-        Err(Boot2Fault::Second(_)) => unreachable!(),
-        Err(Boot2Fault::NoMemory) => Err(RunError::NoMemory),
-    }
-}
-
-/// The kernel for the images that were read. With a second one there is one terminal line.
-fn boot_files(alloc: Global, files: &Files, core: u32, lines: Lines) -> Result<Kernel, RunError>
-    requires least { 64 ≤ core }
-    requires most { core ≤ 3968 }
-    requires good { image_fault files.now.image.items ≡ None }
-    requires second { IfSome files.now.second (λ second. second_fault_of files.now.image.items second.items ≡ None) }
-    requires one { IsSome files.now.second → lines_value lines ≡ 1 }
-    ensures system { IfOk result (λ kernel. boots files.now.image.items (bytes_value files.now.second) core (lines_value lines)
-        ≡ Some kernel.system) }
-    ensures blocks { IfOk result (λ kernel. kernel.blocks ≡ blocks_on files.now.image.items (bytes_value files.now.second)) }
-    ensures phase { IfOk result (λ kernel. kernel.phase ≡ New) }
-    ensures lawful { IfOk result (λ kernel. HasLawfulLogs kernel.system) }
-    ensures memory { IfErr result (λ error. error ≡ RunError.NoMemory) }
-{
-    match &files.second {
-        Some(second) => boot2(alloc, &files.image, second, core),
-        None => boot(alloc, &files.image, core, lines),
-    }
+    Kernel::boot2(alloc, image, second, core as u16)
 }
 
 /// Runs the kernel over the events of a script, with the files of so many lines and the log open, and tells how the run ends.
@@ -383,7 +347,125 @@ fn read_files<H: Host>(alloc: Global, words: &RunWords<'_>, host: &mut H) -> Res
     })
 }
 
+/// Runs a kernel, where one was made, with the files opened that the words name, and tells how the run ends. The kernel stays where
+/// it is handed over, in the frame of who calls this, and isn't moved again.
+#[inline(never)]
+fn run_made<H: Host, E: Drop>(
+    alloc: Global,
+    mut made: Result<Kernel, E>,
+    events: &[Event],
+    words: &RunWords<'_>,
+    host: &mut H,
+) -> Result<Ends, RunError>
+    requires root { IfOk made (λ kernel. (head (block_at kernel.blocks.root)).f_size ≤ SWAP_START) }
+    requires second { IfOk made (λ kernel.
+        is_some kernel.blocks.second ≡ is_some (second_files (run_words_value words.now).outputs)) }
+    requires new { IfOk made (λ kernel. kernel.phase ≡ New) }
+    requires lawful { IfOk made (λ kernel. HasLawfulLogs kernel.system) }
+    requires can { IfOk made (λ kernel. CanTake kernel.system events.now) }
+    requires closed { (p : OutPort) → is_output (run_words_value words.now).outputs (Out p) ≡ true
+        → ((H.outside host.old).port (Out p)).is_open ≡ false }
+    ensures only { OnlyAt (is_output (run_words_value words.now).outputs) (H.outside host.old) (H.outside host.new) }
+    ensures outcome { MatchResult made
+        (λ kernel. EndsOrStops (run_words_value words.now) kernel events.now result (H.outside host.old) (H.outside host.new))
+        (λ _. (result ≡ Err RunError.NoMemory) × (H.outside host.new ≡ H.outside host.old)) }
+{
+    match &mut made {
+        Ok(kernel) => run_with_outputs(alloc, kernel, events, words, host),
+        Err(_) => Err(RunError::NoMemory),
+    }
+}
+
+/// Runs the kernel of one image with the files opened that the words name, and tells how the run ends. It stands out of line, as
+/// the next does: the kernel lies in its frame, and in no other.
+#[inline(never)]
+fn run_on_one<H: Host>(
+    alloc: Global,
+    image: &[u8],
+    events: &[Event],
+    words: &RunWords<'_>,
+    host: &mut H,
+) -> Result<Ends, RunError>
+    requires least { 64 ≤ words.now.core }
+    requires most { words.now.core ≤ 3968 }
+    requires good { image_fault image.now ≡ None }
+    requires one { is_some (second_files (run_words_value words.now).outputs) ≡ false }
+    requires closed { (p : OutPort) → is_output (run_words_value words.now).outputs (Out p) ≡ true
+        → ((H.outside host.old).port (Out p)).is_open ≡ false }
+    requires slots { sum_by slots_of events.now ≤ 200000000 }
+    requires rates { AreRates events.now }
+    ensures only { OnlyAt (is_output (run_words_value words.now).outputs) (H.outside host.old) (H.outside host.new) }
+    ensures outcome { MatchResult result
+        (λ ends. EndsFrom image.now None (run_words_value words.now) events.now ends
+        (H.outside host.old) (H.outside host.new))
+        (λ error. FailsFrom image.now None (run_words_value words.now) events.now error
+        (H.outside host.old) (H.outside host.new)) }
+{
+    let lines = words.outputs.lines();
+    run_made(alloc, boot(alloc, image, words.core, lines), events, words, host)
+}
+
+/// The same with the kernel of two images.
+#[inline(never)]
+fn run_on_two<H: Host>(
+    alloc: Global,
+    image: &[u8],
+    second: &[u8],
+    events: &[Event],
+    words: &RunWords<'_>,
+    host: &mut H,
+) -> Result<Ends, RunError>
+    requires least { 64 ≤ words.now.core }
+    requires most { words.now.core ≤ 3968 }
+    requires good { image_fault image.now ≡ None }
+    requires second { second_fault_of image.now second.now ≡ None }
+    requires two { is_some (second_files (run_words_value words.now).outputs) ≡ true }
+    requires closed { (p : OutPort) → is_output (run_words_value words.now).outputs (Out p) ≡ true
+        → ((H.outside host.old).port (Out p)).is_open ≡ false }
+    requires slots { sum_by slots_of events.now ≤ 200000000 }
+    requires rates { AreRates events.now }
+    ensures only { OnlyAt (is_output (run_words_value words.now).outputs) (H.outside host.old) (H.outside host.new) }
+    ensures outcome { MatchResult result
+        (λ ends. EndsFrom image.now (Some second.now) (run_words_value words.now) events.now ends
+        (H.outside host.old) (H.outside host.new))
+        (λ error. FailsFrom image.now (Some second.now) (run_words_value words.now) events.now error
+        (H.outside host.old) (H.outside host.new)) }
+{
+    run_made(alloc, boot2(alloc, image, second, words.core), events, words, host)
+}
+
+/// Runs the kernel of the images that were read.
+fn run_booted<H: Host>(
+    alloc: Global,
+    files: &Files,
+    events: &[Event],
+    words: &RunWords<'_>,
+    host: &mut H,
+) -> Result<Ends, RunError>
+    requires least { 64 ≤ words.now.core }
+    requires most { words.now.core ≤ 3968 }
+    requires good { image_fault files.now.image.items ≡ None }
+    requires second { IfSome files.now.second (λ second. second_fault_of files.now.image.items second.items ≡ None) }
+    requires two { is_some files.now.second ≡ is_some (second_files (run_words_value words.now).outputs) }
+    requires closed { (p : OutPort) → is_output (run_words_value words.now).outputs (Out p) ≡ true
+        → ((H.outside host.old).port (Out p)).is_open ≡ false }
+    requires slots { sum_by slots_of events.now ≤ 200000000 }
+    requires rates { AreRates events.now }
+    ensures only { OnlyAt (is_output (run_words_value words.now).outputs) (H.outside host.old) (H.outside host.new) }
+    ensures outcome { MatchResult result
+        (λ ends. EndsFrom files.now.image.items (bytes_value files.now.second) (run_words_value words.now) events.now ends
+        (H.outside host.old) (H.outside host.new))
+        (λ error. FailsFrom files.now.image.items (bytes_value files.now.second) (run_words_value words.now) events.now error
+        (H.outside host.old) (H.outside host.new)) }
+{
+    match &files.second {
+        Some(second) => run_on_two(alloc, &files.image, second, events, words, host),
+        None => run_on_one(alloc, &files.image, events, words, host),
+    }
+}
+
 /// The commands `run`, `run8`, `run2` and `memory` with good words.
+#[inline(never)]
 pub(crate) fn run<H: Host>(
     alloc: Global,
     words: &RunWords<'_>,
@@ -397,8 +479,7 @@ pub(crate) fn run<H: Host>(
 {
     let files = read_files(alloc, words, host)?;
     let script = read(alloc, &files.script)?;
-    let mut kernel = boot_files(alloc, &files, words.core, words.outputs.lines())?;
-    match run_with_outputs(alloc, &mut kernel, &script.events, words, host) {
+    match run_booted(alloc, &files, &script.events, words, host) {
         Ok(Ends::AtEnd) => Ok(()),
         Ok(Ends::Panic(kind)) => Err(RunError::Panic(kind)),
         Err(error) => Err(error),

@@ -1,5 +1,5 @@
 //! The words of a command.
-ghost use Rattle.std.specs.Prelude.{◌≡◌, is_some, option_map, string_bytes, codes};
+ghost use Rattle.std.specs.Prelude.{◌≡◌, is_some, option_map, codes};
 ghost use Rattle.script_text.specs.Number.{number_of};
 ghost use Rattle.v6_run.specs.Words.{command_in, line_words, disk_words, run_words, check_words, make_words, demo_words, short_words, is_word, line_count, second_files, lines_value, second_files_value, disk_files_value, outputs_value, command_value};
 

@@ -14,7 +14,7 @@ use crate::system_calls::world::{World, begin};
 use lines_eight::Lines;
 use std::alloc::{AllocError, Global};
 use sys_files::resume_file;
-use u_area::is_on_files;
+use u_area::{LINE_WRITE, is_on_files};
 use v6_base::{Space, Tape, Whole};
 
 /// A step of a scene.
@@ -84,7 +84,8 @@ fn can_go_on(w: &World) -> bool
     if entry >= 100 || so_far > count || !w.files.table.in_use(entry as u8) {
         return false;
     }
-    is_on_files(w.u.pending) && (w.u.pending <= 2 || w.files.table.file(entry as u8).kind.pipe)
+    is_on_files(w.u.pending)
+        && (w.u.pending <= LINE_WRITE || w.files.table.file(entry as u8).kind.pipe)
 }
 
 fn goes_on(w: &mut World, told: Told) -> bool

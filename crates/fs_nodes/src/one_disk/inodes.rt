@@ -1,5 +1,5 @@
 //! The inodes in their blocks: file system(V).
-ghost use Rattle.std.specs.Prelude.{◌≡◌, ◌+◌, ◌≤◌, ◌<◌, ◌*◌, MatchOption, IfSome, None, false, length};
+ghost use Rattle.std.specs.Prelude.{◌≡◌, ◌≤◌, MatchOption, IfSome, None, false, length};
 ghost use Rattle.fs_codec.specs.Fields.{fields_of};
 ghost use Rattle.fs_codec.specs.Disk.{inode, inode as the_inode, inode_count};
 ghost use Rattle.fs_codec.specs.Store.{node_numbered};
@@ -51,7 +51,8 @@ pub(crate) fn read_inode(volume: &mut Volume, ino: u16) -> DiskNode
 pub(crate) fn write_inode(volume: &mut Volume, ino: u16, node: &DiskNode)
     requires low { 1 ≤ ino }
     requires high { ino ≤ inode_count (disk volume.old.state) }
-    ensures { WritesInode volume.old.state ino (fields_of node.now) volume.new.state }
+    ensures written { WritesInode volume.old.state ino (fields_of node.now) volume.new.state }
+    ensures stored { WritesLate volume.old.stored volume.old.state.blocks volume.new.stored }
 {
     see(volume);
     let place = 32 * ((ino - 1) % 16);
@@ -66,6 +67,7 @@ pub(crate) fn read_used(volume: &mut Volume, ino: u16) -> Option<DiskNode>
         (λ inode. ShowsNode (node_numbered (store_now volume.old.state) ino) inode) }
     ensures fields { IfSome result (λ inode. fields_of inode ≡ the_inode (disk volume.old.state) ino) }
     ensures same { volume.new.state ≡ volume.old.state }
+    ensures stored { WritesLate volume.old.stored volume.old.state.blocks volume.new.stored }
 {
     see(volume);
     if ino == 0 || u32::from(ino) > 16 * u32::from(volume.head().i_size) {

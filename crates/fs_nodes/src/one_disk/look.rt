@@ -1,6 +1,6 @@
 //! A look at a file's bytes, which takes no block and sets no time.
-ghost use Rattle.std.specs.Prelude.{◌≡◌, ◌≢◌, ◌+◌, ◌*◌, ◌<◌, ℕ, true, Some, IsSome, replicate, length, slice_index};
-ghost use Rattle.buf_cache.specs.Blocks.{block_at};
+ghost use Rattle.std.specs.Prelude.{◌≡◌, ◌≢◌, ◌+◌, ◌*◌, ◌<◌, ℕ, true, Some, IsSome, replicate, slice_index};
+ghost use Rattle.buf_cache.specs.Blocks.{block_at, WritesLate};
 ghost use Rattle.fs_codec.specs.declared.layout.TheConstants.{DISK_BLOCKS};
 ghost use Rattle.fs_codec.specs.Fields.{fields_of};
 ghost use Rattle.fs_codec.specs.Modes.{holds_blocks};
@@ -23,6 +23,7 @@ fn copy_block(volume: &mut Volume, b: u16, into: &mut [u8; 512])
     ensures none { b ≡ 0 → into.new ≡ replicate 512 0 }
     ensures some { b ≢ 0 → into.new ≡ block_at volume.old.state.blocks b }
     ensures same { volume.new.state ≡ volume.old.state }
+    ensures stored { WritesLate volume.old.stored volume.old.state.blocks volume.new.stored }
 {
     if b == 0 {
         *into = [0; 512];
@@ -37,6 +38,7 @@ fn copy_data(volume: &mut Volume, node: &DiskNode, n: u16, into: &mut [u8; 512])
         → IsApart (disk volume.old.state) (addresses (disk volume.old.state) (fields_of node.now)) }
     ensures bytes { into.new ≡ data_of (disk volume.old.state) (fields_of node.now) n }
     ensures same { volume.new.state ≡ volume.old.state }
+    ensures stored { WritesLate volume.old.stored volume.old.state.blocks volume.new.stored }
 {
     if !holds_blocks(node.mode) {
         *into = [0; 512];
@@ -81,6 +83,7 @@ fn look_at(volume: &mut Volume, node: &DiskNode, offset: u32, buf: &mut [u8; 16]
     ensures bytes { (k : ℕ) → k < 16 → slice_index buf.new k
         ≡ file_byte node.now.size (body_of (disk volume.old.state) (fields_of node.now)) (offset + k) }
     ensures same { volume.new.state ≡ volume.old.state }
+    ensures stored { WritesLate volume.old.stored volume.old.state.blocks volume.new.stored }
 {
     if offset >= node.size {
         *buf = [0; 16];
@@ -107,6 +110,7 @@ impl DiskNodes {
         ensures bytes { (node : Node) → node_numbered self.old.store ino ≡ Some node
             → (k : ℕ) → k < 16 → slice_index buf.new k ≡ file_byte node.size node.body (offset + k) }
         ensures same { SameFiles self.old self.new }
+        ensures stored { WritesLate self.old.stored self.old.blocks self.new.stored }
     {
         let node = peek_inode(&mut self.volume, &self.table, ino);
         look_at(&mut self.volume, &node, offset, buf);
@@ -119,6 +123,7 @@ impl DiskNodes {
         ensures bytes { (node : Node) → node_numbered self.old.store ino ≡ Some node
             → (k : ℕ) → k < 512 → slice_index buf.new k ≡ slice_index node.body (512 * n + k) }
         ensures same { SameFiles self.old self.new }
+        ensures stored { WritesLate self.old.stored self.old.blocks self.new.stored }
     {
         let node = peek_inode(&mut self.volume, &self.table, ino);
         see_addresses(&node.addr);

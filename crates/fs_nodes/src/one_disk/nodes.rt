@@ -1,5 +1,5 @@
 //! The inodes of a disk that somebody refers to.
-ghost use Rattle.std.specs.Prelude.{◌≡◌, ◌≢◌, ℕ, ◌+◌, ◌-◌, ◌<◌, ◌≤◌, length, slice_set, slice_index, replicate, None, Some, IsSome, MatchResult, MatchOption, ◌⊎◌};
+ghost use Rattle.std.specs.Prelude.{◌≡◌, ◌+◌, ◌<◌, ◌≤◌, slice_set, slice_index, replicate, None, IsSome, MatchResult, MatchOption, ◌⊎◌};
 ghost use Rattle.v6_base.specs.declared.errno.Errno.{Errno};
 ghost use Rattle.buf_cache.specs.Blocks.{block_at, WritesLate};
 ghost use Rattle.fs_codec.specs.Faults.{disk_fault};
@@ -136,6 +136,7 @@ impl DiskNodes {
         ensures found { MatchOption result (node_numbered self.old.store ino ≡ None)
             (λ inode. ShowsNode (node_numbered self.old.store ino) inode) }
         ensures same { SameFiles self.old self.new }
+        ensures stored { WritesLate self.old.stored self.old.blocks self.new.stored }
     {
         peek_used(&mut self.volume, &self.table, ino)
     }

@@ -1,5 +1,6 @@
 //! Numbers of inodes are drawn and given back: `ialloc` and `ifree` in Lions' Commentary, `alloc.c`.
-ghost use Rattle.std.specs.Prelude.{◌≡◌, ◌≢◌, true, ◌+◌, ◌-◌, ◌*◌, ◌<◌, ◌≤◌, ◌==◌, ◌&&◌, not, min, List, [], length, take, drop, reverse, slice_index, MatchOption, MatchResult, IfSome, Some, None};
+ghost use Rattle.std.specs.Prelude.{◌≡◌, ◌≢◌, true, ◌<◌, ◌≤◌, ◌&&◌, not, min, [], length, take, drop, reverse, slice_index, MatchOption, MatchResult, IfSome, Some, None};
+ghost use Rattle.buf_cache.specs.Blocks.{WritesLate};
 ghost use Rattle.fs_codec.specs.Fields.{fields_of};
 ghost use Rattle.fs_codec.specs.Disk.{inode, inode_count};
 ghost use Rattle.fs_codec.specs.Store.{Node};
@@ -31,6 +32,7 @@ fn count_inodes(volume: &Volume) -> u32
 /// Whether a number is that of an inode that is not used, as its block has it.
 fn is_free_there(volume: &mut Volume, ino: u16) -> bool
     ensures same { volume.new.state ≡ volume.old.state }
+    ensures stored { WritesLate volume.old.stored volume.old.state.blocks volume.new.stored }
     ensures free { result ≡ is_free_number (store_now volume.old.state) ino }
 {
     if ino == 0 {
@@ -46,6 +48,7 @@ fn is_free_there(volume: &mut Volume, ino: u16) -> bool
 fn is_free(volume: &mut Volume, table: &[Referenced], ino: u16) -> bool
     requires { IsHeld volume.old.state table.now }
     ensures same { volume.new.state ≡ volume.old.state }
+    ensures stored { WritesLate volume.old.stored volume.old.state.blocks volume.new.stored }
     ensures free { result ≡ is_free_number (store_now (seen volume.old.state table.now)) ino }
     ensures spare { result
         ≡ (is_free_number (store_now (seen volume.old.state table.now)) ino && not (refers_to table.now ino)) }
@@ -60,6 +63,7 @@ fn is_free(volume: &mut Volume, table: &[Referenced], ino: u16) -> bool
 fn last_free(volume: &mut Volume, table: &[Referenced], list: &[u16]) -> Option<usize>
     requires { IsHeld volume.old.state table.now }
     ensures same { volume.new.state ≡ volume.old.state }
+    ensures stored { WritesLate volume.old.stored volume.old.state.blocks volume.new.stored }
     ensures last { MatchOption result
         (drawn (store_now (seen volume.old.state table.now)) (reverse list.now) ≡ record { number = None; spare = [] })
         (λ k. (k < length list.now) × (drawn (store_now (seen volume.old.state table.now)) (reverse list.now)
@@ -87,6 +91,7 @@ fn last_number(volume: &Volume) -> u16
 fn refill(volume: &mut Volume, table: &[Referenced]) -> ArrayVec<u16, 100>
     requires { IsHeld volume.old.state table.now }
     ensures same { volume.new.state ≡ volume.old.state }
+    ensures stored { WritesLate volume.old.stored volume.old.state.blocks volume.new.stored }
     ensures found { result.items ≡ refill (store_now (seen volume.old.state table.now)) (refers_to table.now) }
 {
     let mut found = ArrayVec::new();
@@ -113,6 +118,7 @@ fn set_list(volume: &mut Volume, table: &[Referenced], list: &[u16])
         ≡ drop (length list.now) volume.old.state.head.inode }
     ensures rest { ChangesList (seen volume.old.state table.now) (seen volume.new.state table.now) }
     ensures blocks { volume.new.state.blocks ≡ volume.old.state.blocks }
+    ensures stored { volume.new.stored ≡ volume.old.stored }
 {
     see(volume);
     volume.set_spare(list);
@@ -134,6 +140,7 @@ fn draw_from(volume: &mut Volume, table: &[Referenced], list: &[u16]) -> Option<
     ensures words { IfSome result (λ _. take (length list.now) volume.new.state.head.inode ≡ list.now) }
     ensures rest { ChangesList (seen volume.old.state table.now) (seen volume.new.state table.now) }
     ensures blocks { volume.new.state.blocks ≡ volume.old.state.blocks }
+    ensures stored { WritesLate volume.old.stored volume.old.state.blocks volume.new.stored }
 {
     match last_free(volume, table, list) {
         Some(place) => {
@@ -153,6 +160,7 @@ fn empty_list(volume: &mut Volume, table: &[Referenced], list: &[u16])
     ensures store { store_now (seen volume.new.state table.now) ≡ emptied (store_now (seen volume.old.state table.now)) }
     ensures rest { ChangesList (seen volume.old.state table.now) (seen volume.new.state table.now) }
     ensures blocks { volume.new.state.blocks ≡ volume.old.state.blocks }
+    ensures stored { volume.new.stored ≡ volume.old.stored }
 {
     if !list.is_empty() {
         set_list(volume, table, &[]);
@@ -172,6 +180,7 @@ fn draw_number(volume: &mut Volume, table: &[Referenced]) -> Option<u16>
         in take (length list) volume.new.state.head.inode ≡ list) }
     ensures rest { ChangesList (seen volume.old.state table.now) (seen volume.new.state table.now) }
     ensures blocks { volume.new.state.blocks ≡ volume.old.state.blocks }
+    ensures stored { WritesLate volume.old.stored volume.old.state.blocks volume.new.stored }
 {
     see(volume);
     let head = *volume.head();
@@ -191,6 +200,7 @@ fn push_number(volume: &mut Volume, table: &[Referenced], ino: u16)
     ensures store { store_now (seen volume.new.state table.now) ≡ pushed (store_now (seen volume.old.state table.now)) ino }
     ensures rest { ChangesList (seen volume.old.state table.now) (seen volume.new.state table.now) }
     ensures blocks { volume.new.state.blocks ≡ volume.old.state.blocks }
+    ensures stored { volume.new.stored ≡ volume.old.stored }
 {
     see(volume);
     let head = *volume.head();
@@ -251,6 +261,7 @@ fn draw_inode(volume: &mut Volume, table: &ArrayVec<Referenced, 100>) -> Option<
     ensures references { (files_of volume.new table.now.items).references
         ≡ (files_of volume.old table.now.items).references }
     ensures blocks { volume.new.state.blocks ≡ volume.old.state.blocks }
+    ensures stored { WritesLate volume.old.stored volume.old.state.blocks volume.new.stored }
 {
     let number = draw_number(volume, table);
     see(volume);
@@ -271,6 +282,7 @@ fn make_node(
     ensures outcome { MatchResult result
         (λ i. MakesNode (files_of volume.old table.old.items) mode uid gid time i (files_of volume.new table.new.items))
         (λ e. MakesNone (files_of volume.old table.old.items) e (files_of volume.new table.new.items)) }
+    ensures stored { WritesLate volume.old.stored volume.old.state.blocks volume.new.stored }
     ensures rest { SameAround volume.old.state.blocks volume.new.state.blocks }
 {
     let number = draw_number(volume, table);
@@ -315,6 +327,7 @@ impl DiskNodes {
         ensures store { self.new.store ≡ with_draw self.old.store (next_draw self.old) }
         ensures references { self.new.references ≡ self.old.references }
         ensures blocks { self.new.blocks ≡ self.old.blocks }
+        ensures stored { WritesLate self.old.stored self.old.blocks self.new.stored }
     {
         draw_inode(&mut self.volume, &self.table)
     }
@@ -328,6 +341,7 @@ impl DiskNodes {
     pub fn new_node(&mut self, mode: u16, uid: u8, gid: u8, time: u32) -> Result<u16, Errno>
         ensures outcome { MatchResult result (λ i. MakesNode self.old mode uid gid time i self.new)
             (λ e. MakesNone self.old e self.new) }
+        ensures stored { WritesLate self.old.stored self.old.blocks self.new.stored }
         ensures rest { SameRest self.old self.new }
     {
         make_node(&mut self.volume, &mut self.table, mode, uid, gid, time)

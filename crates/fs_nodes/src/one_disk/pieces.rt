@@ -1,10 +1,10 @@
 //! Reads and writes of files, piece by piece: readi and writei in Lions' Commentary, `rdwri.c`.
-ghost use Rattle.std.specs.Prelude.{◌≡◌, ◌≢◌, ◌+◌, ◌-◌, ◌*◌, ◌/◌, ◌%◌, ◌<◌, ◌≤◌, ℕ, if◌then◌else◌, max, IfSome, is_some, true, false, length, slice_range, Some, None};
+ghost use Rattle.std.specs.Prelude.{◌≡◌, ◌≢◌, ◌+◌, ◌-◌, ◌*◌, ◌/◌, ◌%◌, ◌<◌, ◌≤◌, if◌then◌else◌, max, IfSome, is_some, true, false, length, slice_range, Some, None};
 ghost use Rattle.v6_base.specs.Copy.{store_bytes};
 ghost use Rattle.buf_cache.specs.Blocks.{block_at};
 ghost use Rattle.fs_codec.specs.Fields.{fields_of};
 ghost use Rattle.fs_codec.specs.Modes.{is_device, is_directory};
-ghost use Rattle.fs_codec.specs.Held.{address, addresses};
+ghost use Rattle.fs_codec.specs.Held.{addresses};
 ghost use Rattle.fs_codec.specs.Stands.{body_of};
 ghost use Rattle.fs_laws.specs.Whole.{IsApart};
 ghost use Rattle.fs_laws.specs.Block.{IsBlock};

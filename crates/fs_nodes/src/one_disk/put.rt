@@ -1,5 +1,6 @@
 //! References to inodes are given back: `iput` in Lions' Commentary, `iget.c`.
 ghost use Rattle.std.specs.Prelude.{◌≡◌, ◌-◌, ◌<◌, ◌==◌, length, slice_index, slice_index_or, slice_set, if◌then◌else◌, Some};
+ghost use Rattle.buf_cache.specs.Blocks.{WritesLate};
 ghost use Rattle.fs_codec.specs.Store.{Node, node_numbered};
 ghost use Rattle.fs_laws.specs.Numbers.{without_reference};
 ghost use Rattle.fs_laws.specs.Rest.{SameAround};
@@ -28,8 +29,9 @@ fn refer_less(table: &mut [Referenced], k: usize)
 fn release(volume: &mut Volume, table: &mut ArrayVec<Referenced, 100>, k: usize)
     requires held { IsHeld volume.old.state table.old.items }
     requires place { k < length table.old.items }
-    ensures { (entry : Referenced) → slice_index_or table.old.items k entry ≡ entry → entry.references ≡ 1
+    ensures released { (entry : Referenced) → slice_index_or table.old.items k entry ≡ entry → entry.references ≡ 1
         → Releases volume.old.state volume.new.state table.old.items table.new.items entry }
+    ensures stored { WritesLate volume.old.stored volume.old.state.blocks volume.new.stored }
 {
     save(volume, table, k);
     see_sizes(volume);
@@ -50,6 +52,8 @@ fn put_inode(volume: &mut Volume, table: &mut ArrayVec<Referenced, 100>, ino: u1
         then without_reference (store_now (seen volume.old.state table.old.items)) ino node
         else store_now (seen volume.old.state table.old.items)) }
     ensures late { 1 < slice_index (files_of volume.old table.old.items).references ino → volume.new ≡ volume.old }
+    ensures stored { (node : Node) → node_numbered (store_now (seen volume.old.state table.old.items)) ino ≡ Some node
+        → 0 < node.nlink → WritesLate volume.old.stored volume.old.state.blocks volume.new.stored }
     ensures rest { SameAround volume.old.state.blocks volume.new.state.blocks }
 {
     let k = place(table, ino);
@@ -78,6 +82,8 @@ impl DiskNodes {
         ensures store { (node : Node) → node_numbered self.old.store ino ≡ Some node → self.new.store
             ≡ (if slice_index self.old.references ino == 1
             then without_reference self.old.store ino node else self.old.store) }
+        ensures stored { (node : Node) → node_numbered self.old.store ino ≡ Some node → 0 < node.nlink
+            → WritesLate self.old.stored self.old.blocks self.new.stored }
         ensures rest { SameRest self.old self.new }
     {
         let _ = time;

@@ -1,6 +1,6 @@
 //! Reads and writes of an inode's file: readi and writei in Lions' Commentary, `rdwri.c`.
-ghost use Rattle.std.specs.Prelude.{◌≡◌, ◌≢◌, ◌+◌, ◌*◌, ◌<◌, ◌≤◌, ◌==◌, ℕ, if◌then◌else◌, min, true, false, length, slice_index, Some};
-ghost use Rattle.fs_codec.specs.Fields.{Inode, fields_of};
+ghost use Rattle.std.specs.Prelude.{◌≡◌, ◌≢◌, ◌+◌, ◌<◌, ◌≤◌, ◌==◌, if◌then◌else◌, min, false, length, slice_index, Some};
+ghost use Rattle.fs_codec.specs.Fields.{fields_of};
 ghost use Rattle.fs_codec.specs.Modes.{is_device};
 ghost use Rattle.fs_codec.specs.Held.{addresses};
 ghost use Rattle.fs_codec.specs.Store.{Node, node_numbered};

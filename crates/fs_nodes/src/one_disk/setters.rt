@@ -1,5 +1,5 @@
 //! Calls that set fields of an inode: Lions' Commentary, `inode.h` and `sys4.c`.
-ghost use Rattle.std.specs.Prelude.{◌≡◌, ◌≢◌, ◌<◌, ◌≤◌, true, Some, slice_index, bit_and};
+ghost use Rattle.std.specs.Prelude.{◌≡◌, ◌≢◌, ◌<◌, true, Some, slice_index, bit_and};
 ghost use Rattle.fs_codec.specs.Fields.{fields_of};
 ghost use Rattle.fs_codec.specs.Modes.{file_type, is_large, is_device};
 ghost use Rattle.fs_codec.specs.declared.modes.TheConstants.{IALLOC};
@@ -80,6 +80,8 @@ impl DiskNodes {
             → self.new.store
             ≡ with_fields self.old.store ino (record node { mode = mode; modtime = time }) }
         ensures references { self.new.references ≡ self.old.references }
+        ensures blocks { self.new.blocks ≡ self.old.blocks }
+        ensures stored { self.new.stored ≡ self.old.stored }
         ensures rest { SameRest self.old self.new }
     {
         let setting = Setting::Mode { mode, time };
@@ -93,6 +95,8 @@ impl DiskNodes {
             → self.new.store
             ≡ with_fields self.old.store ino (record node { uid = uid; gid = gid; modtime = time }) }
         ensures references { self.new.references ≡ self.old.references }
+        ensures blocks { self.new.blocks ≡ self.old.blocks }
+        ensures stored { self.new.stored ≡ self.old.stored }
         ensures rest { SameRest self.old self.new }
     {
         let setting = Setting::Owner { uid, gid, time };
@@ -106,6 +110,8 @@ impl DiskNodes {
             → self.new.store
             ≡ with_fields self.old.store ino (record node { nlink = nlink; modtime = time }) }
         ensures references { self.new.references ≡ self.old.references }
+        ensures blocks { self.new.blocks ≡ self.old.blocks }
+        ensures stored { self.new.stored ≡ self.old.stored }
         ensures rest { SameRest self.old self.new }
     {
         let setting = Setting::Links { nlink, time };
@@ -120,6 +126,8 @@ impl DiskNodes {
             → self.new.store
             ≡ with_fields self.old.store ino (record node { device = device }) }
         ensures references { self.new.references ≡ self.old.references }
+        ensures blocks { self.new.blocks ≡ self.old.blocks }
+        ensures stored { self.new.stored ≡ self.old.stored }
         ensures rest { SameRest self.old self.new }
     {
         let setting = Setting::Device { device };
@@ -133,6 +141,8 @@ impl DiskNodes {
             → self.new.store
             ≡ with_fields self.old.store ino (record node { size = 0 }) }
         ensures references { self.new.references ≡ self.old.references }
+        ensures blocks { self.new.blocks ≡ self.old.blocks }
+        ensures stored { self.new.stored ≡ self.old.stored }
         ensures rest { SameRest self.old self.new }
     {
         set_fields(&self.volume, &mut self.table, ino, Setting::Empty);

@@ -1,5 +1,6 @@
 //! The table of inodes in memory.
 ghost use Rattle.std.specs.Prelude.{◌≡◌, ◌≢◌, ◌<◌, ◌≤◌, true, false, IfSome, IfNone, MatchOption, None, length, slice_index, slice_index_or, slice_set};
+ghost use Rattle.buf_cache.specs.Blocks.{WritesLate};
 ghost use Rattle.fs_codec.specs.Fields.{fields_of};
 ghost use Rattle.fs_codec.specs.Modes.{is_device, is_directory};
 ghost use Rattle.fs_codec.specs.Disk.{Disk, inode, inode_count};
@@ -113,6 +114,7 @@ pub(crate) fn peek_inode(volume: &mut Volume, table: &[Referenced], ino: u16) ->
     requires high { ino ≤ inode_count (disk volume.old.state) }
     ensures node { fields_of result ≡ inode (disk (seen volume.old.state table.now)) ino }
     ensures same { volume.new.state ≡ volume.old.state }
+    ensures stored { WritesLate volume.old.stored volume.old.state.blocks volume.new.stored }
 {
     match find(table, ino) {
         Some(k) => table[k].node,
@@ -126,6 +128,7 @@ pub(crate) fn peek_used(volume: &mut Volume, table: &[Referenced], ino: u16) -> 
     ensures used { MatchOption result (node_numbered (store_now (seen volume.old.state table.now)) ino ≡ None)
         (λ node. ShowsNode (node_numbered (store_now (seen volume.old.state table.now)) ino) node) }
     ensures same { volume.new.state ≡ volume.old.state }
+    ensures stored { WritesLate volume.old.stored volume.old.state.blocks volume.new.stored }
 {
     if let Some(k) = find(table, ino) {
         return Some(table[k].node);

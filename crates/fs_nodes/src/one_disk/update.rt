@@ -1,6 +1,6 @@
 //! What has changed is written to the disk.
 ghost use Rattle.std.specs.Prelude.{◌≡◌, ◌≤◌, ◌<◌, true, false, length, slice_index_or, slice_set, if◌then◌else◌};
-ghost use Rattle.buf_cache.specs.Blocks.{block_at};
+ghost use Rattle.buf_cache.specs.Blocks.{block_at, WritesLate};
 ghost use Rattle.fs_codec.specs.Disk.{inode_count};
 ghost use Rattle.fs_codec.specs.Fields.{fields_of};
 ghost use Rattle.fs_codec.specs.Stands.{StandsFor};
@@ -23,6 +23,7 @@ fn write_entry(volume: &mut Volume, entry: &Referenced)
     ensures written { entry.now.is_changed ≡ true
         → WritesInode volume.old.state entry.now.ino (fields_of entry.now.node) volume.new.state }
     ensures same { entry.now.is_changed ≡ false → volume.new.state ≡ volume.old.state }
+    ensures stored { WritesLate volume.old.stored volume.old.state.blocks volume.new.stored }
 {
     if entry.is_changed {
         write_inode(volume, entry.ino, &entry.node);
@@ -34,6 +35,7 @@ pub(crate) fn save(volume: &mut Volume, table: &mut [Referenced], k: usize)
     requires held { IsHeld volume.old.state table.old }
     requires low { k < length table.old }
     ensures stays { Stays volume.old.state volume.new.state table.old table.new }
+    ensures stored { WritesLate volume.old.stored volume.old.state.blocks volume.new.stored }
     ensures table { (entry : Referenced)
         → table.new ≡ slice_set table.old k (clean (slice_index_or table.old k entry)) }
 {

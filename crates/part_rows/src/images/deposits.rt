@@ -1,5 +1,4 @@
 //! Bytes that are put into core and the swap area, and so into the images that stand there: docs/manual/memory.md.
-ghost use Rattle.std.specs.Prelude.{◌≤◌};
 
 use crate::images::scenes::Step::{Bares, Deposits, Ends, Forks, Has, Loads, Makes};
 use crate::images::scenes::{Scene, Step, first_of, judge};

@@ -1,5 +1,4 @@
 //! Scenes: what is asked of the slots, step by step.
-ghost use Rattle.std.specs.Prelude.{◌≤◌};
 
 use crate::images::table::Table;
 use crate::tell;

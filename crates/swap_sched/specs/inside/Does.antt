@@ -20,7 +20,8 @@ abbrev pub next_logged : Board → Logged (Unit {0})
 next_logged b = logged_move b (swap_move b)
 
 -- The next move has been made, and this was answered: process 0 sleeps then, or still runs.
-pub record MakesMove (t : Table) (k : Kept) (a : Taken) (r : Result (Unit {0}) PanicKind) (u : Table) (n : Kept) (z : Taken) : Type 0 where
+pub record MakesMove (t : Table) (k : Kept) (a : Taken) (r : Result (Unit {0}) PanicKind) (u : Table) (n : Kept)
+    (z : Taken) : Type 0 where
   pub moved : HasMoved t k a (next_logged (board_of t k)) u n z
   pub answer : r ≡ answered (next_logged (board_of t k)).stop
   pub runs : (u.running ≡ None) ⊎ (u.running ≡ t.running)

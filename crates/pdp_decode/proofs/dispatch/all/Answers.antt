@@ -1,5 +1,5 @@
 -- One entry more, and the last.
-use Rattle.std.proofs.Common.{◌≡◌, ℕ, ◌<◌, ◌+◌, ◌∷◌, [], ◌++◌, length, arith}
+use Rattle.std.proofs.Common.{◌≡◌, ◌∷◌, [], arith}
 use Rattle.std.proofs.lemmas.List.{length-append}
 use Rattle.pdp_decode.proofs.Handled.{pushed, filled}
 use Rattle.pdp_decode.proofs.dispatch.all.Goals as goal

@@ -1,5 +1,5 @@
 use Rattle.std.proofs.Common.{◌≡◌, ◌∙◌, ◌*◌, ℕ, List, min, replicate, refl, ap, sym, arith}
-use Rattle.std.proofs.Math.Nat.{min-le_left, min-le_right}
+use Rattle.std.proofs.Math.Nat.{min-le_right}
 use Rattle.std.proofs.lemmas.List.{take-replicate}
 use Rattle.std.specs.Option.{unwrap_or}
 use Rattle.buf_cache.specs.Blocks.{patched}
@@ -9,7 +9,7 @@ use Rattle.sys_procs.specs.declared.procs.Procs.{Procs}
 use Rattle.sys_procs.specs.Process.{Process}
 use Rattle.sys_procs.specs.TextTable.{with_text, text_of}
 use Rattle.sys_procs.specs.World.{World}
-use Rattle.sys_procs.specs.ExecFile.{text_read, text_room, entry_in, with_moved}
+use Rattle.sys_procs.specs.ExecFile.{text_read, entry_in, with_moved}
 use Rattle.sys_procs.specs.Handed.{handed, board}
 use Rattle.sys_procs.proofs.Alive.{is_here}
 use Rattle.sys_procs.proofs.SameKept.{same_alive}
@@ -69,11 +69,9 @@ text_bytes-requires c =
 pub read_bytes-requires-clause-zeros : goal.read_bytes-requires-clause-zeros
 read_bytes-requires-clause-zeros c =
     let nought : ℕ = 0 in
-    let n = text_room c.args.program.now in
-    let count : c.min-count.result ≡ n = c.min-count.ensures ∙ (λ i. min (c.from.ensures i) (64 * c.from-2.ensures i)) in
-    take-replicate c.min-count.result 65535 nought
-    (omega (arith, count, min-le_left c.args.program.now.plan.text (64 * c.args.program.now.text_clicks)))
-    ∙ ap (λ k. replicate k nought) count
+    let few = c.text_room-count.ensures.few in
+    take-replicate c.text_room-count.result 57344 nought (omega (arith, few))
+    ∙ ap (λ k. replicate k nought) c.text_room-count.ensures.count
 
 pub returns-clause-marked : goal.returns-clause-marked
 returns-clause-marked c =

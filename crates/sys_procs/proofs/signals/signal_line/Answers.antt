@@ -1,4 +1,4 @@
-use Rattle.std.proofs.Common.{◌≡◌, ◌∙◌, ℕ, Bool, cond, List, Option, map, ap, subst, arith}
+use Rattle.std.proofs.Common.{◌≡◌, ◌∙◌, ℕ, Bool, cond, List, Option, map, refl, ap, subst, arith}
 use Rattle.v6_base.specs.Trace.{Item, Took}
 use Rattle.pick_rules.specs.Effects.{Show}
 use Rattle.pick_rules.specs.Logged.{logged}
@@ -21,6 +21,7 @@ loop-s-init g c =
       sent = sent_first (has_line c.args.line) c.args.sig p _ (λ fs. fifty_processes p.rows.slots p.images.kept)
           (λ fs. kernel_is_none p fs c.in_use-kernel.ensures.table.kernel);
       frame = g.met.T.Trace.stays _;
+      images = refl;
       agree = c.requires.agree;
     }
 
@@ -40,6 +41,7 @@ loop-s-preserved g c =
           ∙ ap (λ n. (logged {W = World} (board c.loop-s.p) (map Show (lines_where means n s))).board) c.from.ensures)
           (subst P c.from.ensures c.send_where.ensures.items);
       frame = g.met.T.Trace.goes_on _ _ _ c.loop-s.invariant.frame c.send_where.ensures.frame;
+      images = c.send_where.ensures.images ∙ c.loop-s.invariant.images;
       agree = c.send_where.ensures.agree;
     }
 

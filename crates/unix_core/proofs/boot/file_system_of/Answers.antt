@@ -20,20 +20,22 @@ open_on-volume-requires c = subst (λ l. IsSound (block_at l)) (sym (cache_is c)
 opened_is : (c : goal.After-head) → c.open_on-volume.result.state.blocks ≡ blocks_of c.args.image.now
 opened_is c = c.open_on-volume.ensures.blocks ∙ c.in_ok-cache.ensures.blocks ∙ c.in_ok-disk.ensures
 
-pub new-requires-2 : goal.new-requires-2
-new-requires-2 c = record { sound = volume_sound c.args.image.now c.requires c.open_on-volume.result.state (opened_is c) c.open_on-volume.ensures.clean c.head.ensures.stored }
+pub new-nodes-requires : goal.new-nodes-requires
+new-nodes-requires c = record { sound = volume_sound c.args.image.now c.requires c.open_on-volume.result.state (opened_is c) c.open_on-volume.ensures.clean c.head.ensures.stored }
 
 pub returns-clause-store : goal.returns-clause-store
 returns-clause-store c =
-    c.new-2.ensures.store
+    c.take_root.ensures.store ∙ c.new-nodes.ensures.store
     ∙ ap alone (volume_store c.args.image.now c.requires c.open_on-volume.result.state (c.open_on-volume.ensures.blocks ∙ c.in_ok-cache.ensures.blocks ∙ c.in_ok-disk.ensures)
     c.open_on-volume.ensures.clean c.head.ensures.stored)
 
-pub returns-clause-references : goal.returns-clause-references
-returns-clause-references c ino = ap (λ (l : List ℕ). slice_index l ino) c.new-2.ensures.none ∙ none_of (c.new-2.result.store.root.count + 1) ino
+pub take_root-requires : goal.take_root-requires
+take_root-requires c = record {
+  none = λ ino. ap (λ (l : List ℕ). slice_index l ino) c.new-nodes.ensures.none ∙ none_of (c.new-nodes.result.store.root.count + 1) ino;
+}
 
 pub returns-clause-blocks : goal.returns-clause-blocks
-returns-clause-blocks c = c.new-2.ensures.blocks ∙ ap alone (c.open_on-volume.ensures.blocks ∙ c.in_ok-cache.ensures.blocks ∙ c.in_ok-disk.ensures)
+returns-clause-blocks c = c.take_root.ensures.blocks ∙ c.new-nodes.ensures.blocks ∙ ap alone (c.open_on-volume.ensures.blocks ∙ c.in_ok-cache.ensures.blocks ∙ c.in_ok-disk.ensures)
 
 pub returns-clause-time : goal.returns-clause-time
 returns-clause-time c =
@@ -45,5 +47,7 @@ returns-clause-time c =
 pub returns-clause-stored : goal.returns-clause-stored
 unfolding used
 returns-clause-stored c =
-    c.new-2.ensures.stored
-    ∙ ap alone (c.open_on-volume.ensures.stored ∙ ap (λ (x : Cached). (used x 1).disk) c.in_ok-cache.ensures.cached ∙ c.in_ok-disk.ensures)
+    let blocks_is = c.new-nodes.ensures.blocks ∙ ap alone (c.open_on-volume.ensures.blocks ∙ c.in_ok-cache.ensures.blocks ∙ c.in_ok-disk.ensures) in
+    let stored_is = c.new-nodes.ensures.stored
+    ∙ ap alone (c.open_on-volume.ensures.stored ∙ ap (λ (x : Cached). (used x 1).disk) c.in_ok-cache.ensures.cached ∙ c.in_ok-disk.ensures) in
+    c.take_root.ensures.stored (stored_is ∙ sym blocks_is) ∙ blocks_is

@@ -45,16 +45,16 @@ second_store c =
     second_volume_store c.args.second.now c.requires.second (cached_blocks c.in_ok-cache-2.cache) c.open_on.result.state
     (c.in_ok-cache-2.ensures.blocks ∙ c.in_ok-disk-2.ensures) c.open_on.ensures.clean c.open_on.ensures.stands
 
-pub new2-requires-clause-sound : goal.new2-requires-clause-sound
-new2-requires-clause-sound c = volume_sound c.args.image.now c.requires.root c.open_on-volume.result.state (first_blocks c) c.open_on-volume.ensures.clean c.head.ensures.stored
+pub new2-nodes-requires-clause-sound : goal.new2-nodes-requires-clause-sound
+new2-nodes-requires-clause-sound c = volume_sound c.args.image.now c.requires.root c.open_on-volume.result.state (first_blocks c) c.open_on-volume.ensures.clean c.head.ensures.stored
 
-pub new2-requires-clause-second : goal.new2-requires-clause-second
-new2-requires-clause-second c =
+pub new2-nodes-requires-clause-second : goal.new2-nodes-requires-clause-second
+new2-nodes-requires-clause-second c =
     second_volume_sound c.args.second.now c.requires.second (cached_blocks c.in_ok-cache-2.cache) c.open_on.result.state
     (c.in_ok-cache-2.ensures.blocks ∙ c.in_ok-disk-2.ensures) (c.open_on.ensures.faults DISK_BLOCKS)
 
-pub new2-requires-clause-few : goal.new2-requires-clause-few
-new2-requires-clause-few c =
+pub new2-nodes-requires-clause-few : goal.new2-nodes-requires-clause-few
+new2-nodes-requires-clause-few c =
     let first = ap (λ (x : Store). x.count) (first_store c) in
     let second = ap (λ (x : Store). x.count) (second_store c) in
     let few = c.requires.few in
@@ -65,20 +65,23 @@ returns-clause-store c =
     let before = (goal.at.returns-clause-store c).After-open_on in
     let first = first_store before in
     let second = second_store before in
-    c.new2.ensures.store ∙ (λ i. both {X = Store} (first i) (second i))
+    c.take_root.ensures.store ∙ c.new2-nodes.ensures.store ∙ (λ i. both {X = Store} (first i) (second i))
 
 pub returns-clause-blocks : goal.returns-clause-blocks
 returns-clause-blocks c =
     let first = first_blocks (goal.at.returns-clause-blocks c).After-open_on in
     let second = c.open_on.ensures.blocks ∙ c.in_ok-cache-2.ensures.blocks ∙ c.in_ok-disk-2.ensures in
-    c.new2.ensures.blocks ∙ (λ i. both {X = List (List ℕ)} (first i) (second i))
+    c.take_root.ensures.blocks ∙ c.new2-nodes.ensures.blocks ∙ (λ i. both {X = List (List ℕ)} (first i) (second i))
 
 pub returns-clause-stored : goal.returns-clause-stored
 unfolding used
 returns-clause-stored c =
     let first = c.open_on-volume.ensures.stored ∙ ap (λ (x : Cached). (used x 1).disk) c.in_ok-cache.ensures.cached ∙ c.in_ok-disk.ensures in
     let second = c.open_on.ensures.stored ∙ ap (λ (x : Cached). (used x 1).disk) c.in_ok-cache-2.ensures.cached ∙ c.in_ok-disk-2.ensures in
-    c.new2.ensures.stored ∙ (λ i. both {X = List (List ℕ)} (first i) (second i))
+    let first_is = first_blocks (goal.at.returns-clause-stored c).After-open_on in
+    let second_is = c.open_on.ensures.blocks ∙ c.in_ok-cache-2.ensures.blocks ∙ c.in_ok-disk-2.ensures in
+    let blocks_is = c.new2-nodes.ensures.blocks ∙ (λ i. both {X = List (List ℕ)} (first_is i) (second_is i)) in
+    c.take_root.ensures.stored ((c.new2-nodes.ensures.stored ∙ (λ i. both {X = List (List ℕ)} (first i) (second i))) ∙ sym blocks_is) ∙ blocks_is
 
 pub returns-clause-time : goal.returns-clause-time
 returns-clause-time c =

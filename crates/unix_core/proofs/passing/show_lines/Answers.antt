@@ -21,7 +21,7 @@ silent l zero r none = refl
 silent l (suc count) r none = (λ i. sent l (none l i) ++ silent (suc l) count r none i)
 
 pub returns-then-is_silent-clause-items : goal.returns-then-is_silent-clause-items
-returns-then-is_silent-clause-items g c = took_nothing _ _ (silent 0 LINES c.args.tape.now (c.is_silent.ensures c.if-is_silent.true))
+returns-then-is_silent-clause-items g c = took_nothing _ _ (silent 0 LINES c.args.tape.now (c.is_silent.ensures.0 c.if-is_silent.true).1)
 
 pub loop-l-preserved : goal.loop-l-preserved
 loop-l-preserved g c =

@@ -1,4 +1,4 @@
-use Rattle.std.proofs.Common.{◌∙◌, map, sym, ap, subst, arith}
+use Rattle.std.proofs.Common.{◌∙◌, map, refl, sym, ap, subst, arith}
 use Rattle.v6_base.specs.Trace.{Took}
 use Rattle.v6_base.proofs.Took.{took_nothing}
 use Rattle.pick_rules.specs.Effects.{Show}
@@ -13,50 +13,54 @@ use Rattle.unix_core.proofs.slots.count.Goals as goal
 pub overflow_sub-world : goal.overflow_sub-world
 overflow_sub-world g c = let some = some_left c.args.world.now c.requires.counted in omega (arith, some)
 
-pub reach_apart-requires-clause-good : goal.reach_apart-requires-clause-good
-reach_apart-requires-clause-good g c =
+pub reach_apart-requires : goal.reach_apart-requires
+reach_apart-requires g c =
     let w : World = c.args.world.now in
-    subst IsGood (sym (before_is w c.requires.counted c.if-world-eq0.true)) c.requires.good
+    let was = before_is w c.requires.counted c.if-world-eq0.true in
+    record {
+      left = c.if-world-eq0.true;
+      good = subst IsGood (sym was) c.requires.good;
+      counted = subst (λ (x : World). IsCounted x.slots (unix_of x)) (sym was) c.requires.counted;
+      fresh = due_fresh w c.requires.counted c.if-world-eq0.true c.requires.fresh;
+    }
 
-pub reach_apart-requires-clause-counted : goal.reach_apart-requires-clause-counted
-reach_apart-requires-clause-counted g c =
+pub returns-then-world-eq0-clause-ended : goal.returns-then-world-eq0-clause-ended
+returns-then-world-eq0-clause-ended g c =
     let w : World = c.args.world.now in
-    subst (λ (x : World). IsCounted x.slots (unix_of x)) (sym (before_is w c.requires.counted c.if-world-eq0.true)) c.requires.counted
-
-pub reach_apart-requires-clause-fresh : goal.reach_apart-requires-clause-fresh
-reach_apart-requires-clause-fresh g c = due_fresh c.args.world.now c.requires.counted c.if-world-eq0.true c.requires.fresh
-
-pub returns-then-world-eq0-clause-unix : goal.returns-then-world-eq0-clause-unix
-returns-then-world-eq0-clause-unix g c = c.reach_apart.ensures.unix ∙ ap with_sent (less_unix c.args.world.now c.requires.counted)
-
-pub returns-then-world-eq0-clause-board : goal.returns-then-world-eq0-clause-board
-returns-then-world-eq0-clause-board g c =
-    let w : World = c.args.world.now in
-    c.reach_apart.ensures.board ∙ ap (λ (u : Unix). (logged {W = Unix} (board_in w) (map Show (slot_items u))).board) (less_unix w c.requires.counted)
-
-pub returns-then-world-eq0-clause-any : goal.returns-then-world-eq0-clause-any
-returns-then-world-eq0-clause-any g c =
-    c.reach_apart.ensures.any ∙ ap slot_wakes (less_unix c.args.world.now c.requires.counted)
+    let one = less_unix w c.requires.counted in
+    let e = c.reach_apart.ensures.ended in
+    record {
+      unix = e.unix ∙ ap with_sent one;
+      board = e.board ∙ ap (λ (u : Unix). (logged {W = Unix} (board_in w) (map Show (slot_items u))).board) one;
+      any = e.any ∙ ap slot_wakes one;
+      good = e.good;
+      counted = e.counted;
+      running = e.running;
+      tree = e.tree;
+      others = e.others;
+      same = e.same;
+    }
 
 pub returns-then-world-eq0-clause-items : goal.returns-then-world-eq0-clause-items
 returns-then-world-eq0-clause-items g c =
     subst (λ (u : Unix). Took (g.T.Trace.taken c.args.trace.now) (slot_items u) (g.T.Trace.taken c.reach_apart.new.trace))
     (less_unix c.args.world.now c.requires.counted) c.reach_apart.ensures.items
 
-pub returns-clause-unix : goal.returns-clause-unix
-returns-clause-unix g c = less_sent c.args.world.now c.requires.counted c.if-world-eq0.false
-
-pub returns-clause-board : goal.returns-clause-board
-returns-clause-board g c = less_board c.args.world.now c.requires.counted c.if-world-eq0.false
-
-pub returns-clause-any : goal.returns-clause-any
-returns-clause-any g c = less_any c.args.world.now c.requires.counted c.if-world-eq0.false
-
-pub returns-clause-good : goal.returns-clause-good
-returns-clause-good g c = good_slots c.args.world.now _ c.requires.good
-
-pub returns-clause-counted : goal.returns-clause-counted
-returns-clause-counted g c = less_counted c.args.world.now c.requires.counted c.if-world-eq0.false
+pub returns-clause-ended : goal.returns-clause-ended
+returns-clause-ended g c =
+    let w : World = c.args.world.now in
+    let some = c.if-world-eq0.false in
+    record {
+      unix = less_sent w c.requires.counted some;
+      board = less_board w c.requires.counted some;
+      any = less_any w c.requires.counted some;
+      good = good_slots w _ c.requires.good;
+      counted = less_counted w c.requires.counted some;
+      running = refl;
+      tree = refl;
+      others = refl;
+      same = λ none. refl;
+    }
 
 pub returns-clause-items : goal.returns-clause-items
 returns-clause-items g c = took_nothing _ _ (none_shown c.args.world.now c.requires.counted c.if-world-eq0.false)

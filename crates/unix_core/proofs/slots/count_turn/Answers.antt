@@ -22,27 +22,26 @@ count-requires-clause-counted g c = c.renew.ensures.counted
 pub count-requires-clause-fresh : goal.count-requires-clause-fresh
 count-requires-clause-fresh g c = subst (λ (u : Unix). u.timing.passed ≤ 3000000000) (sym c.renew.ensures.unix) c.requires.fresh
 
-pub returns-clause-unix : goal.returns-clause-unix
-returns-clause-unix g c = c.count.ensures.unix ∙ ap (λ (u : Unix). with_sent (with_slot u)) c.renew.ensures.unix
-
-pub returns-clause-board : goal.returns-clause-board
-returns-clause-board g c =
-    let board : board_in c.renew.new.world ≡ board_in c.args.world.now = ap board_in c.renew.ensures.others in
-    c.count.ensures.board
-    ∙ ap (λ (b : Board). (logged {W = Unix} b (map Show (slot_items (with_slot (unix_of c.renew.new.world))))).board) board
-    ∙ ap (λ (u : Unix). (logged {W = Unix} (board_in c.args.world.now) (map Show (slot_items (with_slot u)))).board) c.renew.ensures.unix
-
-pub returns-clause-any : goal.returns-clause-any
-returns-clause-any g c = c.count.ensures.any ∙ ap (λ (u : Unix). slot_wakes (with_slot u)) c.renew.ensures.unix
-
-pub returns-clause-running : goal.returns-clause-running
-returns-clause-running g c = c.count.ensures.running ∙ ap (λ (x : World). x.procs.table.running) c.renew.ensures.others
-
-pub returns-clause-others : goal.returns-clause-others
-returns-clause-others g c =
+pub returns-clause-ended : goal.returns-clause-ended
+returns-clause-ended g c =
+    let w : World = c.args.world.now in
     let v : World = c.count.new.world in
-    c.count.ensures.others
-    ∙ ap (λ (x : World). record x { files = record x.files { lines = v.files.lines }; procs = v.procs; slots = v.slots }) c.renew.ensures.others
+    let r = c.renew.ensures in
+    let e = c.count.ensures.ended in
+    let board : board_in c.renew.new.world ≡ board_in w = ap board_in r.others in
+    record {
+      unix = e.unix ∙ ap (λ (u : Unix). with_sent (with_slot u)) r.unix;
+      board = e.board
+          ∙ ap (λ (b : Board). (logged {W = Unix} b (map Show (slot_items (with_slot (unix_of c.renew.new.world))))).board) board
+          ∙ ap (λ (u : Unix). (logged {W = Unix} (board_in w) (map Show (slot_items (with_slot u)))).board) r.unix;
+      any = e.any ∙ ap (λ (u : Unix). slot_wakes (with_slot u)) r.unix;
+      good = e.good;
+      counted = e.counted;
+      running = e.running ∙ ap (λ (x : World). x.procs.table.running) r.others;
+      tree = e.tree ∙ ap (λ (x : World). x.files.tree) r.others;
+      others = e.others ∙ ap (λ (x : World). record x { files = record x.files { lines = v.files.lines }; procs = v.procs; slots = v.slots }) r.others;
+      same = λ none. e.same none ∙ ap (λ (x : World). x.procs) r.others;
+    }
 
 pub returns-clause-items : goal.returns-clause-items
 returns-clause-items g c =

@@ -29,17 +29,19 @@ returns-then-passed-wake g c =
     let now : World = c.send_after.new.world in
     let e = c.send_after.ensures in
     record {
-      unix = sent_unix w r.left r.good r.counted w.procs refl r.good.agree refl refl w.slots.wake later now e.unix;
-      board = sent_board w r.left r.good r.counted w.procs refl r.good.agree refl refl w.slots.wake later now e.unix
-          (ap (λ items. (logged {W = Unix} (board_in w) (map Show items)).board) (sym none)) e.board;
-      any = sent_any w r.left r.good r.counted w.procs refl r.good.agree refl refl w.slots.wake later now e.unix false c.send_after.result
-          (ap (λ items. not (length items == 0)) (sym none)) e.any;
-      good = e.good;
-      counted = e.counted;
-      running = e.running;
-      tree = ap (λ (x : World). x.files.tree) e.others;
-      others = reach_others w now w.procs e.others;
-      same = e.same;
+      ended = record {
+        unix = sent_unix w r.left r.good r.counted w.procs refl r.good.agree refl refl w.slots.wake later now e.unix;
+        board = sent_board w r.left r.good r.counted w.procs refl r.good.agree refl refl w.slots.wake later now e.unix
+            (ap (λ items. (logged {W = Unix} (board_in w) (map Show items)).board) (sym none)) e.board;
+        any = sent_any w r.left r.good r.counted w.procs refl r.good.agree refl refl w.slots.wake later now e.unix false c.send_after.result
+            (ap (λ items. not (length items == 0)) (sym none)) e.any;
+        good = e.good;
+        counted = e.counted;
+        running = e.running;
+        tree = ap (λ (x : World). x.files.tree) e.others;
+        others = reach_others w now w.procs e.others;
+        same = e.same;
+      };
       items = sent_took w r.left r.good r.counted w.procs refl r.good.agree refl refl w.slots.wake later now e.unix _ _ _ (took_nothing _ _ none) e.items;
       frame = e.frame;
     }

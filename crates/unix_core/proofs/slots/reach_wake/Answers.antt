@@ -32,15 +32,17 @@ returns g c =
     let now : World = c.send_after-sent.new.world in
     let s = c.send_after-sent.ensures in
     record {
-      unix = sent_unix w r.left r.good r.counted ps e.others e.agree e.running e.clock next e.next now s.unix;
-      board = sent_board w r.left r.good r.counted ps e.others e.agree e.running e.clock next e.next now s.unix e.board s.board;
-      any = c.either.ensures ∙ sent_any w r.left r.good r.counted ps e.others e.agree e.running e.clock next e.next now s.unix _ _ e.any s.any;
-      good = s.good;
-      counted = s.counted;
-      running = s.running ∙ e.running;
-      tree = ap (λ (x : World). x.files.tree) s.others;
-      others = reach_others w now ps s.others;
-      same = λ none. (let both = none_woken c.wake_disks-woken.result.any c.send_after-sent.result (sym c.either.ensures ∙ none) in s.same both.1 ∙ e.same both.0);
+      ended = record {
+        unix = sent_unix w r.left r.good r.counted ps e.others e.agree e.running e.clock next e.next now s.unix;
+        board = sent_board w r.left r.good r.counted ps e.others e.agree e.running e.clock next e.next now s.unix e.board s.board;
+        any = c.either.ensures ∙ sent_any w r.left r.good r.counted ps e.others e.agree e.running e.clock next e.next now s.unix _ _ e.any s.any;
+        good = s.good;
+        counted = s.counted;
+        running = s.running ∙ e.running;
+        tree = ap (λ (x : World). x.files.tree) s.others;
+        others = reach_others w now ps s.others;
+        same = λ none. (let both = none_woken c.wake_disks-woken.result.any c.send_after-sent.result (sym c.either.ensures ∙ none) in s.same both.1 ∙ e.same both.0);
+      };
       items = sent_took w r.left r.good r.counted ps e.others e.agree e.running e.clock next e.next now s.unix _ _ _ e.items s.items;
       frame = g.met.T.Trace.goes_on _ _ _ e.frame s.frame;
     }

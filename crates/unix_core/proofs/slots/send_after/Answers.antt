@@ -1,11 +1,12 @@
 use Rattle.std.proofs.Common.{◌≡◌, ◌∙◌, ◌-◌, ◌%◌, ℕ, List, refl, sym, ap, arith}
 use Rattle.tty_line.specs.Terminal.{Terminal}
 use Rattle.pick_rules.specs.declared.table.Table.{Table}
+use Rattle.abstract_unix.proofs.AtOnce.{at_once}
 use Rattle.unix_core.specs.declared.world.World.{World}
 use Rattle.unix_core.specs.Slots.{passed_in}
 use Rattle.unix_core.specs.Parts.{unix_of, board_in}
 use Rattle.unix_core.proofs.CountLemmas.{timed_same}
-use Rattle.unix_core.proofs.SendLines.{sends_now, rests_now, unpaced_none, unpaced_now, rest_unix, rest_board, rest_any, rest_took, send_unix, send_board, send_any, send_good, send_running, send_took}
+use Rattle.unix_core.proofs.SendLines.{sends_now, rests_now, unpaced_none, rest_unix, rest_board, rest_any, rest_took, send_unix, send_board, send_any, send_good, send_running, send_took}
 use Rattle.unix_core.proofs.slots.send_after.Goals as goal
 
 -- what is as it was
@@ -31,7 +32,7 @@ back w passed behind at is = is ∙ ap (λ p. (p - w.slots.set_at) % w.slots.pac
 pub returns-then-world-eq0 : goal.returns-then-world-eq0
 returns-then-world-eq0 g c =
     let w : World = c.args.world.now in
-    let none = unpaced_now (unix_of w).timing c.if-world-eq0.true in
+    let none = (at_once (unix_of w)).sends c.if-world-eq0.true in
     record {
       unix = rest_unix w none w.slots refl;
       board = rest_board w none;

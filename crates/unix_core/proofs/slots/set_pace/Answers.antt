@@ -27,7 +27,7 @@ renew-requires g c =
     let turned = c.turn_lines-any in
     let e = c.set_pace.ensures in
     record {
-      timed = pace_timed c.args.world.now c.requires.good c.requires.counted.timed c.args.n c.requires.few c.set_pace.new.self e.timing
+      timed = pace_timed c.args.world.now c.requires.good c.requires.counted.timed c.args.n c.set_pace.new.self e.timing
           turned.new.lines turned.ensures.lines turned.new.table turned.ensures.table e.left e.due e.wake e.set;
     }
 
@@ -35,28 +35,28 @@ pub returns-clause-unix : goal.returns-clause-unix
 returns-clause-unix g c =
     let turned = c.turn_lines-any in
     c.renew.ensures.unix
-    ∙ pace_unix c.args.world.now c.requires.good c.requires.counted.timed c.args.n c.requires.few c.set_pace.new.self c.set_pace.ensures.timing
+    ∙ pace_unix c.args.world.now c.requires.good c.requires.counted.timed c.args.n c.set_pace.new.self c.set_pace.ensures.timing
     turned.new.lines turned.ensures.lines turned.new.table turned.ensures.table
 
 pub returns-clause-board : goal.returns-clause-board
 returns-clause-board g c =
     let turned = c.turn_lines-any in
     ap board_in c.renew.ensures.others
-    ∙ pace_board c.args.world.now c.requires.good c.requires.counted.timed c.args.n c.requires.few c.set_pace.new.self c.set_pace.ensures.timing
+    ∙ pace_board c.args.world.now c.requires.good c.requires.counted.timed c.args.n c.set_pace.new.self c.set_pace.ensures.timing
     turned.new.lines turned.ensures.lines turned.new.table turned.ensures.table
 
 pub returns-clause-good : goal.returns-clause-good
 returns-clause-good g c =
     let turned = c.turn_lines-any in
     c.renew.ensures.good
-    (pace_good c.args.world.now c.requires.good c.requires.counted.timed c.args.n c.requires.few c.set_pace.new.self c.set_pace.ensures.timing
+    (pace_good c.args.world.now c.requires.good c.requires.counted.timed c.args.n c.set_pace.new.self c.set_pace.ensures.timing
     turned.new.lines turned.ensures.lines turned.new.table turned.ensures.table)
 
 pub returns-clause-running : goal.returns-clause-running
 returns-clause-running g c =
     let turned = c.turn_lines-any in
     ap (λ (x : World). x.procs.table.running) c.renew.ensures.others
-    ∙ pace_running c.args.world.now c.requires.good c.requires.counted.timed c.args.n c.requires.few c.set_pace.new.self c.set_pace.ensures.timing
+    ∙ pace_running c.args.world.now c.requires.good c.requires.counted.timed c.args.n c.set_pace.new.self c.set_pace.ensures.timing
     turned.new.lines turned.ensures.lines turned.new.table turned.ensures.table
 
 pub returns-clause-same : goal.returns-clause-same
@@ -67,8 +67,11 @@ returns-clause-same g c none =
 pub returns-clause-items : goal.returns-clause-items
 returns-clause-items g c =
     let turned = c.turn_lines-any in
-    pace_took c.args.world.now c.requires.good c.requires.counted.timed c.args.n c.requires.few c.set_pace.new.self c.set_pace.ensures.timing
+    pace_took c.args.world.now c.requires.good c.requires.counted.timed c.args.n c.set_pace.new.self c.set_pace.ensures.timing
     turned.new.lines turned.ensures.lines turned.new.table turned.ensures.table _ _ turned.ensures.items
+
+pub returns-clause-images : goal.returns-clause-images
+returns-clause-images g c = ap (λ (x : World). x.procs.images) c.renew.ensures.others
 
 pub returns-clause-tree : goal.returns-clause-tree
 returns-clause-tree g c = ap (λ (x : World). x.files.tree) c.renew.ensures.others

@@ -17,7 +17,7 @@ pub returns-in_err-write_all-clause-front : goal.returns-in_err-write_all-clause
 returns-in_err-write_all-clause-front g c told =
     let now = g.H.Host.outside c.numbers.host in
     let still = ap (λ (f : Environment). f.tells) c.numbers.invariant.only.fixed ∙ told in
-    second_front _ _ _ _ _ c.numbers.n c.requires.stored c.numbers-test.true (c.numbers.invariant.bytes told) c.second_block.ensures (c.in_err-write_all.ensures.front still)
+    second_front _ _ _ _ _ c.numbers.n c.numbers-test.true (c.numbers.invariant.bytes told) c.second_block.ensures (c.in_err-write_all.ensures.front still)
 
 pub numbers-preserved : goal.numbers-preserved
 numbers-preserved g c = record {
@@ -26,7 +26,7 @@ numbers-preserved g c = record {
   is_open = search rules;
   bytes = λ told.
       let still = ap (λ (f : Environment). f.tells) c.numbers.invariant.only.fixed ∙ told in
-      second_more _ _ _ _ _ c.numbers.n c.requires.stored (c.numbers.invariant.bytes told) c.second_block.ensures (c.in_ok-write_all.ensures.whole still);
+      second_more _ _ _ _ _ c.numbers.n (c.numbers.invariant.bytes told) c.second_block.ensures (c.in_ok-write_all.ensures.whole still);
 }
 
 pub returns-clause-whole : goal.returns-clause-whole

@@ -42,14 +42,6 @@ set_disk-requires-clause-most g c =
     let all : AreRates (ask.Disk c.in-Disk.count ∷ []) = subst (λ (e : asked.Event). AreRates (e ∷ [])) c.in-Disk.is c.requires.can.rates in
     let most = all.0 in omega (arith, most)
 
-pub set_pace-requires-clause-most : goal.set_pace-requires-clause-most
-set_pace-requires-clause-most g c =
-    let all : AreRates (ask.Pace c.in-Pace.count ∷ []) = subst (λ (e : asked.Event). AreRates (e ∷ [])) c.in-Pace.is c.requires.can.rates in
-    let most = all.0 in omega (arith, most)
-
-pub set_pace-requires-clause-fresh : goal.set_pace-requires-clause-fresh
-set_pace-requires-clause-fresh g c = let few = c.requires.can.fresh in omega (arith, few)
-
 -- a line's number is below 8
 pub hangup-requires-clause-line : goal.hangup-requires-clause-line
 hangup-requires-clause-line g c =

@@ -6,7 +6,7 @@ use Rattle.fs_nodes.specs.Disks.{OfSecond}
 use Rattle.fs_nodes.specs.FileSystem.{AreDisks, held_on_second, together}
 use Rattle.fs_nodes.specs.Numbers.{MakesNode, MakesNone}
 use Rattle.fs_nodes.specs.declared.nodes.Nodes.TheInside.{Inside}
-use Rattle.fs_nodes.proofs.SideLemmas.{with_second, root_changed, second_changed}
+use Rattle.fs_nodes.proofs.SideLemmas.{with_second, root_changed, second_changed, late_root, late_second}
 use Rattle.fs_nodes.proofs.NewLemmas.{room_is, dev_zero, root_outcome, seen_second, second_outcome, key_fits, made_kept}
 use Rattle.fs_nodes.proofs.nodes.Nodes.new_node.Goals as goal
 use Rattle.fs_nodes.proofs.nodes.Nodes.new_node.Goals.{in_default-via-in-Some+else-dev-ne0, in_default-via-in_default}
@@ -89,3 +89,15 @@ invariant_of-self c =
     let k = made_kept c.in-Some.second c.make_on-made.new.nodes c.args.mode c.args.uid c.args.gid c.args.time (nat_lt (c.held.result + c.held_on.result) 100) (referenced i.root.references) c.make_on-made.result form'
     (λ t. (let f = room.some t in omega (arith, f))) (let f = are.few in omega (arith, f)) c.make_on-made.ensures.outcome in
     second_changed i.root c.in-Some.second c.make_on-made.new.nodes i.second i.first c.self.invariant c.in-Some.is k.0 (let f = k.1 in omega (arith, f))
+
+pub returns-in-Some-clause-stored : goal.returns-in-Some-clause-stored
+returns-in-Some-clause-stored c =
+    late_second c.self.inside.root c.in-Some.second c.make_on-made.new.nodes c.self.inside.second c.args.self.now c.in-Some.is c.self.view_is c.make_on-made.ensures.stored
+
+pub returns-in_default-clause-stored : goal.returns-in_default-clause-stored
+returns-in_default-clause-stored c =
+    let view : together (record { root = c.in_default.self-inside.root; second = c.in_default.self-inside.second }) ≡ c.args.self.now = elim c.in_default.branch [
+      | in_default-via-in-Some+else-dev-ne0 w ↦ ap (λ (x : Inside). together (record { root = x.root; second = x.second })) (w.self-inside-is ∙ (λ j. record { root = c.self.inside.root; second = sym w.in-Some.is j; first = c.self.inside.first })) ∙ c.self.view_is
+      | in_default-via-in_default w ↦ ap (λ (x : Inside). together (record { root = x.root; second = x.second })) w.self-inside-is ∙ c.self.view_is
+    ] in
+    late_root c.in_default.self-inside.root c.make_on.new.nodes c.in_default.self-inside.second c.args.self.now view c.make_on.ensures.stored

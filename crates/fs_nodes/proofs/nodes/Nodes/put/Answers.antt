@@ -3,7 +3,7 @@ use Rattle.fs_nodes.specs.one_disk.FileSystem as disk
 use Rattle.fs_nodes.specs.Disks.{OfSecond}
 use Rattle.fs_nodes.specs.FileSystem.{AreDisks}
 use Rattle.fs_nodes.specs.declared.nodes.Nodes.TheInside.{Inside}
-use Rattle.fs_nodes.proofs.SideLemmas.{Side, with_root, with_second, root_here, second_here, root_kept, second_kept, put_done, put_lessens}
+use Rattle.fs_nodes.proofs.SideLemmas.{Side, with_root, with_second, root_here, second_here, root_kept, second_kept, node_is, put_done, put_lessens}
 use Rattle.fs_nodes.proofs.nodes.Nodes.put.Goals as goal
 use Rattle.fs_nodes.proofs.nodes.Nodes.put.Goals.{in_default-via-in-Some+else-ino-self, in_default-via-in_default}
 
@@ -69,3 +69,11 @@ returns-in_default-clause-references c =
 
 pub returns-in_default-clause-store : goal.returns-in_default-clause-store
 returns-in_default-clause-store c = put_done (root_is c) c.put-in_default.new.self c.put-in_default.ensures.store
+
+pub returns-in-Some-clause-stored : goal.returns-in-Some-clause-stored
+returns-in-Some-clause-stored c = λ node is some.
+    (second_is c).late c.put.new.self (c.put.ensures.stored node (sym (node_is (second_is c)) ∙ is) some)
+
+pub returns-in_default-clause-stored : goal.returns-in_default-clause-stored
+returns-in_default-clause-stored c = λ node is some.
+    (root_is c).late c.put-in_default.new.self (c.put-in_default.ensures.stored node (sym (node_is (root_is c)) ∙ is) some)

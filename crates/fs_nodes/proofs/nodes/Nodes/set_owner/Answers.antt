@@ -2,9 +2,9 @@ use Rattle.std.proofs.Common.{◌≡◌, ◌<◌, ◌≤◌, ◌+◌, ◌-◌, �
 use Rattle.fs_codec.specs.Store.{Node, Store}
 use Rattle.fs_nodes.specs.one_disk.FileSystem as disk
 use Rattle.fs_nodes.specs.Disks.{OfSecond}
-use Rattle.fs_nodes.specs.FileSystem.{AreDisks}
+use Rattle.fs_nodes.specs.FileSystem.{AreDisks, together}
 use Rattle.fs_nodes.specs.declared.nodes.Nodes.TheInside.{Inside}
-use Rattle.fs_nodes.proofs.SideLemmas.{Side, with_root, root_here, second_here, root_kept, second_kept, node_lessens, set_done}
+use Rattle.fs_nodes.proofs.SideLemmas.{Side, with_root, root_here, second_here, root_kept, second_kept, node_lessens, set_done, same_root, same_second}
 use Rattle.fs_nodes.proofs.nodes.Nodes.set_owner.Goals as goal
 use Rattle.fs_nodes.proofs.nodes.Nodes.set_owner.Goals.{in_default-via-in-Some+else-ino-self, in_default-via-in_default}
 
@@ -81,3 +81,27 @@ returns-in_default-clause-references c =
     let side = subst (λ (x : Inside). Side c.args.self.now c.args.ino x.root c.args.ino (with_root x.second)) (sym same)
     (root_here i.root i.second i.first c.args.ino c.args.self.now c.self.invariant c.see.ensures.root low c.self.view_is) in
     side.same c.set_owner-in_default.new.self c.set_owner-in_default.ensures.references
+
+pub returns-in-Some-clause-blocks : goal.returns-in-Some-clause-blocks
+returns-in-Some-clause-blocks c =
+    (same_second c.self.inside.root c.in-Some.second c.set_owner.new.self c.self.inside.second c.args.self.now c.in-Some.is c.self.view_is c.set_owner.ensures.blocks c.set_owner.ensures.stored).0
+
+pub returns-in-Some-clause-stored : goal.returns-in-Some-clause-stored
+returns-in-Some-clause-stored c =
+    (same_second c.self.inside.root c.in-Some.second c.set_owner.new.self c.self.inside.second c.args.self.now c.in-Some.is c.self.view_is c.set_owner.ensures.blocks c.set_owner.ensures.stored).1
+
+pub returns-in_default-clause-blocks : goal.returns-in_default-clause-blocks
+returns-in_default-clause-blocks c =
+    let view : together (record { root = c.in_default.self-inside.root; second = c.in_default.self-inside.second }) ≡ c.args.self.now = elim c.in_default.branch [
+      | in_default-via-in-Some+else-ino-self w ↦ ap (λ (x : Inside). together (record { root = x.root; second = x.second })) (w.self-inside-is ∙ (λ j. record { root = c.self.inside.root; second = sym w.in-Some.is j; first = c.self.inside.first })) ∙ c.self.view_is
+      | in_default-via-in_default w ↦ ap (λ (x : Inside). together (record { root = x.root; second = x.second })) w.self-inside-is ∙ c.self.view_is
+    ] in
+    (same_root c.in_default.self-inside.root c.set_owner-in_default.new.self c.in_default.self-inside.second c.args.self.now view c.set_owner-in_default.ensures.blocks c.set_owner-in_default.ensures.stored).0
+
+pub returns-in_default-clause-stored : goal.returns-in_default-clause-stored
+returns-in_default-clause-stored c =
+    let view : together (record { root = c.in_default.self-inside.root; second = c.in_default.self-inside.second }) ≡ c.args.self.now = elim c.in_default.branch [
+      | in_default-via-in-Some+else-ino-self w ↦ ap (λ (x : Inside). together (record { root = x.root; second = x.second })) (w.self-inside-is ∙ (λ j. record { root = c.self.inside.root; second = sym w.in-Some.is j; first = c.self.inside.first })) ∙ c.self.view_is
+      | in_default-via-in_default w ↦ ap (λ (x : Inside). together (record { root = x.root; second = x.second })) w.self-inside-is ∙ c.self.view_is
+    ] in
+    (same_root c.in_default.self-inside.root c.set_owner-in_default.new.self c.in_default.self-inside.second c.args.self.now view c.set_owner-in_default.ensures.blocks c.set_owner-in_default.ensures.stored).1

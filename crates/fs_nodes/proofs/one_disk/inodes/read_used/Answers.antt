@@ -7,6 +7,7 @@ use Rattle.fs_blocks.specs.State.{disk}
 use Rattle.fs_blocks.proofs.SuperLemmas.{head_is}
 use Rattle.fs_nodes.specs.one_disk.FileSystem.{store_now}
 use Rattle.fs_nodes.proofs.NodesLemmas.{no_node, no_node_0, no_node_past, node_at, shows_inode, low_number}
+use Rattle.fs_blocks.proofs.LateLemmas.{late_stays}
 use Rattle.fs_nodes.proofs.one_disk.inodes.read_used.Goals as goal
 use Rattle.fs_nodes.proofs.one_disk.inodes.read_used.Goals.{then-ino-eq0-via-then-ino-eq0, then-ino-eq0-via-else-ino-eq0+then-from}
 
@@ -38,3 +39,12 @@ pub returns-clause-used : goal.returns-clause-used
 returns-clause-used c =
     let some = c.if-ino-eq0.false in
     shows_inode c.args.volume.now.state c.args.ino c.read_inode-node.result (omega (arith, some)) (low_number c.args.volume.now.state c.args.ino c.from.result c.from-else-ino-eq0.result c.head.result.now c.see.ensures.sound.fits c.from.ensures c.from-else-ino-eq0.ensures c.head.ensures.head c.if-from.false) c.read_inode-node.ensures.node c.if-node-eq0.false
+
+pub returns-then-ino-eq0-clause-stored : goal.returns-then-ino-eq0-clause-stored
+returns-then-ino-eq0-clause-stored c = late_stays _ _
+
+pub returns-then-node-eq0-clause-stored : goal.returns-then-node-eq0-clause-stored
+returns-then-node-eq0-clause-stored c = c.read_inode-node.ensures.stored
+
+pub returns-clause-stored : goal.returns-clause-stored
+returns-clause-stored c = c.read_inode-node.ensures.stored

@@ -12,8 +12,11 @@ change-requires-clause-used c =
     let same : (c.args.ino - 1) / 16 + 2 ≡ (c.args.ino + 31) / 16 = omega (arith, low) in
     ap (λ b. count_by (nat_eq b) (free (disk c.args.volume.now.state))) same ∙ place_not_free _ _ (place_is (disk c.args.volume.now.state) c.args.ino c.see.ensures.sound.sound low c.requires.high)
 
-pub returns : goal.returns
-returns c =
+pub returns-clause-written : goal.returns-clause-written
+returns-clause-written c =
     let e = c.change.ensures in
     inode_put c.args.volume.now.state c.change.new.self.state c.args.ino _ c.write_node.new.b c.see.ensures.blocks c.see.ensures.sound (place_is (disk c.args.volume.now.state) c.args.ino c.see.ensures.sound.sound c.requires.low c.requires.high)
     c.requires.low c.write_node.array_long c.write_node.ensures e.blocks e.free e.head e.changed
+
+pub returns-clause-stored : goal.returns-clause-stored
+returns-clause-stored c = c.change.ensures.stored

@@ -21,4 +21,4 @@ pub returns : goal.returns
 returns c = λ file is.
     clear_late c.args.volume.now.state c.truncate.new.self.state c.write_inode.new.volume.state c.args.table.now c.args.ino (fields_of c.args.node) (fields_of c.truncate.new.node) _ file c.requires.held
     c.see-2.ensures.blocks c.see-2.ensures.sound c.see-3.ensures.blocks c.see-3.ensures.sound c.requires.low c.requires.high c.requires.none
-    (sym c.requires.node) c.requires.used refl (λ yes. (c.truncate.ensures.device yes).0) c.truncate.ensures.truncated is c.write_inode.ensures
+    (sym c.requires.node) c.requires.used refl (λ yes. (c.truncate.ensures.device yes).0) c.truncate.ensures.truncated is c.write_inode.ensures.written

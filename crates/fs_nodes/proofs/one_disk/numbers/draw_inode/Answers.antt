@@ -37,3 +37,6 @@ returns-clause-references c =
     let P : List Referenced → Type 0 = λ l. Drew c.args.volume.now.state c.draw_number-number.new.volume.state l c.draw_number-number.result in
     let d = subst P c.deref.ensures.0 (record { held = e.held; number = e.number; store = e.store; rest = e.rest }) in
     drawn_references (seen c.args.volume.now.state c.args.table.now.items) (seen c.draw_number-number.new.volume.state c.args.table.now.items) c.args.table.now.items c.requires.nodes d.rest (volume_seen c.draw_number-number.new.volume.state c.args.table.now.items (over c.draw_number-number.new.volume.state c.args.table.now.items d.held))
+
+pub returns-clause-stored : goal.returns-clause-stored
+returns-clause-stored c = c.draw_number-number.ensures.stored

@@ -11,6 +11,8 @@ use Rattle.fs_nodes.specs.one_disk.Numbers.{refers_to, drawn_list, drawn_from, e
 use Rattle.fs_nodes.proofs.SeenLemmas.{volume_seen}
 use Rattle.fs_nodes.proofs.HeldLemmas.{over}
 use Rattle.fs_nodes.proofs.NumbersLemmas.{now_spare, draw_one, draw_two, drawn_first, second_number, none_drawn}
+use Rattle.fs_blocks.proofs.LateLemmas.{late_again}
+use Rattle.fs_nodes.proofs.ReadLemmas.{late_still}
 use Rattle.fs_nodes.proofs.one_disk.numbers.draw_number.Goals as goal
 use Rattle.fs_nodes.proofs.one_disk.numbers.draw_number.Goals.{After-draw_from, After-draw_from-2}
 
@@ -87,3 +89,13 @@ returns-clause-words c =
     found c ∙ sym (ap (λ t. cond t s.spare (refill s (refers_to c.args.table.now))) (was_drawn b None c.in_default.is)) in
     let P : List ℕ → Type 0 = λ l. IfSome c.draw_from-2.result (λ _. take (length l) c.draw_from-2.new.volume.state.head.inode ≡ l) in
     subst P is c.draw_from-2.ensures.words
+
+pub returns-in-Some-clause-stored : goal.returns-in-Some-clause-stored
+returns-in-Some-clause-stored c = c.draw_from.ensures.stored
+
+pub returns-clause-stored : goal.returns-clause-stored
+returns-clause-stored c =
+    let emptied_blocks = c.empty_list.ensures.blocks ∙ c.draw_from.ensures.blocks in
+    let emptied_late = late_still c.args.volume.now c.draw_from.new.volume c.empty_list.new.volume c.empty_list.ensures.stored c.draw_from.ensures.stored in
+    let filled_late = late_again _ _ _ _ _ emptied_blocks emptied_late c.refill-found.ensures.stored in
+    late_again _ _ _ _ _ (ap (λ (v : State). v.blocks) c.refill-found.ensures.same ∙ emptied_blocks) filled_late c.draw_from-2.ensures.stored

@@ -4,6 +4,7 @@ use Rattle.fs_nodes.specs.one_disk.FileSystem.{store_now}
 use Rattle.fs_nodes.specs.one_disk.Numbers.{refers_to}
 use Rattle.fs_nodes.specs.one_disk.Table.{seen}
 use Rattle.fs_nodes.proofs.NumbersLate.{free_seen, free_alone, entry_not_free}
+use Rattle.fs_blocks.proofs.LateLemmas.{late_stays}
 use Rattle.fs_nodes.proofs.one_disk.numbers.is_free.Goals as goal
 
 pub returns-in-Some-clause-free : goal.returns-in-Some-clause-free
@@ -20,3 +21,9 @@ pub returns-in-None-clause-spare : goal.returns-in-None-clause-spare
 returns-in-None-clause-spare c =
     c.is_free_there.ensures.free ∙ sym (free_seen c.args.volume.now.state c.args.table.now c.args.ino c.requires c.in-None.ensures.none)
     ∙ free_alone (is_free_number (store_now (seen c.args.volume.now.state c.args.table.now)) c.args.ino) c.args.table.now c.args.ino c.in-None.ensures.none
+
+pub returns-in-Some-clause-stored : goal.returns-in-Some-clause-stored
+returns-in-Some-clause-stored c = late_stays _ _
+
+pub returns-in-None-clause-stored : goal.returns-in-None-clause-stored
+returns-in-None-clause-stored c = c.is_free_there.ensures.stored

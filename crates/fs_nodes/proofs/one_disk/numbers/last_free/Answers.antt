@@ -6,6 +6,7 @@ use Rattle.fs_codec.specs.Store.{Store}
 use Rattle.fs_nodes.specs.one_disk.FileSystem.{store_now}
 use Rattle.fs_nodes.specs.one_disk.Table.{seen}
 use Rattle.fs_nodes.proofs.NumbersLemmas.{drawn_here, drawn_past}
+use Rattle.fs_blocks.proofs.LateLemmas.{late_again}
 use Rattle.fs_nodes.proofs.one_disk.numbers.last_free.Goals as goal
 
 pub returns-then-is_free-clause-last : goal.returns-then-is_free-clause-last
@@ -32,6 +33,11 @@ loop-left-preserved c =
     let up : n ≡ n - 1 + 1 = omega (arith, some) in
     record {
       same = c.is_free.ensures.same ∙ c.loop-left.invariant.same;
+      stored = late_again _ _ _ _ _ (ap (λ (v : State). v.blocks) c.loop-left.invariant.same) c.loop-left.invariant.stored c.is_free.ensures.stored;
       within = omega (arith, some, w);
       rest = c.loop-left.invariant.rest ∙ ap (λ m. drawn s (reverse (take m c.args.list.now))) up ∙ drawn_past s c.args.list.now (n - 1) low no;
     }
+
+pub returns-then-is_free-clause-stored : goal.returns-then-is_free-clause-stored
+returns-then-is_free-clause-stored c =
+    late_again _ _ _ _ _ (ap (λ (v : State). v.blocks) c.loop-left.invariant.same) c.loop-left.invariant.stored c.is_free.ensures.stored

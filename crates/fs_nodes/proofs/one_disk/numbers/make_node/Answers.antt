@@ -99,3 +99,12 @@ returns-then-is_full-clause-rest c = same_rest _ _ c.draw_number-number.ensures.
 
 pub returns-clause-rest : goal.returns-clause-rest
 returns-clause-rest c = same_rest _ _ c.draw_number-number.ensures.blocks
+
+pub returns-in-None-clause-stored : goal.returns-in-None-clause-stored
+returns-in-None-clause-stored c = c.draw_number-number.ensures.stored
+
+pub returns-then-is_full-clause-stored : goal.returns-then-is_full-clause-stored
+returns-then-is_full-clause-stored c = c.draw_number-number.ensures.stored
+
+pub returns-clause-stored : goal.returns-clause-stored
+returns-clause-stored c = c.draw_number-number.ensures.stored

@@ -9,6 +9,7 @@ use Rattle.fs_nodes.specs.one_disk.FileSystem.{store_now}
 use Rattle.fs_nodes.specs.one_disk.Numbers.{refers_to}
 use Rattle.fs_nodes.specs.one_disk.Table.{seen}
 use Rattle.fs_nodes.proofs.NodesLemmas.{count_is}
+use Rattle.fs_blocks.proofs.LateLemmas.{late_again}
 use Rattle.fs_nodes.proofs.one_disk.numbers.refill.Goals as goal
 use Rattle.fs_nodes.proofs.one_disk.numbers.refill.Goals.{Joined-is_free, then-is_free, else-is_free}
 
@@ -34,6 +35,7 @@ loop-below-preserved c =
     let n : ℕ = c.loop-below.below in
     record {
       same = c.is_free.ensures.same ∙ c.loop-below.invariant.same;
+      stored = late_again _ _ _ _ _ (ap (λ (s : State). s.blocks) c.loop-below.invariant.same) c.loop-below.invariant.stored c.is_free.ensures.stored;
       few = let f = few_before c in elim c.if-is_free.branch [
         | then-is_free w ↦ (let m = w.push.ensures.len in rw w.found-is (omega (arith, f, m)))
         | else-is_free w ↦ rw w.found-is (omega (arith, f))

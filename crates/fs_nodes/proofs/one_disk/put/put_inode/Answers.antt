@@ -7,6 +7,7 @@ use Rattle.fs_codec.specs.Stands.{node_of}
 use Rattle.fs_codec.specs.declared.super_block.SuperBlock.{SuperBlock}
 use Rattle.fs_laws.specs.Numbers.{without_node}
 use Rattle.fs_blocks.specs.State.{State, disk}
+use Rattle.fs_blocks.proofs.LateLemmas.{late_stays}
 use Rattle.fs_nodes.specs.declared.one_disk.table.Referenced.{Referenced}
 use Rattle.fs_laws.specs.Rest.{SameAround}
 use Rattle.fs_nodes.specs.one_disk.FileSystem.{store_now}
@@ -19,7 +20,7 @@ use Rattle.fs_nodes.proofs.NumbersLemmas.{count_is}
 use Rattle.fs_nodes.proofs.NumbersPut.{IsAt, entry_is, references_are, kept_many, kept_linked, kept_root, gone, file_links}
 use Rattle.fs_nodes.proofs.ReleaseLemmas.{LosesLate, less_late, left_file}
 use Rattle.fs_nodes.proofs.one_disk.put.put_inode.Goals as goal
-use Rattle.fs_nodes.proofs.one_disk.put.put_inode.Goals.{After-place-k, After-index-deref-k, After-refer_less, After-release, After-free_inode}
+use Rattle.fs_nodes.proofs.one_disk.put.put_inode.Goals.{After-index-deref-k, After-refer_less, After-release}
 
 pub place-k-requires : goal.place-k-requires
 place-k-requires c =
@@ -81,7 +82,7 @@ once : (c : After-release) → c.index-deref-k.result.references ≡ 1
 once c = let s = (is_entry (goal.at.After-release c).After-index-deref-k).some in let f = c.if-entry-gt1.false in omega (arith, s, f)
 
 last : (c : After-release) → Releases c.args.volume.now.state c.release.new.volume.state c.args.table.now.items c.release.new.table.items c.index-deref-k.result
-last c = c.release.ensures c.index-deref-k.result (at (goal.at.After-release c).After-index-deref-k).here (once c)
+last c = c.release.ensures.released c.index-deref-k.result (at (goal.at.After-release c).After-index-deref-k).here (once c)
 
 references : (c : After-release) → references_in (inode_count (disk c.release.new.volume.state)) c.release.new.table.items
     ≡ slice_set (references_in (inode_count (disk c.args.volume.now.state)) c.args.table.now.items) c.args.ino (slice_index (references_in (inode_count (disk c.args.volume.now.state)) c.args.table.now.items) c.args.ino - 1)
@@ -177,3 +178,19 @@ returns-clause-rest c =
     let Q : List Referenced → Type 0 = λ t. SameAround (seen mid t).blocks (seen fin t).blocks in
     rest_on c.args.volume.now.state.blocks mid.blocks fin.blocks r.stays.rest
     (rest_real mid fin c.release.new.table.items c.release.new.table.items r.stays.held (subst P c.deref-3.ensures.0 c.free_inode.ensures.held) (subst Q c.deref-3.ensures.0 c.free_inode.ensures.others.rest))
+
+pub returns-then-entry-gt1-clause-stored : goal.returns-then-entry-gt1-clause-stored
+returns-then-entry-gt1-clause-stored c = λ node is some. late_stays _ _
+
+pub returns-then-entry-gt0-clause-stored : goal.returns-then-entry-gt0-clause-stored
+returns-then-entry-gt0-clause-stored c = λ node is some. c.release.ensures.stored
+
+pub returns-then-ino-eq1-clause-stored : goal.returns-then-ino-eq1-clause-stored
+returns-then-ino-eq1-clause-stored c = λ node is some. c.release.ensures.stored
+
+-- One that has links isn't freed.
+pub returns-clause-stored : goal.returns-clause-stored
+returns-clause-stored c = λ node is some.
+    let l = links (goal.at.returns-clause-stored c).After-index-deref-k node is in
+    let none = c.if-entry-gt0.false in
+    absurd (omega (arith, l, none, some))

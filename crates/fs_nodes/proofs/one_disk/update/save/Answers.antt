@@ -14,3 +14,6 @@ returns-clause-stays c =
     let Q : Referenced → Type 0 = λ r. r.is_changed ≡ false → c.write_entry.new.volume.state ≡ c.args.volume.now.state in
     saved_either c.args.volume.now.state c.write_entry.new.volume.state c.args.table.now c.args.k c.index-table-k-2.result c.requires.held c.requires.low c.see_sizes.ensures.sizes c.see_sizes-2.ensures.sizes c.see.ensures.blocks
     (subst P (sym is) c.write_entry.ensures.written) (subst Q (sym is) c.write_entry.ensures.same)
+
+pub returns-clause-stored : goal.returns-clause-stored
+returns-clause-stored c = c.write_entry.ensures.stored

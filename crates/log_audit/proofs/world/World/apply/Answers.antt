@@ -1,4 +1,4 @@
-use Rattle.std.proofs.Common.{rules, ◌≡◌, ◌∙◌, ℤ, FitsSigned, w8, to_z, of_z, sym, ap, subst}
+use Rattle.std.proofs.Common.{rules, ◌∙◌, ℤ, FitsSigned, w8, sym, ap, subst}
 use Rattle.std.proofs.lemmas.Int.{to_z-of_z}
 use Rattle.v6_base.specs.declared.entry.Entry.TheVariants as line
 use Rattle.pick_rules.specs.Apply.{applied}

@@ -1,4 +1,4 @@
-use Rattle.std.proofs.Common.{◌≡◌, ◌∙◌, sym, ap, subst}
+use Rattle.std.proofs.Common.{◌∙◌, sym, ap, subst}
 use Rattle.pick_rules.specs.Apply.{applied}
 use Rattle.pick_rules.specs.Lawful.{IsOfExec}
 use Rattle.log_audit.specs.World.{board_of}

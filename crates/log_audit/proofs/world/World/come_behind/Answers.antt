@@ -1,6 +1,5 @@
-use Rattle.std.proofs.Common.{◌≡◌, ◌∙◌, ◌+◌, ◌<◌, refl, sym, ap, [], ◌∷◌, Some, arith}
+use Rattle.std.proofs.Common.{◌∙◌, ◌+◌, refl, sym, ap, [], ◌∷◌, arith}
 use Rattle.pick_rules.specs.declared.row.TableRow.{TableRow}
-use Rattle.pick_rules.specs.declared.table.Table.{Table}
 use Rattle.pick_rules.specs.Table.{row_at, with_row, is_empty, is_zombie}
 use Rattle.pick_rules.specs.Apply.{without_place}
 use Rattle.log_audit.specs.declared.world.World.{World}

@@ -1,8 +1,6 @@
-use Rattle.std.proofs.Common.{◌≡◌, ◌∙◌, ◌<◌, ap, length, [], ◌∷◌, arith}
-use Rattle.v6_base.specs.declared.entry.Place.TheVariants.{Core}
+use Rattle.std.proofs.Common.{◌∙◌, ap, [], ◌∷◌, arith}
 use Rattle.pick_rules.specs.Table.{row_at}
-use Rattle.pick_rules.specs.Board.{Board}
-use Rattle.pick_rules.specs.Apply.{at_place, without_place}
+use Rattle.pick_rules.specs.Apply.{without_place}
 use Rattle.log_audit.specs.declared.world.World.{World}
 use Rattle.log_audit.specs.World.{board_of}
 use Rattle.log_audit.proofs.Claims.{range}

@@ -1,4 +1,4 @@
-use Rattle.std.proofs.Common.{◌≡◌, ◌∙◌, sym, ap, Some}
+use Rattle.std.proofs.Common.{◌∙◌, sym, ap}
 use Rattle.pick_rules.specs.Board.{core_fit}
 use Rattle.log_audit.specs.World.{board_of}
 use Rattle.log_audit.proofs.ComeLemmas.{need_there, need_away, may_there, brought_there}

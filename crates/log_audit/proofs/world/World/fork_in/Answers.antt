@@ -1,6 +1,5 @@
-use Rattle.std.proofs.Common.{◌≡◌, ◌∙◌, ◌<◌, sym, ap, length, [], ◌∷◌, arith}
+use Rattle.std.proofs.Common.{◌∙◌, sym, ap, [], ◌∷◌, arith}
 use Rattle.v6_base.specs.declared.entry.Place.TheVariants.{Core}
-use Rattle.pick_rules.specs.declared.table.Table.{Table}
 use Rattle.pick_rules.specs.Table.{row_at, with_row, child_row}
 use Rattle.pick_rules.specs.Board.{Board}
 use Rattle.pick_rules.specs.Apply.{applied, at_place, in_table, joins}

@@ -1,4 +1,4 @@
-use Rattle.std.proofs.Common.{◌≡◌, ◌∙◌, ◌<◌, ap, length, [], ◌∷◌, arith}
+use Rattle.std.proofs.Common.{◌∙◌, ap, [], ◌∷◌, arith}
 use Rattle.v6_base.specs.declared.entry.Place.TheVariants.{Core}
 use Rattle.pick_rules.specs.Board.{Board}
 use Rattle.pick_rules.specs.Apply.{at_place, without_place}

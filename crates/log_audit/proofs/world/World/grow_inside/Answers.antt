@@ -1,5 +1,4 @@
-use Rattle.std.proofs.Common.{◌≡◌, ◌∙◌, ap, subst, sym, [], ◌∷◌, List, arith}
-use Rattle.map_fit.specs.Fit.{Range}
+use Rattle.std.proofs.Common.{◌≡◌, ◌∙◌, ap, subst, [], ◌∷◌, arith}
 use Rattle.pick_rules.specs.Table.{row_at, with_row}
 use Rattle.log_audit.specs.declared.world.World.{World}
 use Rattle.log_audit.specs.World.{board_of, in_at}

@@ -1,4 +1,4 @@
-use Rattle.std.proofs.Common.{rules, ◌≡◌, ◌∙◌, ◌<◌, ℤ, FitsSigned, w8, to_z, of_z, sym, ap, length, Some, arith}
+use Rattle.std.proofs.Common.{rules, ◌≡◌, ◌∙◌, ℤ, FitsSigned, w8, sym, ap, arith}
 use Rattle.std.proofs.lemmas.Int.{to_z-of_z}
 use Rattle.pick_rules.specs.Table.{row_at, with_row}
 use Rattle.log_audit.specs.declared.world.World.{World}

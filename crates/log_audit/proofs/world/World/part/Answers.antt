@@ -1,6 +1,4 @@
-use Rattle.std.proofs.Common.{◌≡◌, ◌∙◌, sym, ap, subst, [], Some, arith}
-use Rattle.pick_rules.specs.Table.{row_at, with_row, is_in_core}
-use Rattle.log_audit.specs.declared.world.TextRow.{TextRow}
+use Rattle.std.proofs.Common.{◌∙◌, sym, ap, [], arith}
 use Rattle.log_audit.specs.declared.world.World.{World}
 use Rattle.log_audit.specs.World.{board_of, less_loaded, less_used}
 use Rattle.log_audit.specs.Sound.{entry_at}

@@ -1,5 +1,5 @@
-use Rattle.std.proofs.Common.{◌≡◌, sym, subst, inr}
-use Rattle.log_audit.specs.declared.world.Stage.TheVariants.{Blank, Booted, Open, Idling, Bared, Over}
+use Rattle.std.proofs.Common.{sym, subst}
+use Rattle.log_audit.specs.declared.world.Stage.TheVariants.{Blank, Booted, Bared}
 use Rattle.log_audit.specs.After.{IsAfterAt}
 use Rattle.log_audit.proofs.Stages.{sound_whole, sound_runs, sound_stripped, sound_slot, fits_at}
 use Rattle.log_audit.proofs.world.World.step.Goals as goal

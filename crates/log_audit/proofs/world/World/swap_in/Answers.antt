@@ -1,8 +1,6 @@
 use Rattle.std.proofs.Common.{◌∙◌, ap, []}
-use Rattle.pick_rules.specs.Table.{row_at, with_row}
 use Rattle.pick_rules.specs.Board.{Board}
 use Rattle.pick_rules.specs.Apply.{applied, in_table, change_row}
-use Rattle.log_audit.specs.declared.world.World.{World}
 use Rattle.log_audit.specs.World.{board_of, rested}
 use Rattle.log_audit.proofs.ComeLemmas.{come_whole}
 use Rattle.log_audit.proofs.world.World.swap_in.Goals as goal

@@ -1,4 +1,4 @@
-use Rattle.std.proofs.Common.{◌≡◌, ◌∙◌, refl, sym, ap}
+use Rattle.std.proofs.Common.{◌≡◌, ◌∙◌, sym, ap}
 use Rattle.u_area.specs.declared.area.UArea.{UArea}
 use Rattle.image_keep.specs.Kept.{area_of, image_of}
 use Rattle.sys_procs.specs.declared.procs.Procs.{Procs}
@@ -22,6 +22,5 @@ set_area-requires-clause-sizes c =
 
 pub returns : goal.returns
 returns c =
-    let e = area_set c.args.self.now c.args.s c.requires.alive c.see_kept.ensures.slots c.set_area.new.self (λ _. c.args.u.now) c.set_area.ensures.kept
-    (record { text = c.requires.text; «data» = c.requires.data_size; stack = c.requires.stack_size }) in
-    record { state = e.state; here = e.here; images = e.images; rows = refl; table = refl; switches = refl; board = e.shown; alive = e.alive }
+    area_set c.args.self.now c.args.s c.requires.alive c.see_kept.ensures.slots c.set_area.new.self (λ _. c.args.u.now) c.set_area.ensures.kept
+    (record { text = c.requires.text; «data» = c.requires.data_size; stack = c.requires.stack_size })

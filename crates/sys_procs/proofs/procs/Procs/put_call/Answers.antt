@@ -5,6 +5,5 @@ use Rattle.sys_procs.proofs.procs.Procs.put_call.Goals as goal
 
 pub returns : goal.returns
 returns c =
-    let e = area_set c.args.self.now c.args.s c.requires.alive c.see_kept.ensures.slots c.set_call.new.self (λ u. with_call u c.args.pending c.args.call.now) c.set_call.ensures.kept
-    (record { text = refl; «data» = refl; stack = refl }) in
-    record { state = e.state; here = e.here; images = e.images; rows = refl; table = refl; switches = refl; board = e.shown; alive = e.alive }
+    area_set c.args.self.now c.args.s c.requires.alive c.see_kept.ensures.slots c.set_call.new.self (λ u. with_call u c.args.pending c.args.call.now) c.set_call.ensures.kept
+    (record { text = refl; «data» = refl; stack = refl })

@@ -5,6 +5,5 @@ use Rattle.sys_procs.proofs.procs.Procs.put_child_times.Goals as goal
 
 pub returns : goal.returns
 returns c =
-    let e = area_set c.args.self.now c.args.s c.requires.alive c.see_kept.ensures.slots c.set_child_times.new.self (λ u. with_child_times u c.args.user c.args.system) c.set_child_times.ensures.kept
-    (record { text = refl; «data» = refl; stack = refl }) in
-    record { state = e.state; here = e.here; images = e.images; rows = refl; table = refl; switches = refl; board = e.shown; alive = e.alive }
+    area_set c.args.self.now c.args.s c.requires.alive c.see_kept.ensures.slots c.set_child_times.new.self (λ u. with_child_times u c.args.user c.args.system) c.set_child_times.ensures.kept
+    (record { text = refl; «data» = refl; stack = refl })

@@ -5,6 +5,5 @@ use Rattle.sys_procs.proofs.procs.Procs.put_register.Goals as goal
 
 pub returns : goal.returns
 returns c =
-    let e = area_set c.args.self.now c.args.s c.requires.alive c.see_kept.ensures.slots c.set_register.new.self (λ u. with_register u c.args.n c.args.value) c.set_register.ensures.kept
-    (record { text = refl; «data» = refl; stack = refl }) in
-    record { state = e.state; here = e.here; images = e.images; rows = refl; table = refl; switches = refl; board = e.shown; alive = e.alive }
+    area_set c.args.self.now c.args.s c.requires.alive c.see_kept.ensures.slots c.set_register.new.self (λ u. with_register u c.args.n c.args.value) c.set_register.ensures.kept
+    (record { text = refl; «data» = refl; stack = refl })

@@ -1,8 +1,11 @@
-use Rattle.std.proofs.Common.{◌≡◌, ◌∙◌, ◌==◌, ℕ, Some, if◌then◌else◌, slice_index, sym, ap, subst}
+use Rattle.std.proofs.Common.{◌≡◌, ◌∙◌, Some, sym, ap, subst}
 use Rattle.fs_nodes.specs.Keys.{Stores}
-use Rattle.fs_nodes.specs.FileSystem.{FileSystem}
+use Rattle.fs_tree.specs.Mounting.{AreMounts}
+use Rattle.abstract_unix.specs.Runs.{boots}
 use Rattle.abstract_unix.proofs.FirstTidy.{few_keys}
-use Rattle.unix_core.proofs.BootLemmas.{boots_as, second_fine, second_good}
+use Rattle.unix_core.specs.Boots.{RefusesBoot2, blocks_on}
+use Rattle.unix_core.specs.Parts.{AreFirst}
+use Rattle.unix_core.proofs.BootLemmas.{boots_as, second_fine, second_good, ok_mapped, no_error}
 use Rattle.unix_core.proofs.kernel.Kernel.boot2.Goals as goal
 
 pub returns-in-Some-clause-refused : goal.returns-in-Some-clause-refused
@@ -15,33 +18,35 @@ pub file_systems_of-requires-clause-few : goal.file_systems_of-requires-clause-f
 file_systems_of-requires-clause-few c =
     few_keys c.args.image.now (Some c.args.second.now) c.in_default.ensures (second_fine c.args.image.now c.args.second.now (sym c.second_fault.ensures ∙ c.in_default-second_fault.is))
 
-pub two_trees-tree-requires-clause-store : goal.two_trees-tree-requires-clause-store
-two_trees-tree-requires-clause-store c = c.take_root.ensures.store ∙ c.in-Ok.ensures.store
-
-pub two_trees-tree-requires-clause-few : goal.two_trees-tree-requires-clause-few
-two_trees-tree-requires-clause-few c =
+pub two_mounts-mounts-requires : goal.two_mounts-mounts-requires
+two_mounts-mounts-requires c =
     few_keys c.args.image.now (Some c.args.second.now) c.in_default.ensures (second_fine c.args.image.now c.args.second.now (sym c.second_fault.ensures ∙ c.in_default-second_fault.is))
 
-pub around-requires-clause-referred : goal.around-requires-clause-referred
-around-requires-clause-referred c =
-    subst (λ (fs : FileSystem). (ino : ℕ) → slice_index fs.references ino ≡ (if ino == 1 then 2 else 0)) (sym c.two_trees-tree.ensures.nodes) c.take_root.ensures.referred
+pub new-requires-clause-mounts : goal.new-requires-clause-mounts
+new-requires-clause-mounts c =
+    subst (λ (s : Stores). AreMounts c.two_mounts-mounts.result s) (sym c.in-Ok.ensures.store) c.two_mounts-mounts.ensures.mounts
 
-pub around-requires-clause-time : goal.around-requires-clause-time
-around-requires-clause-time c =
-    c.in-Ok.ensures.time
-    ∙ sym (ap (λ (fs : FileSystem). fs.store.root.stamp) c.two_trees-tree.ensures.nodes ∙ ap (λ (s : Stores). s.root.stamp) (c.take_root.ensures.store ∙ c.in-Ok.ensures.store))
+pub new-requires-clause-procs : goal.new-requires-clause-procs
+new-requires-clause-procs c =
+    subst (λ n. AreFirst c.in-Ok-rooms_of.rooms.procs c.args.core n)
+    (c.in-Ok.ensures.time ∙ sym (ap (λ (s : Stores). s.root.stamp) c.in-Ok.ensures.store)) c.in-Ok-rooms_of.ensures.procs
 
-pub returns-in-Ok-around-clause-system : goal.returns-in-Ok-around-clause-system
-returns-in-Ok-around-clause-system c =
-    boots_as c.args.image.now (Some c.args.second.now) c.args.core 1 c.two_trees-tree.result.nodes.store _ c.in_default.ensures
+pub returns-clause-system : goal.returns-clause-system
+returns-clause-system c =
+    ok_mapped c.new.result _ (λ kernel. boots c.args.image.now (Some c.args.second.now) c.args.core 1 ≡ Some kernel.system)
+    (λ kernel is. boots_as c.args.image.now (Some c.args.second.now) c.args.core 1 c.in-Ok.nodes.store kernel.system c.in_default.ensures
     (second_fine c.args.image.now c.args.second.now (sym c.second_fault.ensures ∙ c.in_default-second_fault.is))
-    (ap (λ (fs : FileSystem). fs.store) c.two_trees-tree.ensures.nodes ∙ c.take_root.ensures.store ∙ c.in-Ok.ensures.store) c.in-Ok-around.ensures.system
+    c.in-Ok.ensures.store is) c.new.ensures.system
 
-pub returns-in-Ok-around-clause-blocks : goal.returns-in-Ok-around-clause-blocks
-returns-in-Ok-around-clause-blocks c =
-    c.in-Ok-around.ensures.blocks ∙ ap (λ (fs : FileSystem). fs.blocks) c.two_trees-tree.ensures.nodes ∙ c.take_root.ensures.blocks ∙ c.in-Ok.ensures.blocks
+pub returns-clause-blocks : goal.returns-clause-blocks
+returns-clause-blocks c =
+    ok_mapped c.new.result _ (λ kernel. kernel.blocks ≡ blocks_on c.args.image.now (Some c.args.second.now))
+    (λ kernel is. is ∙ c.in-Ok.ensures.blocks) c.new.ensures.blocks
 
-pub returns-in-Ok-around-clause-stored : goal.returns-in-Ok-around-clause-stored
-returns-in-Ok-around-clause-stored c =
-    c.in-Ok-around.ensures.stored ∙ ap (λ (fs : FileSystem). fs.stored) c.two_trees-tree.ensures.nodes
-    ∙ c.take_root.ensures.stored (c.in-Ok.ensures.stored ∙ sym c.in-Ok.ensures.blocks) ∙ c.in-Ok.ensures.blocks
+pub returns-clause-stored : goal.returns-clause-stored
+returns-clause-stored c =
+    ok_mapped c.new.result _ (λ kernel. kernel.stored ≡ blocks_on c.args.image.now (Some c.args.second.now))
+    (λ kernel is. is ∙ c.in-Ok.ensures.stored) c.new.ensures.stored
+
+pub returns-clause-refused : goal.returns-clause-refused
+returns-clause-refused c = no_error c.new.result (RefusesBoot2 c.args.image.now c.args.second.now) c.new.ensures.made

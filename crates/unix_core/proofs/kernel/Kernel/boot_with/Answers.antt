@@ -1,36 +1,39 @@
-use Rattle.std.proofs.Common.{◌≡◌, ◌∙◌, ◌≤◌, ◌==◌, ℕ, None, if◌then◌else◌, slice_index, refl, sym, ap, subst}
+use Rattle.std.proofs.Common.{◌≡◌, ◌∙◌, ◌≤◌, None, Some, refl, sym, ap, subst}
 use Rattle.fs_nodes.specs.Keys.{Stores}
-use Rattle.fs_nodes.specs.FileSystem.{FileSystem}
+use Rattle.abstract_unix.specs.Runs.{boots}
 use Rattle.abstract_unix.proofs.FirstTidy.{few_nodes}
-use Rattle.unix_core.proofs.BootLemmas.{boots_as}
+use Rattle.unix_core.specs.Boots.{RefusesBoot, blocks_on}
+use Rattle.unix_core.specs.Parts.{AreFirst}
+use Rattle.unix_core.proofs.BootLemmas.{boots_as, ok_mapped, no_error}
 use Rattle.unix_core.proofs.kernel.Kernel.boot_with.Goals as goal
 
-pub one_tree-requires-clause-one : goal.one_tree-requires-clause-one
-one_tree-requires-clause-one c = ap (λ (s : Stores). s.second) (c.take_root.ensures.store ∙ c.in-Ok.ensures.store)
+pub one_mounts-mounts-requires-clause-one : goal.one_mounts-mounts-requires-clause-one
+one_mounts-mounts-requires-clause-one c = ap (λ (s : Stores). s.second) c.in-Ok.ensures.store
 
-pub one_tree-requires-clause-few : goal.one_tree-requires-clause-few
-one_tree-requires-clause-few c =
-    subst (λ (s : Stores). s.root.count ≤ 65535) (sym (c.take_root.ensures.store ∙ c.in-Ok.ensures.store)) (few_nodes c.args.image.now c.in_default.ensures)
+pub one_mounts-mounts-requires-clause-few : goal.one_mounts-mounts-requires-clause-few
+one_mounts-mounts-requires-clause-few c =
+    subst (λ (s : Stores). s.root.count ≤ 65535) (sym c.in-Ok.ensures.store) (few_nodes c.args.image.now c.in_default.ensures)
 
-pub around-requires-clause-referred : goal.around-requires-clause-referred
-around-requires-clause-referred c =
-    subst (λ (fs : FileSystem). (ino : ℕ) → slice_index fs.references ino ≡ (if ino == 1 then 2 else 0)) (sym c.one_tree.ensures.nodes) c.take_root.ensures.referred
+pub new-requires-clause-procs : goal.new-requires-clause-procs
+new-requires-clause-procs c =
+    subst (λ n. AreFirst c.in-Ok-rooms_of.rooms.procs c.args.core n)
+    (c.in-Ok.ensures.time ∙ sym (ap (λ (s : Stores). s.root.stamp) c.in-Ok.ensures.store)) c.in-Ok-rooms_of.ensures.procs
 
-pub around-requires-clause-time : goal.around-requires-clause-time
-around-requires-clause-time c =
-    c.in-Ok.ensures.time
-    ∙ sym (ap (λ (fs : FileSystem). fs.store.root.stamp) c.one_tree.ensures.nodes ∙ ap (λ (s : Stores). s.root.stamp) (c.take_root.ensures.store ∙ c.in-Ok.ensures.store))
+pub returns-clause-system : goal.returns-clause-system
+returns-clause-system c =
+    ok_mapped c.new.result _ (λ kernel. boots c.args.image.now None c.args.core c.args.lines ≡ Some kernel.system)
+    (λ kernel is. boots_as c.args.image.now None c.args.core c.args.lines c.in-Ok.nodes.store kernel.system c.in_default.ensures refl
+    c.in-Ok.ensures.store is) c.new.ensures.system
 
-pub returns-in-Ok-around-clause-system : goal.returns-in-Ok-around-clause-system
-returns-in-Ok-around-clause-system c =
-    boots_as c.args.image.now None c.args.core c.args.lines c.one_tree.result.nodes.store _ c.in_default.ensures refl
-    (ap (λ (fs : FileSystem). fs.store) c.one_tree.ensures.nodes ∙ c.take_root.ensures.store ∙ c.in-Ok.ensures.store) c.in-Ok-around.ensures.system
+pub returns-clause-blocks : goal.returns-clause-blocks
+returns-clause-blocks c =
+    ok_mapped c.new.result _ (λ kernel. kernel.blocks ≡ blocks_on c.args.image.now None)
+    (λ kernel is. is ∙ c.in-Ok.ensures.blocks) c.new.ensures.blocks
 
-pub returns-in-Ok-around-clause-blocks : goal.returns-in-Ok-around-clause-blocks
-returns-in-Ok-around-clause-blocks c =
-    c.in-Ok-around.ensures.blocks ∙ ap (λ (fs : FileSystem). fs.blocks) c.one_tree.ensures.nodes ∙ c.take_root.ensures.blocks ∙ c.in-Ok.ensures.blocks
+pub returns-clause-stored : goal.returns-clause-stored
+returns-clause-stored c =
+    ok_mapped c.new.result _ (λ kernel. kernel.stored ≡ blocks_on c.args.image.now None)
+    (λ kernel is. is ∙ c.in-Ok.ensures.stored) c.new.ensures.stored
 
-pub returns-in-Ok-around-clause-stored : goal.returns-in-Ok-around-clause-stored
-returns-in-Ok-around-clause-stored c =
-    c.in-Ok-around.ensures.stored ∙ ap (λ (fs : FileSystem). fs.stored) c.one_tree.ensures.nodes
-    ∙ c.take_root.ensures.stored (c.in-Ok.ensures.stored ∙ sym c.in-Ok.ensures.blocks) ∙ c.in-Ok.ensures.blocks
+pub returns-clause-refused : goal.returns-clause-refused
+returns-clause-refused c = no_error c.new.result (RefusesBoot c.args.image.now) c.new.ensures.made

@@ -1,54 +1,57 @@
 use Rattle.std.proofs.Common.{◌∙◌, ◌-◌, ap, sym, subst, refl}
-use Rattle.pick_rules.specs.Table.{first_table, IsTable}
-use Rattle.image_keep.specs.Kept.{Kept, Alive, with_keeping}
-use Rattle.sys_procs.specs.declared.procs.Procs.{Procs}
+use Rattle.mount_tab.specs.Mounted.{MountTable}
+use Rattle.fs_nodes.specs.FileSystem.{FileSystem}
+use Rattle.fs_tree.specs.Mounting.{AreMounts}
 use Rattle.unix_core.specs.declared.world.World.{World}
-use Rattle.unix_core.specs.Parts.{first_held}
 use Rattle.unix_core.proofs.BootFirstLemmas.{first_kernel, first_system}
 use Rattle.unix_core.proofs.kernel.Kernel.new.Goals as goal
 
 pub returns-clause-system : goal.returns-clause-system
-returns-clause-system c =
+returns-clause-system g c =
     let w : World = record {
-      files = record { tree = c.args.tree; table = c.new.result; lines = c.new-2.result; pipes = c.new-3.result };
-      procs = c.make_first.new.procs;
-      tape = c.args.tape;
+      files = record { tree = c.new2.result; table = c.new.result; lines = c.new-2.result; pipes = c.new-3.result };
+      procs = c.args.rooms.procs;
+      tape = c.args.rooms.tape;
       core = c.args.core;
-      slots = c.new-6.result;
+      slots = c.new-4.result;
     } in
-    let made = c.make_first.ensures in
-    first_system c.args.tree.nodes c.args.core c.args.lines c.requires.referred
-    w refl c.requires.unmarked c.requires.mounts c.requires.uncovered c.new.ensures c.new-3.ensures c.new-2.ensures (ap (λ (p : Procs). p.rows) made.others ∙ c.new-4.ensures)
-    (ap (λ (p : Procs). p.table) made.others ∙ c.new-5.ensures.table ∙ ap first_table c.requires.time)
-    (subst (λ (p : Procs). IsTable p.table) (sym made.others) c.new-5.ensures.good)
-    (made.kept ∙ ap (λ (k : Kept). with_keeping k 1 (Alive first_held)) c.requires.images) (ap (λ (p : Procs). p.switches) made.others)
+    let first = c.requires.procs in
+    first_system c.args.nodes c.args.core c.args.lines c.requires.referred
+    w c.new2.ensures.nodes c.new2.ensures.none (subst (λ (m : MountTable). AreMounts m c.args.nodes.store) (sym c.new2.ensures.mounts) c.requires.mounts)
+    (ap (λ (m : MountTable). m.covered) c.new2.ensures.mounts ∙ c.requires.uncovered) c.new.ensures c.new-3.ensures c.new-2.ensures
+    first.rows first.table first.good first.kept first.switches
     (ap (λ t. t.entry_room) c.requires.tape) (ap (λ t. t.byte_room) c.requires.tape) refl
     (λ i. record {
-      passed = c.new-6.ensures.passed i;
-      disk = c.new-6.ensures.disk i;
-      pace = c.new-6.ensures.pace i;
-      since = c.new-6.ensures.passed i - c.new-6.ensures.set i;
+      passed = c.new-4.ensures.passed i;
+      disk = c.new-4.ensures.disk i;
+      pace = c.new-4.ensures.pace i;
+      since = c.new-4.ensures.passed i - c.new-4.ensures.set i;
     })
 
 pub invariant_of-result : goal.invariant_of-result
-invariant_of-result c =
+invariant_of-result g c =
     let w : World = record {
-      files = record { tree = c.args.tree; table = c.new.result; lines = c.new-2.result; pipes = c.new-3.result };
-      procs = c.make_first.new.procs;
-      tape = c.args.tape;
+      files = record { tree = c.new2.result; table = c.new.result; lines = c.new-2.result; pipes = c.new-3.result };
+      procs = c.args.rooms.procs;
+      tape = c.args.rooms.tape;
       core = c.args.core;
-      slots = c.new-6.result;
+      slots = c.new-4.result;
     } in
-    let made = c.make_first.ensures in
-    first_kernel c.args.tree.nodes c.args.core c.args.lines c.requires.referred
-    w refl c.requires.unmarked c.requires.mounts c.requires.uncovered c.new.ensures c.new-3.ensures c.new-2.ensures (ap (λ (p : Procs). p.rows) made.others ∙ c.new-4.ensures)
-    (ap (λ (p : Procs). p.table) made.others ∙ c.new-5.ensures.table ∙ ap first_table c.requires.time)
-    (subst (λ (p : Procs). IsTable p.table) (sym made.others) c.new-5.ensures.good)
-    (made.kept ∙ ap (λ (k : Kept). with_keeping k 1 (Alive first_held)) c.requires.images) (ap (λ (p : Procs). p.switches) made.others)
+    let first = c.requires.procs in
+    first_kernel c.args.nodes c.args.core c.args.lines c.requires.referred
+    w c.new2.ensures.nodes c.new2.ensures.none (subst (λ (m : MountTable). AreMounts m c.args.nodes.store) (sym c.new2.ensures.mounts) c.requires.mounts)
+    (ap (λ (m : MountTable). m.covered) c.new2.ensures.mounts ∙ c.requires.uncovered) c.new.ensures c.new-3.ensures c.new-2.ensures
+    first.rows first.table first.good first.kept first.switches
     (ap (λ t. t.entry_room) c.requires.tape) (ap (λ t. t.byte_room) c.requires.tape) refl
     (λ i. record {
-      passed = c.new-6.ensures.passed i;
-      disk = c.new-6.ensures.disk i;
-      pace = c.new-6.ensures.pace i;
-      since = c.new-6.ensures.passed i - c.new-6.ensures.set i;
-    }) c.new-6.ensures.within c.new-6.ensures.set c.new-6.ensures.due c.new-6.ensures.low
+      passed = c.new-4.ensures.passed i;
+      disk = c.new-4.ensures.disk i;
+      pace = c.new-4.ensures.pace i;
+      since = c.new-4.ensures.passed i - c.new-4.ensures.set i;
+    }) c.new-4.ensures.within c.new-4.ensures.set c.new-4.ensures.due c.new-4.ensures.low
+
+pub returns-clause-blocks : goal.returns-clause-blocks
+returns-clause-blocks g c = ap (λ (fs : FileSystem). fs.blocks) c.new2.ensures.nodes
+
+pub returns-clause-stored : goal.returns-clause-stored
+returns-clause-stored g c = ap (λ (fs : FileSystem). fs.stored) c.new2.ensures.nodes

@@ -1,8 +1,9 @@
 use Rattle.std.proofs.Common.{◌∙◌, ap, sym, subst}
 use Rattle.abstract_unix.specs.Unix.{System}
 use Rattle.unix_core.specs.State.{KernelState}
+use Rattle.unix_core.specs.Parts.{system_at}
 use Rattle.abstract_unix.specs.Runs.{event_of, Disk}
-use Rattle.unix_core.proofs.BootKernelLemmas.{set_kernel, set_system}
+use Rattle.unix_core.proofs.BootKernelLemmas.{set, set_kernel, set_system}
 use Rattle.abstract_unix.specs.Private.{AllUndisturbed}
 use Rattle.unix_core.proofs.PrivateLemmas.{disk_private}
 use Rattle.abstract_unix.specs.Shared.{AllTextsStay}
@@ -26,3 +27,9 @@ pub returns-clause-texts : goal.returns-clause-texts
 returns-clause-texts c =
     let m : System = c.args.self.now.system in
     subst (λ (n : System). AllTextsStay m n) (sym (returns-clause-next c)) (disk_stays m c.args.n)
+
+-- All else is as it was.
+pub returns-clause-others : goal.returns-clause-others
+returns-clause-others c =
+    let m = c.self.inside.machine in
+    ap (λ (v : KernelState). record v { system = system_at (set m.world c.args.n c.requires.most) }) c.self.view_is

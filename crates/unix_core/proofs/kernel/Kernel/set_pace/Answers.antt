@@ -1,7 +1,9 @@
-use Rattle.std.proofs.Common.{◌∙◌, ap, sym, subst, arith}
+use Rattle.std.proofs.Common.{◌∙◌, ap, sym, subst}
 use Rattle.v6_base.specs.Trace.{Took}
 use Rattle.abstract_unix.specs.Unix.{System}
 use Rattle.unix_core.specs.State.{KernelState}
+use Rattle.unix_core.specs.Parts.{system_at}
+use Rattle.unix_core.proofs.BootKernelLemmas.{system_alone}
 use Rattle.abstract_unix.specs.Turn.{settled_after}
 use Rattle.abstract_unix.specs.Outside.{paced_of}
 use Rattle.abstract_unix.specs.Private.{AllUndisturbed}
@@ -34,8 +36,10 @@ returns-clause-items g c =
     subst (λ (k : KernelState). Took (g.T.Trace.taken c.args.trace.now) (settled_after (paced_of k.system c.args.n)).items (g.T.Trace.taken c.set_pace.new.trace))
     c.self.view_is c.set_pace.ensures.items
 
-pub set_pace-requires-clause-fresh : goal.set_pace-requires-clause-fresh
-set_pace-requires-clause-fresh g c =
-    let same = ap (λ (v : KernelState). v.system.unix.timing.passed) c.self.view_is in
-    let few = c.requires.fresh in
-    omega (arith, same, few)
+-- All else is as it was.
+pub returns-clause-others : goal.returns-clause-others
+returns-clause-others g c =
+    let m = c.self.inside.machine in
+    let n = c.set_pace.new.self in
+    system_alone m.stage n.stage m.world n.world c.set_pace.ensures.images c.set_pace.ensures.tree (returns-clause-phase g c ∙ sym (ap (λ (v : KernelState). v.phase) c.self.view_is ∙ c.requires.started))
+    ∙ ap (λ (v : KernelState). record v { system = system_at n.world }) c.self.view_is

@@ -1,8 +1,9 @@
 use Rattle.std.proofs.Common.{◌∙◌, ap, sym, subst}
 use Rattle.abstract_unix.specs.Unix.{System}
 use Rattle.unix_core.specs.State.{KernelState}
+use Rattle.unix_core.specs.Parts.{system_at}
 use Rattle.abstract_unix.specs.Runs.{event_of, Switch}
-use Rattle.unix_core.proofs.BootKernelLemmas.{switched_kernel, switched_system}
+use Rattle.unix_core.proofs.BootKernelLemmas.{switched, switched_kernel, switched_system}
 use Rattle.abstract_unix.specs.Private.{AllUndisturbed}
 use Rattle.unix_core.proofs.PrivateLemmas.{switched_private}
 use Rattle.abstract_unix.specs.Shared.{AllTextsStay}
@@ -26,3 +27,9 @@ pub returns-clause-texts : goal.returns-clause-texts
 returns-clause-texts c =
     let m : System = c.args.self.now.system in
     subst (λ (n : System). AllTextsStay m n) (sym (returns-clause-next c)) (switched_stays m c.args.w)
+
+-- All else is as it was.
+pub returns-clause-others : goal.returns-clause-others
+returns-clause-others c =
+    let m = c.self.inside.machine in
+    ap (λ (v : KernelState). record v { system = system_at (switched m.world c.args.w) }) c.self.view_is

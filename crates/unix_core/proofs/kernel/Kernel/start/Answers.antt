@@ -1,5 +1,6 @@
 use Rattle.std.proofs.Common.{◌∙◌, ap, subst, sym}
 use Rattle.v6_base.specs.Trace.{Took}
+use Rattle.sys_files.specs.declared.files.Files.{Files}
 use Rattle.abstract_unix.specs.Unix.{System}
 use Rattle.unix_core.specs.State.{KernelState}
 use Rattle.unix_core.specs.declared.machine.Stage.{Stage}
@@ -65,3 +66,10 @@ returns-clause-goes g c =
     let m = c.self.inside.machine in
     let new = new_stage m.stage (ap (λ (v : KernelState). v.phase) c.self.view_is ∙ c.requires) in
     ap (λ (v : KernelState). (start_of v.system).ending) (sym c.self.view_is) ∙ first_goes m.world (c.self.invariant.new new)
+
+-- The swapper's pass leaves the disks alone.
+pub returns-clause-blocks : goal.returns-clause-blocks
+returns-clause-blocks g c = ap (λ (f : Files). f.tree.nodes.blocks) c.first_pass-ran.ensures.files ∙ ap (λ (v : KernelState). v.blocks) c.self.view_is
+
+pub returns-clause-stored : goal.returns-clause-stored
+returns-clause-stored g c = ap (λ (f : Files). f.tree.nodes.stored) c.first_pass-ran.ensures.files ∙ ap (λ (v : KernelState). v.stored) c.self.view_is

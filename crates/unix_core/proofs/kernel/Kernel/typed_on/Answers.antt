@@ -2,6 +2,8 @@ use Rattle.std.proofs.Common.{◌∙◌, ap, sym, subst}
 use Rattle.v6_base.specs.Trace.{Took}
 use Rattle.abstract_unix.specs.Unix.{System}
 use Rattle.unix_core.specs.State.{KernelState}
+use Rattle.unix_core.specs.Parts.{system_at}
+use Rattle.unix_core.proofs.BootKernelLemmas.{system_alone}
 use Rattle.abstract_unix.specs.Turn.{settled_after}
 use Rattle.abstract_unix.specs.Outside.{typed_of}
 use Rattle.abstract_unix.specs.Private.{AllUndisturbed}
@@ -34,3 +36,11 @@ pub returns-clause-items : goal.returns-clause-items
 returns-clause-items g c =
     subst (λ (k : KernelState). Took (g.T.Trace.taken c.args.trace.now) (settled_after (typed_of k.system c.args.l c.args.b)).items (g.T.Trace.taken c.typed.new.trace))
     c.self.view_is c.typed.ensures.items
+
+-- All else is as it was.
+pub returns-clause-others : goal.returns-clause-others
+returns-clause-others g c =
+    let m = c.self.inside.machine in
+    let n = c.typed.new.self in
+    system_alone m.stage n.stage m.world n.world c.typed.ensures.images c.typed.ensures.tree (returns-clause-phase g c ∙ sym (ap (λ (v : KernelState). v.phase) c.self.view_is ∙ c.requires.started))
+    ∙ ap (λ (v : KernelState). record v { system = system_at n.world }) c.self.view_is

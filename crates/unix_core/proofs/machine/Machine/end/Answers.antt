@@ -34,7 +34,7 @@ returns-in-Ran-clause-takes g c =
     let goes = c.in-Ran.ensures.goes refl in
     let on = not_over c.args.ending goes in
     ended_takes w (c.requires.good on) c.args.s c.requires.user c.requires.slot c.args.ending (c.requires.runs on) c.end_turn.new.table c.end_turn.ensures.table c.end_turn.ensures.good
-    goes c.count_turn.new.world c.count_turn.ensures.unix c.count_turn.ensures.board (c.end_turn.ensures.board w.procs.images.kept)
+    goes c.count_turn.new.world c.count_turn.ensures.ended.unix c.count_turn.ensures.ended.board (c.end_turn.ensures.board w.procs.images.kept)
     _ _ c.settle.ensures.kernel c.settle.ensures.started c.settle.ensures.system
 
 pub returns-in-Ran-clause-items : goal.returns-in-Ran-clause-items
@@ -43,7 +43,7 @@ returns-in-Ran-clause-items g c =
     let goes = c.in-Ran.ensures.goes refl in
     let on = not_over c.args.ending goes in
     ended_items w (c.requires.good on) c.args.s c.requires.user c.requires.slot c.args.ending (c.requires.runs on) c.end_turn.new.table c.end_turn.ensures.table c.end_turn.ensures.good
-    goes c.count_turn.new.world c.count_turn.ensures.unix c.count_turn.ensures.board (c.end_turn.ensures.board w.procs.images.kept)
+    goes c.count_turn.new.world c.count_turn.ensures.ended.unix c.count_turn.ensures.ended.board (c.end_turn.ensures.board w.procs.images.kept)
     _ _ _ _ (c.end_turn.ensures.items (board_in w)) c.count_turn.ensures.items c.settle.ensures.items
 
 pub returns-in-Ran-clause-frame : goal.returns-in-Ran-clause-frame

@@ -42,3 +42,6 @@ returns-in-Err-clause-takes g c =
     let first = c.pass-first in
     panic_takes w first.new.table first.new.images _ _ c.requires.good first.ensures.does first.ensures.same c.see_procs.ensures.images
     c.in-Err.kind c.in-Err.ensures.answer c.see_procs.ensures.rows
+
+pub returns-in-Ok-clause-files : goal.returns-in-Ok-clause-files
+returns-in-Ok-clause-files g c = c.settle.ensures.files

@@ -86,6 +86,9 @@ returns-clause-board g c =
     c.flush-show.new.self c.flush-show.ensures.line c.keys_of.result c.keys_of.ensures c.show_of.result c.show_of.ensures
     c.flush-show.result c.flush-show.ensures.show (sym c.is_open.ensures ∙ c.if-not-is_open.false)
 
+pub returns-clause-images : goal.returns-clause-images
+returns-clause-images g c = c.signal_line.ensures.images
+
 pub returns-clause-items : goal.returns-clause-items
 returns-clause-items g c =
     let w : World = c.args.self.now.world in

@@ -27,6 +27,12 @@ returns-clause-rest g c =
     subst (λ (x : FileSystem). SameRest nodes x) (ap (λ (t : Tree). t.nodes) (sym c.hang_up.ensures.tree) ∙ ap (λ (f : Files). f.tree.nodes) (sym c.settle_anew.ensures.files))
     (rest_stays nodes.blocks)
 
+pub returns-clause-tree : goal.returns-clause-tree
+returns-clause-tree g c = ap (λ (f : Files). f.tree) c.settle_anew.ensures.files ∙ c.hang_up.ensures.tree
+
+pub returns-clause-images : goal.returns-clause-images
+returns-clause-images g c = c.settle_anew.ensures.images ∙ c.hang_up.ensures.images
+
 pub returns-clause-items : goal.returns-clause-items
 returns-clause-items g c =
     event_items (hangup_of (system_at c.args.self.now.world) c.args.l) (hangup_goes (system_at c.args.self.now.world) c.args.l) (hangup_settles (system_at c.args.self.now.world) c.args.l) c.hang_up.new.self.world c.hang_up.ensures.unix c.hang_up.ensures.board

@@ -40,6 +40,9 @@ returns-in-Signal-clause-items g c =
     subst (λ (k : Keyed). Took (g.T.Trace.taken c.args.trace.now) (key_lines c.args.l k (unix_of w)) (g.T.Trace.taken c.signal_line.new.trace)) (sym c.in-Signal.is)
     (c.signal_line.ensures.items w.files.tree.nodes)
 
+pub returns-in-Signal-clause-images : goal.returns-in-Signal-clause-images
+returns-in-Signal-clause-images g c = c.signal_line.ensures.images
+
 -- a key that sends none
 none_sent : (l : ℕ) (k : Keyed) → ((n : ℕ) (show : Bool) → k ≡ key.Signal n show → ⊥) → (u : Unix) → (with_key l k u ≡ u) × (key_lines l k u ≡ [])
 none_sent l key.Nothing other u = (refl, refl)
@@ -57,5 +60,6 @@ returns-in_default g c =
       items = took_nothing _ _ none.1;
       frame = g.met.T.Trace.stays _;
       files = refl;
+      images = refl;
       slots = refl;
     }

@@ -38,6 +38,12 @@ returns-then-set_pace-clause-rest g c =
     subst (λ (x : FileSystem). SameRest nodes x) (ap (λ (t : Tree). t.nodes) (sym c.set_pace.ensures.tree) ∙ ap (λ (f : Files). f.tree.nodes) (sym c.settle.ensures.files))
     (rest_stays nodes.blocks)
 
+pub returns-then-set_pace-clause-tree : goal.returns-then-set_pace-clause-tree
+returns-then-set_pace-clause-tree g c = ap (λ (f : Files). f.tree) c.settle.ensures.files ∙ c.set_pace.ensures.tree
+
+pub returns-then-set_pace-clause-images : goal.returns-then-set_pace-clause-images
+returns-then-set_pace-clause-images g c = c.settle.ensures.images ∙ c.set_pace.ensures.images
+
 pub returns-then-set_pace-clause-frame : goal.returns-then-set_pace-clause-frame
 returns-then-set_pace-clause-frame g c = g.met.T.Trace.goes_on _ _ _ c.set_pace.ensures.frame c.settle.ensures.frame
 
@@ -67,3 +73,9 @@ pub returns-else-set_pace-clause-rest : goal.returns-else-set_pace-clause-rest
 returns-else-set_pace-clause-rest g c =
     let nodes : FileSystem = c.args.self.now.world.files.tree.nodes in
     subst (λ (x : FileSystem). SameRest nodes x) (ap (λ (t : Tree). t.nodes) (sym c.set_pace.ensures.tree)) (rest_stays nodes.blocks)
+
+pub returns-else-set_pace-clause-tree : goal.returns-else-set_pace-clause-tree
+returns-else-set_pace-clause-tree g c = c.set_pace.ensures.tree
+
+pub returns-else-set_pace-clause-images : goal.returns-else-set_pace-clause-images
+returns-else-set_pace-clause-images g c = c.set_pace.ensures.images

@@ -48,3 +48,6 @@ returns-clause-items g c = c.settle.ensures.items c.args.self.now.world.procs.im
 
 pub returns-clause-files : goal.returns-clause-files
 returns-clause-files g c = ap (λ (w : World). w.files) c.refresh.ensures.world
+
+pub returns-clause-images : goal.returns-clause-images
+returns-clause-images g c = ap (λ (w : World). w.procs.images) c.refresh.ensures.world

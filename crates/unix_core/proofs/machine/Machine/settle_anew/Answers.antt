@@ -32,3 +32,6 @@ pub returns-clause-items : goal.returns-clause-items
 returns-clause-items g c =
     let board : board_in c.renew.new.world ≡ board_in c.args.self.now.world = ap board_in c.renew.ensures.others in
     subst (λ (b : Board). Took (g.T.Trace.taken c.args.trace.now) (settled b).items (g.T.Trace.taken c.settle.new.trace)) board c.settle.ensures.items
+
+pub returns-clause-images : goal.returns-clause-images
+returns-clause-images g c = c.settle.ensures.images ∙ ap (λ (w : World). w.procs.images) c.renew.ensures.others

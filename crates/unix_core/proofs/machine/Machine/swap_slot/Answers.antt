@@ -30,7 +30,7 @@ returns-in-Ok-clause-answer g c =
     let w : World = c.args.self.now.world in
     let passed = c.pass-passed in
     slot_answer w passed.new.table passed.new.images _ _ c.requires.good passed.ensures.does passed.ensures.same c.see_procs.ensures.images
-    c.in-Ok.ensures.answer c.count-woken.new.world c.count-woken.ensures.unix c.count-woken.ensures.board
+    c.in-Ok.ensures.answer c.count-woken.new.world c.count-woken.ensures.ended.unix c.count-woken.ensures.ended.board
 
 pub returns-in-Ok-clause-takes : goal.returns-in-Ok-clause-takes
 returns-in-Ok-clause-takes g c =
@@ -38,7 +38,7 @@ returns-in-Ok-clause-takes g c =
     let passed = c.pass-passed in
     let last = c.settle.new.self in
     slot_takes w passed.new.table passed.new.images _ _ c.requires.good passed.ensures.does passed.ensures.same c.see_procs.ensures.images
-    c.in-Ok.ensures.answer c.count-woken.new.world c.count-woken.ensures.unix c.count-woken.ensures.board
+    c.in-Ok.ensures.answer c.count-woken.new.world c.count-woken.ensures.ended.unix c.count-woken.ensures.ended.board
     last.stage last.world c.settle.ensures.kernel c.settle.ensures.started c.settle.ensures.system
 
 pub returns-in-Ok-clause-items : goal.returns-in-Ok-clause-items
@@ -46,7 +46,7 @@ returns-in-Ok-clause-items g c =
     let w : World = c.args.self.now.world in
     let passed = c.pass-passed in
     slot_took w passed.new.table passed.new.images _ _ c.requires.good passed.ensures.does passed.ensures.same c.see_procs.ensures.images
-    c.in-Ok.ensures.answer c.count-woken.new.world c.count-woken.ensures.unix c.count-woken.ensures.board _ _ _
+    c.in-Ok.ensures.answer c.count-woken.new.world c.count-woken.ensures.ended.unix c.count-woken.ensures.ended.board _ _ _
     passed.ensures.does.items c.count-woken.ensures.items c.settle.ensures.items
 
 pub returns-in-Err-clause-answer : goal.returns-in-Err-clause-answer

@@ -82,6 +82,9 @@ returns-clause-board g c =
 pub returns-clause-tree : goal.returns-clause-tree
 returns-clause-tree g c = ap (λ (f : Files). f.tree) c.send_key.ensures.files
 
+pub returns-clause-images : goal.returns-clause-images
+returns-clause-images g c = c.send_key.ensures.images
+
 pub returns-clause-items : goal.returns-clause-items
 returns-clause-items g c =
     let sent = c.send_key.new.self in

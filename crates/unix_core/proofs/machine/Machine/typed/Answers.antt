@@ -26,6 +26,12 @@ returns-clause-rest g c =
     subst (λ (x : FileSystem). SameRest nodes x) (ap (λ (t : Tree). t.nodes) (sym c.take_key.ensures.tree) ∙ ap (λ (f : Files). f.tree.nodes) (sym c.settle_anew.ensures.files))
     (rest_stays nodes.blocks)
 
+pub returns-clause-tree : goal.returns-clause-tree
+returns-clause-tree g c = ap (λ (f : Files). f.tree) c.settle_anew.ensures.files ∙ c.take_key.ensures.tree
+
+pub returns-clause-images : goal.returns-clause-images
+returns-clause-images g c = c.settle_anew.ensures.images ∙ c.take_key.ensures.images
+
 pub returns-clause-items : goal.returns-clause-items
 returns-clause-items g c =
     event_items (typed_of (system_at c.args.self.now.world) c.args.l c.args.byte) refl refl c.take_key.new.self.world c.take_key.ensures.unix c.take_key.ensures.board

@@ -1,4 +1,4 @@
-use Rattle.std.proofs.Common.{◌≡◌, ◌∙◌, sym, ap}
+use Rattle.std.proofs.Common.{◌∙◌, sym, ap}
 use Rattle.fs_nodes.specs.one_disk.FileSystem.{FileSystem}
 use Rattle.fs_nodes.specs.one_disk.Table.{seen}
 use Rattle.fs_nodes.proofs.NodesLemmas.{count_is}

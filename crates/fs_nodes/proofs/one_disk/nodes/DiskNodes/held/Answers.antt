@@ -1,4 +1,4 @@
-use Rattle.std.proofs.Common.{◌≡◌, ◌∙◌, sym, ap}
+use Rattle.std.proofs.Common.{◌∙◌, sym, ap}
 use Rattle.fs_blocks.specs.State.{disk}
 use Rattle.fs_nodes.specs.one_disk.FileSystem.{FileSystem, referenced}
 use Rattle.fs_nodes.specs.one_disk.Table.{seen}

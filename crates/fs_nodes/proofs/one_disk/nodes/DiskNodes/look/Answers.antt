@@ -14,6 +14,8 @@ use Rattle.fs_nodes.proofs.LookLemmas.{used_in, seen_bytes}
 use Rattle.fs_nodes.proofs.PieceEnds.{holds_apart}
 use Rattle.fs_nodes.proofs.NodesLemmas.{plain, plain_of, same_files}
 use Rattle.fs_nodes.proofs.SeenMoves.{body_seen}
+use Rattle.fs_blocks.proofs.LateLemmas.{late_again}
+use Rattle.fs_nodes.proofs.ReadLemmas.{files_late}
 use Rattle.fs_nodes.proofs.one_disk.nodes.DiskNodes.look.Goals as goal
 use Rattle.fs_nodes.proofs.one_disk.nodes.DiskNodes.look.Goals.{After-deref, After-peek_inode-node}
 
@@ -50,3 +52,8 @@ returns-clause-bytes c = λ file found k low.
 
 pub returns-clause-same : goal.returns-clause-same
 returns-clause-same c = same_files c.self.inside.volume c.look_at.new.volume c.self.inside.table.items c.args.self.now c.self.view_is (c.look_at.ensures.same ∙ c.peek_inode-node.ensures.same)
+
+pub returns-clause-stored : goal.returns-clause-stored
+returns-clause-stored c =
+    files_late c.self.inside.volume c.look_at.new.volume c.self.inside.table.items c.args.self.now c.self.view_is
+    (late_again _ _ _ _ _ (ap (λ (s : State). s.blocks) c.peek_inode-node.ensures.same) c.peek_inode-node.ensures.stored c.look_at.ensures.stored)

@@ -13,6 +13,8 @@ use Rattle.fs_nodes.proofs.LookLemmas.{used_in, block_byte, body_is}
 use Rattle.fs_nodes.proofs.PieceEnds.{holds_apart}
 use Rattle.fs_nodes.proofs.NodesLemmas.{plain, plain_of, same_files}
 use Rattle.fs_nodes.proofs.SeenMoves.{body_seen}
+use Rattle.fs_blocks.proofs.LateLemmas.{late_again}
+use Rattle.fs_nodes.proofs.ReadLemmas.{files_late}
 use Rattle.fs_nodes.proofs.one_disk.nodes.DiskNodes.look_block.Goals as goal
 use Rattle.fs_nodes.proofs.one_disk.nodes.DiskNodes.look_block.Goals.{After-deref, After-peek_inode-node}
 
@@ -52,3 +54,8 @@ returns-clause-bytes c = λ file found k low.
 
 pub returns-clause-same : goal.returns-clause-same
 returns-clause-same c = same_files c.self.inside.volume c.copy_data.new.volume c.self.inside.table.items c.args.self.now c.self.view_is (c.copy_data.ensures.same ∙ c.peek_inode-node.ensures.same)
+
+pub returns-clause-stored : goal.returns-clause-stored
+returns-clause-stored c =
+    files_late c.self.inside.volume c.copy_data.new.volume c.self.inside.table.items c.args.self.now c.self.view_is
+    (late_again _ _ _ _ _ (ap (λ (s : State). s.blocks) c.peek_inode-node.ensures.same) c.peek_inode-node.ensures.stored c.copy_data.ensures.stored)
