@@ -6,6 +6,8 @@ import signal
 import struct
 import traceback
 
+from files import INTERRUPTS, uninterrupted
+
 NUMBER = struct.Struct("<I")  # of a piece of work, or of the bytes of an answer
 MOST = 4096  # pieces: a pipe has room for their numbers
 WELL, KNOWN, UNKNOWN = range(3)  # how a piece has ended
@@ -21,21 +23,20 @@ def in_order(does, count, workers, begins, known):
     try:
         for number in range(min(workers, count)):
             source, answers = os.pipe()
-            child = os.fork()
-            if not child:
-                for one in (*sources, source):
-                    os.close(one)
-                work(does, jobs, answers, lambda: begins(number), known)
+            with uninterrupted():  # a process that has just begun would do what this one does at an interrupt
+                child = os.fork()
+                if not child:
+                    work(does, jobs, answers, (*sources, source), lambda: begins(number), known)
+                sources[source] = child
             os.close(answers)
-            sources[source] = child
         yield from taken(sources, min(count, MOST), known)
     finally:
         os.close(jobs)
         for child in sources.values():
             os.kill(child, signal.SIGTERM)
         for source, child in sources.items():
+            os.close(source)  # so that it waits for no reader
             os.waitpid(child, 0)
-            os.close(source)
     for number in range(MOST, count):
         yield does(number)
 
@@ -74,11 +75,14 @@ def whole(source, size):
     return data
 
 
-def work(does, jobs, answers, begins, known):
-    """What a process does; it goes no further than this. Its end is told by a signal."""
+def work(does, jobs, answers, sources, begins, known):
+    """What a process does; it goes no further than this. Its end is told by a signal, which is held back until it can be heard."""
     try:
+        for source in sources:
+            os.close(source)
         stop = begins()
         signal.signal(signal.SIGTERM, lambda *_: stop())
+        signal.pthread_sigmask(signal.SIG_UNBLOCK, INTERRUPTS)
         while job := os.read(jobs, NUMBER.size):
             (number,) = NUMBER.unpack(job)
             try:

@@ -1,8 +1,9 @@
 #!/usr/bin/env python3
 """Runs all tests of the tools, those of one class in one process, or of several that share something; as many processes are at work
 as there are processors, or as --jobs says. With --times it tells how long a processor worked for each class, the dearest first, and for
-all. The program v6 is bin/v6, or the command in the environment's V6."""
+all. A class that takes longer than half an hour ends all, and where it stands is told. The program v6 is bin/v6, or the command in the environment's V6."""
 import argparse
+import faulthandler
 import io
 import os
 import resource
@@ -10,7 +11,9 @@ import sys
 import time
 import unittest
 from concurrent.futures import ProcessPoolExecutor
+from concurrent.futures.process import BrokenProcessPool
 
+LONGEST = 1800  # seconds that a class may take: thirty times what the longest takes
 HERE = os.path.dirname(os.path.abspath(__file__))
 sys.path.insert(0, HERE)
 
@@ -37,7 +40,9 @@ def run_all(names):
 def run(name):
     """How many tests a class has, how many failed, what is to be said of these, why others were skipped, and how long it took."""
     out, before = io.StringIO(), worked()
+    faulthandler.dump_traceback_later(LONGEST, exit=True)
     done = unittest.TextTestRunner(out).run(unittest.defaultTestLoader.loadTestsFromName(name))
+    faulthandler.cancel_dump_traceback_later()
     failed = len(done.failures) + len(done.errors) + len(done.unexpectedSuccesses)
     said = "" if done.wasSuccessful() else out.getvalue()
     return done.testsRun, failed, said, [why for _, why in done.skipped], worked() - before
@@ -59,8 +64,11 @@ if __name__ == "__main__":
     names = [name for group in groups for name in group]
     if unittest.defaultTestLoader.errors:  # a file of tests that can't be read
         sys.exit("\n".join(unittest.defaultTestLoader.errors))
-    with ProcessPoolExecutor(options.jobs) as pool:
-        results = [one for found in pool.map(run_all, groups) for one in found]
+    try:
+        with ProcessPoolExecutor(options.jobs) as pool:
+            results = [one for found in pool.map(run_all, groups) for one in found]
+    except BrokenProcessPool:
+        sys.exit("a process of tests has ended, or its class took too long")
     print("".join(text for _, _, text, _, _ in results), end="", file=sys.stderr)
     if options.times:
         for took, name in sorted(((result[4], name) for name, result in zip(names, results)), reverse=True):

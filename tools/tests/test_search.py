@@ -1,7 +1,9 @@
 """Searches that look at each slot, and the stepper by which they do, beside what `v6 memory` tells. The slots of the programs here are
 counted by hand."""
+import contextlib
 import os
 import random
+import signal
 import sys
 import unittest
 import unittest.mock
@@ -145,6 +147,33 @@ class Searches(Case):
             list(in_order(lambda number: 1 // number, 2, 2, lambda number: lambda: None, MomentError))
         with self.assertRaisesRegex(RuntimeError, "has ended"):
             list(in_order(lambda number: os._exit(1), 2, 2, lambda number: lambda: None, MomentError))
+        with self.assertRaises(ChildProcessError):
+            os.waitpid(-1, 0)
+
+    def test_a_process_that_is_ended_at_once(self):
+        """One that is told to end before it knows how goes no further, whatever an interrupt does where it was begun."""
+        def forked():
+            child = fork()
+            if not child:
+                os.kill(os.getpid(), signal.SIGTERM)
+            return child
+
+        def interrupted(*_):
+            raise KeyboardInterrupt
+
+        def stop():
+            raise SystemExit
+
+        fork, before = os.fork, signal.signal(signal.SIGTERM, interrupted)
+        try:
+            with unittest.mock.patch.object(os, "fork", forked), self.assertRaisesRegex(RuntimeError, "has ended"):
+                list(in_order(lambda number: number, 5, 2, lambda number: stop, MomentError))
+            with unittest.mock.patch.object(os, "fork", forked):  # these end behind their work, and nobody reads what they find
+                wide = contextlib.closing(in_order(lambda number: bytes(200_000), 50, 2, lambda number: lambda: None, MomentError))
+                with wide as found:
+                    self.assertEqual(next(found), bytes(200_000))
+        finally:
+            signal.signal(signal.SIGTERM, before)
         with self.assertRaises(ChildProcessError):
             os.waitpid(-1, 0)
 

@@ -9,7 +9,7 @@ use std::io;
 use std::io::{ErrorKind, Write};
 
 /// How many bytes a buffer holds.
-const SIZE: usize = 4096;
+const SIZE: usize = 2048;
 
 /// A writer with a buffer that lies in the value itself, where std's `BufWriter` takes memory for it.
 ///

@@ -11,7 +11,7 @@ use std::rt::Files;
 use std::{fs, io};
 
 /// A host over the files of the system: a port's name is the path of its file. An output file is emptied
-/// when it is opened. What is written to it is held, and given out where 4096 bytes are held and more are to be
+/// when it is opened. What is written to it is held, and given out where 2048 bytes are held and more are to be
 /// written, when the port is finished, and when the host is let go. Report is standard output, at once.
 ///
 /// It tells nothing of its bytes. A file that isn't there is a fault, and so is a write that takes no byte.
