@@ -1,7 +1,7 @@
 """Hosts that fail: what stands under a name in place of a plain file, and what a command may come to then.
 
 A host is what stands under each name, the port that shares another's file, and a limit for the bytes of a file. Of a run over
-it several answers may be right: a fault shows where bytes are given out, 4,096 at a time.
+it several answers may be right: a fault shows where bytes are given out, 2,048 at a time.
 """
 import os
 import stat
@@ -9,7 +9,6 @@ import threading
 from dataclasses import dataclass, field
 
 IMAGE_BYTES, SCRIPT_BYTES = 2494465, 1048577  # that are read of an image and of a script at the most
-HELD = 4096  # bytes of a port that are held before they are given out
 FAULT = {"missing", "folder", "locked", "below a file", "round"}  # what can't be opened, or gives no byte
 READ_KINDS = ("missing", "folder", "locked", "below a file", "round", "endless", "endless pipe", "slow pipe", "empty")
 WRITE_KINDS = ("missing", "folder", "locked", "below a file", "full", "full", "pipe", "closed pipe", "null", "there", "there")
@@ -43,7 +42,7 @@ def random_host(rng, command):
     if kind < 0.75:
         return Host({"report": rng.choice(("full", "closed pipe", "closed"))})
     if kind < 0.88:
-        return Host(limit=rng.choice((0, 1, 100, 4095, 4096, 4097, 8192, 10000, 100000, 2494463, 2494464)))
+        return Host(limit=rng.choice((0, 1, 100, 2047, 2048, 2049, 4096, 8192, 10000, 100000, 2494463, 2494464)))
     return Host(same=tuple(rng.sample(inputs + outputs, 2)))
 
 
