@@ -9,6 +9,8 @@ import unittest
 from common import TOP, V6, read
 
 KB = 256
+# where the magic of /etc/init stands on that disk: with 0410 its text is read by itself, to be shared
+MAGIC, SHARED = 66 * 512, (0o410).to_bytes(2, "little")
 IMAGE, SCRIPT = (os.path.join(TOP, "examples", "hi", name) for name in ("image", "script"))
 RUN = "run", IMAGE, "1000", SCRIPT, "term", "log", "final"
 COMMANDS = (RUN, ("run8", *RUN[1:]), ("run2", *RUN[1:], IMAGE, "final2"), ("memory", *RUN[1:4], "final"), ("check", IMAGE),
@@ -41,6 +43,18 @@ class Stack(unittest.TestCase):
             with open(log, "wb") as file:
                 file.write(done(RUN)[3]["log"])
             self.assertEqual(done(("audit", log), limit), done(("audit", log)))
+
+    def test_shared_text(self):
+        with tempfile.TemporaryDirectory() as folder:
+            image = os.path.join(folder, "image")
+            disk = bytearray(read(IMAGE))
+            disk[MAGIC : MAGIC + 2] = SHARED
+            with open(image, "wb") as file:
+                file.write(disk)
+            status, *rest = done(("run", image, *RUN[2:]), limit)
+            self.assertEqual(status, 0)
+            self.assertIn(b"text 1 ", rest[2]["log"])
+            self.assertTrue([status, *rest] == list(done(("run", image, *RUN[2:]))), "something else is left")
 
 
 if __name__ == "__main__":

@@ -143,7 +143,8 @@ fn run_counted<H: Host>(
     }
 }
 
-/// Takes a kernel through a script, where one was made, and sums up. The kernel stays where it is handed over.
+/// Takes a kernel through a script, where one was made, and sums up. The kernel is moved
+/// into the frame of this, and stays there.
 #[inline(never)]
 fn run_made<H: Host>(
     mut made: Result<Kernel, BootFault>,

@@ -347,8 +347,8 @@ fn read_files<H: Host>(alloc: Global, words: &RunWords<'_>, host: &mut H) -> Res
     })
 }
 
-/// Runs a kernel, where one was made, with the files opened that the words name, and tells how the run ends. The kernel stays where
-/// it is handed over, in the frame of who calls this, and isn't moved again.
+/// Runs a kernel, where one was made, with the files opened that the words name, and tells how the run ends. The kernel is moved
+/// into the frame of this, and stays there.
 #[inline(never)]
 fn run_made<H: Host, E: Drop>(
     alloc: Global,
@@ -377,7 +377,7 @@ fn run_made<H: Host, E: Drop>(
 }
 
 /// Runs the kernel of one image with the files opened that the words name, and tells how the run ends. It stands out of line, as
-/// the next does: the kernel lies in its frame, and in no other.
+/// the next does: there is one place for a kernel in its frame, and nothing else that is large.
 #[inline(never)]
 fn run_on_one<H: Host>(
     alloc: Global,
