@@ -411,6 +411,7 @@ impl Machine {
             Stage::Running(fixed) => {
                 let s = fixed.slot;
                 let ending = come_to(&mut self.world, fixed, self.came, trace);
+                self.came = Outcome::Next; // it may tell where a stack pointer was
                 let ending = deliver_after(&mut self.world, s, ending, trace);
                 self.end(s, ending, trace)
             }
