@@ -61,8 +61,8 @@ pub enum Boot2Fault {
     NoMemory,
 }
 
-/// The file system on the disk of an image without a fault, with the root taken, and its time. It stands out of line, as the next
-/// does, so that its frame doesn't lie beside a kernel.
+/// The file system on the disk of an image without a fault, with the root taken, and its time. It stands out of line, as the
+/// next does, so that its frame doesn't lie beside a kernel.
 #[inline(never)]
 fn file_system_of(alloc: Global, image: &[u8]) -> Result<(Nodes, u32), AllocError>
     requires { image_fault image.now ≡ None }
@@ -186,8 +186,8 @@ fn swap_area(alloc: Global, image: &[u8]) -> Result<Vec<u8>, AllocError>
     Ok(swap)
 }
 
-/// Takes the memory of a kernel with so many clicks of core, on the swap area of an image. It stands out of line, so that its frame
-/// doesn't lie beside a kernel.
+/// Takes the memory of a kernel with so many clicks of core, on the swap area of an image. It stands out of line, so that its
+/// frame doesn't lie beside a kernel.
 #[inline(never)]
 fn rooms_of(alloc: Global, image: &[u8], time: u32, core: u16) -> Result<Rooms, AllocError>
     requires least { 64 ≤ core }

@@ -24,8 +24,8 @@ fn words_of(rt: &(impl Env + AllocGlobal)) -> Option<Vec<String>> {
     Some(words)
 }
 
-/// Lets the host go, which gives out what it holds. It stands out of line: its buffers are moved as they go, and would lie beside
-/// themselves.
+/// Lets the host go, which gives out what it holds. It stands out of line: its buffers are moved as they go, and would lie
+/// beside themselves.
 #[inline(never)]
 fn let_go<R: Files + Print + Drop>(_host: FileHost<R>) {}
 

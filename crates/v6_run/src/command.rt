@@ -45,8 +45,8 @@ fn has_core_size(command: &Command<'_>) -> bool
     }
 }
 
-/// Does a command with a good size of core, and gives what it has found, but for its report. Each command stands out of line, and
-/// has a frame of its own.
+/// Does a command with a good size of core, and gives what it has found, but for its report. Each command stands out of line,
+/// and has a frame of its own.
 #[tactic(auto, using(crate::proofs::CommandLemmas::none_open))]
 fn done<H: Host>(
     alloc: Global,

@@ -114,8 +114,9 @@ fn see_bytes(bytes: &[u8])
     let _ = bytes;
 }
 
-/// The kernel for an image, so many clicks of core and so many terminal lines. Each of its runs has a lawful log. The fault is that
-/// of the kernel's own boot, here and in `boot2`: to change it would move the kernel, which would stand on the stack twice.
+/// The kernel for an image, so many clicks of core and so many terminal lines. Each of its runs has a lawful log. The fault is
+/// that of the kernel's own boot, here and in `boot2`: to change it would move the kernel, which would stand on the stack
+/// once more.
 pub(crate) fn boot(
     alloc: Global,
     image: &[u8],
@@ -347,8 +348,8 @@ fn read_files<H: Host>(alloc: Global, words: &RunWords<'_>, host: &mut H) -> Res
     })
 }
 
-/// Runs a kernel, where one was made, with the files opened that the words name, and tells how the run ends. The kernel is moved
-/// into the frame of this, and stays there.
+/// Runs a kernel, where one was made, with the files opened that the words name, and tells how the run ends. The kernel is
+/// moved into the frame of this, and stays there.
 #[inline(never)]
 fn run_made<H: Host, E: Drop>(
     alloc: Global,
@@ -376,8 +377,8 @@ fn run_made<H: Host, E: Drop>(
     }
 }
 
-/// Runs the kernel of one image with the files opened that the words name, and tells how the run ends. It stands out of line, as
-/// the next does: there is one place for a kernel in its frame, and nothing else that is large.
+/// Runs the kernel of one image with the files opened that the words name, and tells how the run ends. It stands out of line,
+/// as the next does: there is one place for a kernel in its frame, and nothing else that is large.
 #[inline(never)]
 fn run_on_one<H: Host>(
     alloc: Global,
