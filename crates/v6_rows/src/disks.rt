@@ -232,14 +232,7 @@ const ENDS: [Fault; 5] = [
         4_872,
         4_872,
     ),
-    (
-        8_918,
-        Status::Done,
-        b"",
-        19,
-        4_872,
-        4_872,
-    ),
+    (8_918, Status::Done, b"", 19, 4_872, 4_872),
 ];
 
 /// Words with a name that isn't there, the status and the report.

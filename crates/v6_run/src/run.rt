@@ -403,7 +403,13 @@ fn run_on_one<H: Host>(
         (H.outside host.old) (H.outside host.new)) }
 {
     let lines = words.outputs.lines();
-    run_made(alloc, boot(alloc, image, words.core, lines), events, words, host)
+    run_made(
+        alloc,
+        boot(alloc, image, words.core, lines),
+        events,
+        words,
+        host,
+    )
 }
 
 /// The same with the kernel of two images.
@@ -432,7 +438,13 @@ fn run_on_two<H: Host>(
         (λ error. FailsFrom image.now (Some second.now) (run_words_value words.now) events.now error
         (H.outside host.old) (H.outside host.new)) }
 {
-    run_made(alloc, boot2(alloc, image, second, words.core), events, words, host)
+    run_made(
+        alloc,
+        boot2(alloc, image, second, words.core),
+        events,
+        words,
+        host,
+    )
 }
 
 /// Runs the kernel of the images that were read.
