@@ -2,6 +2,7 @@
 them. Whoever takes them compares what they lead to: walk.py."""
 from collections import Counter, namedtuple
 
+from openfiles import OpenFiles, sought
 from pdp11 import ARGUMENTS, CALLS
 from stepcode import MASK
 from volume import BLOCK, FILE_BYTES, INODE, Volume
@@ -16,7 +17,7 @@ ENOUGH = 8  # writes into a file that are asked for before its disk is
 BLOCKS_OF_ONE = 4  # that a block of a file may take: itself, three that lead to it
 
 Made = namedtuple("Made", "name words end")  # a call that begins, the words behind it, and PC behind these
-Answer = namedtuple("Answer", "name r0 r1 carry end")
+Answer = namedtuple("Answer", "name words r0 r1 carry end data")  # the last are the bytes of a read
 
 
 def made(process):
@@ -46,27 +47,38 @@ class Room:
         self.size = max((one[4] << 16 | one[5] for one in INODE.iter_unpack(inodes)), default=0)
         self.bytes = dict.fromkeys(entries, 0)  # that were written since
 
+    def moved(self, entry, place):
+        """A file that is written goes on at a place, which may be None; what was written takes its blocks all the same."""
+        if entry in self.bytes:
+            self.blocks -= needs(self.bytes[entry])
+            self.bytes[entry], self.size = 0, FILE_BYTES + 1 if place is None else max(self.size, place)
+
     def take(self, entry, count):
         """Takes the room for more bytes of a file, and tells whether there was surely so much."""
         self.bytes[entry] += count
         self.size += count
-        needs = sum(BLOCKS_OF_ONE * (more // BLOCK + 2) for more in self.bytes.values())
-        return needs <= self.blocks and self.size <= FILE_BYTES
+        return sum(map(needs, self.bytes.values())) <= self.blocks and self.size <= FILE_BYTES
+
+
+def needs(count):
+    """How many blocks so many bytes of a file may take that come one after the other."""
+    return BLOCKS_OF_ONE * (count // BLOCK + 2)
 
 
 class Answers:
     """What is known of a process: the entries of open files that a seek has moved, so that they are no pipes, how many writes each has
-    taken, and how much room there is for more."""
+    taken, how much room there is for more, and what was read."""
 
     def __init__(self):
         self.forget()
 
     def forget(self):
-        self.moved, self.written, self.room = set(), Counter(), None
+        self.moved, self.written, self.room, self.files = set(), Counter(), None, OpenFiles()
 
     def others(self):
         """Somebody else has been in the kernel, who may have written, or moved what both have open."""
         self.written, self.room = Counter(), None
+        self.files.others()
 
     def of(self, process, number, now):
         """The answer of the call at which the process of this number stands, or None where it isn't known. `now` is the time, or None."""
@@ -78,7 +90,7 @@ class Answers:
             found = number, process.registers[1], 0
         if call.name == "time" and now is not None:
             found = now >> 16, now & MASK, 0
-        return None if found is None else Answer(call.name, *found, call.end)
+        return None if found is None else Answer(call.name, call.words, *found[:3], call.end, b"".join(found[3:]))
 
     def user(self, process, call):
         at = USER if call.name == "getuid" else GROUP
@@ -91,6 +103,11 @@ class Answers:
     def seek(self, process, call):
         return (*process.registers[:2], 0) if entry_of(process) in self.moved else None
 
+    def read(self, process, call):
+        at, count = call.words
+        found = self.files.answer(entry_of(process), count)
+        return None if found is None or not process.is_open(at, len(found)) else (len(found), process.registers[1], 0, found)
+
     def write(self, process, call):
         entry, (at, count) = entry_of(process), call.words
         if self.room is None or entry not in self.room.bytes or not count or len(process.bytes(at, count)) < count:
@@ -100,51 +117,76 @@ class Answers:
             return None
         return count, process.registers[1], 0
 
-    def learn(self, before, after, disk):
-        """What a call tells that was asked for, by the process before and after it; `disk` gives the bytes of the disk behind it."""
+    def learn(self, before, after, then):
+        """What a call tells that was asked for, by the process before and after it, and the moment behind it."""
         call, entry = made(before), entry_of(before)
         if call is None or call.name not in KEEP:
             self.forget()
         elif call.name == "close":
             self.closed(entry)
         elif call.name == "seek" and not after.carry:
-            self.closed(entry)
             self.moved.add(entry)
-        elif call.name == "read" and self.room is not None:  # one of a hole takes blocks
-            self.room.blocks -= BLOCKS_OF_ONE * (call.words[1] // BLOCK + 2)
+            self.moves(entry, *call.words)
+        elif call.name == "read":
+            self.took(entry, *call.words, after, then)
         elif call.name == "write":
-            self.wrote(entry, call.words[1], after, disk)
+            self.wrote(entry, call.words[1], after, then)
 
     def closed(self, entry):
-        """An open file may have gone, or its place has moved."""
+        """An open file may have gone."""
         self.moved.discard(entry)
         self.written.pop(entry, None)
+        self.files.closed(entry)
         if self.room is not None:
             self.room.bytes.pop(entry, None)
 
-    def wrote(self, entry, count, after, disk):
+    def moves(self, entry, offset, mode):
+        """The place of an open file has moved."""
+        self.written.pop(entry, None)
+        self.files.moved(entry, offset, mode)
+        if self.room is not None:
+            self.room.moved(entry, sought(None, None, offset, mode))
+
+    def took(self, entry, at, count, after, then):
+        if self.room is not None:  # a read of a hole takes blocks
+            self.room.blocks -= needs(count)
+        if after.carry:
+            return self.files.closed(entry)
+        return self.files.took(entry, count, after.bytes(at, after.registers[0]), entry not in self.moved, then)
+
+    def wrote(self, entry, count, after, then):
         if after.carry or after.registers[0] != count or not count:
+            self.files.loses()
             return self.closed(entry)
+        self.files.wrote(entry, then)
         self.written[entry] += 1
         if self.room is not None and entry in self.room.bytes and not self.room.take(entry, count):
             self.room = None
         if self.written[entry] >= ENOUGH and (self.room is None or entry not in self.room.bytes):
-            found = disk()
+            found = then.disk()
             entries = [one for one, times in self.written.items() if times >= ENOUGH]
             self.room = None if found is None else Room(found, entries)
         return None
 
     def go_on(self, process, answer):
         """The process goes on with an answer that wasn't asked for."""
+        entry = entry_of(process)
         if answer.name == "close" and not answer.carry:
             at = FILES + process.registers[0]
-            self.closed(process.u[at])
+            self.closed(entry)
             process.u = process.u[:at] + b"\0" + process.u[at + 1 :]
+        elif answer.name == "seek":
+            self.moves(entry, *answer.words)
+        elif answer.name == "read":
+            self.files.took(entry, answer.words[1], answer.data, False, None)
+        elif answer.name == "write":
+            self.files.wrote(entry, None)
         process.registers[0], process.registers[1], process.registers[7] = answer.r0, answer.r1, answer.end
         process.registers[CODE_C] = answer.carry
 
 
-KNOWN = {"getuid": Answers.user, "getgid": Answers.user, "close": Answers.close, "seek": Answers.seek, "write": Answers.write}
+KNOWN = {"getuid": Answers.user, "getgid": Answers.user, "close": Answers.close, "seek": Answers.seek,
+         "read": Answers.read, "write": Answers.write}
 
 
 def entry_of(process):

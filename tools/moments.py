@@ -6,6 +6,7 @@ import os
 import threading
 
 from files import read_bytes, short
+from openfiles import target_of
 from program import ProgramError, call, named
 from proctable import SWAP_FIRST, SWAP_LAST
 from scriptfile import COUNT, OTHER, fault, lines_of, ticks_of, with_line
@@ -56,6 +57,7 @@ class Script:
             self.places.append(self.places[-1] + len(line) + 1)
             self.slots += count or 0
         self.text = b"".join(line + b"\n" for line, _ in self.lines)
+        self.is_paced = any(line.startswith(b"pace") for line, _ in self.lines)
 
     def events(self):
         """After which slots something comes from outside, and how many ticks; 0 where something else comes too."""
@@ -65,6 +67,16 @@ class Script:
             if line.startswith((b"type", b"byte", b"pace", b"hangup")):
                 found[slots] = 0
         return found
+
+    def typed(self, slots):
+        """The bytes that are typed until so many slots have passed, and before the next one."""
+        out = bytearray()
+        for line, _ in self.lines[: bisect.bisect_right(self.passed, slots)]:
+            if line.startswith(b"type"):
+                out += line[5:] + b"\r"
+            elif line.startswith(b"byte"):
+                out.append(int(line[5:], 8))
+        return bytes(out)
 
     def cut(self, slots, more=False):
         """The script up to where so many slots have passed; with `more` also what comes before the next slot."""
@@ -214,13 +226,33 @@ class Run:
             raise MomentError(f"the memory has {len(data)} bytes, and {self.core * CLICK + SWAP_BYTES} are wanted")
         return Memory(data, self.core)
 
+    def left(self, slots, more=True):
+        """The bytes of the disk that is left after so many slots, and what the terminal has shown; None where the run doesn't come so far."""
+        term, final = self.names("term", "final")
+        script = self.cut(self.script.cut(slots, more))
+        status, _ = call(self.v6, "run", self.disks[0], str(self.core), script, term, os.devnull, final)
+        return None if status else (read_bytes(final), read_bytes(term))
 
-    def disk(self, slots):
-        """The bytes of the disk that is left after so many slots, or None where the run doesn't come so far."""
-        (final,) = self.names("final")
-        script = self.cut(self.script.cut(slots, True))
-        status, _ = call(self.v6, "run", self.disks[0], str(self.core), script, os.devnull, os.devnull, final)
-        return None if status else read_bytes(final)
+
+class Then:
+    """The moment behind a call that was asked for, for those who learn from it."""
+
+    def __init__(self, run, slots):
+        self.run, self.slots = run, slots
+
+    def disk(self):
+        """The bytes of the disk, or None."""
+        found = self.run.left(self.slots)
+        return found and found[0]
+
+    def typed(self):
+        """What was typed until then."""
+        return self.run.script.typed(self.slots)
+
+    def target(self):
+        """What the call has changed: see openfiles.py; None where that isn't seen."""
+        before, after = self.run.left(self.slots - 1), self.run.left(self.slots, False)
+        return target_of(before, after) if before and after and not self.run.script.is_paced else None
 
 
 def mapped(name):

@@ -4,12 +4,14 @@ import os
 import select
 import signal
 import struct
+import time
 import traceback
 
 from files import INTERRUPTS, uninterrupted
 
 NUMBER = struct.Struct("<I")  # of a piece of work, or of the bytes of an answer
-MOST = 4096  # pieces: a pipe has room for their numbers
+MOST = 1024  # pieces: each pipe has room for their numbers, also where a host gives but a page
+PATIENCE, MOMENT = 60, 0.001  # seconds until one that is told to end is ended, and between two looks at it
 WELL, KNOWN, UNKNOWN = range(3)  # how a piece has ended
 
 
@@ -22,23 +24,42 @@ def in_order(does, count, workers, begins, known):
     sources = {}
     try:
         for number in range(min(workers, count)):
-            source, answers = os.pipe()
-            with uninterrupted():  # a process that has just begun would do what this one does at an interrupt
-                child = os.fork()
-                if not child:
-                    work(does, jobs, answers, (*sources, source), lambda: begins(number), known)
-                sources[source] = child
-            os.close(answers)
+            begin(sources, lambda source, answers: work(does, jobs, answers, (*sources, source), lambda: begins(number), known))
         yield from taken(sources, min(count, MOST), known)
     finally:
         os.close(jobs)
-        for child in sources.values():
-            os.kill(child, signal.SIGTERM)
-        for source, child in sources.items():
-            os.close(source)  # so that it waits for no reader
-            os.waitpid(child, 0)
+        end(sources)
     for number in range(MOST, count):
         yield does(number)
+
+
+def begin(sources, does):
+    """Begins a process, and puts down where its answers come from."""
+    source, answers = os.pipe()
+    try:
+        with uninterrupted():  # a process that has just begun would do what this one does at an interrupt
+            child = os.fork()
+            if not child:
+                does(source, answers)
+            sources[source] = child
+    finally:
+        os.close(answers)
+        if source not in sources:
+            os.close(source)
+
+
+def end(sources):
+    """Ends the processes, and waits until they are gone."""
+    for child in sources.values():
+        os.kill(child, signal.SIGTERM)
+    for source in sources:
+        os.close(source)  # so that none waits for a reader
+    late = time.monotonic() + PATIENCE
+    for child in sources.values():
+        while not os.waitpid(child, os.WNOHANG)[0]:
+            if time.monotonic() > late:
+                os.kill(child, signal.SIGKILL)
+            time.sleep(MOMENT)
 
 
 def taken(sources, count, known):
@@ -63,9 +84,11 @@ def ended():
 
 
 def read(source):
-    """The next answer of a process, or None where it has ended."""
-    size = whole(source, NUMBER.size)
-    return marshal.loads(whole(source, *NUMBER.unpack(size))) if size else None
+    """The next answer of a process, or None where it has ended, also in the middle of one."""
+    head = whole(source, NUMBER.size)
+    (size,) = NUMBER.unpack(head) if len(head) == NUMBER.size else (0,)
+    data = whole(source, size)
+    return marshal.loads(data) if size and len(data) == size else None
 
 
 def whole(source, size):
@@ -76,12 +99,19 @@ def whole(source, size):
 
 
 def work(does, jobs, answers, sources, begins, known):
-    """What a process does; it goes no further than this. Its end is told by a signal, which is held back until it can be heard."""
+    """What a process does; it goes no further than this. Its end is told by a signal, which is held back until it can be heard, and is
+    heard once; another interrupt ends it as the host does."""
+    def told(*_):
+        signal.signal(signal.SIGTERM, signal.SIG_IGN)
+        stop()
+
     try:
         for source in sources:
             os.close(source)
+        for number in INTERRUPTS:
+            signal.signal(number, signal.SIG_DFL)
         stop = begins()
-        signal.signal(signal.SIGTERM, lambda *_: stop())
+        signal.signal(signal.SIGTERM, told)
         signal.pthread_sigmask(signal.SIG_UNBLOCK, INTERRUPTS)
         while job := os.read(jobs, NUMBER.size):
             (number,) = NUMBER.unpack(job)
@@ -95,5 +125,6 @@ def work(does, jobs, answers, sources, begins, known):
             data = NUMBER.pack(len(data)) + data
             while data:
                 data = data[os.write(answers, data) :]
+        signal.pthread_sigmask(signal.SIG_BLOCK, INTERRUPTS)  # nothing is raised below
     finally:
         os._exit(0)

@@ -55,15 +55,30 @@ class Stepper:
         """Whether a process is what is here."""
         return process.registers == self.registers[:8] and process.u[16] & 15 == self.code() and self.changes(process) == {}
 
-    def would_be(self, answer, process):
-        """Whether a process is what this one would be with an answer, but for its words."""
+    def would_be(self, answer, process, changed):
+        """Whether a process, with these words that are others, is what this one would be with an answer."""
         registers = [answer.r0, answer.r1, *self.registers[2:7], answer.end]
-        return process.registers == registers and process.u[16] & 15 == self.code() & ~CARRY | answer.carry
+        is_same = process.registers == registers and process.u[16] & 15 == self.code() & ~CARRY | answer.carry
+        return is_same and changed == {at: word for at, word in self.filled(answer).items() if word != self.words[at]}
 
     def answered(self, answer):
         """Goes on with the answer of a call that wasn't asked for."""
+        self.store(self.filled(answer))
         self.answers.go_on(self, answer)
         self.is_asked = False
+
+    def is_open(self, at, count):
+        """Whether so many bytes can be stored from an address on, none of them behind the last address."""
+        return at + count <= ADDRESSES and not any(self.closed[at & MASK - 1 : at + count : 2])
+
+    def filled(self, answer):
+        """The words into which an answer puts bytes, by their addresses."""
+        if not answer.data:
+            return {}
+        at, data = answer.words[0], answer.data
+        first, end = at & MASK - 1, at + len(data)
+        whole = self.bytes(first, at - first) + data + self.bytes(end, end & 1)
+        return dict(zip(range(first, end, 2), struct.unpack(f"<{len(whole) // 2}H", whole)))
 
     def code(self):
         """The condition codes: N 8, Z 4, V 2, C 1."""
@@ -85,6 +100,10 @@ class Stepper:
     def take(self, process, changed):
         """Goes on with the registers of a process and with words that are others."""
         self.told(process)
+        self.store(changed)
+
+    def store(self, changed):
+        """Other words, by their addresses."""
         for at, word in changed.items():
             self.words[at] = word
             if self.kept[at] and not self.closed[at]:

@@ -10,7 +10,7 @@ from dataclasses import dataclass
 
 from answers import made
 from callwords import call_at, name_of
-from moments import ENDS, MomentError, is_turn
+from moments import ENDS, MomentError, Then, is_turn
 from proctable import NUMBERS, TICKS_OF_A_SECOND
 from stepcode import MASK
 from stepper import Stepper
@@ -260,7 +260,7 @@ class Walk:
         process = self.process(slot)
         changed = old.changes(process)
         is_same = changed is not None and self.is_answer(old, process, changed)
-        if answer and not (is_same and old.would_be(answer, process)) or not is_same and changed is not None and self.is_clear(slot, old):
+        if answer and not (is_same and old.would_be(answer, process, changed)) or not is_same and changed is not None and self.is_clear(slot, old):
             raise self.others(was)
         if is_same:
             self.learn(old, process, kind)
@@ -285,7 +285,7 @@ class Walk:
         """What an answer tells that was asked for."""
         if kind != "trap" or old.pending or not self.knows:
             return old.answers.forget()
-        old.answers.learn(old, process, lambda: self.history.run.disk(self.at))
+        old.answers.learn(old, process, Then(self.history.run, self.at))
         call = made(old)
         if call and call.name == "time":
             self.clock = (process.registers[0] << 16 | process.registers[1]) - self.table.second() & MOST_TIME

@@ -3,10 +3,13 @@
 as there are processors, or as --jobs says. With --times it tells how long a processor worked for each class, the dearest first, and for
 all. A class that takes longer than half an hour ends all, and where it stands is told. The program v6 is bin/v6, or the command in the environment's V6."""
 import argparse
+import contextlib
 import faulthandler
 import io
+import multiprocessing
 import os
 import resource
+import signal
 import sys
 import time
 import unittest
@@ -14,6 +17,8 @@ from concurrent.futures import ProcessPoolExecutor
 from concurrent.futures.process import BrokenProcessPool
 
 LONGEST = 1800  # seconds that a class may take: thirty times what the longest takes
+PATIENCE = 20  # seconds, when all classes are done, until what is left is ended
+PR_SET_CHILD_SUBREAPER = 36  # of prctl(2)
 HERE = os.path.dirname(os.path.abspath(__file__))
 sys.path.insert(0, HERE)
 
@@ -55,20 +60,68 @@ def options_of(words):
     return parser.parse_args(words)
 
 
-if __name__ == "__main__":
-    options, began = options_of(sys.argv[1:]), time.monotonic()
-    groups = {}
+def adopt():
+    """Becomes the parent of each process that loses its own, where the host lets it."""
+    with contextlib.suppress(ImportError, OSError, AttributeError):
+        import ctypes
+
+        ctypes.CDLL(None).prctl(PR_SET_CHILD_SUBREAPER, 1, 0, 0, 0)
+
+
+def parents():
+    """Of each process that is there, but those that have ended, by its number its parent's."""
+    found = {}
+    for name in filter(str.isdecimal, os.listdir("/proc") if os.path.isdir("/proc") else ()):
+        with contextlib.suppress(OSError, ValueError), open(f"/proc/{name}/stat", encoding="ascii", errors="replace") as file:
+            state, parent, *_ = file.read().rpartition(")")[2].split()
+            if state != "Z":
+                found[int(name)] = int(parent)
+    return found
+
+
+def left(own):
+    """The numbers of the processes that this one has started, or one of these."""
+    found, known = {own}, parents()
+    while more := {number for number, parent in known.items() if parent in found} - found:
+        found |= more
+    return found - {own}
+
+
+def clear(patience=PATIENCE):
+    """Ends what is left, after a while: a process of tests that doesn't end by itself, and whatever was started and nobody waits for. Else
+    who reads what this tells would wait for its end."""
+    end = time.monotonic() + patience
+    while multiprocessing.active_children() and time.monotonic() < end:
+        time.sleep(0.01)
+    while numbers := left(os.getpid()):
+        for number in numbers:
+            with contextlib.suppress(OSError):
+                os.kill(number, signal.SIGKILL)
+        time.sleep(0.01)
+
+
+def results_of(groups, jobs):
+    """What each class came to."""
+    pool = ProcessPoolExecutor(jobs)
+    try:
+        return [one for found in pool.map(run_all, groups) for one in found]
+    except BrokenProcessPool:
+        sys.exit("a process of tests has ended, or its class took too long")
+    finally:
+        pool.shutdown(wait=False, cancel_futures=True)
+        clear()
+
+
+def main(options):
+    began, groups = time.monotonic(), {}
     for shared, name in sorted(set(classes(unittest.defaultTestLoader.discover(HERE)))):
         groups.setdefault(shared, []).append(name)
     groups = sorted(groups.values(), key=len, reverse=True)  # what takes longest begins first
     names = [name for group in groups for name in group]
     if unittest.defaultTestLoader.errors:  # a file of tests that can't be read
         sys.exit("\n".join(unittest.defaultTestLoader.errors))
-    try:
-        with ProcessPoolExecutor(options.jobs) as pool:
-            results = [one for found in pool.map(run_all, groups) for one in found]
-    except BrokenProcessPool:
-        sys.exit("a process of tests has ended, or its class took too long")
+    adopt()
+    results = results_of(groups, options.jobs)
     print("".join(text for _, _, text, _, _ in results), end="", file=sys.stderr)
     if options.times:
         for took, name in sorted(((result[4], name) for name, result in zip(names, results)), reverse=True):
@@ -80,4 +133,8 @@ if __name__ == "__main__":
         print(f"skipped {skipped.count(why)}: {why}", file=sys.stderr)
     count -= len(skipped)
     print(f"Ran {count} tests in {time.monotonic() - began:.1f}s: {count - failed} passed, {failed} failed", file=sys.stderr)
-    sys.exit(int(failed > 0 or count == 0))
+    return int(failed > 0 or count == 0)
+
+
+if __name__ == "__main__":
+    sys.exit(main(options_of(sys.argv[1:])))

@@ -12,6 +12,7 @@ import unittest
 from common import TOP, V6, Case, read, write
 
 NOBODY = 65534
+LONG = 300  # seconds: what a busy machine never takes for one of these
 SENTINEL = b"what was there before\n" * 300
 IMAGE = os.path.join(TOP, "examples", "hi", "image")
 RUN = ("run", "IMAGE", "1200", "SCRIPT", "TERM", "LOG", "FINAL")
@@ -180,11 +181,16 @@ class Ports(Case):
         self.assertEqual(read(self.path("IMAGE")), read(IMAGE))
 
     def pipe(self, body):
-        """A pipe, and what is done at its other end meanwhile."""
+        """A pipe, and what is done at its other end meanwhile. Where nobody comes to this end that waits for ever, and nobody for it."""
         os.mkfifo(self.path("pipe"))
-        thread = threading.Thread(target=body)
+        thread = threading.Thread(target=body, daemon=True)
         thread.start()
         return thread
+
+    def ended(self, thread):
+        thread.join(LONG)
+        self.assertFalse(thread.is_alive())
+        os.remove(self.path("pipe"))
 
     def endless(self):
         try:
@@ -199,8 +205,7 @@ class Ports(Case):
         for command, place in self.places(INPUTS):
             thread = self.pipe(self.endless)
             self.assertEqual(self.v6(self.named(command, place, "pipe")), TOO_LONG[place])
-            thread.join()
-            os.remove(self.path("pipe"))
+            self.ended(thread)
             self.untouched(*OUTPUTS)
 
     def test_pipe_that_is_read(self):
@@ -216,8 +221,7 @@ class Ports(Case):
 
             thread = self.pipe(take)
             self.assertEqual(self.v6(self.named(command, place, "pipe")), (0, ""))
-            thread.join()
-            os.remove(self.path("pipe"))
+            self.ended(thread)
             self.assertEqual(b"".join(got), whole)
 
     def test_pipe_that_closes(self):
@@ -229,8 +233,7 @@ class Ports(Case):
 
             thread = self.pipe(take)
             self.assertEqual(self.v6(self.named(command, place, "pipe")), (WRITE_FAULT, f"write fault: {port_of(place)}\n"))
-            thread.join()
-            os.remove(self.path("pipe"))
+            self.ended(thread)
 
     def test_limit(self):
         """A file that may not have more bytes holds as many as it may; the signal that tells of it is ignored here."""

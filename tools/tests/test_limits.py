@@ -1,0 +1,130 @@
+"""What ends where something would be waited for without an end: tests, and processes that work ahead. Each test here has a limit itself."""
+import contextlib
+import os
+import signal
+import subprocess
+import sys
+import time
+import unittest
+import unittest.mock
+
+from common import TESTS, Case, write
+
+import parallel
+from moments import MomentError
+from parallel import in_order
+
+LIMIT = 60  # seconds: what a busy machine never takes for one of these
+# A test that waits for ever, and has started a program that holds what it prints to; and one after which a thread waits for ever.
+WAITS = """
+import os, subprocess, sys, threading, unittest
+class Waits(unittest.TestCase):
+    def test_it(self):
+        subprocess.Popen(["sleep", "1000"])
+        %s
+"""
+ENDS = "import sys; sys.path.insert(0, sys.argv[1]); import run; run.HERE, run.LONGEST, run.PATIENCE = sys.argv[2], int(sys.argv[3]), 1; " \
+       "sys.exit(run.main(run.options_of(['--jobs', '1'])))"
+
+
+@contextlib.contextmanager
+def limited():
+    """Ends with an error what takes too long."""
+    def late(*_):
+        raise TimeoutError
+
+    before = signal.signal(signal.SIGALRM, late)
+    signal.alarm(LIMIT)
+    try:
+        yield
+    finally:
+        signal.alarm(0)
+        signal.signal(signal.SIGALRM, before)
+
+
+class Limits(Case):
+    def all(self, body, longest):
+        """The status of run.py for a folder with one test, and what it says; who reads that waits until nobody holds it any more."""
+        write(self.path("test_it.py"), (WAITS % body).encode())
+        done = subprocess.run([sys.executable, "-c", ENDS, TESTS, self.folder, str(longest)], capture_output=True, text=True, timeout=LIMIT)
+        return done.returncode, done.stderr
+
+    def test_a_test_that_waits(self):
+        status, said = self.all("threading.Event().wait()", 1)
+        self.assertEqual(status, 1)
+        self.assertIn("in test_it\n", said)
+        self.assertTrue(said.endswith("a process of tests has ended, or its class took too long\n"))
+
+    def test_what_is_left(self):
+        """A process of tests that doesn't end since a thread waits in it, and a program that it has started."""
+        status, said = self.all("threading.Thread(target=threading.Event().wait).start()", LIMIT)
+        self.assertEqual((status, said.rpartition(":")[2]), (0, " 1 passed, 0 failed\n"))
+
+
+class Ahead(Case):
+    """Processes that work ahead: parallel.py."""
+
+    def none_left(self):
+        with self.assertRaises(ChildProcessError):
+            os.waitpid(-1, os.WNOHANG)
+
+    def test_one_that_does_not_end(self):
+        """It is ended in the end."""
+        def does(number):
+            if number:
+                time.sleep(1000)
+            return number
+
+        with limited(), unittest.mock.patch.object(parallel, "PATIENCE", 0.1):
+            with contextlib.closing(in_order(does, 2, 2, lambda number: lambda: None, MomentError)) as found:
+                self.assertEqual(next(found), 0)
+        self.none_left()
+
+    def test_an_interrupt_at_its_end(self):
+        """It goes no further, whatever comes then; and one that interrupts it, as a key does, ends it without the handlers of the tool."""
+        own, leaves = os.getpid(), os._exit
+
+        def late(status):
+            os.kill(os.getpid(), signal.SIGTERM)
+            os.kill(os.getpid(), signal.SIGINT)
+            leaves(status)
+
+        def interrupted(*_):
+            raise KeyboardInterrupt
+
+        def stop():
+            raise SystemExit
+
+        before = signal.signal(signal.SIGINT, interrupted)
+        try:
+            with limited(), unittest.mock.patch.object(os, "_exit", late):
+                self.assertEqual(list(in_order(lambda number: number, 3, 2, lambda number: stop, MomentError)), [0, 1, 2])
+                handlers = in_order(lambda number: signal.getsignal(signal.SIGINT) == signal.SIG_DFL, 2, 2, lambda number: stop, MomentError)
+                self.assertEqual(list(handlers), [True, True])
+        finally:
+            if os.getpid() != own:
+                write(self.path("further"), b"")
+                leaves(0)
+            signal.signal(signal.SIGINT, before)
+        self.assertFalse(os.path.exists(self.path("further")))
+        self.none_left()
+
+    def test_answers_that_are_cut(self):
+        """Of a process that was ended while it gave one."""
+        for data in (b"", b"\5\0", b"\5\0\0\0", b"\5\0\0\0abcd"):
+            source, to = os.pipe()
+            os.write(to, data)
+            os.close(to)
+            self.assertIsNone(parallel.read(source))
+            os.close(source)
+
+    def test_a_pipe_with_little_room(self):
+        """The numbers of the work fit into a page of the host; the work behind them is done here."""
+        self.assertLessEqual(parallel.MOST * parallel.NUMBER.size, 4096)
+        with limited(), unittest.mock.patch.object(parallel, "MOST", 3):
+            self.assertEqual(list(in_order(lambda number: number * number, 6, 2, lambda number: lambda: None, MomentError)), [0, 1, 4, 9, 16, 25])
+        self.none_left()
+
+
+if __name__ == "__main__":
+    unittest.main()
