@@ -13,7 +13,7 @@ USER, GROUP, FILES, DESCRIPTORS = 18, 19, 104, 15  # in the u area: docs/manual/
 EBADF = 9
 CODE_C = 11  # where a stepper has the carry
 KEEP = {"read", "write", "seek", "close", "getpid", "getuid", "getgid", "time"}  # calls after which all is known that was before
-ENOUGH = 8  # writes into a file that are asked for before its disk is
+ENOUGH = 4  # writes into a file that are asked for before its disk is
 BLOCKS_OF_ONE = 4  # that a block of a file may take: itself, three that lead to it
 
 Made = namedtuple("Made", "name words end")  # a call that begins, the words behind it, and PC behind these

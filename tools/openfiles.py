@@ -5,7 +5,7 @@ from collections import Counter
 from pdp11 import signed
 from volume import BLOCK, TYPE, Volume
 
-LEAST = 8  # bytes that tell a file and its place, as a rule, and reads after which fewer are taken
+LEAST, FEW = 8, 4  # bytes that tell a file and its place, as a rule, and reads after which fewer are taken
 LONGEST = 4096  # bytes of its last reads that are kept
 MOST = 1024  # places that may be those of one open file
 FIRST = 2  # the read after which it is looked for the file the first time, and the write
@@ -128,16 +128,14 @@ class OpenFiles:
 
     def answer(self, entry, count):
         """The bytes of a read, or None where they aren't known."""
-        return self.read[entry].answer(count) if entry in self.read and count else None
+        return self.read[entry].answer(count) if entry in self.read else None
 
     def took(self, entry, count, data, is_pipe, then):
         """What a read gave: one that wasn't asked for, or `then` is the moment behind it; and whether it may be one of a pipe."""
         one = self.read.setdefault(entry, Open())
-        if not count:
-            return
         one.reads += 1
         one.takes(data, count)
-        is_enough = len(one.tail) >= LEAST or one.tail and one.reads >= LEAST
+        is_enough = len(one.tail) >= LEAST or one.tail and one.reads >= FEW
         if then and one.may_be is None and is_enough and is_due(one.reads):
             one.may_be = self.found(one, is_pipe, then)
 
@@ -173,8 +171,7 @@ class OpenFiles:
                 self.targets[entry] = target
                 self.loses(lambda one: target[0] != TERMINAL and one.may_be is None)
         number = self.number(entry)
-        if number != TERMINAL:
-            self.loses(lambda one: number is None or one.is_one_of(number))
+        self.loses(lambda one: number is None or one.is_one_of(number))
 
     def loses(self, is_lost=lambda one: True):
         """What was read from some of them tells nothing any more."""

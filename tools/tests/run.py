@@ -13,12 +13,13 @@ import signal
 import sys
 import time
 import unittest
-from concurrent.futures import ProcessPoolExecutor
+from concurrent.futures import ProcessPoolExecutor, TimeoutError, wait
 from concurrent.futures.process import BrokenProcessPool
 
 LONGEST = 1800  # seconds that a class may take: thirty times what the longest takes
-PATIENCE = 20  # seconds, when all classes are done, until what is left is ended
+MOMENT, PATIENCE = 1, 20  # seconds between two looks at the processes of tests; and, when all classes are done, until what is left is ended
 PR_SET_CHILD_SUBREAPER = 36  # of prctl(2)
+ENDING = signal.SIGINT, signal.SIGQUIT, signal.SIGTERM, signal.SIGHUP, signal.SIGALRM, signal.SIGPIPE
 HERE = os.path.dirname(os.path.abspath(__file__))
 sys.path.insert(0, HERE)
 
@@ -38,18 +39,27 @@ def worked():
     return sum(used.ru_utime + used.ru_stime for used in map(resource.getrusage, (resource.RUSAGE_SELF, resource.RUSAGE_CHILDREN)))
 
 
+def handlers_now():
+    """What is done at each signal that may end a process."""
+    return {number: signal.getsignal(number) for number in ENDING}
+
+
 def run_all(names):
     return [run(name) for name in names]
 
 
 def run(name):
     """How many tests a class has, how many failed, what is to be said of these, why others were skipped, and how long it took."""
-    out, before = io.StringIO(), worked()
+    out, before, handlers = io.StringIO(), worked(), handlers_now()
     faulthandler.dump_traceback_later(LONGEST, exit=True)
     done = unittest.TextTestRunner(out).run(unittest.defaultTestLoader.loadTestsFromName(name))
     faulthandler.cancel_dump_traceback_later()
     failed = len(done.failures) + len(done.errors) + len(done.unexpectedSuccesses)
     said = "" if done.wasSuccessful() else out.getvalue()
+    if handlers != handlers_now():  # by which a later test would not be ended where it should
+        failed, said = failed + 1, f"{said}{name} leaves a handler of a signal\n"
+        for number, handler in handlers.items():
+            signal.signal(number, handler)
     return done.testsRun, failed, said, [why for _, why in done.skipped], worked() - before
 
 
@@ -101,11 +111,16 @@ def clear(patience=PATIENCE):
 
 
 def results_of(groups, jobs):
-    """What each class came to."""
+    """What each class came to. That a process of tests has ended is looked for here, since one that it has begun may hold the pipe by which
+    it would be told."""
     pool = ProcessPoolExecutor(jobs)
     try:
-        return [one for found in pool.map(run_all, groups) for one in found]
-    except BrokenProcessPool:
+        futures = [pool.submit(run_all, names) for names in groups]
+        working = set(multiprocessing.active_children())
+        while wait(futures, MOMENT).not_done and working <= set(multiprocessing.active_children()):
+            pass
+        return [one for future in futures for one in future.result(0)]
+    except (BrokenProcessPool, TimeoutError):
         sys.exit("a process of tests has ended, or its class took too long")
     finally:
         pool.shutdown(wait=False, cancel_futures=True)

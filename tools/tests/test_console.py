@@ -283,7 +283,7 @@ class Sessions(Case):
                 ran.stdin.write(b"echo a >b\n")
                 ran.stdin.flush()
                 self.assertEqual(ran.stdout.read(13), b"ECHO A >B\r\n# ")
-                while b"echo a" not in read(script):
+                while ran.poll() is None and b"echo a" not in read(script):
                     time.sleep(0.01)
                 ran.send_signal(number)
                 out, error = ran.communicate()

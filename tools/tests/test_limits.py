@@ -55,6 +55,15 @@ class Limits(Case):
         self.assertIn("in test_it\n", said)
         self.assertTrue(said.endswith("a process of tests has ended, or its class took too long\n"))
 
+    def test_a_test_that_waits_for_a_process(self):
+        """Which it has begun itself, as processes that work ahead are: it has all that its parent has open."""
+        status, said = self.all("os.fork() and os.wait() or threading.Event().wait()", 1)
+        self.assertEqual((status, said.splitlines()[-1]), (1, "a process of tests has ended, or its class took too long"))
+
+    def test_a_handler_that_is_left(self):
+        status, said = self.all("import signal; signal.signal(signal.SIGTERM, lambda *_: None)", LIMIT)
+        self.assertEqual((status, said.splitlines()[0]), (1, "test_it.Waits leaves a handler of a signal"))
+
     def test_what_is_left(self):
         """A process of tests that doesn't end since a thread waits in it, and a program that it has started."""
         status, said = self.all("threading.Thread(target=threading.Event().wait).start()", LIMIT)

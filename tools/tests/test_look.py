@@ -6,7 +6,7 @@ import tempfile
 import unittest
 import unittest.mock
 
-from common import TOP, V6, Case, read, tool, v6, words, write
+from common import TOP, V6, Case, read, status_of, tool, v6, words, write
 
 from history import History
 from lookcommands import LookError, Looker
@@ -128,7 +128,7 @@ class Shown(unittest.TestCase):
         with tempfile.TemporaryDirectory() as folder:
             source, named = os.path.join(folder, "it.s"), os.path.join(folder, "it")
             write(source, b"start:\tjsr\tpc,subr\n\tsys\texit; nop\nsubr:\n\tmov\tr0,-(sp); clr\tr0\n\trts\tpc\n")
-            self.assertEqual(tool("as").main(["-g", "-o", named, source]), 0)
+            self.assertEqual(status_of(tool("as").main, ["-g", "-o", named, source]), 0)
             looker = self.looker(files=(("/etc/init", read(named)),))
             shown = looker.lines_of("process 1")
             self.assertIn(f"source     {source}:5  rts\tpc", shown)

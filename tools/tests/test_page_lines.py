@@ -6,7 +6,7 @@ import shutil
 import subprocess
 import unittest
 
-from common import TESTS, TOP, V6, Case, read, tool
+from common import TESTS, TOP, V6, Case, read, status_of, tool
 from pagereader import Read, table_of
 
 from history import History
@@ -25,7 +25,8 @@ class Lines(Case):
     def page(self, example, *words):
         """The page of an example, and what its command says."""
         out = self.path("page.html")
-        self.assertEqual(page_main(["--v6", V6, os.path.join(example, "image"), "3968", os.path.join(example, "script"), "-o", out, *words]), 0)
+        command = "--v6", V6, os.path.join(example, "image"), "3968", os.path.join(example, "script"), "-o", out, *words
+        self.assertEqual(status_of(page_main, command), 0)
         return Read(read(out))
 
     def looker(self, example, eight=False, second=None):

@@ -309,11 +309,11 @@ class Searches(Case):
         return asked.call_count, dict(walk.answered)
 
     def test_answers_that_are_known(self):
-        """They are asked for now and then alone; all are right, as they are compared where each of them is asked for. The first eight writes
+        """They are asked for now and then alone; all are right, as they are compared where each of them is asked for. The first four writes
         tell that a file is one that can be written, the first seek that it is no pipe, and the first time when the run began."""
         for source, script, slots, known in ((WHO, b"run 400\n", 400, {"getuid": 67, "getgid": 67, "getpid": 66, "close": 66}),
                                              (TIME, b"clock 5\nrun 700\n", 700, {"time": 348}), (SEEKS, b"run 400\n", 400, {"seek": 131}),
-                                             *((writes, b"run 400\n", 400, {"write": 124}) for writes in (TERMINAL, FILE, INDIRECT))):
+                                             *((writes, b"run 400\n", 400, {"write": 128}) for writes in (TERMINAL, FILE, INDIRECT))):
             asked, found = self.gone_through(source, script, slots)
             self.assertEqual(found, known)
             self.assertLess(asked, 50)
