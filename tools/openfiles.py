@@ -170,8 +170,8 @@ class OpenFiles:
             if target is not None:
                 self.targets[entry] = target
                 self.loses(lambda one: target[0] != TERMINAL and one.may_be is None)
-        number = self.number(entry)
-        self.loses(lambda one: number is None or one.is_one_of(number))
+        number, own = self.number(entry), self.read.get(entry)  # whose place has moved
+        self.loses(lambda one: number is None or one is own or one.is_one_of(number))
 
     def loses(self, is_lost=lambda one: True):
         """What was read from some of them tells nothing any more."""

@@ -6,12 +6,12 @@ import unittest.mock
 from common import V6, Case, read, words
 
 import walk as walk_module
-from answers import Answers
+from answers import Answers, Room
 from history import History
 from moments import Run, Script
 from openfiles import File, Open, OpenFiles, is_within, sought, target_of
 from stepper import Stepper
-from volume import PLAIN, ROOT, Volume
+from volume import FILE_BYTES, PLAIN, ROOT, Volume
 from walk import Sought, Walk
 
 # R4 has the descriptor of a file, R2 that of a new one. The buffer begins at address 4.
@@ -223,6 +223,14 @@ class Files(unittest.TestCase):
             files.wrote(2, None)
             self.assertEqual(files.answer(1, 1), wanted, data)
 
+    def test_a_file_that_is_read_and_written(self):
+        """A write moves its place, so what is read behind that doesn't follow on what was read before."""
+        for target in ((0, b""), (3, b"")):
+            files = self.read(self.volume(b"0123456789"), b"012")
+            files.targets[1] = target
+            files.wrote(1, None)
+            self.assertEqual(files.read[1].tail, b"")
+
     def test_two_that_write_one_file(self):
         """A place may be written twice, so what was read of it may not be there any more; not where others write other files."""
         volume = self.volume(b"0123456789", b"written", b"other")
@@ -283,6 +291,11 @@ class Others(unittest.TestCase):
             known.learn(read_, types.SimpleNamespace(carry=0, registers=[4], bytes=lambda _, count, at=at: TEXT[at : at + count]), then)
         self.assertEqual([known.of(one, 1, None)[2:4] for one in (write, seek)], [(1, 1), (3, 1)])
         self.assertEqual(known.of(read_, 1, None).data, TEXT[8:12])
+        self.assertIsNone(known.of(self.at("104403 000074 000004")[0], 1, None))  # a part of the text isn't read into
+        known.learn(seek, types.SimpleNamespace(carry=0), then)
+        self.assertEqual(known.of(read_, 1, None).data, TEXT[:4])
+        for number in range(4):
+            known.learn(write, types.SimpleNamespace(carry=0, registers=[1]), then)
         known.others()
         self.assertEqual([known.of(one, 1, None) and 1 for one in (write, seek, read_)], [None, 1, None])
         for number in range(3):
@@ -304,7 +317,15 @@ class Others(unittest.TestCase):
             known.go_on(self.at("104423 010000 000000")[0], known.of(seek, 1, None))
             count += 1
         self.assertEqual(count, free // 8)  # a byte may lie in two blocks, with three others that lead to each
-        self.assertEqual(known.moves(7, 0, 1), None)
+
+    def test_how_far_a_place_is(self):
+        """Behind a seek from where the file stands, or to near the greatest size, it isn't known that there is room."""
+        disk = Volume.empty(200, 32, 0).image()
+        for place, wanted in ((None, False), (FILE_BYTES, False), (FILE_BYTES - 1, True), (0, True)):
+            room = Room(disk, [7])
+            room.moved(7, place)
+            room.moved(8, None)  # one that isn't written
+            self.assertEqual(room.take(7, 1), wanted, place)
 
     def test_bytes_of_an_answer(self):
         """To odd addresses too; not into a text, nor where nothing is."""
@@ -318,6 +339,8 @@ class Others(unittest.TestCase):
         self.assertTrue(one.would_be(answer, process, changed))
         for other in ({}, {64: 0x7800}, {**changed, 68: 1}, {64: 0x7800, 66: 0x0179}):
             self.assertFalse(one.would_be(answer, process, other))
+        one.store({64: 0x7800})
+        self.assertTrue(one.would_be(answer, process, {66: 0x0079}))
         one.answered(answer)
         self.assertEqual((one.bytes(64, 4), one.registers[:2], one.pc), (b"\0xy\0", [2, 1], 6))
 
