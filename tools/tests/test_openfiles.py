@@ -270,11 +270,11 @@ class Files(unittest.TestCase):
 
 
 class Others(unittest.TestCase):
-    def at(self, text, r0=3, **more):
+    def at(self, text, r0=3):
         """A process at an instruction, with descriptor 3 of entry 7; from 0100 on it may store."""
         u = bytes(107) + b"\7" + bytes(916)
         process = types.SimpleNamespace(registers=[r0, 1, 0, 0, 0, 0, 0, 0], u=u, text=64, pending=0, data=words(text).ljust(256, b"\0"),
-                                        parts=[(0, 64, 0), (64, 64, 64)], carry=0, **more)
+                                        parts=[(0, 64, 0), (64, 64, 64), (65472, 64, 128)], carry=0)
         return Stepper(process), process
 
     def test_others(self):
@@ -332,8 +332,8 @@ class Others(unittest.TestCase):
         one, process = self.at("104403 000101 000002")
         answer = types.SimpleNamespace(data=b"xy", words=[65, 2], name="read", r0=2, r1=1, carry=0, end=6)
         self.assertEqual(one.filled(answer), {64: 0x7800, 66: 0x0079})
-        self.assertEqual([one.is_open(at, count) for at, count in ((64, 64), (65, 63), (64, 65), (63, 1), (62, 3), (126, 2), (65535, 1), (128, 1))],
-                         [True, True, False, False, False, True, False, False])
+        self.assertEqual([one.is_open(at, count) for at, count in ((64, 64), (65, 63), (64, 65), (63, 1), (62, 3), (126, 2), (128, 1), (65534, 2), (65534, 3))],
+                         [True, True, False, False, False, True, False, True, False])
         changed = {64: 0x7800, 66: 0x0079}
         process.registers = [2, 1, 0, 0, 0, 0, 0, 6]
         self.assertTrue(one.would_be(answer, process, changed))
@@ -341,6 +341,9 @@ class Others(unittest.TestCase):
             self.assertFalse(one.would_be(answer, process, other))
         one.store({64: 0x7800})
         self.assertTrue(one.would_be(answer, process, {66: 0x0079}))
+        one.store({64: 0x0041, 66: 0x4200})
+        self.assertEqual(one.filled(answer), {64: 0x7841, 66: 0x4279})
+        one.store({64: 0, 66: 0})
         one.answered(answer)
         self.assertEqual((one.bytes(64, 4), one.registers[:2], one.pc), (b"\0xy\0", [2, 1], 6))
 
