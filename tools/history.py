@@ -4,7 +4,7 @@ import copy
 import functools
 import itertools
 import threading
-from collections import OrderedDict
+from collections import Counter, OrderedDict
 
 from moments import WORKERS, MomentError, workers
 from proctable import Table
@@ -64,6 +64,7 @@ class History:
         self.tables, self.built = [Table()], Table()  # before the lines 0, APART and so on; and the table that makes more of them
         self.memories, self.guard, self.outside, self.sent = OrderedDict(), threading.Lock(), None, None
         self.kept, self.spans = KEPT, {}  # and by what was looked for the parts that were gone through for it
+        self.answered = Counter()  # how often the answers of calls were known, by their names, in all that was gone through
         self.is_stepping = self.is_ended = False  # whether instructions are being done, and what is at work is to end
 
     def table(self, lines):

@@ -217,7 +217,7 @@ class Walk:
         for one in (one for other, one in self.steppers.items() if other != slot):
             one.answers.others()
         answer = self.answer(slot, old) if self.knows and old and not self.is_other(slot) else None
-        if answer and self.lines[first : first + 1] == [f"trap {slot}"] and not is_due(self.answered[answer.name]):
+        if answer and self.lines[first : first + 1] == [f"trap {slot}"] and not is_due(self.history.answered[answer.name]):
             return self.passes(old, answer)
         self.at, self.memory, was, words = self.at + 1, None, self.rows(slot), []
         while self.line < len(self.lines) and words[:1] not in [[end] for end in ENDS]:
@@ -279,6 +279,7 @@ class Walk:
         found = old.answers.of(old, self.table.rows[slot].number, now)
         if found:
             self.answered[found.name] += 1
+            self.history.answered[found.name] += 1
         return found
 
     def learn(self, old, process, kind):

@@ -321,6 +321,17 @@ class Searches(Case):
             self.assertEqual(found, known)
             self.assertGreater(every, sum(known.values()))
 
+    def test_parts_that_follow(self):
+        """Those that one process goes through ask for known answers as often as one long part: here of each call for the 64th alone, beside
+        where the part begins and ends."""
+        known, asked = History(Run(V6, self.disk(self.put("who.s", WHO)), 1200, b"run 400\n", self.folder)), []
+        for low, high in ((2, 200), (200, 400)):
+            with unittest.mock.patch.object(Run, "memory", autospec=True, side_effect=Run.memory) as memory:
+                self.assertEqual(walk_module.last(known, Sought(1, words={0: None}), low, high)[1], [])
+            asked.append(memory.call_count)
+        self.assertGreater(asked[0], 20)
+        self.assertLess(asked[1], 8)
+
     def test_a_known_answer_that_is_another(self):
         """It is told where it is compared: the first time, or behind the last one that was taken."""
         for due in (walk_module.is_due, lambda count: False):
