@@ -157,7 +157,7 @@ class OpenFiles:
         return found or None
 
     def is_appended(self, volume):
-        """Whether the files that were written meanwhile have grown alone, each place being written once: so what was read of one is there."""
+        """Whether the files that were written meanwhile have only grown, each place being written once: so what was read is there."""
         written = [found for found in self.targets.values() if found[0] != TERMINAL]
         return len({number for number, _ in written}) == len(written) and all(
             volume.is_used(number) and volume.read(volume.inode(number)).startswith(old) for number, old in written)

@@ -1,7 +1,8 @@
 #!/usr/bin/env python3
 """Runs all tests of the tools, those of one class in one process, or of several that share something; as many processes are at work
 as there are processors, or as --jobs says. With --times it tells how long a processor worked for each class, the dearest first, and for
-all. A class that takes longer than half an hour ends all, and where it stands is told. The program v6 is bin/v6, or the command in the environment's V6."""
+all. A class that takes longer than half an hour ends all, and where it stands is told. The program v6 is bin/v6, or the command in the
+environment's V6."""
 import argparse
 import contextlib
 import faulthandler

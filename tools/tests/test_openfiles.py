@@ -87,9 +87,11 @@ class Reads(Case):
     def test_what_is_asked_for(self):
         """A file that is written meanwhile, also by another descriptor; a pipe that has a file's bytes; a terminal at which they were typed."""
         pipe = "sys pipe; mov r0,r4; mov r1,r0; sys write; line; 80."
-        both, typed = "sys open; name; 1; mov r0,r2", b"run 8\ntype %s\nrun 30\ntype %s\nrun 100\n" % (TEXT[:100], TEXT[100:200])
+        both = "sys open; name; 1; mov r0,r2"
+        typed = b"run 8\ntype %s\nrun 30\ntype %s\nrun 100\n" % (TEXT[:100], TEXT[100:200])
         for source, more in ((round_of(BYTE + WRITE % 1, "mov r4,r2", mode=2), {}), (round_of(BYTE + WRITE % 1, both), {}),
-                             (round_of(BYTE, pipe, line=TEXT[:80].decode()), {}), (round_of(READ % ("", 10), name="/dev/tty8"), {"script": typed})):
+                             (round_of(BYTE, pipe, line=TEXT[:80].decode()), {}),
+                             (round_of(READ % ("", 10), name="/dev/tty8"), {"script": typed})):
             self.assertEqual(self.reads(source, **more), 0, source)
 
     def test_holes(self):
@@ -125,26 +127,30 @@ class Files(unittest.TestCase):
     def test_seeks(self):
         """The table of docs/manual/calls.md, from place 1000 of a file of 5000 bytes, by 2 and by -2."""
         minus = 65534
-        for mode, by_two, by_minus in ((0, 2, minus), (3, 1024, 512 * minus), (1, 1002, 998), (2, 5002, 4998), (4, 2024, 2**32 - 24), (5, 6024, 3976),
-                                       (6, 6024, 3976), (0o77777, 6024, 3976), (0o100000, 5002, 4998), (0o177777, 5002, 4998)):
+        for mode, by_two, by_minus in ((0, 2, minus), (3, 1024, 512 * minus), (1, 1002, 998), (2, 5002, 4998), (4, 2024, 2**32 - 24),
+                                       (5, 6024, 3976), (6, 6024, 3976), (0o77777, 6024, 3976), (0o100000, 5002, 4998),
+                                       (0o177777, 5002, 4998)):
             self.assertEqual([sought(1000, 5000, offset, mode) for offset in (2, minus)], [by_two, by_minus], mode)
         self.assertEqual([sought(None, None, 7, mode) for mode in range(6)], [7, None, None, 3584, None, None])
         self.assertEqual(sought(2**32 - 1, 0, 3, 1), 2)
 
     def test_what_a_terminal_gives(self):
         """Keys in their order, of which some are lost, with what they stand for: docs/manual/terminal.md."""
-        for data, typed, wanted in ((b"abc", b"xaxbxc", True), (b"abc", b"acb", False), (b"aa", b"a", False), (b"A{|}`~\n", b"\\a\\(\\!\\)\\'\\^\r", True),
+        for data, typed, wanted in ((b"abc", b"xaxbxc", True), (b"abc", b"acb", False), (b"aa", b"a", False),
+                                    (b"A{|}`~\n", b"\\a\\(\\!\\)\\'\\^\r", True),
                                     (b"a", b"\341", True), (b"\341", b"\341", False), (b"ab", b"AB", True), (b"", b"", True)):
             self.assertEqual(is_within(data, typed), wanted, data)
 
     def test_places(self):
         file = File(self.volume(b"aaab" + bytes(600)), 2)
-        self.assertEqual([file.places(b"aa", *more) for more in ((None, False), (3, False), (4, False), (3, True))], [[2, 3], [3], [], []])
-        self.assertEqual([file.places(bytes(600), *more) for more in ((None, True), (604, True), (604, False), (603, False))], [[604]] * 3 + [[]])
+        found = [file.places(b"aa", *more) for more in ((None, False), (3, False), (4, False), (3, True))]
+        self.assertEqual(found, [[2, 3], [3], [], []])
+        found = [file.places(bytes(600), *more) for more in ((None, True), (604, True), (604, False), (603, False))]
+        self.assertEqual(found, [[604], [604], [604], []])
         self.assertEqual((file.answer(2, 2), file.answer(603, 5), file.answer(604, 5), file.answer(2**31, 5)), (b"ab", b"\0", b"", b""))
 
     def test_all_that_fit(self):
-        """Two files with the same bytes may both be it; where they give another answer it isn't known. Then what was read tells which it is."""
+        """Two files with the same bytes may both be it; where they give another answer it isn't known, and what is read tells which it is."""
         files = self.read(self.volume(b"0123456789abcdef", b"xxxx0123456789abXY", b"another file"), b"01234", b"567")
         self.assertEqual([(file.number, place) for file, place in files.read[1].may_be], [(2, 8), (3, 12)])
         self.assertEqual([files.answer(1, count) for count in (2, 4, 5, 0)], [b"89", b"89ab", None, b""])
@@ -332,7 +338,8 @@ class Others(unittest.TestCase):
         one, process = self.at("104403 000101 000002")
         answer = types.SimpleNamespace(data=b"xy", words=[65, 2], name="read", r0=2, r1=1, carry=0, end=6)
         self.assertEqual(one.filled(answer), {64: 0x7800, 66: 0x0079})
-        self.assertEqual([one.is_open(at, count) for at, count in ((64, 64), (65, 63), (64, 65), (63, 1), (62, 3), (126, 2), (128, 1), (65534, 2), (65534, 3))],
+        places = (64, 64), (65, 63), (64, 65), (63, 1), (62, 3), (126, 2), (128, 1), (65534, 2), (65534, 3)
+        self.assertEqual([one.is_open(*place) for place in places],
                          [True, True, False, False, False, True, False, True, False])
         changed = {64: 0x7800, 66: 0x0079}
         process.registers = [2, 1, 0, 0, 0, 0, 0, 6]
