@@ -59,7 +59,7 @@ class File:
 
 class Open:
     """An open file: its last bytes that were read one after the other, the place behind them where that is known, and whether the file
-    ends there; or which files it may be, each with the place at which it stands then."""
+    ends there; which files it may be, where that was found, each with the place at which it stands; and how many reads were asked for."""
 
     def __init__(self):
         self.reads, self.may_be = 0, None
@@ -77,9 +77,8 @@ class Open:
         """A read of so many bytes has given these."""
         if self.may_be is not None:
             self.may_be = [(file, place + len(data)) for file, place in self.may_be if file.at(place, count) == data]
-            if self.may_be:
-                return
-            self.loses()
+            if not self.may_be:
+                self.loses()
         self.tail, self.is_end = (self.tail + data)[-LONGEST:], len(data) < count
         self.place = None if self.place is None else self.place + len(data)
 
@@ -133,7 +132,7 @@ class OpenFiles:
     def took(self, entry, count, data, is_pipe, then):
         """What a read gave: one that wasn't asked for, or `then` is the moment behind it; and whether it may be one of a pipe."""
         one = self.read.setdefault(entry, Open())
-        one.reads += 1
+        one.reads += then is not None
         one.takes(data, count)
         is_enough = len(one.tail) >= LEAST or one.tail and one.reads >= FEW
         if then and one.may_be is None and is_enough and is_due(one.reads):
@@ -171,7 +170,10 @@ class OpenFiles:
                 self.targets[entry] = target
                 self.loses(lambda one: target[0] != TERMINAL and one.may_be is None)
         number, own = self.number(entry), self.read.get(entry)  # whose place has moved
-        self.loses(lambda one: number is None or one is own or one.is_one_of(number))
+        self.loses(lambda one: number is None or one is own)
+        for one in self.read.values():
+            if one.is_one_of(number):
+                one.may_be = None  # until more was read, which tells whether it is
 
     def loses(self, is_lost=lambda one: True):
         """What was read from some of them tells nothing any more."""

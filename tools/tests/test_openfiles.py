@@ -229,6 +229,17 @@ class Files(unittest.TestCase):
             files.wrote(2, None)
             self.assertEqual(files.answer(1, 1), wanted, data)
 
+    def test_what_may_be_the_file_that_is_written(self):
+        """It isn't known until more was read, which then stands in the other one alone."""
+        volume, files = self.volume(b"0123456789abcdef", b"01234567"), OpenFiles()
+        files.targets[2] = 3, b"01234567"
+        self.read(volume, b"0123", b"4567", files=files)
+        files.wrote(2, None)
+        self.assertEqual((files.answer(1, 1), files.read[1].tail), (None, b"01234567"))
+        self.read(volume, b"89", b"ab", files=files)
+        files.wrote(2, None)
+        self.assertEqual(files.answer(1, 9), b"cdef")
+
     def test_a_file_that_is_read_and_written(self):
         """A write moves its place, so what is read behind that doesn't follow on what was read before."""
         for target in ((0, b""), (3, b"")):
