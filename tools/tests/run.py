@@ -114,7 +114,7 @@ def clear(patience=PATIENCE):
 def results_of(groups, jobs):
     """What each class came to. That a process of tests has ended is looked for here, since one that it has begun may hold the pipe by which
     it would be told."""
-    pool = ProcessPoolExecutor(jobs)
+    pool = ProcessPoolExecutor(jobs, initializer=signal.signal, initargs=(signal.SIGTERM, signal.SIG_DFL))
     try:
         futures = [pool.submit(run_all, names) for names in groups]
         working = set(multiprocessing.active_children())
@@ -137,6 +137,7 @@ def main(options):
     if unittest.defaultTestLoader.errors:  # a file of tests that can't be read
         sys.exit("\n".join(unittest.defaultTestLoader.errors))
     adopt()
+    signal.signal(signal.SIGTERM, lambda *_: sys.exit(128 + signal.SIGTERM))  # so that nothing is left either
     results = results_of(groups, options.jobs)
     print("".join(text for _, _, text, _, _ in results), end="", file=sys.stderr)
     if options.times:

@@ -60,6 +60,15 @@ class Limits(Case):
         status, said = self.all("os.fork() and os.wait() or threading.Event().wait()", 1)
         self.assertEqual((status, said.splitlines()[-1]), (1, "a process of tests has ended, or its class took too long"))
 
+    def test_an_end_from_outside(self):
+        """As by timeout(1): nothing is left that holds what it printed to."""
+        write(self.path("test_it.py"), (WAITS % "print('begun', flush=True); threading.Event().wait()").encode())
+        command = [sys.executable, "-c", ENDS, TESTS, self.folder, str(LIMIT)]
+        with subprocess.Popen(command, stdout=subprocess.PIPE, stderr=subprocess.STDOUT) as running:
+            self.assertEqual(running.stdout.readline(), b"begun\n")
+            running.terminate()
+            self.assertEqual((running.communicate(timeout=LIMIT)[0], running.returncode), (b"", 128 + signal.SIGTERM))
+
     def test_a_handler_that_is_left(self):
         status, said = self.all("import signal; signal.signal(signal.SIGTERM, lambda *_: None)", LIMIT)
         self.assertEqual((status, said.splitlines()[0]), (1, "test_it.Waits leaves a handler of a signal"))
