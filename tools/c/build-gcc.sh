@@ -45,6 +45,7 @@ if [ -z "$archive" ]; then
         exit 1
     }
     dpkg-deb --fsys-tarfile gcc-12-source_*.deb | tar xf - "./${archive#"$work"/}"
+    rm gcc-12-source_*.deb
     check
 fi
 tar xJf "$archive" --exclude='*/gcc/testsuite' --exclude='*/gcc/ada' --exclude='*/libstdc++-v3' --exclude='*/libgo' \
