@@ -134,3 +134,25 @@ class Case(unittest.TestCase):
         """The status of a tool, and what it says on its two outputs."""
         status, out, error = self.ran(main, *words)
         return status, out.decode(), error
+
+
+def begun():
+    """The processes that this one has begun, those too that have ended and weren't waited for."""
+    found = set()
+    for name in filter(str.isdecimal, os.listdir("/proc")):
+        with contextlib.suppress(OSError):
+            parent = read(f"/proc/{name}/stat").rpartition(b")")[2].split()[1]
+            if int(parent) == os.getpid():
+                found.add(int(name))
+    return found
+
+
+class BeginsProcesses(Case):
+    """A test that begins processes. Others were there before, as a browser that tests of pages share."""
+
+    def setUp(self):
+        super().setUp()
+        self.there = begun()
+
+    def none_left(self):
+        self.assertEqual(begun() - self.there, set())

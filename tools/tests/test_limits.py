@@ -8,7 +8,7 @@ import time
 import unittest
 import unittest.mock
 
-from common import TESTS, Case, write
+from common import TESTS, BeginsProcesses, Case, begun, write
 
 import parallel
 from moments import MomentError
@@ -79,12 +79,18 @@ class Limits(Case):
         self.assertEqual((status, said.rpartition(":")[2]), (0, " 1 passed, 0 failed\n"))
 
 
-class Ahead(Case):
+class Ahead(BeginsProcesses):
     """Processes that work ahead: parallel.py."""
 
-    def none_left(self):
-        with self.assertRaises(ChildProcessError):
-            os.waitpid(-1, os.WNOHANG)
+    def test_one_that_is_left(self):
+        """It is seen, also where it has ended; one that was there before isn't meant."""
+        with subprocess.Popen(["sleep", "100"]) as running:
+            for ends in (lambda: None, running.kill):
+                ends()
+                with self.assertRaises(AssertionError):
+                    self.none_left()
+            self.there = begun()
+            self.none_left()
 
     def test_one_that_does_not_end(self):
         """It is ended in the end."""

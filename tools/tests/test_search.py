@@ -8,7 +8,7 @@ import sys
 import unittest
 import unittest.mock
 
-from common import TOP, V6, Case, read, tool, v6, words, write
+from common import TOP, V6, BeginsProcesses, read, tool, v6, words, write
 
 import answers
 import history
@@ -89,7 +89,7 @@ text:	.=.+512.
 """
 
 
-class Searches(Case):
+class Searches(BeginsProcesses):
     def disk(self, source):
         return self.disk_of(source, "-s")
 
@@ -99,11 +99,6 @@ class Searches(Case):
         status, out, error = self.call(look.main, "--v6", V6, image, "1200", script, *words_)
         self.assertEqual((status, error), (0, ""))
         return [int(line.split()[1]) for line in out.splitlines() if line.startswith("slot ")]
-
-    def all_gone(self):
-        """No process that was begun here is left; nothing is waited for."""
-        with self.assertRaises(ChildProcessError):
-            os.waitpid(-1, os.WNOHANG)
 
     def test_each_slot(self):
         """What comes and goes in one slot of many is found, forwards and backwards."""
@@ -124,7 +119,7 @@ class Searches(Case):
                 self.assertEqual(self.slots(image, script, *commands), wanted)
                 found = self.call(look.main, "--v6", V6, image, "1200", script, "-c", "slot 5000", "-c", "since word who")
                 self.assertEqual((found[0], found[2]), (1, "look.py: word who: not found before slot 5000\n"))
-        self.all_gone()
+        self.none_left()
 
     def test_what_was_gone_through(self):
         """It isn't gone through again: each of these asks for what the first has found."""
@@ -151,7 +146,7 @@ class Searches(Case):
             list(in_order(lambda number: 1 // number, 2, 2, lambda number: lambda: None, MomentError))
         with self.assertRaisesRegex(RuntimeError, "has ended"):
             list(in_order(lambda number: os._exit(1), 2, 2, lambda number: lambda: None, MomentError))
-        self.all_gone()
+        self.none_left()
 
     def test_a_process_that_is_ended_at_once(self):
         """One that is told to end before it knows how goes no further, whatever an interrupt does where it was begun."""
@@ -177,7 +172,7 @@ class Searches(Case):
                     self.assertEqual(next(found), bytes(200_000))
         finally:
             signal.signal(signal.SIGTERM, before)
-        self.all_gone()
+        self.none_left()
 
     def test_calls_among_many(self):
         """The calls number k are getpid in slot 2k + 1 and, behind `time` in slot 403, getuid in slot 2k + 403, each for 200 numbers."""
