@@ -410,8 +410,9 @@ impl Machine {
         match &self.stage {
             Stage::Running(fixed) => {
                 let s = fixed.slot;
-                let ending = come_to(&mut self.world, fixed, self.came, trace);
+                let came = self.came;
                 self.came = Outcome::Next; // it may tell where a stack pointer was
+                let ending = come_to(&mut self.world, fixed, came, trace);
                 let ending = deliver_after(&mut self.world, s, ending, trace);
                 self.end(s, ending, trace)
             }
