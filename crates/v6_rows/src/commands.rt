@@ -1,7 +1,8 @@
-//! How commands end and what they report where a call of the host fails, or a name isn't known: docs/manual/commands.md. Where none
-//! fails, the rows are files (docs/rows.md).
+//! How commands end and what they report where a call of the host fails, or a name isn't known: docs/manual/commands.md. Where
+//! none fails, the rows are files (docs/rows.md).
 use run_fixtures::{
-    HI_BYTES, Piece, ROOMS, RUN, Rooms, Row, end_over, hi_image, holds, host_in, put,
+    HI_BYTES, OneByte, Piece, ROOMS, RUN, Rooms, Row, end_over, hi_image, holds, host_in,
+    host_with, put,
 };
 use std::alloc::{AllocError, Global};
 use std::test::Fail;
@@ -45,8 +46,8 @@ const RUNS: [Ended<'static>; 3] = [
     ),
 ];
 
-/// Where `check` is done, its fourth call is the report; of `demo` it is the first. The first two calls of `audit` open and read its
-/// log, and the third says what that is not; a report that fails leaves that.
+/// Where `check` is done, its fourth call is the report; of `demo` it is the first. The first two calls of `audit` open and
+/// read its log, and the third says what that is not; a report that fails leaves that.
 const OTHERS: [Ended<'static>; 7] = [
     (
         "audit script",
@@ -177,5 +178,30 @@ const LAWFUL: &[u8] = b"boot 64 0\nsleep 0 -100 runout\ngo 1\nexit 1 swap 4000\n
 #[test]
 fn failed_report_of_a_lawful_audit_is_a_write_fault(rt: HostRuntime) -> Result<(), Fail> {
     assert!(rt; report_is_cut(rt.alloc(), "audit script", LAWFUL, b"lawfu")?);
+    Ok(())
+}
+
+#[test]
+fn log_is_judged_one_byte_a_call(rt: HostRuntime) -> Result<(), Fail> {
+    let image = hi_image(rt.alloc(), HI_BYTES, &[])?;
+    let mut host = OneByte {
+        host: host_with(rt.alloc(), &image, LAWFUL)?,
+    };
+    let status = end_over(rt.alloc(), "audit script", &mut host)?;
+    let report = b"lawful: 6 lines\n".as_slice();
+    assert!(rt; status == Status::Done && host.host.bytes(OutPort::Report) == report);
+    Ok(())
+}
+
+/// Eight bytes of the log are read a call. The third read fails, behind a first line that is lawful: no line is told.
+#[test]
+fn later_read_of_a_log_fails(rt: HostRuntime) -> Result<(), Fail> {
+    let image = hi_image(rt.alloc(), HI_BYTES, &[])?;
+    let mut host = host_with(rt.alloc(), &image, LAWFUL)?;
+    host.chunk(8);
+    host.fail(4)?;
+    let status = end_over(rt.alloc(), "audit script", &mut host)?;
+    let report = b"read fault: log\n".as_slice();
+    assert!(rt; status == Status::ReadFault(InPort::Log) && host.bytes(OutPort::Report) == report);
     Ok(())
 }
