@@ -303,7 +303,7 @@ module _ (fs : FileSystem) (core count : ℕ) (referred : (ino : ℕ) → slice_
     nobody_out = ap (λ t. candidate t) slots ∙ nobody_out fs.store.root.stamp;
   }
 
-  pub first_kernel : w.slots.left ≤ w.slots.due → w.slots.set_at ≡ 0 → 3000000001 < w.slots.due → w.slots.due ≤ w.slots.wake → IsKernel stage.New w
+  first_kernel : w.slots.left ≤ w.slots.due → w.slots.set_at ≡ 0 → 3000000001 < w.slots.due → w.slots.due ≤ w.slots.wake → IsKernel stage.New w
   first_kernel within unset far low = record {
     new = λ e. first_new;
     stopped = λ e. absurd (cc e);
@@ -315,7 +315,10 @@ module _ (fs : FileSystem) (core count : ℕ) (referred : (ino : ℕ) → slice_
         (λ s p is. nobody_waits s p (ap (λ (l : List (Option Process)). get_or l s None) (sym processes_are) ∙ is));
   }
 
-  pub first_system : system_at w ≡ system_with fs.store core count
+  first_system : system_at w ≡ system_with fs.store core count
   first_system =
       (λ i. record { unix = unix_is i; board = board_of (slots i) (images i) })
       ∙ ap (λ texts. record { unix = first_unix fs.store core count; board = record (first_board core fs.store.root.stamp) { texts = texts } }) no_places
+
+  pub first_made : w.slots.left ≤ w.slots.due → w.slots.set_at ≡ 0 → 3000000001 < w.slots.due → w.slots.due ≤ w.slots.wake → IsKernel stage.New w × (system_at w ≡ system_with fs.store core count)
+  first_made within unset far low = (first_kernel within unset far low, first_system)

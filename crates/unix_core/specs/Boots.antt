@@ -24,8 +24,8 @@ abbrev pub RefusesBoot : List ℕ → BootFault → Type 0
 RefusesBoot image (Image fault) = image_fault image ≡ Some fault
 RefusesBoot image NoMemory = ⊤
 
--- What is wrong with a second image beside a first: its first fault, or else that there are so many inodes on both disks, more than
--- there are keys.
+-- What is wrong with a second image beside a first: its first fault, or else that there are so many inodes on both disks, more
+-- than there are keys.
 abbrev pub counted_fault : ℕ → Option SecondFault
 counted_fault n = if nat_lt 65535 n then Some (second.Nodes n) else None
 

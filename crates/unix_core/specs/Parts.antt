@@ -114,8 +114,8 @@ pub record IsReady (w : parts.World) (s : ℕ) : Type 0 where
   pub runs : w.procs.table.running ≡ Some s
   pub user : 0 < s
 
--- A call on files of a process has been done, and what it shows stands on the tape, in the order in which it goes out: the table is
--- as it was.
+-- A call on files of a process has been done, and what it shows stands on the tape, in the order in which it goes out: the table
+-- is as it was.
 pub record IsReadyToShow (old new : parts.World) (s : ℕ) (items : List Item) : Type 0 where
   pub ready : IsReady new s
   pub table : new.procs.table ≡ old.procs.table

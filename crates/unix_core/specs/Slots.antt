@@ -51,7 +51,8 @@ pub record CanWait (slots : Slots) : Type 0 where
   pub disk : slots.disk ≤ 999999999
   pub fresh : passed_in slots ≤ 3000000000
 
--- A turn leaves the count as it was, but that a wait for the disk that begins in it ends with the slot of the next wake, or later.
+-- A turn leaves the count as it was, but that a wait for the disk that begins in it ends with the slot of the next wake, or
+-- later.
 pub record HasWaited (waits : Bool) (old new : Slots) : Type 0 where
   pub timing : timing_in new ≡ timing_in old
   pub within : new.left ≤ new.due

@@ -5,8 +5,8 @@ use Rattle.fs_nodes.specs.FileSystem.{SameAroundEach}
 use Rattle.image_keep.specs.Kept.{Kept}
 use Rattle.abstract_unix.specs.Unix.{System, Phase}
 
--- A system, what core and the swap area keep and the bytes of both, the blocks that the kernel reads and writes, and how far its
--- run has come. `stored` is what its disk has of the blocks.
+-- A system, what core and the swap area keep and the bytes of both, the blocks that the kernel reads and writes, and how far
+-- its run has come. `stored` is what its disk has of the blocks.
 pub record KernelState : Type 0 where
   pub system : System
   pub kept : Kept

@@ -123,9 +123,9 @@ impl Kernel {
     ghost use Rattle.unix_core.specs.Memory.{kept_in};
     ghost use Rattle.abstract_unix.specs.Runs.{Slot, Tick, Byte, Switch, Disk, Pace, Hangup, start_of, event_of, system_with, finished};
 
-    /// A kernel with a file system, whose process 1 is about to execute `/etc/init`, with a tape of which nothing is used. Inode 1
-    /// is referred to as the root and as a directory. It is never an error: a kernel is large, and one that is made as the
-    /// result of its caller stands on the stack once.
+    /// A kernel with a file system, whose process 1 is about to execute `/etc/init`, with a tape of which nothing is used.
+    /// Inode 1 is referred to as the root and as a directory. It is never an error: a kernel is large, and one that is made as
+    /// the result of its caller stands on the stack once.
     pub(crate) fn new<E>(
         rooms: Rooms,
         nodes: Nodes,

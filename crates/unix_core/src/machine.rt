@@ -580,8 +580,8 @@ impl Machine {
         }
     }
 
-    /// A byte is typed on a line: the signal that it makes is sent, and who waits for it is woken. A line that isn't there drops
-    /// the byte.
+    /// A byte is typed on a line: the signal that it makes is sent, and who waits for it is woken. A line that isn't there
+    /// drops the byte.
     fn take_key<T: Trace>(&mut self, l: u8, byte: u8, trace: &mut T)
         requires good { IsGood self.old.world }
         requires timed { IsTimed self.old.world.slots (unix_of self.old.world) }

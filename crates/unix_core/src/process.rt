@@ -177,7 +177,8 @@ fn call_files<T: Trace>(
     ending
 }
 
-/// Whether a call on files waits for the disk, where it answers with some bytes: a transfer takes time, and it is a read of the disk.
+/// Whether a call on files waits for the disk, where it answers with some bytes: a transfer takes time, and it is a read of the
+/// disk.
 #[inline(always)]
 fn may_wait(world: &World, s: Slot, call: FileCall) -> bool
     requires { IsReady world.now s }

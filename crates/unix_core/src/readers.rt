@@ -80,8 +80,8 @@ impl Kernel {
         self.swap()[at as usize]
     }
 
-    /// Where the image of a slot stands, or what is kept of a process that has ended: nothing, where the slot is free. Between two
-    /// events of a run that goes on it is the place that the board of the system tells.
+    /// Where the image of a slot stands, or what is kept of a process that has ended: nothing, where the slot is free. Between
+    /// two events of a run that goes on it is the place that the board of the system tells.
     pub fn place(&self, s: Slot) -> Option<Place>
         requires { s < 50 }
         ensures place { result ≡ place_of self.now.kept s }
@@ -115,8 +115,8 @@ impl Kernel {
         self.disk_block(n)
     }
 
-    /// Block `n` of the second disk, as a run that has been finished leaves it: where the system has a second disk, the kernel has
-    /// its blocks.
+    /// Block `n` of the second disk, as a run that has been finished leaves it: where the system has a second disk, the kernel
+    /// has its blocks.
     pub fn second_block(&self, n: u16) -> [u8; 512]
         requires finished { self.now.phase ≡ Finished }
         requires block { n < DISK_BLOCKS }

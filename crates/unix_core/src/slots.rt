@@ -163,7 +163,8 @@ impl Slots {
         (passed - self.set_at) % self.pace
     }
 
-    /// The next slot with which the lines send is due, if nothing is before. `behind` is how many slots the last send lies back.
+    /// The next slot with which the lines send is due, if nothing is before. `behind` is how many slots the last send lies
+    /// back.
     fn add_send(&mut self, behind: u32)
         requires within { self.old.left ≤ self.old.due }
         requires before { 0 < self.old.left }
