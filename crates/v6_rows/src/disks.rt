@@ -4,6 +4,7 @@ ghost use Rattle.std.specs.Prelude.{IfOk};
 ghost use Rattle.v6_port.specs.Outside.{IsIdle};
 ghost use Rattle.v6_port.specs.Memory.{memory};
 
+use crate::faults::report_of;
 use crate::final_disk::GRAVE;
 use crate::log::shown_on;
 use fs_codec::{BLOCK_SIZE, DISK_BYTES};
@@ -52,187 +53,46 @@ fn holds_fronts(
     )
 }
 
-/// A call of the run that fails, the status, the report, how many pieces have been shown, and how many blocks of each disk
-/// written.
-type Fault = (u32, Status, &'static [u8], usize, usize, usize);
+/// A call of the run that fails, the status, how many pieces have been shown, and how many blocks of each disk written.
+type Fault = (u32, Status, usize, usize, usize);
 
 /// The image is opened by call 1, read by nine calls and once more. Then the second one is opened by call 12 and read by two,
 /// and so is the script by the calls 15 to 17.
 const READINGS: [Fault; 5] = [
-    (
-        11,
-        Status::ReadFault(InPort::Image),
-        b"read fault: image\n",
-        0,
-        0,
-        0,
-    ),
-    (
-        12,
-        Status::ReadFault(InPort::Second),
-        b"read fault: second\n",
-        0,
-        0,
-        0,
-    ),
-    (
-        13,
-        Status::ReadFault(InPort::Second),
-        b"read fault: second\n",
-        0,
-        0,
-        0,
-    ),
-    (
-        14,
-        Status::ReadFault(InPort::Second),
-        b"read fault: second\n",
-        0,
-        0,
-        0,
-    ),
-    (
-        15,
-        Status::ReadFault(InPort::Script),
-        b"read fault: script\n",
-        0,
-        0,
-        0,
-    ),
+    (11, Status::ReadFault(InPort::Image), 0, 0, 0),
+    (12, Status::ReadFault(InPort::Second), 0, 0, 0),
+    (13, Status::ReadFault(InPort::Second), 0, 0, 0),
+    (14, Status::ReadFault(InPort::Second), 0, 0, 0),
+    (15, Status::ReadFault(InPort::Script), 0, 0, 0),
 ];
 
 /// Then come the four openings.
 const OPENINGS: [Fault; 4] = [
-    (
-        18,
-        Status::WriteFault(OutPort::Term),
-        b"write fault: term\n",
-        0,
-        0,
-        0,
-    ),
-    (
-        19,
-        Status::WriteFault(OutPort::Log),
-        b"write fault: log\n",
-        0,
-        0,
-        0,
-    ),
-    (
-        20,
-        Status::WriteFault(OutPort::Final),
-        b"write fault: final\n",
-        0,
-        0,
-        0,
-    ),
-    (
-        21,
-        Status::WriteFault(OutPort::Second),
-        b"write fault: second\n",
-        0,
-        0,
-        0,
-    ),
+    (18, Status::WriteFault(OutPort::Term), 0, 0, 0),
+    (19, Status::WriteFault(OutPort::Log), 0, 0, 0),
+    (20, Status::WriteFault(OutPort::Final), 0, 0, 0),
+    (21, Status::WriteFault(OutPort::Second), 0, 0, 0),
 ];
 
 /// What is shown is written by the calls 22 to 40. FINAL is written by the calls 41 to 4,041, a block each and the swap area by
 /// the last; then FINAL2, which has no swap area, by 4,872 more.
 const WRITES: [Fault; 7] = [
-    (
-        22,
-        Status::WriteFault(OutPort::Log),
-        b"write fault: log\n",
-        0,
-        0,
-        0,
-    ),
-    (
-        40,
-        Status::WriteFault(OutPort::Log),
-        b"write fault: log\n",
-        18,
-        0,
-        0,
-    ),
-    (
-        41,
-        Status::WriteFault(OutPort::Final),
-        b"write fault: final\n",
-        19,
-        0,
-        0,
-    ),
-    (
-        4_041,
-        Status::WriteFault(OutPort::Final),
-        b"write fault: final\n",
-        19,
-        4_000,
-        0,
-    ),
-    (
-        4_042,
-        Status::WriteFault(OutPort::Second),
-        b"write fault: second\n",
-        19,
-        4_872,
-        0,
-    ),
-    (
-        4_043,
-        Status::WriteFault(OutPort::Second),
-        b"write fault: second\n",
-        19,
-        4_872,
-        1,
-    ),
-    (
-        8_913,
-        Status::WriteFault(OutPort::Second),
-        b"write fault: second\n",
-        19,
-        4_872,
-        4_871,
-    ),
+    (22, Status::WriteFault(OutPort::Log), 0, 0, 0),
+    (40, Status::WriteFault(OutPort::Log), 18, 0, 0),
+    (41, Status::WriteFault(OutPort::Final), 19, 0, 0),
+    (4_041, Status::WriteFault(OutPort::Final), 19, 4_000, 0),
+    (4_042, Status::WriteFault(OutPort::Second), 19, 4_872, 0),
+    (4_043, Status::WriteFault(OutPort::Second), 19, 4_872, 1),
+    (8_913, Status::WriteFault(OutPort::Second), 19, 4_872, 4_871),
 ];
 
 /// The files are finished in the order in which they were opened, FINAL2 behind FINAL.
 const ENDS: [Fault; 5] = [
-    (
-        8_914,
-        Status::WriteFault(OutPort::Term),
-        b"write fault: term\n",
-        19,
-        4_872,
-        4_872,
-    ),
-    (
-        8_915,
-        Status::WriteFault(OutPort::Log),
-        b"write fault: log\n",
-        19,
-        4_872,
-        4_872,
-    ),
-    (
-        8_916,
-        Status::WriteFault(OutPort::Final),
-        b"write fault: final\n",
-        19,
-        4_872,
-        4_872,
-    ),
-    (
-        8_917,
-        Status::WriteFault(OutPort::Second),
-        b"write fault: second\n",
-        19,
-        4_872,
-        4_872,
-    ),
-    (8_918, Status::Done, b"", 19, 4_872, 4_872),
+    (8_914, Status::WriteFault(OutPort::Term), 19, 4_872, 4_872),
+    (8_915, Status::WriteFault(OutPort::Log), 19, 4_872, 4_872),
+    (8_916, Status::WriteFault(OutPort::Final), 19, 4_872, 4_872),
+    (8_917, Status::WriteFault(OutPort::Second), 19, 4_872, 4_872),
+    (8_918, Status::Done, 19, 4_872, 4_872),
 ];
 
 /// Words with a name that isn't there, the status and the report.
@@ -252,11 +112,11 @@ const UNKNOWN: [Unknown; 2] = [
 ];
 
 fn leaves(alloc: Global, row: &Fault) -> Result<bool, AllocError> {
-    let (call, wanted, report, count, first, second) = *row;
+    let (call, wanted, count, first, second) = *row;
     let mut host = host_of_two(alloc, DISK_BYTES)?;
     host.fail(call)?;
     let status = end_over(alloc, RUN2, &mut host)?;
-    let is_told = status == wanted && host.bytes(OutPort::Report) == report;
+    let is_told = status == wanted && host.bytes(OutPort::Report) == report_of(wanted);
     let first = first.min(4_872) * BLOCK_SIZE;
     let second = second.min(4_872) * BLOCK_SIZE;
     let has_fronts = holds_fronts(alloc, &host, count, first, second)?;

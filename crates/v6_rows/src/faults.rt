@@ -52,13 +52,19 @@ const ENDS: [Fault; 10] = [
     (0, Status::Done, 19, 4_872),
 ];
 
-fn report_of(status: Status) -> &'static [u8] {
+/// What a run that ends with this status reports, where it is done or one of these files has failed.
+pub(crate) fn report_of(status: Status) -> &'static [u8] {
     match status {
         Status::ReadFault(InPort::Image) => b"read fault: image\n",
+        Status::ReadFault(InPort::Second) => b"read fault: second\n",
         Status::ReadFault(InPort::Script) => b"read fault: script\n",
         Status::WriteFault(OutPort::Term) => b"write fault: term\n",
+        Status::WriteFault(OutPort::Line(1)) => b"write fault: line1\n",
+        Status::WriteFault(OutPort::Line(4)) => b"write fault: line4\n",
+        Status::WriteFault(OutPort::Line(7)) => b"write fault: line7\n",
         Status::WriteFault(OutPort::Log) => b"write fault: log\n",
         Status::WriteFault(OutPort::Final) => b"write fault: final\n",
+        Status::WriteFault(OutPort::Second) => b"write fault: second\n",
         _ => b"",
     }
 }

@@ -4,6 +4,7 @@ ghost use Rattle.std.specs.Prelude.{IfOk};
 ghost use Rattle.v6_port.specs.Outside.{IsIdle};
 ghost use Rattle.v6_port.specs.Memory.{memory};
 
+use crate::faults::{Fault, report_of};
 use crate::final_disk::GRAVE;
 use fs_codec::{BLOCK_SIZE, DISK_BYTES};
 use run_fixtures::{HI_BYTES, Piece, end_over, hi_image, host_with, is_front, put};
@@ -108,142 +109,42 @@ fn holds_fronts(
     )
 }
 
-/// A call of the run that fails, or 0, the status, the report, how many pieces have been shown, and how many blocks of the disk
-/// written.
-type Fault = (u32, Status, &'static [u8], usize, usize);
-
 /// The image is opened by call 1, read by nine calls and once more, and the script by call 12 and two more. Then come the ten
 /// openings: of Term, of the lines 1 to 7, of Log and of Final.
 const OPENINGS: [Fault; 6] = [
-    (
-        15,
-        Status::WriteFault(OutPort::Term),
-        b"write fault: term\n",
-        0,
-        0,
-    ),
-    (
-        16,
-        Status::WriteFault(OutPort::Line(1)),
-        b"write fault: line1\n",
-        0,
-        0,
-    ),
-    (
-        19,
-        Status::WriteFault(OutPort::Line(4)),
-        b"write fault: line4\n",
-        0,
-        0,
-    ),
-    (
-        22,
-        Status::WriteFault(OutPort::Line(7)),
-        b"write fault: line7\n",
-        0,
-        0,
-    ),
-    (
-        23,
-        Status::WriteFault(OutPort::Log),
-        b"write fault: log\n",
-        0,
-        0,
-    ),
-    (
-        24,
-        Status::WriteFault(OutPort::Final),
-        b"write fault: final\n",
-        0,
-        0,
-    ),
+    (15, Status::WriteFault(OutPort::Term), 0, 0),
+    (16, Status::WriteFault(OutPort::Line(1)), 0, 0),
+    (19, Status::WriteFault(OutPort::Line(4)), 0, 0),
+    (22, Status::WriteFault(OutPort::Line(7)), 0, 0),
+    (23, Status::WriteFault(OutPort::Log), 0, 0),
+    (24, Status::WriteFault(OutPort::Final), 0, 0),
 ];
 
 /// The first piece is written by call 25, and the bytes of line 1 by the calls 33 to 36.
 const WRITES: [Fault; 4] = [
-    (
-        25,
-        Status::WriteFault(OutPort::Log),
-        b"write fault: log\n",
-        0,
-        0,
-    ),
-    (
-        33,
-        Status::WriteFault(OutPort::Line(1)),
-        b"write fault: line1\n",
-        8,
-        0,
-    ),
-    (
-        36,
-        Status::WriteFault(OutPort::Line(1)),
-        b"write fault: line1\n",
-        11,
-        0,
-    ),
-    (
-        43,
-        Status::WriteFault(OutPort::Log),
-        b"write fault: log\n",
-        18,
-        0,
-    ),
+    (25, Status::WriteFault(OutPort::Log), 0, 0),
+    (33, Status::WriteFault(OutPort::Line(1)), 8, 0),
+    (36, Status::WriteFault(OutPort::Line(1)), 11, 0),
+    (43, Status::WriteFault(OutPort::Log), 18, 0),
 ];
 
 /// The disk is written by the calls 44 to 4,044, and the ten files are finished in the order in which they were opened.
 const ENDS: [Fault; 7] = [
-    (
-        44,
-        Status::WriteFault(OutPort::Final),
-        b"write fault: final\n",
-        19,
-        0,
-    ),
-    (
-        4_045,
-        Status::WriteFault(OutPort::Term),
-        b"write fault: term\n",
-        19,
-        4_872,
-    ),
-    (
-        4_046,
-        Status::WriteFault(OutPort::Line(1)),
-        b"write fault: line1\n",
-        19,
-        4_872,
-    ),
-    (
-        4_052,
-        Status::WriteFault(OutPort::Line(7)),
-        b"write fault: line7\n",
-        19,
-        4_872,
-    ),
-    (
-        4_053,
-        Status::WriteFault(OutPort::Log),
-        b"write fault: log\n",
-        19,
-        4_872,
-    ),
-    (
-        4_054,
-        Status::WriteFault(OutPort::Final),
-        b"write fault: final\n",
-        19,
-        4_872,
-    ),
-    (4_055, Status::Done, b"", 19, 4_872),
+    (44, Status::WriteFault(OutPort::Final), 19, 0),
+    (4_045, Status::WriteFault(OutPort::Term), 19, 4_872),
+    (4_046, Status::WriteFault(OutPort::Line(1)), 19, 4_872),
+    (4_052, Status::WriteFault(OutPort::Line(7)), 19, 4_872),
+    (4_053, Status::WriteFault(OutPort::Log), 19, 4_872),
+    (4_054, Status::WriteFault(OutPort::Final), 19, 4_872),
+    (4_055, Status::Done, 19, 4_872),
 ];
 
 fn leaves(alloc: Global, row: &Fault) -> Result<bool, AllocError> {
-    let (call, wanted, report, count, blocks) = *row;
+    let (call, wanted, count, blocks) = *row;
     let mut host = host_of_eight(alloc, ROOM)?;
     host.fail(call)?;
     let status = end_over(alloc, RUN8, &mut host)?;
-    let is_told = status == wanted && host.bytes(OutPort::Report) == report;
+    let is_told = status == wanted && host.bytes(OutPort::Report) == report_of(wanted);
     let has_fronts = holds_fronts(alloc, &host, count, blocks)?;
     Ok(is_told && has_fronts)
 }
