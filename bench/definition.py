@@ -13,7 +13,7 @@ import re
 TOP = os.path.dirname(os.path.dirname(os.path.abspath(__file__)))
 FILES = ("map_fit/specs/Fit", *("pick_rules/specs/" + name for name in (
     "Search", "Table", "Priority", "Sleepers", "Clock", "Choice", "Board", "Swapper", "Apply", "Ranges", "Fits", "Lawful")))
-CONSTANTS = "pick_rules/src/ranges.rt"
+CONSTANTS = ("v6_base/src/entry.rt", "pick_rules/src/ranges.rt")
 NONE = ("None",)
 OPERATORS = (("→", "right"), ("⊎", "right"), ("×", "right"), ("≡ ≢ < ≤ <ℤ ≤ℤ", "none"), ("||", "right"), ("&&", "right"),
              ("==", "none"), ("++ ∷", "right"), ("+ - +ℤ", "left"), ("* / %", "left"), ("^", "right"))
@@ -27,6 +27,11 @@ TOKEN = re.compile(r"\s*(≤ℤ|<ℤ|\+ℤ|\+\+|==|\|\||&&|\[\]|λ|[()≡≢<≤
 
 def some(x):
     return ("Some", x)
+
+
+def local(name):
+    """What a name is called in Python that a definition binds: a definition may have the same one."""
+    return f"its_{name}"
 
 
 def slice_set(items, i, x):
@@ -50,10 +55,10 @@ ARITIES.update(length=1, Core=1, Swap=1, Some=1)
 
 
 class Reader:
-    """Reads an expression, and gives the Python of it."""
+    """Reads an expression over some bound names, and gives the Python of it."""
 
-    def __init__(self, text, arities, aliases):
-        self.tokens, self.at, self.arities, self.aliases = TOKEN.findall(text), 0, arities, aliases
+    def __init__(self, text, arities, aliases, bound):
+        self.tokens, self.at, self.arities, self.aliases, self.bound = TOKEN.findall(text), 0, arities, aliases, list(bound)
         if "".join(self.tokens) != re.sub(r"\s", "", text):
             raise ValueError(f"no expression: {text}")
 
@@ -91,7 +96,14 @@ class Reader:
         self.take("ℕ")
         self.take(")")
         self.take("×")
-        return f"any({self.expression()} for {name} in range(50))"
+        return f"any({self.over(name)} for {local(name)} in range(50))"
+
+    def over(self, *names):
+        """An expression in which these names are bound."""
+        self.bound += names
+        value = self.expression()
+        del self.bound[len(self.bound) - len(names) :]
+        return value
 
     def function(self):
         self.take("λ")
@@ -99,7 +111,7 @@ class Reader:
         while self.peek() != ".":
             names.append(self.take())
         self.take(".")
-        return f"(lambda {', '.join(names)}: {self.expression()})"
+        return f"(lambda {', '.join(map(local, names))}: {self.over(*names)})"
 
     def binding(self):
         self.take("let")
@@ -108,7 +120,7 @@ class Reader:
             pass
         value = self.expression()
         self.take("in")
-        return f"(lambda {name}: {self.expression()})({value})"
+        return f"(lambda {local(name)}: {self.over(name)})({value})"
 
     def choice(self):
         self.take("if")
@@ -151,9 +163,11 @@ class Reader:
             return WORDS[token], False
         if token.isdigit():
             return token, False
-        if token in self.aliases and self.peek() == ".":
+        if token in self.aliases and self.peek() == "." and self.tokens[self.at + 1][0].isupper():
             self.take(".")
             return f"({self.take()!r},)", False
+        if token in self.bound:
+            return self.fields(local(token)), False
         if token[0].isupper() and token not in self.arities or token in ("Core", "Swap", "Some"):
             return token, True
         return self.fields(token), False
@@ -220,8 +234,9 @@ class Definitions:
     def __init__(self):
         self.arities, self.equations, self.aliases, self.bodies = dict(ARITIES), {}, set(), []
         self.space = {**STD, "partial": functools.partial}
-        with open(f"{TOP}/crates/{CONSTANTS}", encoding="utf-8") as file:
-            self.space.update((name, int(value)) for name, value in re.findall(r"const (\w+): \w+ = (\d+);", file.read()))
+        for name in CONSTANTS:
+            with open(f"{TOP}/crates/{name}", encoding="utf-8") as file:
+                self.space.update((name, int(value)) for name, value in re.findall(r"const (\w+): \w+ = (\d+);", file.read()))
         self.arities.update((name, None) for name in self.space if name.isupper())
         sources = []
         for name in FILES:
@@ -267,7 +282,7 @@ class Definitions:
             code = [f"def {name}({', '.join(f'a{i}' for i in range(count))}):"]
             for tests, names, body in lines:
                 try:
-                    reader = Reader(body, self.arities, self.aliases)
+                    reader = Reader(body, self.arities, self.aliases, [word for word, _ in names])
                     value = reader.expression()
                     if reader.peek():
                         raise ValueError(f"more than an expression: {reader.tokens[reader.at :]}")
@@ -275,7 +290,7 @@ class Definitions:
                     code.append(f"    raise ValueError({str(error)!r})")
                     continue
                 code.append(f"    if {' and '.join(tests) or 'True'}:")
-                code += [f"        {word} = {place}" for word, place in names]
+                code += [f"        {local(word)} = {place}" for word, place in names]
                 code.append(f"        return {value}")
             exec("\n".join(code), self.space)  # pylint: disable=exec-used
         return self.space

@@ -3,22 +3,26 @@
 
     bench/spoiled_logs.py COMMAND COUNT [FIRST]
     bench/spoiled_logs.py quick COMMAND COUNT [FIRST]
+    bench/spoiled_logs.py often COMMAND COUNT [FIRST]
     bench/spoiled_logs.py write COMMAND COUNT [FIRST] FOLDER
 
-COMMAND is a built v6. It runs COUNT random programs of bench/processes.py, by turns those of the words `small execs`, `full`,
-`small`, `signals` and `pipes`, and programs of bench/random_lines.py over the lines of a terminal, mostly under `run8`; seeds
-from FIRST on (0 where it isn't given). Each log must be lawful. Then it is spoiled in seven ways, always the same for a seed:
+COMMAND is a built v6. It runs COUNT random programs, by turns those of bench/processes.py with the words `small execs`, `full`,
+`small`, `signals` and `pipes`, and of each kind of bench/fuzz.py that runs a disk, under `run`, `run8` or `run2`; seeds from
+FIRST on (0 where it isn't given). Each log must be lawful. Then it is spoiled in seven ways, always the same for a seed:
 a line is left out, comes twice or changes places with the next; a number is one more or less; a slot is another; a word is
 another line's; a choice is made from slot 0 on. Three judges name the first line that is at fault: `COMMAND audit`, the
 auditor of the reference, and the definition in crates/pick_rules/specs as it stands, which bench/definition.py evaluates. It
-can't come before the line that was spoiled. `quick` leaves the definition out, which takes most of the time. A spoiled log may
-be lawful still, as where a `wake` comes twice. Of a log of more than 1,500 lines these count alone. `write` also leaves each
-spoiled log in a folder as N.log, and in `verdicts` a line for each: N, the way, the spoiled line, and the first line at fault
-or `lawful`.
+can't come before the line that was spoiled. `quick` leaves the definition out, which takes most of the time. `often` does too,
+and spoils each log four times in each way; the reference goes on there from what it had kept before the spoiled line, and
+judges each fiftieth spoiled log from its beginning as well. A spoiled log may be lawful still, as where a `wake` comes twice.
+Of a log of more than 1,500 lines these count alone. `write` also leaves each spoiled log in a folder as N.log, and in
+`verdicts` a line for each: N, the way, the spoiled line, and the first line at fault or `lawful`.
 
 The reference is the Python module `abstract_unix`; the environment variable ABSTRACT_UNIX names the folder in which it is.
 """
 import collections
+import copy
+import functools
 import os
 import random
 import re
@@ -29,26 +33,29 @@ import tempfile
 
 from comparing import needs_reference
 from definition import Auditor
-from file_calls import called, words_of_run
+from file_calls import called, read, words_of_run
 from fuzz_cases import case_of
 from processes import Case, ExecCase, FullCase, PipeCase, SignalCase, in_small_core
 
 
-class LineCase:
-    """A program over the lines of a terminal, as the fuzzer has them."""
+class FuzzCase:
+    """A case of the fuzzer, of a kind that runs a disk."""
 
-    def __init__(self, seed):
-        self.case = case_of(seed, "lines")
-        self.core, self.command = self.case.core, self.case.command[0]
+    def __init__(self, seed, kind):
+        self.case = case_of(seed, kind)
+        self.core, self.command, self.second = self.case.core, self.case.command[0], bool(self.case.others())
 
     def write(self, folder):
-        for name, data in (("image", self.case.image), ("script", self.case.script())):
+        for name, data in self.case.files().items():
             with open(f"{folder}/{name}", "wb") as file:
                 file.write(data)
 
 
-KINDS = (in_small_core(ExecCase), FullCase, in_small_core(Case), SignalCase, PipeCase, LineCase)
+FUZZED = ("lines", "slow", "two", "disk", "odd", "words", "hostile", "script")
+KINDS = (in_small_core(ExecCase), FullCase, in_small_core(Case), SignalCase, PipeCase,
+         *(functools.partial(FuzzCase, kind=kind) for kind in FUZZED))
 MOST_LINES = 1500  # of a log, of which the rest is left out
+OFTEN, WHOLE = 4, 50  # how often a log is spoiled in each way, and which of these logs are judged from their beginning too
 STATUS = {"unlawful": 9, "bad": 10}
 WORDS = {
     "go": ("trap", "bare", "reap"), "trap": ("go", "bare"), "bare": ("trap", "reap"), "reap": ("trap",), "u": ("k", "i"),
@@ -126,10 +133,11 @@ def other_word(rng, lines):
     return at, lines[:at] + [changed(lines[at], place, word)] + lines[at + 1 :]
 
 
+@functools.lru_cache(maxsize=1)
 def choices_from_slot_0(lines):
     """The choices that would be others, were they made from slot 0 on and not from the slot behind the last one: line and slot."""
     from abstract_unix import audit, logtext
-    auditor = audit.Auditor()
+    auditor, found = audit.Auditor(), []
     for at, line in enumerate(lines):
         entry = logtext.parse(line.encode())
         if entry[0] == "go":
@@ -137,12 +145,13 @@ def choices_from_slot_0(lines):
             last, table.last = table.last, len(table.rows) - 1
             slot, table.last = table.chosen(), last
             if slot != entry[1]:
-                yield at, slot
+                found.append((at, slot))
         auditor.take(entry)
+    return found
 
 
 def from_slot_0(rng, lines):
-    found = list(choices_from_slot_0(lines))
+    found = choices_from_slot_0(tuple(lines))
     if not found:
         return None
     at, slot = rng.choice(found)
@@ -160,13 +169,34 @@ class Judges:
 
     def __init__(self, command, quick=False):
         sys.path.insert(0, os.environ["ABSTRACT_UNIX"])
-        from abstract_unix import audit
-        self.command, self.audit, self.definition = command, audit, None if quick else Auditor()
+        from abstract_unix import audit, logtext
+        self.command, self.audit, self.parse, self.definition = command, audit, logtext.parse, None if quick else Auditor()
 
     def reference(self, lines):
         """The status of an audit, and the line at fault, where one is."""
         verdict, number = self.audit.judge("".join(line + "\n" for line in lines).encode())
         return (0, None) if verdict == "lawful" else (STATUS[verdict], number)
+
+    def kept(self, lines, places):
+        """What the reference keeps of a lawful log before each of these lines."""
+        auditor, kept = self.audit.Auditor(), {}
+        for at, line in enumerate(lines):
+            if at in places:
+                kept[at] = copy.deepcopy(auditor)
+            auditor.take(self.parse(line.encode()))
+        return {**kept, len(lines): auditor}
+
+    def going_on(self, lines, at, kept):
+        """The status of the reference's audit, and the line at fault, where it goes on from what it kept before a line."""
+        auditor = copy.deepcopy(kept)
+        for number, line in enumerate(lines[at:], at + 1):
+            entry = self.parse(line.encode())
+            if entry is None:
+                return STATUS["bad"], number
+            if not auditor.fits(entry):
+                return STATUS["unlawful"], number
+            auditor.take(entry)
+        return (0, None) if auditor.last[0] in ("end", "panic") else (STATUS["unlawful"], len(lines) + 1)
 
     def built(self, lines):
         """The same by the command. A lawful log must have so many lines as it tells."""
@@ -197,32 +227,31 @@ class Judges:
 
 
 def log_of(command, seed):
+    """The lines of a run; none where its disk or script is refused."""
     case = KINDS[seed % len(KINDS)](seed)
     with tempfile.TemporaryDirectory() as folder:
         case.write(folder)
         words = words_of_run(case, folder, "v6")
         called([*command, getattr(case, "command", words[0]), *words[1:]])
-        with open(f"{folder}/v6.log", encoding="ascii") as file:
-            return file.read().splitlines()
+        return read(f"{folder}/v6.log").decode("ascii").splitlines()
 
 
-def spoiled(seed, lines, judges, boards):
-    """Each way in which a log is spoiled, the spoiled line, the log, and what each judge says."""
+def spoiled(seed, lines, times):
+    """Each way in which a log is spoiled, so many times: the place of the spoiled line, and the log. None comes twice."""
+    found = set()
     for way in WAYS:
-        found = way(random.Random(f"spoiled {way.__name__} {seed}"), lines)
-        if found is None:
-            continue
-        at, other = found
-        by_reference, built = judges.reference(other), judges.built(other)
-        named = judges.defined(other, boards, at) if judges.definition else by_reference[1]
-        yield way.__name__, at + 1, other, named, by_reference, built
+        for time in range(times):
+            one = way(random.Random(f"spoiled {way.__name__} {seed}" + f" {time}" * (time > 0)), lines)
+            if one is not None and tuple(one[1]) not in found:
+                found.add(tuple(one[1]))
+                yield way.__name__, *one
 
 
 class Tally:
     """What the judges said, and the spoiled logs where they are to be kept."""
 
-    def __init__(self, folder):
-        self.folder, self.counts, self.wrong, self.verdicts = folder, collections.Counter(), 0, []
+    def __init__(self, folder, is_often):
+        self.folder, self.is_often, self.counts, self.wrong, self.verdicts = folder, is_often, collections.Counter(), 0, []
 
     def differ(self, said):
         print(said, flush=True)
@@ -237,11 +266,24 @@ class Tally:
             return
         self.counts["logs, each lawful as far as it goes"] += 1
         self.counts["lines of these"] += len(lines)
-        for way, at, other, named, by_reference, built in spoiled(seed, lines, judges, boards):
-            if built != by_reference or named != by_reference[1] or named is not None and named < at:
-                self.differ(f"seed {seed}, {way} at {at}: {other[at - 1]!r}: {built}, by the reference {by_reference}, "
+        found = list(spoiled(seed, lines, OFTEN if self.is_often else 1))
+        kept = judges.kept(lines, {at for _, at, _ in found}) if self.is_often else {}
+        for way, at, other in found:
+            by_reference, built = self.by_reference(judges, other, at, kept), judges.built(other)
+            named = judges.defined(other, boards, at) if judges.definition else by_reference[1]
+            if built != by_reference or named != by_reference[1] or named is not None and named <= at:
+                self.differ(f"seed {seed}, {way} at {at + 1}: {other[at : at + 1]}: {built}, by the reference {by_reference}, "
                             f"by the definition {named}")
-            self.spoiled(way, at, other, named, ends)
+            self.spoiled(way, at + 1, other, named, ends)
+
+    def by_reference(self, judges, lines, at, kept):
+        """What the reference says of a spoiled log; where it goes on from what it kept, now and then from the beginning too."""
+        if not self.is_often:
+            return judges.reference(lines)
+        said = judges.going_on(lines, at, kept[at])
+        if len(self.verdicts) % WHOLE == 0 and judges.reference(lines) != said:
+            self.differ(f"the reference says of a whole log {judges.reference(lines)}, and where it goes on from line {at} {said}")
+        return said
 
     def spoiled(self, way, at, other, named, ends):
         number = len(self.verdicts)
@@ -257,10 +299,14 @@ class Tally:
             file.write("".join(line + "\n" for line in lines))
 
 
-def judge(command, count, first, folder=None, quick=False):
-    judges, tally = Judges(command, quick), Tally(folder)
+def judge(command, count, first, folder=None, is_quick=False, is_often=False):
+    judges, tally = Judges(command, is_quick or is_often), Tally(folder, is_often)
     for seed in range(first, first + count):
-        tally.log(seed, log_of(command, seed)[:MOST_LINES], judges)
+        lines = log_of(command, seed)[:MOST_LINES]
+        if lines:
+            tally.log(seed, lines, judges)
+        else:
+            tally.counts["runs that are refused"] += 1
     if folder:
         tally.write("verdicts", tally.verdicts)
     for name, value in sorted(tally.counts.items()):
@@ -275,8 +321,9 @@ def main(words):
         case ["write", command, count, *first, folder] if len(first) < 2:
             os.makedirs(folder, exist_ok=True)
             return judge(shlex.split(command), int(count), int(first[0]) if first else 0, folder)
-        case ["quick", command, count, *first] if len(first) < 2:
-            return judge(shlex.split(command), int(count), int(first[0]) if first else 0, quick=True)
+        case ["quick" | "often" as how, command, count, *first] if len(first) < 2:
+            first = int(first[0]) if first else 0
+            return judge(shlex.split(command), int(count), first, is_quick=how == "quick", is_often=how == "often")
         case [command, count, *first] if len(first) < 2:
             return judge(shlex.split(command), int(count), int(first[0]) if first else 0)
         case _:
