@@ -32,7 +32,8 @@ pub record Answers (command : Command) (status : Status) (old new : Outside) : T
   pub partial : (p : OutPort) → status ≡ WriteFault p → TellsInputs (command_ports command) old
       → IsKnownAnd (command_completion command old.fixed) (IsPartial p old new)
   pub order : Tells old → AreGood old.fixed (ports_passed status (command_ports command))
-  pub opened : Tells old → (p : OutPort) → (new.port (Out p)).bytes ≢ (old.port (Out p)).bytes → AreGood old.fixed (command_ports command)
+  pub opened : Tells old → (p : OutPort) → (new.port (Out p)).bytes ≢ (old.port (Out p)).bytes
+      → AreGood old.fixed (command_ports command)
   pub none : has_written status ≡ false → (p : OutPort) → new.port (Out p) ≡ old.port (Out p)
   pub closed : is_closed status ≡ true → (p : OutPort) → is_named command (Out p) ≡ true → (new.port (Out p)).is_open ≡ false
   pub cause : IsCaused (is_known (Some command) old.fixed) status old new
@@ -42,14 +43,16 @@ pub record AnswersWords (command : Option Command) (status : Status) (old new : 
   pub refused : (s : Status) → refused_by command ≡ Some s → (status ≡ s) × (new ≡ old)
   pub good : refused_by command ≡ None → (c : Command) × (command ≡ Some c) × Answers c status old new
 
--- The report of what a command has come to: nothing else changes, and the status stays but where a command that was done has found
--- something and that can't be told.
+-- The report of what a command has come to: nothing else changes, and the status stays but where a command that was done has
+-- found something and that can't be told.
 pub record Reports (answer : Result (Option Found) CommandError) (status : Status) (old new : Outside) : Type 0 where
   pub only : OnlyAt (same (Out out_port.Report)) old new
   pub missing : Tells old → (report new).missing ≡ (report old).missing
   pub ends : ((status ≡ end_of command_status answer) × (status ≡ Done → (report new).faults ≡ (report old).faults))
-      ⊎ (IsOkAnd answer (λ found. is_some found ≡ true) × (status ≡ WriteFault out_port.Report) × Rose (report old).faults (report new).faults)
-  pub whole : Tells old → (report new).faults ≡ (report old).faults → (report new).bytes ≡ (report old).bytes ++ answer_line answer
+      ⊎ (IsOkAnd answer (λ found. is_some found ≡ true) × (status ≡ WriteFault out_port.Report)
+      × Rose (report old).faults (report new).faults)
+  pub whole : Tells old → (report new).faults ≡ (report old).faults
+      → (report new).bytes ≡ (report old).bytes ++ answer_line answer
   pub front : Tells old → HoldsFront (report old).bytes (answer_line answer) (report new).bytes
 
 -- a second image has been read where the words name one, and nothing is wrong with it
@@ -59,7 +62,8 @@ HasSecond image (Some name) second old = MatchOption second ⊥ (λ bytes. (seco
     × (Tells old → option_map (take IMAGE_LIMIT) (old.fixed.given name) ≡ Some bytes))
 
 -- all files have been read, the images have no fault, and so far nothing has been written
-pub record HasFiles (words : RunWords) (image : List ℕ) (other : Option (List ℕ)) (bytes : List ℕ) (old new : Outside) : Type 0 where
+pub record HasFiles (words : RunWords) (image : List ℕ) (other : Option (List ℕ)) (bytes : List ℕ)
+    (old new : Outside) : Type 0 where
   pub only : OnlyAt (is_named (Run words)) old new
   pub none : (p : OutPort) → new.port (Out p) ≡ old.port (Out p)
   pub calm : Calm old new

@@ -28,17 +28,22 @@ writes_from image second words c = run_writes words.outputs (disk_of image) (opt
 abbrev pub EndsOrStops : RunWords → KernelState → List asked.Event → Result Ends RunError → Outside → Outside → Type 0
 EndsOrStops words kernel events result old new =
     let c : Course = run_from kernel.system events in
-    let writes : OutPort → List ℕ → Type 0 = run_writes words.outputs (block_at kernel.blocks.root) (option_map block_at kernel.blocks.second) c in
-    MatchResult result (λ ends. EndsRun words.outputs writes c ends old new) (λ error. StopsBy words.outputs writes error old new)
+    let writes : OutPort → List ℕ → Type 0
+    = run_writes words.outputs (block_at kernel.blocks.root) (option_map block_at kernel.blocks.second) c in
+    MatchResult result (λ ends. EndsRun words.outputs writes c ends old new)
+    (λ error. StopsBy words.outputs writes error old new)
 
 -- The run of what the images begin with has been taken and ends so.
-pub record EndsFrom (image : List ℕ) (second : Option (List ℕ)) (words : RunWords) (events : List asked.Event) (ends : Ends) (old new : Outside) : Type 0 where
+pub record EndsFrom (image : List ℕ) (second : Option (List ℕ)) (words : RunWords) (events : List asked.Event) (ends : Ends)
+    (old new : Outside) : Type 0 where
   pub system : System
   pub boots_is : boots image second words.core (line_count words.outputs) ≡ Some system
-  pub run : EndsRun words.outputs (writes_from image second words (run_from system events)) (run_from system events) ends old new
+  pub run : EndsRun words.outputs (writes_from image second words (run_from system events)) (run_from system events) ends
+      old new
 
 -- One of its files has failed.
-pub record StopsFrom (image : List ℕ) (second : Option (List ℕ)) (words : RunWords) (events : List asked.Event) (port : OutPort) (old new : Outside) : Type 0 where
+pub record StopsFrom (image : List ℕ) (second : Option (List ℕ)) (words : RunWords) (events : List asked.Event) (port : OutPort)
+    (old new : Outside) : Type 0 where
   pub system : System
   pub boots_is : boots image second words.core (line_count words.outputs) ≡ Some system
   pub run : StopsRun words.outputs (writes_from image second words (run_from system events)) port old new

@@ -6,8 +6,8 @@ use Rattle.v6_run.specs.declared.status.Status.{Status}
 use Rattle.v6_run.specs.declared.status.Status.TheVariants.{Done}
 use Rattle.v6_run.specs.Status.{fault_port}
 
--- Why a status is answered: the faults of its port rose and no count of another has changed, or, with any other status, no count
--- has changed at all. Where the host tells, a name is missing only where it isn't known.
+-- Why a status is answered: the faults of its port rose and no count of another has changed, or, with any other status, no
+-- count has changed at all. Where the host tells, a name is missing only where it isn't known.
 abbrev pub IsCaused : (Port → Bool) → Status → Outside → Outside → Type 0
 IsCaused known status old new = MatchOption (fault_port status) (Calm old new) (λ p. FaultAt p (known p) old new)
 
@@ -20,7 +20,8 @@ pub record IsFaultOf (p : Port) (old new : Outside) : Type 0 where
 abbrev pub IsFaultless : Outside → Outside → Type 0
 IsFaultless old new = (q : Port) → is_report q ≡ false → (new.port q).faults ≡ (old.port q).faults
 
--- What the faults of all ports show of a command's status, when that has been reported: with Done those of Report didn't rise either.
+-- What the faults of all ports show of a command's status, when that has been reported: with Done those of Report didn't rise
+-- either.
 pub record HasCause (status : Status) (old new : Outside) : Type 0 where
   pub cause : MatchOption (fault_port status) (IsFaultless old new) (λ p. IsFaultOf p old new)
   pub done : status ≡ Done → (q : Port) → (new.port q).faults ≡ (old.port q).faults

@@ -42,7 +42,8 @@ happens c (ask.Pace count) = Pace count ∷ []
 happens c (ask.Line l) = []
 happens c (ask.Hangup l) = Hangup l ∷ []
 
--- A line `clock N` counts slots anew, and a line `run N` goes on with the count. A line `line L` turns to another terminal line.
+-- A line `clock N` counts slots anew, and a line `run N` goes on with the count. A line `line L` turns to another terminal
+-- line.
 abbrev pub clock_after : Clock → asked.Event → Clock
 clock_after c (ask.Clock every) = record c { every = every; slots = 0 }
 clock_after c (ask.Run n) = record c { slots = c.slots + n }

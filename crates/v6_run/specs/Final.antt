@@ -29,8 +29,8 @@ pub record IsFinal (first : Disk) (m : System) (text : List ℕ) : Type 0 where
 unfoldable pub disk_text : List (List ℕ) → List ℕ
 disk_text blocks = flat_map (block_at blocks) (range_with_len 0 SWAP_START)
 
--- The same of a second disk, which has no swap area: all of it but the boot block and what comes after the file system, which are
--- as on the disk that the run began with, stands for the system's second store.
+-- The same of a second disk, which has no swap area: all of it but the boot block and what comes after the file system, which
+-- are as on the disk that the run began with, stands for the system's second store.
 pub record IsFinalSecond (first : Disk) (store : Store) (text : List ℕ) : Type 0 where
   pub long : length text ≡ DISK_BYTES
   pub stands : StandsFor DISK_BLOCKS (disk_of text) store

@@ -1,6 +1,6 @@
 -- What a command answers and writes, from its words and the bytes of its files, in the order of docs/manual/commands.md: the
--- words, the size of core, the image's first fault, what is wrong with the second one, the script's first fault, and the run; or the
--- log's first line at fault.
+-- words, the size of core, the image's first fault, what is wrong with the second one, the script's first fault, and the run;
+-- or the log's first line at fault.
 use Rattle.std.specs.Prelude.{◌≡◌, ℕ, Bool, true, false, Option, Some, None, List, [], length, take, nat_le, not, ◌&&◌, ◌||◌, if◌then◌else◌, Result, Ok, Err}
 use Rattle.std.specs.Option.{option_map}
 use Rattle.v6_port.specs.declared.host.InPort.TheVariants as in_port
@@ -85,16 +85,19 @@ course_completion writes c = record { ends = λ t. t ≡ status_at c.ending; wri
 -- in so much core and with so many terminal lines, from images without a fault, and a script or its first fault
 abbrev pub lines_completion : ℕ → ℕ → Writing → List ℕ → Option (List ℕ) → Result (List Event) ScriptFault → Completion
 lines_completion core lines writes image second (Err fault) = ends_with (status.ScriptFault fault)
-lines_completion core lines writes image second (Ok events) = course_completion writes (run_of image second core lines (events_of events))
+lines_completion core lines writes image second (Ok events) =
+    course_completion writes (run_of image second core lines (events_of events))
 
 abbrev pub run_completion : ℕ → ℕ → Writing → List ℕ → Option (List ℕ) → List ℕ → Completion
 run_completion core lines writes image second bytes = lines_completion core lines writes image second (script_of bytes)
 
--- Of `run` and `run2`, which have one line, and of `run8`, which has eight, the file of each line and LOG get what the run shows, and
--- FINAL the disk that it leaves; of `run2` FINAL2 gets the second disk too. Of `memory` FINAL gets core and the swap area.
+-- Of `run` and `run2`, which have one line, and of `run8`, which has eight, the file of each line and LOG get what the run
+-- shows, and FINAL the disk that it leaves; of `run2` FINAL2 gets the second disk too. Of `memory` FINAL gets core and the swap
+-- area.
 abbrev pub bytes_completion : RunWords → List ℕ → Option (List ℕ) → List ℕ → Completion
 bytes_completion words image second bytes =
-    run_completion words.core (line_count words.outputs) (run_writes words.outputs (disk_of image) (option_map disk_of second)) image second bytes
+    run_completion words.core (line_count words.outputs) (run_writes words.outputs (disk_of image) (option_map disk_of second))
+    image second bytes
 
 -- from the bytes of SCRIPT, of which at most one more is read than a script may have
 abbrev pub script_completion : RunWords → Option (List ℕ) → List ℕ → Option (List ℕ) → MaybeCompletion
@@ -130,7 +133,8 @@ no_writing c port = exactly []
 
 abbrev pub demo_completion : ℕ → MaybeCompletion
 demo_completion number =
-    fault_completion (image_fault (build_of number)) (Known (run_completion DEMO_CORE 1 no_writing (build_of number) None demo_text))
+    fault_completion (image_fault (build_of number))
+    (Known (run_completion DEMO_CORE 1 no_writing (build_of number) None demo_text))
 
 -- `audit` ends as the lines of its file say, and writes no file
 abbrev pub log_completion : Option (List ℕ) → MaybeCompletion
@@ -142,7 +146,8 @@ abbrev pub command_completion : Command → Environment → MaybeCompletion
 command_completion (Run words) fixed = image_completion (fixed.given words.image) (λ image.
     second_completion (second_image words.outputs) fixed image (script_completion words (fixed.given words.script) image))
 command_completion (Check image) fixed = image_completion (fixed.given image) (λ bytes. Known (ends_with status.Done))
-command_completion (Make number final) fixed = Known (record { ends = λ t. t ≡ status.Done; writes = only_to out_port.Final (build_of number) })
+command_completion (Make number final) fixed =
+    Known (record { ends = λ t. t ≡ status.Done; writes = only_to out_port.Final (build_of number) })
 command_completion (Demo number) fixed = demo_completion number
 command_completion (Audit log) fixed = log_completion (fixed.given log)
 
@@ -175,14 +180,16 @@ done_line (Some (Audit log)) fixed = log_line (fixed.given log)
 -- The command is complete: the status is its, and each file has got all of a text that may be written to it.
 pub record IsComplete (s : Status) (old new : Outside) (completion : Completion) : Type 0 where
   pub answered : completion.ends s
-  pub written : Tells old → (p : OutPort) → is_report (Out p) ≡ false → HoldsSome (completion.writes p) (old.port (Out p)).bytes (new.port (Out p)).bytes
+  pub written : Tells old → (p : OutPort) → is_report (Out p) ≡ false
+      → HoldsSome (completion.writes p) (old.port (Out p)).bytes (new.port (Out p)).bytes
 
--- This port is at fault. The command has come to write, or, where that is Report, would be done; and each file has got a front of a
--- text that may be written to it.
+-- This port is at fault. The command has come to write, or, where that is Report, would be done; and each file has got a front
+-- of a text that may be written to it.
 pub record IsPartial (fault : OutPort) (old new : Outside) (completion : Completion) : Type 0 where
   pub begun : (s : Status) × completion.ends s × (has_written s ≡ true)
   pub told : is_report (Out fault) ≡ true → completion.ends status.Done
-  pub written : Tells old → (p : OutPort) → is_report (Out p) ≡ false → HoldsFrontOfSome (completion.writes p) (old.port (Out p)).bytes (new.port (Out p)).bytes
+  pub written : Tells old → (p : OutPort) → is_report (Out p) ≡ false
+      → HoldsFrontOfSome (completion.writes p) (old.port (Out p)).bytes (new.port (Out p)).bytes
 
 -- the ports for which a command's words have a name
 abbrev pub is_named : Command → Port → Bool

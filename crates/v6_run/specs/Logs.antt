@@ -1,5 +1,5 @@
--- What an audit of a file comes to, by docs/manual/audit.md: its lines are a lawful log, or one of them is the first at fault, or it is
--- too long.
+-- What an audit of a file comes to, by docs/manual/audit.md: its lines are a lawful log, or one of them is the first at fault,
+-- or it is too long.
 use Rattle.std.specs.Prelude.{◌≡◌, ◌≢◌, ◌⊎◌, ℕ, ◌+◌, ◌<◌, ◌≤◌, ◌^◌, ◌==◌, List, [], ◌∷◌, ◌++◌, map, length, take, if◌then◌else◌}
 use Rattle.std.specs.List.{slice_split}
 use Rattle.v6_base.specs.LogLine.{entry_line}
@@ -80,8 +80,8 @@ most_bytes = 2 ^ 40
 abbrev pub longest_line : ℕ
 longest_line = 80
 
--- The file is longer, no line that is ended within its first 2^40 + 1 bytes is at fault, and no line has more than 80 bytes within
--- them.
+-- The file is longer, no line that is ended within its first 2^40 + 1 bytes is at fault, and no line has more than 80 bytes
+-- within them.
 pub record IsTooLong (bytes : List ℕ) : Type 0 where
   pub long : most_bytes < length bytes
   pub log : List Entry

@@ -29,15 +29,18 @@ pub record Opens (ports : List NamedPort) (r : Result (Unit {0}) OutPort) (old n
   pub is_open : OnOk r ((p : OutPort) → has_port ports (Out p) ≡ true → (new.port (Out p)).is_open ≡ true)
   pub cause : MatchResult r (λ _. Calm old new) (λ port. FaultAt (Out port) (knows_port ports old.fixed (Out port)) old new)
   pub named : IfErr r (λ port. has_port ports (Out port) ≡ true)
-  pub order : Tells old → MatchResult r (λ _. AreGood old.fixed ports) (λ port. AreGood old.fixed (ports_before ports (Out port)))
+  pub order : Tells old
+      → MatchResult r (λ _. AreGood old.fixed ports) (λ port. AreGood old.fixed (ports_before ports (Out port)))
 
--- The run is over, and the bytes of the disk that it leaves go to Final, and then, where there are two, those of the second one to
--- Second: up to the first that can't be written.
+-- The run is over, and the bytes of the disk that it leaves go to Final, and then, where there are two, those of the second one
+-- to Second: up to the first that can't be written.
 pub record Leaves (two : Bool) (disk second : List ℕ) (r : Result (Unit {0}) OutPort) (old new : Outside) : Type 0 where
   pub only : OnlyAt (is_left two) old new
   pub is_open : (p : OutPort) → (new.port (Out p)).is_open ≡ (old.port (Out p)).is_open
-  pub whole : OnOk r (Tells old → ((final_of new).bytes ≡ (final_of old).bytes ++ disk) × ((second_of new).bytes ≡ (second_of old).bytes ++ second))
-  pub front : Tells old → HoldsFront (final_of old).bytes disk (final_of new).bytes × HoldsFront (second_of old).bytes second (second_of new).bytes
+  pub whole : OnOk r (Tells old → ((final_of new).bytes ≡ (final_of old).bytes ++ disk)
+      × ((second_of new).bytes ≡ (second_of old).bytes ++ second))
+  pub front : Tells old → HoldsFront (final_of old).bytes disk (final_of new).bytes
+      × HoldsFront (second_of old).bytes second (second_of new).bytes
   pub cause : MatchResult r (λ _. Calm old new) (λ port. FaultAt (Out port) true old new)
   pub named : IfErr r (λ port. is_left two (Out port) ≡ true)
 

@@ -1,5 +1,5 @@
--- The files that a run writes, by docs/manual/commands.md: of `run`, `run8` and `run2` what each terminal line shows, the log, and the
--- disk, or both disks, at the end; of `memory` core and the swap area at the end.
+-- The files that a run writes, by docs/manual/commands.md: of `run`, `run8` and `run2` what each terminal line shows, the log,
+-- and the disk, or both disks, at the end; of `memory` core and the swap area at the end.
 use Rattle.std.specs.Prelude.{◌≡◌, ◌≢◌, ℕ, nat_le, nat_lt, Bool, true, false, Option, Some, None, is_some, List, [], ◌||◌, ◌&&◌, if◌then◌else◌}
 use Rattle.v6_base.specs.Trace.{Item, line_bytes, text_of}
 use Rattle.v6_port.specs.declared.host.OutPort.{OutPort}
@@ -102,7 +102,8 @@ run_writes (ToDisk files) first second c p = disk_writes files.lines first secon
 run_writes (ToMemory final) first second c p = core_writes c p
 
 -- The run has been taken and ends so, and all of it is written.
-pub record EndsRun (outputs : Outputs) (writes : OutPort → List ℕ → Type 0) (c : Course) (ends : Ends) (old new : Outside) : Type 0 where
+pub record EndsRun (outputs : Outputs) (writes : OutPort → List ℕ → Type 0) (c : Course) (ends : Ends)
+    (old new : Outside) : Type 0 where
   pub ended : ends ≡ c.ending
   pub written : Tells old → (p : OutPort) → HoldsSome (writes p) (old.port (Out p)).bytes (new.port (Out p)).bytes
   pub order : Tells old → AreGood old.fixed (output_ports outputs)
@@ -114,7 +115,8 @@ pub record StopsRun (outputs : Outputs) (writes : OutPort → List ℕ → Type 
   pub named : is_output outputs (Out port) ≡ true
   pub written : Tells old → (p : OutPort) → HoldsFrontOfSome (writes p) (old.port (Out p)).bytes (new.port (Out p)).bytes
   pub order : Tells old → AreGood old.fixed (ports_before (output_ports outputs) (Out port))
-  pub opened : Tells old → (p : OutPort) → (new.port (Out p)).bytes ≢ (old.port (Out p)).bytes → AreGood old.fixed (output_ports outputs)
+  pub opened : Tells old → (p : OutPort) → (new.port (Out p)).bytes ≢ (old.port (Out p)).bytes
+      → AreGood old.fixed (output_ports outputs)
   pub fault : FaultAt (Out port) (knows_port (output_ports outputs) old.fixed (Out port)) old new
 
 -- Or there was no memory for the names of its files, and nothing has happened yet.

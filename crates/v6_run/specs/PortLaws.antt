@@ -19,11 +19,15 @@ grows_on told then a b c still first second = record {
   bytes = λ is.
       let one = first.bytes is in
       let two = second.bytes (still is) in
-      record { more = one.more ++ two.more; is = two.is ∙ ap (λ l. l ++ two.more) one.is ∙ append_assoc a.bytes one.more two.more };
+      record {
+        more = one.more ++ two.more;
+        is = two.is ∙ ap (λ l. l ++ two.more) one.is ∙ append_assoc a.bytes one.more two.more;
+      };
 }
 
 -- nothing has failed
-calm_at : (o : Outside) (failed : Option OutPort) → failed ≡ None → MatchOption failed (Calm o o) (λ p. FaultAt (Out p) true o o)
+calm_at : (o : Outside) (failed : Option OutPort) → failed ≡ None
+    → MatchOption failed (Calm o o) (λ p. FaultAt (Out p) true o o)
 calm_at o None is = calm_still o
 calm_at o (Some port) is = absurd (cc)
 
@@ -50,13 +54,15 @@ silent_failed kept.Unwanted port is = refl
 silent_failed (kept.Screen bytes) port is = refl
 
 -- a fault comes after calm, or else nothing changes after it
-module _ (lines : ℕ) (a b c : Outside) (b_kept c_kept : Kept) (second : Goes lines b b_kept c c_kept) (fixed : b.fixed ≡ a.fixed) where
+module _ (lines : ℕ) (a b c : Outside) (b_kept c_kept : Kept) (second : Goes lines b b_kept c c_kept)
+    (fixed : b.fixed ≡ a.fixed) where
   after_calm : (failed : Option OutPort) → Calm a b → MatchOption failed (Calm b c) (λ p. FaultAt (Out p) true b c)
       → MatchOption failed (Calm a c) (λ p. FaultAt (Out p) true a c)
   after_calm None calm calm_too = calm_then a b c calm calm_too
   after_calm (Some port) calm fault = fault_then (Out port) true a b c fixed calm fault
 
-  cause_on : (failed : Option OutPort) → failed_port b_kept ≡ failed → MatchOption failed (Calm a b) (λ p. FaultAt (Out p) true a b)
+  cause_on : (failed : Option OutPort) → failed_port b_kept ≡ failed
+      → MatchOption failed (Calm a b) (λ p. FaultAt (Out p) true a b)
       → MatchOption (failed_port c_kept) (Calm a c) (λ p. FaultAt (Out p) true a c)
   cause_on None is calm = after_calm (failed_port c_kept) calm (second.cause is)
   cause_on (Some port) is fault =
@@ -75,7 +81,8 @@ pub Goes-on : (lines : ℕ) (a : Outside) (a_kept : Kept) (b : Outside) (b_kept 
     → Goes lines a a_kept b b_kept → Goes lines b b_kept c c_kept → Goes lines a a_kept c c_kept
 Goes-on lines a a_kept b b_kept c c_kept first second = record {
   only = only_then (is_shown lines) a b c first.only second.only;
-  grows = λ p. grows_on (Tells a) (Tells b) (a.port (Out p)) (b.port (Out p)) (c.port (Out p)) (still_tells (is_shown lines) a b first.only)
+  grows = λ p. grows_on (Tells a) (Tells b) (a.port (Out p)) (b.port (Out p)) (c.port (Out p))
+      (still_tells (is_shown lines) a b first.only)
       (first.grows p) (second.grows p);
   cause = λ goes. cause_on lines a b c b_kept c_kept second first.only.fixed (failed_port b_kept) refl (first.cause goes);
   named = λ goes. named_on lines a b c b_kept c_kept second first.only.fixed (failed_port b_kept) refl (first.named goes);

@@ -1,4 +1,5 @@
--- The ports of a host as a trace of what a run shows: the bytes of each terminal line go to its port, and the lines of the log to Log.
+-- The ports of a host as a trace of what a run shows: the bytes of each terminal line go to its port, and the lines of the log
+-- to Log.
 use Rattle.std.specs.Prelude.{◌≡◌, ℕ, Bool, true, false, ◌&&◌, Option, Some, None, is_some, IfSome, MatchOption, List, [], ◌∷◌, ◌++◌, length, ◌==◌, nat_le, nat_lt, if◌then◌else◌}
 use Rattle.v6_base.specs.Trace.{Taken, Item}
 use Rattle.v6_port.specs.declared.host.OutPort.{OutPort}
@@ -71,9 +72,9 @@ abbrev pub is_counted : Kept → Bool
 is_counted (kept.Screen bytes) = true
 is_counted _ = false
 
--- What has been taken are the bytes of each of so many lines, those written to its port, and the text of the log, what was written to
--- Log: each with the byte, or the rest of the line, that is kept because its writing failed. With that the trace is cut. A trace of
--- which nothing is wanted is never cut, and tells nothing.
+-- What has been taken are the bytes of each of so many lines, those written to its port, and the text of the log, what was
+-- written to Log: each with the byte, or the rest of the line, that is kept because its writing failed. With that the trace is
+-- cut. A trace of which nothing is wanted is never cut, and tells nothing.
 abbrev pub taken_of : ℕ → Outside → Kept → Taken
 taken_of lines o k = record {
   cut = is_some (failed_port k);
@@ -129,9 +130,9 @@ pub record Grows (told : Type 0) (old new : PortState) : Type 0 where
   pub is_open : new.is_open ≡ old.is_open
   pub bytes : told → Extends old.bytes new.bytes
 
--- What stays while bytes and lines go out: only the ports of the lines and Log change, and more is written to them. No count changes
--- until a write to one of them has failed: then the faults of its port have risen, and from then on nothing changes; nor does it where
--- nothing is to be written.
+-- What stays while bytes and lines go out: only the ports of the lines and Log change, and more is written to them. No count
+-- changes until a write to one of them has failed: then the faults of its port have risen, and from then on nothing changes;
+-- nor does it where nothing is to be written.
 pub record Goes (lines : ℕ) (a : Outside) (a_kept : Kept) (b : Outside) (b_kept : Kept) : Type 0 where
   pub only : OnlyAt (is_shown lines) a b
   pub grows : (p : OutPort) → Grows (Tells a) (a.port (Out p)) (b.port (Out p))
@@ -147,4 +148,5 @@ HasShown lines items old new = (p : OutPort) → (new.port (Out p)).bytes ≡ (o
 
 -- or a front of it
 abbrev pub HasShownFronts : ℕ → List Item → Outside → Outside → Type 0
-HasShownFronts lines items old new = (p : OutPort) → HoldsFront (old.port (Out p)).bytes (shown_text lines items p) (new.port (Out p)).bytes
+HasShownFronts lines items old new = (p : OutPort)
+    → HoldsFront (old.port (Out p)).bytes (shown_text lines items p) (new.port (Out p)).bytes

@@ -1,5 +1,5 @@
--- The lines that commands write to Report, by docs/manual/commands.md: how a command ended, and what `check`, `demo` or `audit` has
--- found.
+-- The lines that commands write to Report, by docs/manual/commands.md: how a command ended, and what `check`, `demo` or `audit`
+-- has found.
 use Rattle.std.specs.Prelude.{ℕ, is_some, count_by, Option, Some, None, List, [], ◌∷◌, ◌++◌, length, codes, decimal, Result, Ok, Err}
 use Rattle.v6_port.specs.declared.host.InPort.{InPort}
 use Rattle.v6_port.specs.declared.host.InPort.TheVariants as in_port
@@ -61,7 +61,8 @@ fault_line NoRoot = line_of (codes "image: no root")
 
 -- of a second image the same, but for the fault of a file system that needs no swap area
 abbrev pub second_fault_line : ImageFault → List ℕ
-second_fault_line (NoSwap blocks) = line_of (codes "second image: file system of " ++ decimal blocks ++ codes " blocks is too long")
+second_fault_line (NoSwap blocks) =
+    line_of (codes "second image: file system of " ++ decimal blocks ++ codes " blocks is too long")
 second_fault_line fault = codes "second " ++ fault_line fault
 
 abbrev pub second_line : SecondFault → List ℕ

@@ -27,6 +27,8 @@ StopsImage name (image.Faulty fault) old new =
 
 -- the reading of a second image of this name, beside an image: also at what is wrong with it
 abbrev pub StopsSecond : List ℕ → List ℕ → SecondError → Outside → Outside → Type 0
-StopsSecond image name (second.Unread error) old new = StopsReading (In in_port.Second) (is_given (old.fixed.given name)) error old new
+StopsSecond image name (second.Unread error) old new =
+    StopsReading (In in_port.Second) (is_given (old.fixed.given name)) error old new
 StopsSecond image name (second.Faulty fault) old new =
-    Calm old new × (Tells old → IsSomeAnd (old.fixed.given name) (λ bytes. second_fault_of image (take IMAGE_LIMIT bytes) ≡ Some fault))
+    Calm old new
+    × (Tells old → IsSomeAnd (old.fixed.given name) (λ bytes. second_fault_of image (take IMAGE_LIMIT bytes) ≡ Some fault))

@@ -21,8 +21,8 @@ pub record SecondFiles : Type 0 where
   pub image : List ℕ
   pub final_disk : List ℕ
 
--- the files that `run`, `run8` or `run2` writes, with how many terminal lines there are: the bytes of line 1 go to TERM.1, and so on.
--- `run2` has a second disk
+-- the files that `run`, `run8` or `run2` writes, with how many terminal lines there are: the bytes of line 1 go to TERM.1, and
+-- so on. `run2` has a second disk
 pub record DiskFiles : Type 0 where
   pub lines : ℕ
   pub term : List ℕ
@@ -55,8 +55,8 @@ second_files (ToMemory final) = None
 abbrev pub second_image : Outputs → Option (List ℕ)
 second_image outputs = option_map (λ (second : SecondFiles). second.image) (second_files outputs)
 
--- a command: what `run`, `run8`, `run2` or `memory` is told, the image that `check` reads, the number and the file of `make`, the
--- number of `demo`, or the log that `audit` reads
+-- a command: what `run`, `run8`, `run2` or `memory` is told, the image that `check` reads, the number and the file of `make`,
+-- the number of `demo`, or the log that `audit` reads
 pub data Command : Type 0 where
   Run : RunWords → Command
   Check : List ℕ → Command
@@ -66,7 +66,8 @@ pub data Command : Type 0 where
 
 -- the words of `run`, of `run8`, of `run2` and of `memory` are good where CORE is a number
 abbrev pub run_words : Bool → Option ℕ → List ℕ → List ℕ → Outputs → Option Command
-run_words true (Some core) image script outputs = Some (Run (record { image = image; core = core; script = script; outputs = outputs }))
+run_words true (Some core) image script outputs =
+    Some (Run (record { image = image; core = core; script = script; outputs = outputs }))
 run_words true None image script outputs = None
 run_words false core image script outputs = None
 
@@ -80,7 +81,8 @@ line_words verb = if is_word verb (codes "run") then Some 1 else (if is_word ver
 abbrev pub disk_words : Option ℕ → Option ℕ → List ℕ → List ℕ → List ℕ → List ℕ → List ℕ → Option Command
 disk_words None core image script term log final = None
 disk_words (Some lines) core image script term log final =
-    run_words true core image script (ToDisk (record { lines = lines; term = term; log = log; final_disk = final; second = None }))
+    run_words true core image script
+    (ToDisk (record { lines = lines; term = term; log = log; final_disk = final; second = None }))
 
 abbrev pub check_words : Bool → List ℕ → Option Command
 check_words true image = Some (Check image)
@@ -104,15 +106,23 @@ short_words verb word =
     if is_word verb (codes "audit") then Some (Audit word)
     else check_words (is_word verb (codes "check")) word)
 
--- run IMAGE CORE SCRIPT TERM LOG FINAL, run8 IMAGE CORE SCRIPT TERM LOG FINAL, run2 IMAGE CORE SCRIPT TERM LOG FINAL IMAGE2 FINAL2,
--- memory IMAGE CORE SCRIPT FINAL, check IMAGE, make N FINAL, demo N, audit LOG
+-- run IMAGE CORE SCRIPT TERM LOG FINAL, run8 IMAGE CORE SCRIPT TERM LOG FINAL,
+-- run2 IMAGE CORE SCRIPT TERM LOG FINAL IMAGE2 FINAL2, memory IMAGE CORE SCRIPT FINAL, check IMAGE, make N FINAL, demo N,
+-- audit LOG
 abbrev pub command_of : List (List ℕ) → Option Command
 command_of (verb ∷ image ∷ core ∷ script ∷ term ∷ log ∷ final ∷ []) =
     disk_words (line_words verb) (number_of core) image script term log final
 command_of (verb ∷ image ∷ core ∷ script ∷ term ∷ log ∷ final ∷ second ∷ final_second ∷ []) =
     run_words (is_word verb (codes "run2")) (number_of core) image script
-    (ToDisk (record { lines = 1; term = term; log = log; final_disk = final; second = Some (record { image = second; final_disk = final_second }) }))
-command_of (verb ∷ image ∷ core ∷ script ∷ final ∷ []) = run_words (is_word verb (codes "memory")) (number_of core) image script (ToMemory final)
+    (ToDisk (record {
+      lines = 1;
+      term = term;
+      log = log;
+      final_disk = final;
+      second = Some (record { image = second; final_disk = final_second });
+    }))
+command_of (verb ∷ image ∷ core ∷ script ∷ final ∷ []) =
+    run_words (is_word verb (codes "memory")) (number_of core) image script (ToMemory final)
 command_of (verb ∷ word ∷ []) = short_words verb word
 command_of (verb ∷ number ∷ final ∷ []) = make_words (is_word verb (codes "make")) (number_of number) final
 command_of _ = None

@@ -1,5 +1,5 @@
 //! The command of a program's words, and its report.
-ghost use Rattle.std.specs.Prelude.{◌≡◌, ◌≢◌, ℕ, ◌++◌, true, false, Some, is_some, IsSome, MatchOption, IfOk};
+ghost use Rattle.std.specs.Prelude.{◌≡◌, ◌≢◌, ◌++◌, true, false, Some, is_some, IsSome, MatchOption, IfOk};
 ghost use Rattle.std.specs.Option.{option_map};
 ghost use Rattle.v6_port.specs.Outside.{Out, IsIdle, OnlyAt, Tells, is_report};
 ghost use Rattle.v6_port.specs.declared.host.OutPort.{OutPort};
@@ -55,7 +55,8 @@ fn done<H: Host>(
 ) -> Result<Option<Found>, CommandError>
     requires idle { IsIdle (H.outside host.old) }
     requires good { has_core_size (command_value command.now) ≡ true }
-    ensures answers { Answers (command_value command.now) (end_of command_status result) (H.outside host.old) (H.outside host.new) }
+    ensures answers { Answers (command_value command.now) (end_of command_status result)
+        (H.outside host.old) (H.outside host.new) }
     ensures line { IfOk result (λ found. Tells (H.outside host.old)
         → done_line (Some (command_value command.now)) (H.outside host.old).fixed ≡ told_line found) }
     ensures found { IfOk result (λ found. is_some found ≡ reports_done (command_value command.now)) }
@@ -91,7 +92,8 @@ fn answer<H: Host>(
     host: &mut H,
 ) -> Result<Option<Found>, CommandError>
     requires { IsIdle (H.outside host.old) }
-    ensures answers { AnswersWords (command_in words.now) (end_of command_status result) (H.outside host.old) (H.outside host.new) }
+    ensures answers { AnswersWords (command_in words.now) (end_of command_status result)
+        (H.outside host.old) (H.outside host.new) }
     ensures line { IfOk result (λ found. Tells (H.outside host.old)
         → done_line (command_in words.now) (H.outside host.old).fixed ≡ told_line found) }
     ensures found { IfOk result (λ found. option_map reports_done (command_in words.now) ≡ Some (is_some found)) }
@@ -116,13 +118,14 @@ fn answer<H: Host>(
 ///   TERM; those of line 1 go to TERM.1, and so on to TERM.7.
 /// - `run2 IMAGE CORE SCRIPT TERM LOG FINAL IMAGE2 FINAL2` does the same as `run` with a second disk, IMAGE2, which may be
 ///   mounted, and writes to FINAL2 what is left of it.
-/// - `memory IMAGE CORE SCRIPT FINAL` does the same as `run`, and writes to FINAL alone: the bytes of core and then those of the
-///   swap area.
+/// - `memory IMAGE CORE SCRIPT FINAL` does the same as `run`, and writes to FINAL alone: the bytes of core and then those of
+///   the swap area.
 /// - `check IMAGE` tells how many nodes and free blocks the disk IMAGE has, or the first of its faults.
 /// - `make N FINAL` writes the disk image of the number N to FINAL.
 /// - `demo N` takes this disk, with 100 clicks of core, through a script that shows the most of the kernel, and tells what that
 ///   came to. It reads and writes no file.
-/// - `audit LOG` tells whether the lines of LOG are a lawful log, or the first line that is at fault. It goes by the lines alone.
+/// - `audit LOG` tells whether the lines of LOG are a lawful log, or the first line that is at fault. It goes by the lines
+///   alone.
 ///
 /// Any other words are [`Status::Usage`]. `run`, `run8`, `run2`, `memory` and `make` report nothing where they were done; any
 /// other status is reported in one line.
@@ -134,14 +137,14 @@ pub fn v6<H: Host>(alloc: Global, words: &Vec<String>, host: &mut H) -> Status
 
     // The words alone give Usage and CoreSize, exactly, and no file is opened then. Else the status is one that the command may
     // end with: want of memory is NoMemory, and never stands in a ScriptFault.
-    ensures words { MatchOption (refused_by (command_in words.now.items)) (words_may_end (command_in words.now.items) result ≡ true)
-        (λ refusal. result ≡ refusal) }
+    ensures words { MatchOption (refused_by (command_in words.now.items))
+        (words_may_end (command_in words.now.items) result ≡ true) (λ refusal. result ≡ refusal) }
     ensures unopened { IsSome (refused_by (command_in words.now.items))
         → OnlyAt is_report (H.outside host.old) (H.outside host.new) }
 
-    // Done, ScriptFault, ImageFault, SecondFault, Panic, Unlawful, BadLog and LogTooLong are exactly what the command's files come
-    // to, and each file has got all of a text that may be written to it. At a write fault each has got a front of one, or nothing;
-    // and one of Report is answered only where the command would else be done.
+    // Done, ScriptFault, ImageFault, SecondFault, Panic, Unlawful, BadLog and LogTooLong are exactly what the command's files
+    // come to, and each file has got all of a text that may be written to it. At a write fault each has got a front of one, or
+    // nothing; and one of Report is answered only where the command would else be done.
     ensures complete { is_decided result ≡ true → TellsInputs (words_ports (command_in words.now.items)) (H.outside host.old)
         → IsKnownAnd (words_completion (command_in words.now.items) (H.outside host.old).fixed)
         (IsComplete result (H.outside host.old) (H.outside host.new)) }
@@ -158,7 +161,8 @@ pub fn v6<H: Host>(alloc: Global, words: &Vec<String>, host: &mut H) -> Status
         → ((H.outside host.new).port (Out p)).bytes ≢ ((H.outside host.old).port (Out p)).bytes
         → AreGood (H.outside host.old).fixed (words_ports (command_in words.now.items)) }
 
-    // With a status that is fixed before the first byte goes out the ports are as they were. After done and a panic they are closed.
+    // With a status that is fixed before the first byte goes out the ports are as they were. After done and a panic they are
+    // closed.
     ensures none { has_written result ≡ false
         → (p : OutPort) → is_report (Out p) ≡ false → (H.outside host.new).port (Out p) ≡ (H.outside host.old).port (Out p) }
     ensures closed { is_closed result ≡ true

@@ -131,7 +131,8 @@ fn write_blocks<H: Host>(kernel: &Kernel, host: &mut H) -> Result<(), Failed>
     ensures whole { OnOk result (Tells (H.outside host.old)
         → (final_of (H.outside host.new)).bytes ≡ (final_of (H.outside host.old)).bytes ++ disk_text kernel.now.stored.root) }
     ensures front { Tells (H.outside host.old)
-        → HoldsFront (final_of (H.outside host.old)).bytes (disk_text kernel.now.stored.root) (final_of (H.outside host.new)).bytes }
+        → HoldsFront (final_of (H.outside host.old)).bytes (disk_text kernel.now.stored.root)
+        (final_of (H.outside host.new)).bytes }
     ensures cause { MatchResult result (λ _. Calm (H.outside host.old) (H.outside host.new))
         (λ _. FaultAt (Out out_port.Final) true (H.outside host.old) (H.outside host.new)) }
 {

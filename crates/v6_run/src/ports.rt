@@ -181,8 +181,8 @@ fn keep_line(kept: &mut Kept, line: &Line, count: usize)
     *kept = Kept::Line(rest_of(line, count));
 }
 
-/// Writes a byte of a terminal line. The console is told apart from the other lines, so that a write to its port is put together
-/// for that port alone.
+/// Writes a byte of a terminal line. The console is told apart from the other lines, so that a write to its port is put
+/// together for that port alone.
 #[inline(always)]
 fn write_on<H: Host>(host: &mut H, line: u8, byte: u8) -> Result<(), Failed>
     requires is_open { IsOpen (H.outside host.old) (Out (line_port line)) }

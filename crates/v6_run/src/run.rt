@@ -1,7 +1,7 @@
 //! The commands `run`, `run8`, `run2` and `memory`: a run, and what it leaves.
-ghost use Rattle.std.specs.Prelude.{◌≡◌, ℕ, ◌<◌, ◌≤◌, ◌^◌, length, map, sum_by, true, false, is_some, None, Some, IsSomeAnd, IfSome, IfOk, OnOk, IfErr, MatchResult, ◌++◌};
+ghost use Rattle.std.specs.Prelude.{◌≡◌, ℕ, ◌<◌, ◌≤◌, ◌^◌, length, map, sum_by, true, false, is_some, None, Some, IsSomeAnd, IfSome, IfOk, OnOk, IfErr, MatchResult};
 ghost use Rattle.std.specs.Option.{option_map};
-ghost use Rattle.v6_port.specs.Outside.{Out, IsOpen, OnlyAt, Tells, same};
+ghost use Rattle.v6_port.specs.Outside.{Out, IsOpen, OnlyAt, Tells};
 ghost use Rattle.v6_port.specs.declared.host.OutPort.{OutPort};
 ghost use Rattle.v6_port.specs.declared.host.OutPort.TheVariants.{Log};
 ghost use Rattle.v6_port.specs.Causes.{Calm, FaultAt};

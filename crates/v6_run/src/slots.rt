@@ -55,7 +55,8 @@ fn run_stretch<T: Trace>(kernel: &mut Kernel, count: u32, ticks: bool, trace: &m
     requires started { kernel.old.phase ≡ Started }
     requires fresh { kernel.old.system.unix.timing.passed + count ≤ 3000000001 }
     ensures phase { kernel.new.phase ≡ phase_after result }
-    ensures run { HasRun (begun kernel.old.system) (stretch count ticks) result kernel.new.system (T.taken trace.old) (T.taken trace.new) }
+    ensures run { HasRun (begun kernel.old.system) (stretch count ticks) result kernel.new.system
+        (T.taken trace.old) (T.taken trace.new) }
     ensures passed { result ≡ AtEnd → kernel.new.system.unix.timing.passed ≡ kernel.old.system.unix.timing.passed + count }
     ensures rest { KeepsRest kernel.old kernel.new }
     ensures frame { T.leads_to trace.old trace.new }
@@ -88,8 +89,8 @@ fn upto_next(every: u32, upto: u32, taken: u32) -> u32
 }
 
 /// Takes so many slots, with a tick after every so manyth, where some have been taken since the last: the slots up to the next
-/// tick by the one loop over turns, then that tick. A loop of its own would be a second place where a turn is taken, and then it
-/// would stand out of line in both.
+/// tick by the one loop over turns, then that tick. A loop of its own would be a second place where a turn is taken, and then
+/// it would stand out of line in both.
 #[inline(never)]
 fn run_clocked<T: Trace>(
     kernel: &mut Kernel,
@@ -153,7 +154,8 @@ fn take_event<T: Trace>(kernel: &mut Kernel, clock: &mut Clock, event: Event, tr
     ensures phase { kernel.new.phase ≡ phase_after result }
     ensures run { HasRun (begun kernel.old.system) (happens (clock_value clock.old) event) result kernel.new.system
         (T.taken trace.old) (T.taken trace.new) }
-    ensures passed { result ≡ AtEnd → kernel.new.system.unix.timing.passed ≡ kernel.old.system.unix.timing.passed + slots_of event }
+    ensures passed { result ≡ AtEnd
+        → kernel.new.system.unix.timing.passed ≡ kernel.old.system.unix.timing.passed + slots_of event }
     ensures rest { KeepsRest kernel.old kernel.new }
     ensures frame { T.leads_to trace.old trace.new }
     ensures clock { TicksAlike (clock_after (clock_value clock.old) event) (clock_value clock.new) }
