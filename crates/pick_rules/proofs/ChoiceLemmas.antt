@@ -102,17 +102,28 @@ is_passed t k best e r = e ∙ sym (one_further t k ∙ passed_over)
     passed_over : (if can_run t (slot_after t.last k) then and_one (pri_at t) (so_far t k) (slot_after t.last k) else so_far t k) ≡ so_far t k
     passed_over = rw r refl
 
-pub further : (t : Table) (rows : List TableRow) (last k : ℕ) (best o : Option ℕ) → t.rows ≡ rows → t.last ≡ last → best ≡ so_far t k
-    → can_in rows (slot_after last k) ≡ true → Better rows best (slot_after last k) o → o ≡ so_far t (k + 1)
-further t rows last k best o e f h r b =
-    is_further t k best o h
-    (subst (λ l. can_in t.rows (slot_after l k) ≡ true) (sym f) (subst (λ rs. can_in rs (slot_after last k) ≡ true) (sym e) r))
-    (subst (λ l. Better t.rows best (slot_after l k) o) (sym f) (subst (λ rs. Better rs best (slot_after last k) o) (sym e) b))
+-- the choice among the slots below a distance, for whoever has the rows and the last slot
+abbrev pub IsSoFar : List TableRow → ℕ → ℕ → Option ℕ → Type 0
+IsSoFar rows last k best = (t : Table) → t.rows ≡ rows → t.last ≡ last → best ≡ so_far t k
 
-pub passed : (t : Table) (rows : List TableRow) (last k : ℕ) (best : Option ℕ) → t.rows ≡ rows → t.last ≡ last → best ≡ so_far t k
-    → can_in rows (slot_after last k) ≡ false → best ≡ so_far t (k + 1)
-passed t rows last k best e f h r =
-    is_passed t k best h (subst (λ l. can_in t.rows (slot_after l k) ≡ false) (sym f) (subst (λ rs. can_in rs (slot_after last k) ≡ false) (sym e) r))
+pub further : (rows : List TableRow) (last s k m : ℕ) (best o : Option ℕ)
+    → slot_after last k ≡ s → m ≡ k + 1 → IsSoFar rows last k best
+    → can_in rows s ≡ true → Better rows best s o → IsSoFar rows last m o
+further rows last s k m best o g n h r b = λ t e f.
+    let w : slot_after t.last k ≡ s = ap (λ l. slot_after l k) f ∙ g in
+    is_further t k best o (h t e f)
+    (subst (λ z. can_in t.rows z ≡ true) (sym w) (subst (λ rs. can_in rs s ≡ true) (sym e) r))
+    (subst (λ z. Better t.rows best z o) (sym w) (subst (λ rs. Better rs best s o) (sym e) b))
+    ∙ ap (so_far t) (sym n)
+
+pub passed : (rows : List TableRow) (last s k m : ℕ) (best : Option ℕ)
+    → slot_after last k ≡ s → m ≡ k + 1 → IsSoFar rows last k best
+    → can_in rows s ≡ false → IsSoFar rows last m best
+passed rows last s k m best g n h r = λ t e f.
+    let w : slot_after t.last k ≡ s = ap (λ l. slot_after l k) f ∙ g in
+    is_passed t k best (h t e f)
+    (subst (λ z. can_in t.rows z ≡ false) (sym w) (subst (λ rs. can_in rs s ≡ false) (sym e) r))
+    ∙ ap (so_far t) (sym n)
 
 -- between slot and distance
 there : (last k : ℕ) → last < 50 → k < 50 → distance last (slot_after last k) ≡ k

@@ -38,8 +38,12 @@ pub(crate) fn choose(rows: &[TableRow; 50], last: Slot) -> Option<Slot>
     ensures slot { MatchOption result ⊤ (λ s. s < 50) }
 {
     let mut best: Option<Slot> = None;
-    for k in 0..50 {
-        let s = (last + 1 + k) % 50;
+    for s in last + 1..50 {
+        if can_run(rows[s as usize], s) {
+            best = better(rows, best, s);
+        }
+    }
+    for s in 0..last + 1 {
         if can_run(rows[s as usize], s) {
             best = better(rows, best, s);
         }
