@@ -106,8 +106,13 @@ class Ruled(Table):
     def wanting(self):
         return [slot for slot, row in self.rows.items() if slot and row.state == "ready" and not row.is_loaded()]
 
-    def goes_out(self, slot):
-        return f"out {slot} {first_fit(self.taken('swap'), SWAP_FIRST, SWAP_LAST, blocks(self.rows[slot].size))}"
+    def goes_out(self, slot, why):
+        """The line with which a slot goes out, and why; where no block is left for its image, that of the panic."""
+        count = blocks(self.rows[slot].size)
+        block = first_fit(self.taken("swap"), SWAP_FIRST, SWAP_LAST, count)
+        if block is None:
+            return "panic swap", f"{why}; but there are nowhere {count} blocks free for it"
+        return f"out {slot} {block}", why
 
     def next_move(self):
         """The swapper's next line, and why, with the numbers of the rules in docs/manual/swapper.md."""
@@ -129,7 +134,7 @@ class Ruled(Table):
         inside = {slot: row for slot, row in self.rows.items() if slot and row.place and row.place.where == "at"}
         easy = [slot for slot, row in inside.items() if row.state == "asleep" and row.priority >= 0]
         if easy:
-            return self.goes_out(min(easy)), f"slot {min(easy)} is the lowest in core that waits so that a signal wakes it (3)"
+            return self.goes_out(min(easy), f"slot {min(easy)} is the lowest in core that waits so that a signal wakes it (3)")
         sleeps, nobody = "sleep 0 -100 runin", "nobody in core waits so that a signal wakes it (3)"
         if time < OUT_LONG_ENOUGH:
             return sleeps, f"{nobody}, and less than three seconds are too few: it sleeps (4)"
@@ -137,8 +142,8 @@ class Ruled(Table):
         if oldest is None or self.rows[oldest].time < IN_LONG_ENOUGH:
             return sleeps, f"{nobody}, three seconds are enough (4), and nobody has been there for two: it sleeps (5)"
         stayed = seconds(self.rows[oldest].time)
-        return self.goes_out(oldest), (f"{nobody}, three seconds are enough (4), and slot {oldest} has been there for longest, "
-                                       f"{stayed} (5)")
+        why = f"{nobody}, three seconds are enough (4), and slot {oldest} has been there for longest, {stayed} (5)"
+        return self.goes_out(oldest, why)
 
     def foretold(self, entry):
         """What the line has to be where it is a choice, and why; None where it is none."""

@@ -7,6 +7,7 @@ if __name__ == "__main__":
 
 import argparse
 import collections
+import functools
 import os
 import re
 import sys
@@ -208,8 +209,15 @@ def audit(options):
     return int(status != 0)
 
 
+def is_lawful_behind(options, lines, line):
+    """Whether the program finds a line lawful behind others that are."""
+    _, said = call(options.v6, "audit", "/dev/stdin", data="".join(one + "\n" for one in (*lines, line)).encode())
+    found = FAULT.fullmatch(said)
+    return said.startswith("lawful: ") or bool(found) and int(found[1]) > len(lines) + 1
+
+
 def fault_told(options, data, number, is_bad):
-    """The lines before the one at fault, that line, and the rule."""
+    """The lines before the one at fault, that line, the rule, and the line that would be lawful, where the rules give one."""
     from choices import Ruled
     from logrules import bad, unlawful
 
@@ -222,7 +230,8 @@ def fault_told(options, data, number, is_bad):
     line = story.lines[number - 1] if number <= len(story.lines) else None
     shown = "the log ends here" if line is None else repr(line[:60]) if is_bad else line
     print(f"> {number:>8}  {shown}")
-    for rule in bad(line, number) if is_bad else unlawful(story.table, line):
+    is_lawful = functools.partial(is_lawful_behind, options, story.lines[: number - 1])
+    for rule in bad(line, number) if is_bad else unlawful(story.table, line, is_lawful):
         print(textwrap.fill(rule + ".", WIDTH))
 
 

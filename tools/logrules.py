@@ -1,67 +1,140 @@
-"""By which rule a line of a log isn't lawful: docs/manual/log.md, whose words these are."""
-from choices import first_fit
-from proctable import CORE_FIRST, SWAP_FIRST, SWAP_LAST, LogFault, blocks, entry_of
+"""By which rule a line of a log isn't lawful: docs/manual/log.md, whose words these are; and which line is."""
+from choices import CHOICES, first_fit
+from proctable import CORE_FIRST, SLOTS, SWAP_FIRST, SWAP_LAST, TEXTS, LogFault, blocks, entry_of
 
 BEGINS = ("the first line is `boot`, with 64 to 3968 clicks", "the second is `sleep 0 -100 runout`")
 ENDS = "the last is `end` or a `panic`, and none before it is"
 BARED = "Nothing fits then but `text`, `share`, `image` of S and `panic`, until its `image`"
 OF_BARE = "text", "share", "image", "panic"
-CHOICE = ("there is a choice: nobody runs, or the one that runs has to give up, since its image isn't in core, or since it is in no "
-          "call and a new choice is asked for. S is then the first of the least priority among those that can run, from the slot "
-          "after the one chosen last on; `idle` stands where there is none")
-SWAPPER = "slot 0 runs, and this is the move that the rules of the swapper make"
-TICKS = "a process runs and is in no call; one runs and is in a call, or slot 0 runs; nobody runs"
+LEAST_CLICKS, MOST_CLICKS = 16, 2048  # of an image
+CHOICE = ("there is a choice: nobody runs, or the one that runs has to give up, since its image isn't in core, or since it "
+          "isn't slot 0, is in no call, and a new choice is asked for. S is then the first of the least priority among those that "
+          "can run and are in core, from the slot after the one chosen last on; `idle` stands where there is none")
+SWAPPER = ("slot 0 runs, and this is the move that the rules of the swapper make; B begins the lowest free piece that is large "
+           "enough for the image")
+MODES = (("tick u", "somebody other than slot 0 runs, and is in no call"), ("tick k", "one runs that is in a call, or slot 0 does"),
+         ("tick i", "nobody runs"))
+PANICS = ("somebody other than slot 0 runs, and for `swap` the swap area has no piece for 2048 clicks, or for all of core where that "
+          "is less; for `zombie` it has no free block; for `text` no entry is free. Where slot 0 runs, `swap` alone: by the rules of "
+          "the swapper an image goes out, and there is no piece for it")
+IMAGE = "N is 16 at least, and 2048 and core at most"
 RULES = {  # by the first word: the forms of the lines, and where they fit
     "go": ("`go S`, `idle`", CHOICE), "idle": ("`go S`, `idle`", CHOICE),
     "trap": ("`trap S`, `nice S P`", "S runs"), "nice": ("`trap S`, `nice S P`", "S runs"),
-    "tick": ("`tick u`, `tick k`, `tick i`", TICKS),
-    "sleep": ("`sleep S P W`", "S runs, and P is the priority of W: 1 of a pipe, 10 of `keys` and `keys.L`, 20 of `show` and "
-              "`show.L`, 40 of `wait.S` with S itself, 90 of `tout`, -50 of `disk.S` with S itself. For slot 0: the rules of the "
-              "swapper let it wait for W, at -100"),
-    "wake": ("`wake W`", "always"), "signal": ("`signal S X`", "slot S isn't 0 and in use"),
+    "tick": ("`tick u`, `tick k`, `tick i`", "in this order: " + "; ".join(mode for _, mode in MODES)),
+    "sleep": ("`sleep S P W`", "S runs, and P is the priority of W: 1 of `read.I` and `write.I`, 10 of `keys` and `keys.L`, 20 "
+              "of `show` and `show.L`, 40 of `wait.S` with S itself, 90 of `tout`, -50 of `disk.S` with S itself, and no other W. "
+              "Of slot 0: it runs, P is -100, and the rules of the swapper let it wait for W"),
+    "wake": ("`wake W`", "always"), "signal": ("`signal S X`", "S isn't 0, and the slot is in use, also by one that has ended"),
     "time": ("`time TIME`", "somebody other than slot 0 runs"),
-    "size": ("`size S N ..`", "S runs; `keep` exactly where N is no more than the size before; else the place is that of first fit, "
-             "for N clicks; N is 16 at least, and 2048 and core at most"),
-    "fork": ("`fork S T ..`", "S runs, T is the lowest free slot, and the place is that of first fit, for the size of S"),
+    "size": ("`size S N ..`", f"S runs; {IMAGE}; `keep` stands exactly where N is no more than the size before, and else the "
+             "place is that of first fit for N clicks"),
+    "fork": ("`fork S T ..`", "S runs, T is the lowest free slot, and the place is that of first fit for the size of S"),
     "drop": ("`drop S K ..`", "S runs and has text K"),
     "bare": ("`bare S`", f"S runs and has a place and no text. {BARED}"),
-    "text": ("`text S K N swap B`", "S runs and has neither place nor text; K is the lowest free entry, and B that of first fit"),
-    "share": ("`share S K`", "S runs and has neither place nor text; K is in use"),
-    "image": ("`image S N ..`", "S runs and has no place; the place is that of first fit, for N clicks"),
+    "text": ("`text S K N swap B`", "S runs and has neither place nor text; K is the lowest free entry; N is 1 at least, and "
+             "2048 and core at most; and B begins the lowest piece of (N + 7) / 8 free blocks"),
+    "share": ("`share S K`", "S runs and has neither place nor text; K is in use, also without a user"),
+    "image": ("`image S N ..`", f"S runs and has no place; {IMAGE}; and the place is that of first fit for N clicks"),
     "in": ("`in S C`, `out S B`", SWAPPER), "out": ("`in S C`, `out S B`", SWAPPER),
-    "exit": ("`exit S swap B`", "S runs and has no text, and B is the first free block"),
+    "exit": ("`exit S swap B`", "S runs and has no text, and B is the lowest free block"),
     "reap": ("`reap S`", "somebody other than slot 0 runs, and the process in slot S has ended"),
-    "panic": ("`panic ..`", "there is no place for what is wanted"),
+    "panic": ("`panic ..`", PANICS),
     "end": ("`end`", "there is no choice; or the line before is `idle`"),
 }
 
 
-def place_of(table, clicks):
-    """The place of first fit for so many clicks, as a line has it."""
-    at = first_fit(table.taken("at"), CORE_FIRST, table.core, clicks)
-    if at is not None:
-        return f"`at {at}`"
-    block = first_fit(table.taken("swap"), SWAP_FIRST, SWAP_LAST, blocks(clicks))
-    return "in neither core nor the swap area" if block is None else f"`swap {block}`"
+class Wanted:
+    """The lines that the rules may give in the place of one of a log: each with why. S and N are those of the log's line. Which of
+    them is lawful there, if any, is for the auditor to say."""
+
+    def __init__(self, table, entry):
+        self.table, self.entry = table, entry
+        self.slot, self.row = entry.get("S"), table.rows.get(entry.get("S"))
+        self.most = min(table.core, MOST_CLICKS)
+
+    def lines(self):
+        word = self.entry["word"]
+        if word in CHOICES or word == "end":
+            return [self.table.next_choice()]
+        if word == "tick":
+            return MODES
+        if self.table.running == 0:
+            return [self.table.next_move()] if word in ("in", "out", "sleep", "panic") else []
+        found = getattr(self, "line_of_" + word, None) if self.slot == self.table.running else None
+        return list(filter(None, [found()])) if found else []
+
+    def image(self, begins, clicks):
+        """The line of an image of so many clicks that gets a place: by first fit, in core where its text is there."""
+        text = self.table.texts.get(self.row.text)
+        may_load = text is None or text.loaded
+        at = first_fit(self.table.taken("at"), CORE_FIRST, self.table.core, clicks) if may_load else None
+        why = f"first fit for {clicks} clicks is " if may_load else f"its text isn't in core, and first fit for {clicks} clicks is "
+        if at is not None:
+            return f"{begins} at {at}", f"{why}`at {at}`"
+        block = self.block(clicks)
+        return ("panic swap", f"{why}nowhere") if block is None else (f"{begins} swap {block}", f"{why}`swap {block}`")
+
+    def block(self, clicks):
+        return first_fit(self.table.taken("swap"), SWAP_FIRST, SWAP_LAST, blocks(clicks))
+
+    def line_of_image(self):
+        clicks = self.entry["N"]
+        is_due = self.row.place is None and LEAST_CLICKS <= clicks <= self.most
+        return self.image(f"image {self.slot} {clicks}", clicks) if is_due else None
+
+    def line_of_size(self):
+        clicks = self.entry["N"]
+        if not LEAST_CLICKS <= clicks <= self.most:
+            return None
+        if clicks <= self.row.size:
+            return f"size {self.slot} {clicks} keep", f"the size before is {self.row.size}"
+        return self.image(f"size {self.slot} {clicks}", clicks)
+
+    def line_of_fork(self):
+        child = next((slot for slot in range(SLOTS) if slot not in self.table.rows), None)
+        if child is None:
+            return None
+        line, why = self.image(f"fork {self.slot} {child}", self.row.size)
+        return line, f"the lowest free slot is {child}, and {why}"
+
+    def line_of_text(self):
+        clicks = self.entry["N"]
+        if self.row.place is not None or self.row.text is not None or not 1 <= clicks <= self.most:
+            return None
+        text, block = next((text for text in range(TEXTS) if text not in self.table.texts), None), self.block(clicks)
+        if text is None:
+            return "panic text", "all forty texts are in use"
+        why = f"the lowest free entry is {text}, and first fit for {counted(blocks(clicks))} is "
+        if block is None:
+            return "panic swap", f"{why}nowhere"
+        return f"text {self.slot} {text} {clicks} swap {block}", f"{why}`swap {block}`"
+
+    def line_of_exit(self):
+        if self.row.text is not None:
+            return None
+        block = self.block(1)
+        if block is None:
+            return "panic zombie", "no block is free"
+        return f"exit {self.slot} swap {block}", "this is the lowest free block"
+
+    def line_of_drop(self):
+        text = self.row.text
+        return None if text is None else (f"drop {self.slot} {text} {self.entry['kind']}", f"slot {self.slot} has text {text}")
 
 
-def wanted(table, entry):
-    """What first fit gives there, for a line that names a place of its own choice."""
-    word, row = entry["word"], table.rows.get(entry.get("S"))
-    if row and (word in ("fork", "image") or word == "size" and "place" in entry):
-        size = row.size if word == "fork" else entry["N"]
-        return f"First fit for {size} clicks is {place_of(table, size)}"
-    if word in ("text", "exit"):
-        size = blocks(entry["N"]) if word == "text" else 1
-        block = first_fit(table.taken("swap"), SWAP_FIRST, SWAP_LAST, size)
-        return f"First fit for {size} block{'s' * (size != 1)} is {'nowhere' if block is None else f'`swap {block}`'}"
-    return None
+def counted(count):
+    return f"{count} block" + "s" * (count != 1)
 
 
-def foretold(table, entry, line):
-    """What a choice would be there, and why, where the line is another."""
-    found = table.foretold(entry)
-    return f"The rules would make it `{found[0]}`: {found[1]}" if found and found[0] != line else None
+def right_line(table, entry, is_lawful):
+    """The line that the rules give in the place of one, with why, as far as it is known to be lawful there."""
+    for line, why in Wanted(table, entry).lines():
+        if is_lawful(line):
+            return [f"The rules would make it `{line}`: {why}"]
+    if entry["word"] in CHOICES and table.entry["word"] != "idle" and is_lawful("end"):  # behind `idle` it fits beside a choice
+        return ["There is no choice there"]
+    return []
 
 
 def bared(table):
@@ -70,8 +143,9 @@ def bared(table):
     return bool(table.running and row and row.place is None)
 
 
-def unlawful(table, line):
-    """Why a line of a log doesn't fit what the lines taken so far give; of None, why the log isn't at its end."""
+def unlawful(table, line, is_lawful):
+    """Why a line of a log doesn't fit what the lines taken so far give; of None, why the log isn't at its end. `is_lawful` says
+    whether another line would fit there."""
     if table.over or line is None:
         return [ENDS]
     word = line.partition(" ")[0]
@@ -80,8 +154,7 @@ def unlawful(table, line):
     if bared(table) and word not in OF_BARE:
         return [f"slot {table.running} has given back its image. {BARED}"]
     forms, rule = RULES[word]
-    entry = entry_of(line, table.lines + 1)
-    return [f"{forms}: {rule}", *filter(None, (foretold(table, entry, line), wanted(table, entry)))]
+    return [f"{forms}: {rule}", *right_line(table, entry_of(line, table.lines + 1), is_lawful)]
 
 
 def bad(line, number):

@@ -2,6 +2,7 @@
 import os
 import struct
 import unittest
+import unittest.mock
 import xml.etree.ElementTree as tree
 
 from common import TOP, V6, Case, generated, read, tool, v6
@@ -22,6 +23,19 @@ go 2
 drop 2 3 plain
 """
 LAWFUL = "boot 64 0\nsleep 0 -100 runout\ngo 1\nexit 1 swap 4000\nidle\n"
+FULL = """boot 2048 0
+sleep 0 -100 runout
+go 1
+size 1 2048 swap 4000
+trap 1
+go 0
+in 1 1
+sleep 0 -100 runout
+go 1
+fork 1 2 swap 4000
+fork 1 3 swap 4256
+fork 1 4 swap 4512
+"""
 TEXTS = """boot 64 0
 sleep 0 -100 runout
 go 1
@@ -256,7 +270,8 @@ class Log(Case):
                   "         4  bare 1                    process 1 gives back its image for a new program"]
         self.assertEqual(self.audited(bare + "image 1 37 at 2\ntrap 1\n"), (1, [
             "log: line 5 is not lawful", *before, ">        5  image 1 37 at 2",
-            "`image S N ..`: S runs and has no place; the place is that of first fit, for N clicks.", "First fit for 37 clicks is `at 1`."]))
+            "`image S N ..`: S runs and has no place; N is 16 at least, and 2048 and core at most; and the place",
+            "is that of first fit for N clicks.", "The rules would make it `image 1 37 at 1`: first fit for 37 clicks is `at 1`."]))
         self.assertEqual(self.audited(bare + "image 1 037 at 1\n"), (1, [
             "log: line 5 is no log line", *before, ">        5  'image 1 037 at 1'", "no line of a log: 'image 1 037 at 1'."]))
         self.assertEqual(self.audited(bare + "trap 1\n")[1][4:], [
@@ -273,13 +288,108 @@ class Log(Case):
                              (begins + "go 1\n", ["the last is `end` or a `panic`, and none before it is."]),
                              ("", ["the last is `end` or a `panic`, and none before it is."]),
                              (LAWFUL + "end\nend\n", ["the last is `end` or a `panic`, and none before it is."]),
-                             (begins + "go 1\nfork 1 2 at 1\n", ["First fit for 17 clicks is `at 18`."]),
-                             (begins + "go 1\nsize 1 80 at 2\n", ["First fit for 80 clicks is `at 18`."]),
-                             (begins + "go 1\nbare 1\ntext 1 0 9 swap 4001\n", ["First fit for 2 blocks is `swap 4000`."]),
-                             (begins + "go 1\nexit 1 swap 4001\n", ["First fit for 1 block is `swap 4000`."]),
                              (begins + "go 0\n", ["The rules would make it `go 1`: " + choice[0]])):
             status, said = self.audited(text)
             self.assertEqual((status, said[-len(wanted):]), (1, wanted), text)
+
+    def told_line(self, lines, begins="boot 1200 0\nsleep 0 -100 runout\ngo 1\n"):
+        """What `audit` says of the last line of a log, which is at fault, behind the rule."""
+        text = begins + "".join(line + "\n" for line in lines)
+        status, said = self.audited(text)
+        self.assertEqual((status, said[0]), (1, f"log: line {text.count(chr(10))} is not lawful"), text)
+        shown = said.index(f"> {text.count(chr(10)):8}  {lines[-1]}")
+        return " ".join(said[shown + 1 :]).partition(RULES[lines[-1].split(" ")[0]][1] + ".")[2].strip()
+
+    def assert_told(self, cases, *begins):
+        """Of each: the lines, by commas, the one that is told for the last of them, and why."""
+        for lines, told, why in cases:
+            self.assertEqual(self.told_line(lines.split(", "), *begins), f"The rules would make it `{told}`: {why}.", lines)
+
+    def test_audit_tells_the_line(self):
+        """Each line is worked by hand: of first fit, of the table, and of who runs."""
+        slot, entry, fit = "the lowest free slot is 2, and ", "the lowest free entry is 0, and ", "first fit for {} is `{}`".format
+        nobody, to_sleep = "nobody who is in core can run", "sleep 1 40 wait.1, "
+        self.assert_told((
+            ("fork 1 2 at 1", "fork 1 2 at 18", slot + fit("17 clicks", "at 18")),
+            ("fork 1 3 at 18", "fork 1 2 at 18", slot + fit("17 clicks", "at 18")),
+            ("size 1 80 at 2", "size 1 80 at 18", fit("80 clicks", "at 18")),
+            ("size 1 80 keep", "size 1 80 at 18", fit("80 clicks", "at 18")),
+            ("size 1 16 at 18", "size 1 16 keep", "the size before is 17"),
+            ("size 1 17 at 18", "size 1 17 keep", "the size before is 17"),
+            ("size 1 1190 at 1", "size 1 1190 swap 4000", fit("1190 clicks", "swap 4000")),
+            ("bare 1, text 1 0 9 swap 4001", "text 1 0 9 swap 4000", entry + fit("2 blocks", "swap 4000")),
+            ("bare 1, text 1 1 8 swap 4000", "text 1 0 8 swap 4000", entry + fit("1 block", "swap 4000")),
+            ("bare 1, text 1 0 20 swap 4000, image 1 30 at 1", "image 1 30 swap 4003",
+             "its text isn't in core, and " + fit("30 clicks", "swap 4003")),
+            ("exit 1 swap 4001", "exit 1 swap 4000", "this is the lowest free block"),
+            ("tick k", "tick u", "somebody other than slot 0 runs, and is in no call"),
+            (to_sleep + "tick u", "tick i", "nobody runs"),
+            (to_sleep + "wake wait.1, go 1, tick u", "tick k", "one runs that is in a call, or slot 0 does"),
+            (to_sleep + "end", "idle", nobody), (to_sleep + "idle, go 1", "idle", nobody)))
+
+    def test_audit_tells_of_a_text(self):
+        """An image whose text is in core may stand there; and who leaves a text leaves its own."""
+        fit, slot = "first fit for 30 clicks is `{}`".format, "the lowest free slot is 2, and "
+        self.assert_told((
+            ("drop 1 1 sticky", "drop 1 0 sticky", "slot 1 has text 0"),
+            ("fork 1 2 at 50", "fork 1 2 at 51", slot + fit("at 51")),
+            ("drop 1 0 sticky, bare 1, share 1 0, image 1 30 at 1", "image 1 30 swap 4003",
+             "its text isn't in core, and " + fit("swap 4003")),
+            ("fork 1 2 at 51, drop 1 0 plain, bare 1, share 1 0, image 1 30 at 1", "image 1 30 at 21", fit("at 21")),
+            ("drop 1 0 sticky, bare 1, text 1 0 1 swap 4003", "text 1 1 1 swap 4003",
+             "the lowest free entry is 1, and first fit for 1 block is `swap 4003`"),
+        ), TEXTS[: TEXTS.index("fork")].replace("boot 64", "boot 1200"))
+
+    def test_audit_tells_a_panic(self):
+        """Three images of 2048 clicks have all of the swap area but 104 blocks, and a fourth has all of core."""
+        nowhere = "first fit for 2048 clicks is nowhere"
+        to_go_out = "trap 1, go 0, sleep 0 -100 runin, go 1, sleep 1 40 wait.1, go 0, "
+        swapper = ("slot 2 has been out of core for longest, 0 seconds (1), and there is no room for 2048 clicks (2); slot 1 is the "
+                   "lowest in core that waits so that a signal wakes it (3); but there are nowhere 256 blocks free for it")
+        self.assert_told((
+            ("fork 1 5 swap 4768", "panic swap", "the lowest free slot is 5, and " + nowhere),
+            ("bare 1, text 1 0 2048 swap 4768", "panic swap",
+             "the lowest free entry is 0, and first fit for 256 blocks is nowhere"),
+            ("bare 1, text 1 0 1 swap 4768, image 1 2048 at 1", "panic swap", "its text isn't in core, and " + nowhere),
+            ("size 1 832 keep, fork 1 5 at 833, fork 1 6 swap 4768, exit 1 swap 4871", "panic zombie", "no block is free"),
+            (to_go_out + "out 1 4768", "panic swap", swapper), (to_go_out + "panic zombie", "panic swap", swapper),
+        ), FULL)
+        for lines in ("size 1 2049 swap 4768", "image 1 2048 at 1", "text 1 0 2048 swap 4768", "fork 2 5 swap 4768",
+                      "bare 1, image 1 2049 at 1", "bare 1, text 1 0 2049 swap 4768",
+                      "bare 1, text 1 0 8 swap 4768, image 1 824 swap 4769, exit 1 swap 4000"):
+            self.assertEqual(self.told_line(lines.split(", "), FULL), "", lines)  # nothing of the kind is due
+
+    def test_audit_tells_the_panic_of_texts(self):
+        """Forty texts of a block each, which stay."""
+        texts = "".join(f"bare 1, text 1 {text} 1 swap {4000 + text}, image 1 16 swap {4001 + text}, drop 1 {text} sticky, "
+                        for text in range(40))
+        self.assert_told(((texts + "bare 1, text 1 0 1 swap 4040", "panic text", "all forty texts are in use"),))
+
+    def test_audit_tells_no_line(self):
+        """Where none is lawful: a size that no image has, a process that doesn't run, a panic without its cause."""
+        for lines in ("size 1 8 keep", "size 1 3000 at 18", "size 1 1201 swap 4000", "size 2 80 at 18", "fork 2 3 at 18",
+                      "exit 2 swap 4000", "image 1 30 at 18", "text 1 0 9 swap 4000", "drop 1 0 plain", "bare 1, image 1 15 at 1",
+                      "bare 1, image 2 30 at 1", "bare 1, text 1 0 0 swap 4000", "bare 1, text 1 0 1201 swap 4000", "panic swap",
+                      "panic zombie", "panic text", "out 1 4000", "in 1 18", "sleep 0 -100 runin", "sleep 1 10 tout", "reap 1",
+                      "share 1 0"):
+            self.assertEqual(self.told_line(lines.split(", ")), "", lines)
+
+    def test_audit_tells_that_there_is_no_choice(self):
+        """Slot 1 runs, and no new choice is asked for; it is in a call, up to its `trap`; slot 0 runs, which gives up for none."""
+        begins = "boot 1200 3\nsleep 0 -100 runout\ngo 1\n"
+        in_a_call = ["fork 1 2 at 18", "sleep 1 40 wait.1", "go 2", "sleep 2 10 keys", "wake wait.1", "go 1", "wake keys"]
+        second = [*["tick u"] * 59, "size 1 1200 swap 4000", "trap 1", "go 0", "tick k"]  # every fourth asks for a choice
+        for lines in (["go 1"], ["idle"], ["fork 1 2 at 18", "go 2"], [*in_a_call, "go 2"], [*second, "go 0"], [*second, "idle"]):
+            self.assertEqual(self.told_line(lines, begins), "There is no choice there.", lines)
+        self.assert_told(((", ".join([*in_a_call, "trap 1, go 1"]), "go 2",
+                           "the least priority of those that can run is 10, that of slot 2"),), begins)
+
+    def test_audit_tells_only_what_is_lawful(self):
+        """Where the tool's rules and the program's differ, the tool's aren't told."""
+        for rules, lines, told in (("go 2", ["sleep 1 40 wait.1", "go 1"], ""), ("go 2", ["sleep 1 40 wait.1", "idle", "go 1"], ""),
+                                   ("go 1", ["go 1"], "There is no choice there.")):
+            with unittest.mock.patch("choices.Ruled.next_choice", lambda table: (rules, "so it is")):
+                self.assertEqual(self.told_line(lines), told, lines)
 
     def test_audit_of_numbers_that_no_line_has(self):
         self.assertEqual(self.audited("boot 64 0\nsleep 0 -100 runout\nwake read.0\n")[1][-1], "a number is out of its range.")
