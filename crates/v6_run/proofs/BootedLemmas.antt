@@ -1,14 +1,16 @@
 -- The run of a kernel that was booted is the run from its images.
-use Rattle.std.proofs.Common.{◌≡◌, ◌∙◌, ◌⊎◌, inl, inr, ℕ, Bool, List, Option, Some, None, Result, Ok, Err, IfOk, IfErr, MatchResult, refl, sym, ap, subst}
+use Rattle.std.proofs.Common.{◌≡◌, ◌≤◌, ◌∙◌, ◌⊎◌, inl, inr, ℕ, Bool, List, Option, Some, None, is_some, Result, Ok, Err, IfOk, IfErr, MatchResult, refl, sym, ap, subst}
+use Rattle.std.specs.List.{sum_by}
 use Rattle.std.specs.Option.{option_map}
 use Rattle.v6_port.specs.declared.host.OutPort.{OutPort}
 use Rattle.v6_port.specs.Outside.{Port, Outside, OnlyAt}
-use Rattle.fs_codec.specs.Disk.{disk_of}
+use Rattle.fs_codec.specs.Disk.{disk_of, head}
+use Rattle.fs_codec.specs.declared.layout.TheConstants.{SWAP_START}
 use Rattle.fs_codec.specs.Faults.{image_fault}
-use Rattle.buf_cache.specs.Blocks.{block_at}
+use Rattle.buf_cache.specs.Blocks.{block_at, blocks_of}
 use Rattle.fs_nodes.specs.Disks.{Disks, Between}
 use Rattle.script_text.specs.declared.script.Event as asked
-use Rattle.script_text.specs.Script.{script_of}
+use Rattle.script_text.specs.Script.{script_of, slots_of, AreRates}
 use Rattle.abstract_unix.specs.declared.ends.Ends.{Ends}
 use Rattle.abstract_unix.specs.Runs.{Course, boots}
 use Rattle.unix_core.specs.declared.boot.BootFault.{BootFault}
@@ -17,18 +19,22 @@ use Rattle.unix_core.specs.declared.boot.Boot2Fault.{Boot2Fault}
 use Rattle.unix_core.specs.declared.boot.Boot2Fault.TheVariants as two_fault
 use Rattle.unix_core.specs.Boots.{RefusesBoot, RefusesBoot2, blocks_on, second_fault_of}
 use Rattle.unix_core.specs.State.{KernelState}
+use Rattle.unix_core.proofs.BootLemmas.{ok_mapped}
 use Rattle.v6_run.specs.declared.run.RunError.{RunError}
 use Rattle.v6_run.specs.declared.run.RunError.TheVariants as run_error
 use Rattle.v6_run.specs.declared.status.Status.TheVariants.{NoMemory}
 use Rattle.v6_run.specs.declared.words.Lines as lines
 use Rattle.v6_run.specs.declared.words.Lines.TheVariants.{One, Eight}
-use Rattle.v6_run.specs.Words.{RunWords, Run, line_count, lines_value}
+use Rattle.v6_run.specs.Words.{RunWords, Run, second_files, line_count, lines_value}
+use Rattle.v6_run.specs.Courses.{CanTake}
 use Rattle.v6_run.specs.Errors.{run_status}
 use Rattle.v6_run.specs.Headline.{status_at}
-use Rattle.v6_run.specs.Outputs.{is_output, run_writes, StopsBy}
-use Rattle.v6_run.specs.Booted.{run_from, EndsOrStops, EndsFrom, FailsFrom}
+use Rattle.v6_run.specs.Outputs.{is_output, StopsBy}
+use Rattle.v6_run.specs.Booted.{run_from, writes_of, EndsOrStops, EndsFrom, FailsFrom, EndsOrFails}
 use Rattle.v6_run.specs.Answers.{Answers, HasFiles}
-use Rattle.v6_run.proofs.RunLemmas.{boot_refused, run_ended, run_stopped}
+use Rattle.v6_run.proofs.CanLemmas.{boot_can}
+use Rattle.v6_run.proofs.FinalLemmas.{image_below}
+use Rattle.v6_run.proofs.RunLemmas.{some_mapped, boot_refused, run_ended, run_stopped}
 use Rattle.v6_run.proofs.OutputLemmas.{same_blocks, ends_over, stops_over}
 use Rattle.v6_run.proofs.SecondLemmas.{SameDisk, same_second}
 
@@ -62,6 +68,26 @@ only_memory2 image second (Err refusal) good right refused = no_fault2 image sec
 pub nothing_only : (mine : Port → Bool) (a : Outside) → OnlyAt mine a a
 nothing_only mine a = record { fixed = refl; others = λ q other. refl }
 
+-- What the run of a kernel asks of it, where one was made from its images.
+module _ {E : Type 0} (image : List ℕ) (second : Option (List ℕ)) (made : Result KernelState E) where
+  pub root_below : image_fault image ≡ None → IfOk made (λ kernel. kernel.blocks ≡ blocks_on image second)
+      → IfOk made (λ kernel. (head (block_at kernel.blocks.root)).f_size ≤ SWAP_START)
+  root_below good = ok_mapped made _ (λ kernel. (head (block_at kernel.blocks.root)).f_size ≤ SWAP_START)
+      (λ kernel is. subst (λ (d : Disks (List (List ℕ))). (head (block_at d.root)).f_size ≤ SWAP_START) (sym is)
+      (image_below image good))
+
+  pub second_kept : (words : RunWords) → is_some second ≡ is_some (second_files words.outputs)
+      → IfOk made (λ kernel. kernel.blocks ≡ blocks_on image second)
+      → IfOk made (λ kernel. is_some kernel.blocks.second ≡ is_some (second_files words.outputs))
+  second_kept words named = ok_mapped made _ (λ kernel. is_some kernel.blocks.second ≡ is_some (second_files words.outputs))
+      (λ kernel is. ap (λ (d : Disks (List (List ℕ))). is_some d.second) is ∙ some_mapped blocks_of second ∙ named)
+
+  pub made_can : (core lines : ℕ) (events : List asked.Event) → sum_by slots_of events ≤ 200000000 → AreRates events
+      → IfOk made (λ kernel. boots image second core lines ≡ Some kernel.system)
+      → IfOk made (λ kernel. CanTake kernel.system events)
+  made_can core lines events few rates = ok_mapped made _ (λ kernel. CanTake kernel.system events)
+      (λ kernel is. boot_can image second core lines kernel.system events is few rates)
+
 -- A kernel has the disks of its images.
 module _ (image : List ℕ) (second : Option (List ℕ)) (words : RunWords) (events : List asked.Event) (kernel : KernelState)
     (boots_is : boots image second words.core (line_count words.outputs) ≡ Some kernel.system) (blocks_is : kernel.blocks ≡ blocks_on image second)
@@ -76,7 +102,7 @@ module _ (image : List ℕ) (second : Option (List ℕ)) (words : RunWords) (eve
   run = run_from kernel.system events
 
   abbrev writes : OutPort → List ℕ → Type 0
-  writes = run_writes words.outputs (block_at kernel.blocks.root) (option_map block_at kernel.blocks.second) run
+  writes = writes_of words.outputs kernel run
 
   fails : (error : RunError) → StopsBy words.outputs writes error old new → FailsFrom image second words events error old new
   fails (run_error.Write port) stops = record {
@@ -92,8 +118,8 @@ module _ (image : List ℕ) (second : Option (List ℕ)) (words : RunWords) (eve
   fails (run_error.Refused e) stops = absurd stops
   fails (run_error.Panic kind) stops = absurd stops
 
-  ran_from : (r : Result Ends RunError) → EndsOrStops words kernel events r old new
-      → MatchResult r (λ ends. EndsFrom image second words events ends old new) (λ error. FailsFrom image second words events error old new)
+  ran_from : (r : Result Ends RunError) → EndsOrStops words.outputs kernel events r old new
+      → EndsOrFails image second words events r old new
   ran_from (Ok ends) ended = record {
     system = kernel.system;
     boots_is = boots_is;
@@ -106,12 +132,11 @@ module _ (image : List ℕ) (second : Option (List ℕ)) (words : RunWords) (eve
 module _ {E : Type 0} (image : List ℕ) (second : Option (List ℕ)) (words : RunWords) (events : List asked.Event) (old new : Outside) (r : Result Ends RunError) where
   pub made_from : (made : Result KernelState E) → IfOk made (λ kernel. boots image second words.core (line_count words.outputs) ≡ Some kernel.system)
       → IfOk made (λ kernel. kernel.blocks ≡ blocks_on image second)
-      → MatchResult made (λ kernel. EndsOrStops words kernel events r old new) (λ _. (r ≡ Err run_error.NoMemory) × (new ≡ old))
-      → MatchResult r (λ ends. EndsFrom image second words events ends old new) (λ error. FailsFrom image second words events error old new)
+      → MatchResult made (λ kernel. EndsOrStops words.outputs kernel events r old new)
+      (λ _. (r ≡ Err run_error.NoMemory) × (new ≡ old))
+      → EndsOrFails image second words events r old new
   made_from (Ok kernel) boots_is blocks_is came = ran_from image second words events kernel boots_is blocks_is old new r came
-  made_from (Err e) boots_is blocks_is came =
-      subst (λ q. MatchResult q (λ ends. EndsFrom image second words events ends old new) (λ error. FailsFrom image second words events error old new))
-      (sym came.0) came.1
+  made_from (Err e) boots_is blocks_is came = subst (λ q. EndsOrFails image second words events q old new) (sym came.0) came.1
 
 -- What it comes to is what the command answers.
 module _ (words : RunWords) (image : List ℕ) (second : Option (List ℕ)) (bytes : List ℕ) (old middle : Outside) (files : HasFiles words image second bytes old middle)

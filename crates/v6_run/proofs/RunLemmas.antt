@@ -26,13 +26,11 @@ use Rattle.v6_run.specs.declared.files.ReadError.TheVariants as reading
 use Rattle.v6_run.specs.declared.image.ImageError.{ImageError}
 use Rattle.v6_run.specs.declared.image.SecondError.{SecondError}
 use Rattle.v6_run.specs.declared.image.SecondError.TheVariants as second_error
-use Rattle.std.specs.declared.alloc.Global.{Global}
-use Rattle.std.specs.Prelude.{Vec}
 use Rattle.v6_run.specs.declared.words.Outputs as written
 use Rattle.v6_run.specs.declared.words.Outputs.TheVariants as made
 use Rattle.v6_run.specs.declared.words.Machine as of_run
 use Rattle.v6_run.specs.declared.words.Machine.TheVariants as disks
-use Rattle.v6_run.specs.Words.{Outputs, RunWords, line_count, second_files, second_image, machine_lines, machine_second, outputs_value, bytes_value, Run}
+use Rattle.v6_run.specs.Words.{Outputs, RunWords, line_count, second_files, second_image, machine_lines, machine_second, outputs_value, Run}
 use Rattle.script_text.specs.declared.script.Event as asked
 use Rattle.script_text.specs.declared.script.ScriptFault as text
 use Rattle.script_text.specs.declared.script.ScriptFault.TheVariants as fault
@@ -224,8 +222,8 @@ module _ (words : RunWords) (image : List ℕ) (old middle new : Outside) (first
     }
 
 -- what is there of a second image where the words name one
-pub second_sound : (image : List ℕ) (name : Option (List ℕ)) (second : Option (Vec ℕ Global)) (o : Outside) → HasSecond image name (bytes_value second) o
-    → IfSome second (λ bytes. second_fault_of image bytes.items ≡ None)
+pub second_sound : (image : List ℕ) (name second : Option (List ℕ)) (o : Outside) → HasSecond image name second o
+    → IfSome second (λ bytes. second_fault_of image bytes ≡ None)
 second_sound image None None o has = tt
 second_sound image None (Some bytes) o has = absurd (cc has)
 second_sound image (Some name) None o has = tt
@@ -235,11 +233,6 @@ pub second_read : (image : List ℕ) (name second : Option (List ℕ)) (o : Outs
 second_read image None second o has = ap is_some has
 second_read image (Some name) None o has = absurd has
 second_read image (Some name) (Some bytes) o has = refl
-
--- whether there is one
-pub read_there : (second : Option (Vec ℕ Global)) → is_some (bytes_value second) ≡ is_some second
-read_there None = refl
-read_there (Some bytes) = refl
 
 pub some_mapped : {X Y : Type 0} (f : X → Y) (o : Option X) → is_some (option_map f o) ≡ is_some o
 some_mapped f None = refl

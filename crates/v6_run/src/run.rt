@@ -1,5 +1,5 @@
 //! The commands `run`, `run8`, `run2` and `memory`: a run, and what it leaves.
-ghost use Rattle.std.specs.Prelude.{◌≡◌, ℕ, ◌<◌, ◌≤◌, ◌^◌, length, map, sum_by, true, false, is_some, None, Some, IsSomeAnd, IfSome, IfOk, OnOk, IfErr, MatchResult};
+ghost use Rattle.std.specs.Prelude.{◌≡◌, ℕ, ◌<◌, ◌≤◌, ◌^◌, length, map, true, false, is_some, None, Some, IsSomeAnd, IfOk, OnOk, IfErr, MatchResult};
 ghost use Rattle.std.specs.Option.{option_map};
 ghost use Rattle.v6_port.specs.Outside.{Out, IsOpen, OnlyAt, Tells};
 ghost use Rattle.v6_port.specs.declared.host.OutPort.{OutPort};
@@ -14,7 +14,6 @@ ghost use Rattle.abstract_unix.specs.Endings.{phase_after};
 ghost use Rattle.abstract_unix.specs.Runs.{boots, started, course, shown_by};
 ghost use Rattle.unix_core.specs.Boots.{blocks_on, second_fault_of};
 ghost use Rattle.unix_core.specs.State.{KeepsRest};
-ghost use Rattle.script_text.specs.Script.{slots_of, AreRates};
 ghost use Rattle.v6_run.specs.Courses.{CanTake};
 ghost use Rattle.v6_run.specs.Words.{Run, ToDisk, lines_value, disk_files_value, run_words_value, second_files, second_image, bytes_value};
 ghost use Rattle.v6_run.specs.Opened.{line_port, second_inputs, output_ports, has_port};
@@ -22,9 +21,9 @@ ghost use Rattle.v6_run.specs.Opening.{output_value};
 ghost use Rattle.v6_run.specs.Events.{events_of};
 ghost use Rattle.v6_run.specs.Ports.{HasShown, HasShownFronts};
 ghost use Rattle.v6_run.specs.Errors.{end_of, run_status};
-ghost use Rattle.v6_run.specs.Outputs.{is_shown, is_disk_output, is_output, disk_writes, run_writes, HasLawfulLogs, EndsRun, StopsRun, StopsBy};
+ghost use Rattle.v6_run.specs.Outputs.{is_shown, is_disk_output, is_output, disk_writes, HasLawfulLogs, EndsRun, StopsRun};
 ghost use Rattle.v6_run.specs.Answers.{Answers, HasSecond, HasFiles};
-ghost use Rattle.v6_run.specs.Booted.{EndsOrStops, EndsFrom, FailsFrom};
+ghost use Rattle.v6_run.specs.Booted.{CanRun, EndsOrStops, EndsOrFails};
 ghost use Rattle.v6_run.specs.Steps.{StopsSecond};
 
 use crate::files::{ReadError, read_file};
@@ -242,17 +241,8 @@ fn run_to_disk<H: Host>(
     requires lawful { HasLawfulLogs kernel.old.system }
     requires can { CanTake kernel.old.system events.now }
     ensures only { OnlyAt (is_disk_output (disk_files_value files.now)) (H.outside host.old) (H.outside host.new) }
-    ensures outcome { MatchResult result
-        (λ ends. EndsRun (ToDisk (disk_files_value files.now))
-        (disk_writes (disk_files_value files.now).lines (block_at kernel.old.blocks.root)
-        (option_map block_at kernel.old.blocks.second)
-        (course (started kernel.old.system) (events_of events.now)))
-        (course (started kernel.old.system) (events_of events.now)) ends (H.outside host.old) (H.outside host.new))
-        (λ error. StopsBy (ToDisk (disk_files_value files.now))
-        (disk_writes (disk_files_value files.now).lines (block_at kernel.old.blocks.root)
-        (option_map block_at kernel.old.blocks.second)
-        (course (started kernel.old.system) (events_of events.now))) error
-        (H.outside host.old) (H.outside host.new)) }
+    ensures outcome { EndsOrStops (ToDisk (disk_files_value files.now)) kernel.old events.now result
+        (H.outside host.old) (H.outside host.new) }
 {
     let Ok(outputs) = disk_outputs(alloc, files) else {
         return Err(RunError::NoMemory);
@@ -279,16 +269,8 @@ fn run_with_outputs<H: Host>(
     requires lawful { HasLawfulLogs kernel.old.system }
     requires can { CanTake kernel.old.system events.now }
     ensures only { OnlyAt (is_output (run_words_value words.now).outputs) (H.outside host.old) (H.outside host.new) }
-    ensures outcome { MatchResult result
-        (λ ends. EndsRun (run_words_value words.now).outputs
-        (run_writes (run_words_value words.now).outputs (block_at kernel.old.blocks.root)
-        (option_map block_at kernel.old.blocks.second)
-        (course (started kernel.old.system) (events_of events.now)))
-        (course (started kernel.old.system) (events_of events.now)) ends (H.outside host.old) (H.outside host.new))
-        (λ error. StopsBy (run_words_value words.now).outputs
-        (run_writes (run_words_value words.now).outputs (block_at kernel.old.blocks.root)
-        (option_map block_at kernel.old.blocks.second)
-        (course (started kernel.old.system) (events_of events.now))) error (H.outside host.old) (H.outside host.new)) }
+    ensures outcome { EndsOrStops (run_words_value words.now).outputs kernel.old events.now result
+        (H.outside host.old) (H.outside host.new) }
 {
     match &words.outputs {
         Outputs::Disk(files) => run_to_disk(alloc, kernel, events, files, host),
@@ -368,7 +350,8 @@ fn run_made<H: Host, E: Drop>(
         → ((H.outside host.old).port (Out p)).is_open ≡ false }
     ensures only { OnlyAt (is_output (run_words_value words.now).outputs) (H.outside host.old) (H.outside host.new) }
     ensures outcome { MatchResult made
-        (λ kernel. EndsOrStops (run_words_value words.now) kernel events.now result (H.outside host.old) (H.outside host.new))
+        (λ kernel. EndsOrStops (run_words_value words.now).outputs kernel events.now result
+        (H.outside host.old) (H.outside host.new))
         (λ _. (result ≡ Err RunError.NoMemory) × (H.outside host.new ≡ H.outside host.old)) }
 {
     match &mut made {
@@ -387,20 +370,12 @@ fn run_on_one<H: Host>(
     words: &RunWords<'_>,
     host: &mut H,
 ) -> Result<Ends, RunError>
-    requires least { 64 ≤ words.now.core }
-    requires most { words.now.core ≤ 3968 }
-    requires good { image_fault image.now ≡ None }
-    requires one { is_some (second_files (run_words_value words.now).outputs) ≡ false }
+    requires can { CanRun image.now None (run_words_value words.now) events.now }
     requires closed { (p : OutPort) → is_output (run_words_value words.now).outputs (Out p) ≡ true
         → ((H.outside host.old).port (Out p)).is_open ≡ false }
-    requires slots { sum_by slots_of events.now ≤ 200000000 }
-    requires rates { AreRates events.now }
     ensures only { OnlyAt (is_output (run_words_value words.now).outputs) (H.outside host.old) (H.outside host.new) }
-    ensures outcome { MatchResult result
-        (λ ends. EndsFrom image.now None (run_words_value words.now) events.now ends
-        (H.outside host.old) (H.outside host.new))
-        (λ error. FailsFrom image.now None (run_words_value words.now) events.now error
-        (H.outside host.old) (H.outside host.new)) }
+    ensures outcome { EndsOrFails image.now None (run_words_value words.now) events.now result
+        (H.outside host.old) (H.outside host.new) }
 {
     let lines = words.outputs.lines();
     run_made(
@@ -422,21 +397,12 @@ fn run_on_two<H: Host>(
     words: &RunWords<'_>,
     host: &mut H,
 ) -> Result<Ends, RunError>
-    requires least { 64 ≤ words.now.core }
-    requires most { words.now.core ≤ 3968 }
-    requires good { image_fault image.now ≡ None }
-    requires second { second_fault_of image.now second.now ≡ None }
-    requires two { is_some (second_files (run_words_value words.now).outputs) ≡ true }
+    requires can { CanRun image.now (Some second.now) (run_words_value words.now) events.now }
     requires closed { (p : OutPort) → is_output (run_words_value words.now).outputs (Out p) ≡ true
         → ((H.outside host.old).port (Out p)).is_open ≡ false }
-    requires slots { sum_by slots_of events.now ≤ 200000000 }
-    requires rates { AreRates events.now }
     ensures only { OnlyAt (is_output (run_words_value words.now).outputs) (H.outside host.old) (H.outside host.new) }
-    ensures outcome { MatchResult result
-        (λ ends. EndsFrom image.now (Some second.now) (run_words_value words.now) events.now ends
-        (H.outside host.old) (H.outside host.new))
-        (λ error. FailsFrom image.now (Some second.now) (run_words_value words.now) events.now error
-        (H.outside host.old) (H.outside host.new)) }
+    ensures outcome { EndsOrFails image.now (Some second.now) (run_words_value words.now) events.now result
+        (H.outside host.old) (H.outside host.new) }
 {
     run_made(
         alloc,
@@ -455,21 +421,12 @@ fn run_booted<H: Host>(
     words: &RunWords<'_>,
     host: &mut H,
 ) -> Result<Ends, RunError>
-    requires least { 64 ≤ words.now.core }
-    requires most { words.now.core ≤ 3968 }
-    requires good { image_fault files.now.image.items ≡ None }
-    requires second { IfSome files.now.second (λ second. second_fault_of files.now.image.items second.items ≡ None) }
-    requires two { is_some files.now.second ≡ is_some (second_files (run_words_value words.now).outputs) }
+    requires can { CanRun files.now.image.items (bytes_value files.now.second) (run_words_value words.now) events.now }
     requires closed { (p : OutPort) → is_output (run_words_value words.now).outputs (Out p) ≡ true
         → ((H.outside host.old).port (Out p)).is_open ≡ false }
-    requires slots { sum_by slots_of events.now ≤ 200000000 }
-    requires rates { AreRates events.now }
     ensures only { OnlyAt (is_output (run_words_value words.now).outputs) (H.outside host.old) (H.outside host.new) }
-    ensures outcome { MatchResult result
-        (λ ends. EndsFrom files.now.image.items (bytes_value files.now.second) (run_words_value words.now) events.now ends
-        (H.outside host.old) (H.outside host.new))
-        (λ error. FailsFrom files.now.image.items (bytes_value files.now.second) (run_words_value words.now) events.now error
-        (H.outside host.old) (H.outside host.new)) }
+    ensures outcome { EndsOrFails files.now.image.items (bytes_value files.now.second) (run_words_value words.now) events.now
+        result (H.outside host.old) (H.outside host.new) }
 {
     match &files.second {
         Some(second) => run_on_two(alloc, &files.image, second, events, words, host),

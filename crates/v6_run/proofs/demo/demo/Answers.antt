@@ -1,11 +1,6 @@
-use Rattle.std.proofs.Common.{◌≡◌, ◌≤◌, ◌∙◌, ℕ, List, IfOk, sym, subst, None, Some, Err, MatchResult}
-use Rattle.fs_codec.specs.Disk.{head}
+use Rattle.std.proofs.Common.{◌≡◌, ◌∙◌, IfOk, sym, subst, None, Some, Err, MatchResult}
 use Rattle.fs_codec.specs.Faults.{image_fault}
-use Rattle.fs_codec.specs.declared.layout.TheConstants.{SWAP_START}
-use Rattle.buf_cache.specs.Blocks.{block_at}
-use Rattle.fs_nodes.specs.Disks.{Disks}
 use Rattle.abstract_unix.specs.Runs.{boots, started, course}
-use Rattle.unix_core.proofs.BootLemmas.{ok_mapped}
 use Rattle.v6_port.specs.Outside.{Outside}
 use Rattle.v6_run.specs.declared.demo.TheConstants.{DEMO_CORE}
 use Rattle.v6_run.specs.declared.run.RunError.TheVariants as run_error
@@ -15,23 +10,20 @@ use Rattle.v6_run.specs.Events.{events_of}
 use Rattle.v6_run.specs.Answers.{Answers}
 use Rattle.v6_run.specs.Demo.{EndsCourse, StopsCourse}
 use Rattle.v6_run.specs.Courses.{CanTake}
-use Rattle.v6_run.proofs.CanLemmas.{boot_can}
-use Rattle.v6_run.proofs.FinalLemmas.{image_below}
+use Rattle.v6_run.proofs.BootedLemmas.{root_below, made_can}
 use Rattle.v6_run.proofs.DemoLemmas.{demo_answers, demo_tells}
 use Rattle.v6_run.proofs.demo.demo.Goals as goal
 
 pub run_made-requires-clause-root : goal.run_made-requires-clause-root
 run_made-requires-clause-root g c =
-    ok_mapped c.boot.result _ (λ kernel. (head (block_at kernel.blocks.root)).f_size ≤ SWAP_START)
-    (λ kernel is. subst (λ (l : Disks (List (List ℕ))). (head (block_at l.root)).f_size ≤ SWAP_START) (sym is)
-    (image_below c.deref.result.now (subst (λ l. image_fault l ≡ None) (sym c.deref.ensures.value) c.in_ok-image.ensures.good))) c.boot.ensures.blocks
+    let good = subst (λ l. image_fault l ≡ None) (sym c.deref.ensures.value) c.in_ok-image.ensures.good in
+    root_below c.deref.result.now None c.boot.result good c.boot.ensures.blocks
 
 pub run_made-requires-clause-can : goal.run_made-requires-clause-can
 run_made-requires-clause-can g c =
-    ok_mapped c.boot.result _ (λ kernel. CanTake kernel.system c.deref-2.result.now)
-    (λ kernel is. subst (λ l. CanTake kernel.system l) (sym c.deref-2.ensures.value)
-    (boot_can c.deref.result.now None DEMO_CORE 1 kernel.system c.in_ok-script.script.events.items is c.in_ok-script.ensures.slots c.in_ok-script.ensures.rates))
-    c.boot.ensures.system
+    subst (λ l. IfOk c.boot.result (λ kernel. CanTake kernel.system l)) (sym c.deref-2.ensures.value)
+    (made_can c.deref.result.now None c.boot.result DEMO_CORE 1 c.in_ok-script.script.events.items c.in_ok-script.ensures.slots
+    c.in_ok-script.ensures.rates c.boot.ensures.system)
 
 pub returns-clause-answers : goal.returns-clause-answers
 returns-clause-answers g c =

@@ -9,7 +9,7 @@ use Rattle.script_text.specs.Script.{script_of, Refuses}
 use Rattle.v6_run.specs.Errors.{run_status}
 use Rattle.v6_run.specs.Answers.{Answers}
 use Rattle.v6_run.proofs.ResultLemmas.{value_where_ok, error_where_err, end_passed}
-use Rattle.v6_run.proofs.RunLemmas.{second_sound, second_read, read_there, some_mapped, script_refused}
+use Rattle.v6_run.proofs.RunLemmas.{second_sound, second_read, some_mapped, script_refused}
 use Rattle.v6_run.proofs.BootedLemmas.{ends_from, fails_from}
 use Rattle.v6_run.proofs.run.run.Goals as goal
 
@@ -29,29 +29,24 @@ returns-in_err-script g c =
     let refused = subst (λ bytes. Refuses bytes c.in_err-script.field-0.0) c.deref.ensures.value (error_where_err _ _ _ c.in_err-script.was c.read.ensures.refused) in
     end_passed run_status _ _ (λ s. Answers (Run words) s old new) c.from_residual-in_err-script.ensures.1 (script_refused words _ _ _ old new files _ refused)
 
-pub run_booted-requires-clause-good : goal.run_booted-requires-clause-good
-run_booted-requires-clause-good g c = (value_where_ok _ _ _ c.in_ok-files.was c.read_files.ensures.files).good
-
-pub run_booted-requires-clause-second : goal.run_booted-requires-clause-second
-run_booted-requires-clause-second g c =
+pub run_booted-requires-clause-can : goal.run_booted-requires-clause-can
+run_booted-requires-clause-can g c =
     let files = value_where_ok _ _ _ c.in_ok-files.was c.read_files.ensures.files in
-    second_sound c.in_ok-files.files.image.items _ c.in_ok-files.files.second _ files.second
-
-pub run_booted-requires-clause-two : goal.run_booted-requires-clause-two
-run_booted-requires-clause-two g c =
-    let files = value_where_ok _ _ _ c.in_ok-files.was c.read_files.ensures.files in
-    sym (read_there c.in_ok-files.files.second) ∙ second_read _ _ _ _ files.second ∙ some_mapped _ (second_files (outputs_value c.args.words.now.outputs))
+    let second = bytes_value c.in_ok-files.files.second in
+    record {
+      least = c.requires.least;
+      most = c.requires.most;
+      good = files.good;
+      second_good = second_sound c.in_ok-files.files.image.items _ second _ files.second;
+      named = second_read _ _ _ _ files.second ∙ some_mapped _ (second_files (outputs_value c.args.words.now.outputs));
+      slots = rw c.deref-2.ensures.value (value_where_ok _ _ _ c.in_ok-script.was c.read.ensures.slots);
+      rates = rw c.deref-2.ensures.value (value_where_ok _ _ _ c.in_ok-script.was c.read.ensures.rates);
+    }
 
 pub run_booted-requires-clause-closed : goal.run_booted-requires-clause-closed
 run_booted-requires-clause-closed g c p out =
     let files = value_where_ok _ _ _ c.in_ok-files.was c.read_files.ensures.files in
     ap (λ (state : PortState). state.is_open) (files.none p) ∙ c.requires.closed p out
-
-pub run_booted-requires-clause-slots : goal.run_booted-requires-clause-slots
-run_booted-requires-clause-slots g c = rw c.deref-2.ensures.value (value_where_ok _ _ _ c.in_ok-script.was c.read.ensures.slots)
-
-pub run_booted-requires-clause-rates : goal.run_booted-requires-clause-rates
-run_booted-requires-clause-rates g c = rw c.deref-2.ensures.value (value_where_ok _ _ _ c.in_ok-script.was c.read.ensures.rates)
 
 pub returns-in-Ok-AtEnd : goal.returns-in-Ok-AtEnd
 returns-in-Ok-AtEnd g c =

@@ -28,5 +28,5 @@ returns-in-Ok-clause-outcome g c =
     let result = c.run_with_outputs.result in
     let old : Outside = g.H.Host.outside c.args.host.now in
     let new : Outside = g.H.Host.outside c.run_with_outputs.new.host in
-    subst (λ made. MatchResult made (λ kernel. EndsOrStops words kernel events result old new) (λ _. (result ≡ Err run_error.NoMemory) × (new ≡ old)))
-    (sym c.in-Ok.is) c.run_with_outputs.ensures.outcome
+    subst (λ made. MatchResult made (λ kernel. EndsOrStops words.outputs kernel events result old new)
+    (λ _. (result ≡ Err run_error.NoMemory) × (new ≡ old))) (sym c.in-Ok.is) c.run_with_outputs.ensures.outcome

@@ -1,36 +1,34 @@
-use Rattle.std.proofs.Common.{◌≡◌, ◌≤◌, ◌∙◌, ℕ, List, is_some, None, Some, IfOk, sym, ap, subst}
-use Rattle.fs_codec.specs.Disk.{head}
-use Rattle.fs_codec.specs.declared.layout.TheConstants.{SWAP_START}
-use Rattle.buf_cache.specs.Blocks.{block_at}
-use Rattle.fs_nodes.specs.Disks.{Disks}
+use Rattle.std.proofs.Common.{◌≡◌, None, Some, IfOk, subst}
 use Rattle.abstract_unix.specs.Runs.{boots}
-use Rattle.unix_core.proofs.BootLemmas.{ok_mapped}
-use Rattle.v6_run.specs.Words.{lines_value, second_files, run_words_value}
-use Rattle.v6_run.specs.Courses.{CanTake}
-use Rattle.v6_run.proofs.CanLemmas.{boot_can}
-use Rattle.v6_run.proofs.FinalLemmas.{image_below}
-use Rattle.v6_run.proofs.BootedLemmas.{made_from}
+use Rattle.v6_run.specs.Words.{lines_value, run_words_value}
+use Rattle.v6_run.proofs.BootedLemmas.{root_below, second_kept, made_can, made_from}
 use Rattle.v6_run.proofs.run.run_on_one.Goals as goal
 
+pub boot-requires-clause-least : goal.boot-requires-clause-least
+boot-requires-clause-least g c = c.requires.can.least
+
+pub boot-requires-clause-most : goal.boot-requires-clause-most
+boot-requires-clause-most g c = c.requires.can.most
+
+pub boot-requires-clause-good : goal.boot-requires-clause-good
+boot-requires-clause-good g c = c.requires.can.good
+
 pub run_made-requires-clause-root : goal.run_made-requires-clause-root
-run_made-requires-clause-root g c =
-    ok_mapped c.boot.result _ (λ kernel. (head (block_at kernel.blocks.root)).f_size ≤ SWAP_START)
-    (λ kernel is. subst (λ (d : Disks (List (List ℕ))). (head (block_at d.root)).f_size ≤ SWAP_START) (sym is) (image_below c.args.image.now c.requires.good))
-    c.boot.ensures.blocks
+run_made-requires-clause-root g c = root_below c.args.image.now None c.boot.result c.requires.can.good c.boot.ensures.blocks
 
 pub run_made-requires-clause-second : goal.run_made-requires-clause-second
 run_made-requires-clause-second g c =
-    ok_mapped c.boot.result _ (λ kernel. is_some kernel.blocks.second ≡ is_some (second_files (run_words_value c.args.words.now).outputs))
-    (λ kernel is. ap (λ (d : Disks (List (List ℕ))). is_some d.second) is ∙ sym c.requires.one) c.boot.ensures.blocks
+    second_kept c.args.image.now None c.boot.result (run_words_value c.args.words.now) c.requires.can.named c.boot.ensures.blocks
 
 pub run_made-requires-clause-can : goal.run_made-requires-clause-can
 run_made-requires-clause-can g c =
-    ok_mapped c.boot.result _ (λ kernel. CanTake kernel.system c.args.events.now)
-    (λ kernel is. boot_can c.args.image.now None c.args.words.now.core (lines_value c.lines-lines.result) kernel.system c.args.events.now is c.requires.slots c.requires.rates) c.boot.ensures.system
+    made_can c.args.image.now None c.boot.result c.args.words.now.core (lines_value c.lines-lines.result) c.args.events.now
+    c.requires.can.slots c.requires.can.rates c.boot.ensures.system
 
 pub returns-clause-outcome : goal.returns-clause-outcome
 returns-clause-outcome g c =
     made_from c.args.image.now None (run_words_value c.args.words.now) c.args.events.now (g.H.Host.outside c.args.host.now)
     (g.H.Host.outside c.run_made.new.host) c.run_made.result c.boot.result
-    (subst (λ n. IfOk c.boot.result (λ kernel. boots c.args.image.now None c.args.words.now.core n ≡ Some kernel.system)) c.lines-lines.ensures c.boot.ensures.system)
+    (subst (λ n. IfOk c.boot.result (λ kernel. boots c.args.image.now None c.args.words.now.core n ≡ Some kernel.system))
+    c.lines-lines.ensures c.boot.ensures.system)
     c.boot.ensures.blocks c.run_made.ensures.outcome

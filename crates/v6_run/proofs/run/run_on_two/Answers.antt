@@ -1,37 +1,41 @@
-use Rattle.std.proofs.Common.{◌≡◌, ◌≤◌, ◌∙◌, ℕ, List, is_some, Some, IfOk, sym, ap, subst}
-use Rattle.fs_codec.specs.Disk.{head}
-use Rattle.fs_codec.specs.declared.layout.TheConstants.{SWAP_START}
-use Rattle.buf_cache.specs.Blocks.{block_at}
-use Rattle.fs_nodes.specs.Disks.{Disks}
+use Rattle.std.proofs.Common.{◌≡◌, Some, IfOk, sym, subst}
 use Rattle.abstract_unix.specs.Runs.{boots}
-use Rattle.unix_core.proofs.BootLemmas.{ok_mapped}
-use Rattle.v6_run.specs.Words.{second_files, run_words_value}
-use Rattle.v6_run.specs.Courses.{CanTake}
-use Rattle.v6_run.proofs.CanLemmas.{boot_can}
-use Rattle.v6_run.proofs.FinalLemmas.{image_below}
+use Rattle.v6_run.specs.Words.{run_words_value}
 use Rattle.v6_run.proofs.RunLemmas.{one_line}
-use Rattle.v6_run.proofs.BootedLemmas.{made_from}
+use Rattle.v6_run.proofs.BootedLemmas.{root_below, second_kept, made_can, made_from}
 use Rattle.v6_run.proofs.run.run_on_two.Goals as goal
+
+pub boot2-requires-clause-least : goal.boot2-requires-clause-least
+boot2-requires-clause-least g c = c.requires.can.least
+
+pub boot2-requires-clause-most : goal.boot2-requires-clause-most
+boot2-requires-clause-most g c = c.requires.can.most
+
+pub boot2-requires-clause-good : goal.boot2-requires-clause-good
+boot2-requires-clause-good g c = c.requires.can.good
+
+pub boot2-requires-clause-second : goal.boot2-requires-clause-second
+boot2-requires-clause-second g c = c.requires.can.second_good
 
 pub run_made-requires-clause-root : goal.run_made-requires-clause-root
 run_made-requires-clause-root g c =
-    ok_mapped c.boot2.result _ (λ kernel. (head (block_at kernel.blocks.root)).f_size ≤ SWAP_START)
-    (λ kernel is. subst (λ (d : Disks (List (List ℕ))). (head (block_at d.root)).f_size ≤ SWAP_START) (sym is) (image_below c.args.image.now c.requires.good))
-    c.boot2.ensures.blocks
+    root_below c.args.image.now (Some c.args.second.now) c.boot2.result c.requires.can.good c.boot2.ensures.blocks
 
 pub run_made-requires-clause-second : goal.run_made-requires-clause-second
 run_made-requires-clause-second g c =
-    ok_mapped c.boot2.result _ (λ kernel. is_some kernel.blocks.second ≡ is_some (second_files (run_words_value c.args.words.now).outputs))
-    (λ kernel is. ap (λ (d : Disks (List (List ℕ))). is_some d.second) is ∙ sym c.requires.two) c.boot2.ensures.blocks
+    second_kept c.args.image.now (Some c.args.second.now) c.boot2.result (run_words_value c.args.words.now) c.requires.can.named
+    c.boot2.ensures.blocks
 
 pub run_made-requires-clause-can : goal.run_made-requires-clause-can
 run_made-requires-clause-can g c =
-    ok_mapped c.boot2.result _ (λ kernel. CanTake kernel.system c.args.events.now)
-    (λ kernel is. boot_can c.args.image.now (Some c.args.second.now) c.args.words.now.core 1 kernel.system c.args.events.now is c.requires.slots c.requires.rates) c.boot2.ensures.system
+    made_can c.args.image.now (Some c.args.second.now) c.boot2.result c.args.words.now.core 1 c.args.events.now
+    c.requires.can.slots c.requires.can.rates c.boot2.ensures.system
 
 pub returns-clause-outcome : goal.returns-clause-outcome
 returns-clause-outcome g c =
-    made_from c.args.image.now (Some c.args.second.now) (run_words_value c.args.words.now) c.args.events.now (g.H.Host.outside c.args.host.now)
-    (g.H.Host.outside c.run_made.new.host) c.run_made.result c.boot2.result
-    (subst (λ n. IfOk c.boot2.result (λ kernel. boots c.args.image.now (Some c.args.second.now) c.args.words.now.core n ≡ Some kernel.system)) (sym (one_line c.args.words.now.outputs c.requires.two)) c.boot2.ensures.system)
+    let one = sym (one_line c.args.words.now.outputs (sym c.requires.can.named)) in
+    made_from c.args.image.now (Some c.args.second.now) (run_words_value c.args.words.now) c.args.events.now
+    (g.H.Host.outside c.args.host.now) (g.H.Host.outside c.run_made.new.host) c.run_made.result c.boot2.result
+    (subst (λ n. IfOk c.boot2.result (λ kernel. boots c.args.image.now (Some c.args.second.now) c.args.words.now.core n ≡ Some kernel.system))
+    one c.boot2.ensures.system)
     c.boot2.ensures.blocks c.run_made.ensures.outcome
