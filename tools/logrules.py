@@ -14,9 +14,9 @@ SWAPPER = ("slot 0 runs, and this is the move that the rules of the swapper make
            "enough for the image")
 MODES = (("tick u", "somebody other than slot 0 runs, and is in no call"), ("tick k", "one runs that is in a call, or slot 0 does"),
          ("tick i", "nobody runs"))
-PANICS = ("somebody other than slot 0 runs, and for `swap` the swap area has no piece for 2048 clicks, or for all of core where that "
-          "is less; for `zombie` it has no free block; for `text` no entry is free. Where slot 0 runs, `swap` alone: by the rules of "
-          "the swapper an image goes out, and there is no piece for it")
+PANICS = ("somebody other than slot 0 runs, and for `swap` the swap area has no piece for 2048 clicks, or for all of core where "
+          "that is less; for `zombie` it has no free block; for `text` no entry is free. Where slot 0 runs, `swap` alone: by the "
+          "rules of the swapper an image goes out, and there is no piece for it")
 IMAGE = "N is 16 at least, and 2048 and core at most"
 RULES = {  # by the first word: the forms of the lines, and where they fit
     "go": ("`go S`, `idle`", CHOICE), "idle": ("`go S`, `idle`", CHOICE),

@@ -7,7 +7,7 @@ import threading
 import time
 import unittest
 
-from common import V6, Case, v6
+from common import TOP, V6, Case, read, v6
 
 LAWFUL, READ_FAULT, WRITE_FAULT, UNLAWFUL, BAD = 0, 2, 3, 9, 10
 BEGINS = b"boot 1200 0\nsleep 0 -100 runout\ngo 1\n"  # slot 1 can run, so that `idle` doesn't fit
@@ -158,6 +158,32 @@ class Audit(Case):
             self.assertEqual(self.audited("/dev/stdin", stdin=read), answer)
             giver.join()
             os.close(read)
+
+    def test_a_run_that_is_judged_while_it_goes_on(self):
+        """The log is a pipe between both, which holds less of it than there is. Where the one that reads it ends at a line, the run
+        ends for want of a reader."""
+        image, log, pipe = os.path.join(TOP, "examples", "hi", "image"), self.path("log"), self.path("pipe")
+        script = self.put("script", b"clock 1\nrun 20000\n")
+        self.assertEqual(v6("run", image, "1200", script, self.path("term"), log, self.path("final"))[0], 0)
+        lines = read(log).splitlines(True)
+        self.assertGreater(len(read(log)), 2 * 65536)
+        os.mkfifo(pipe)
+        for judge, answers in (([*shlex.split(V6), "audit", pipe], ((0, b""), (LAWFUL, b"lawful: %d lines\n" % len(lines)))),
+                               (["sed", "4q", pipe], ((WRITE_FAULT, b"write fault: log\n"), (0, b"".join(lines[:4]))))):
+            words = [*shlex.split(V6), "run", image, "1200", script, self.path("term"), pipe, self.path("final")]
+            with subprocess.Popen(words, stdout=subprocess.PIPE) as run:
+                done = subprocess.run(judge, stdout=subprocess.PIPE, timeout=60)
+                said = run.communicate(timeout=60)[0]
+            self.assertEqual(((run.returncode, said), (done.returncode, done.stdout)), answers)
+
+    def test_where_a_log_is_cut(self):
+        """What is left of a line is a line: it may be none of a log, or not fit, or fit; then the next is missing."""
+        for cut, answer in ((b"", UNLAWFUL), (b"wake wait.12\n", UNLAWFUL), (b"wake wait.12", UNLAWFUL), (b"wake wait.1", UNLAWFUL),
+                            (b"wake wait.", BAD), (b"w", BAD), (b"fork 1 2 at 18", UNLAWFUL), (b"fork 1 2 at 1", UNLAWFUL),
+                            (b"fork 1 2 at ", BAD)):
+            line = 5 if cut.startswith(b"wake wait.1") or cut.endswith(b"18") else 4
+            words = "no log line" if answer == BAD else "not lawful"
+            self.assertEqual(self.told(BEGINS + cut), (answer, f"log: line {line} is {words}\n"), cut)
 
     def test_where_lines_cross_the_pieces_that_are_read(self):
         """Of a long log each line is judged whole, wherever 4,096 bytes end."""
