@@ -60,3 +60,4 @@ pub mod Landing
 pub mod StandsThere
 pub mod NearCore
 pub mod FieldPut
+pub mod Loading
