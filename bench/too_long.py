@@ -3,16 +3,17 @@
 
     bench/too_long.py [COMMAND [BITS]]
 
-COMMAND is a built v6 for x86-64 (bin/v6). Of a log it reads at most 2^40 + 1 bytes. In a copy of it 2^BITS + 1 (2^20 + 1; BITS
-from 14 to 30) stands for that number wherever its machine code loads it; nothing else is changed. It is refused where the number
-isn't loaded, or stands elsewhere, or one near it is loaded. The copy audits logs of about 2^BITS bytes, each from a file and from
-a pipe, sparse files, and a log whose report fails. Where strace is there, reads fail too.
+COMMAND is a built v6 for x86-64 (bin/v6), whose last word is the program. Of a log it reads at most 2^40 + 1 bytes. In a copy of
+it 2^BITS + 1 (2^20 + 1; BITS from 14 to 30) stands for that number wherever its machine code loads it; nothing else is changed. It
+is refused where the number isn't loaded, or stands elsewhere, or one near it is loaded. The copy audits logs of about 2^BITS bytes,
+each from a file and from a pipe, sparse files, and a log whose report fails. Where strace is there, reads fail too.
 
 What must be answered is the rule of docs/manual/audit.md, which `answer` works over the bytes of a log, and each log has its
 status beside it. The program itself audits a sparse file of 2^40 + 5 bytes. Each wrong answer is told, and the exit status is 1 then.
 """
 import os
 import re
+import shlex
 import shutil
 import subprocess
 import sys
@@ -174,8 +175,8 @@ def sparse(limit):
 class Judge:
     """Audits by one program, and how many were wrong."""
 
-    def __init__(self, program, limit, folder):
-        self.program, self.limit, self.name, self.audits, self.wrong = program, limit, f"{folder}/log", 0, []
+    def __init__(self, command, limit, folder):
+        self.command, self.limit, self.name, self.audits, self.wrong = command, limit, f"{folder}/log", 0, []
 
     def put(self, data, size=None):
         with open(self.name, "wb") as file:
@@ -184,7 +185,7 @@ class Judge:
 
     def judge(self, what, wanted, before=(), name=None, **more):
         """One audit."""
-        done = subprocess.run([*before, self.program, "audit", name or self.name], check=False,
+        done = subprocess.run([*before, *self.command, "audit", name or self.name], check=False,
                               **{"stdout": subprocess.PIPE, "stderr": subprocess.DEVNULL, **more})
         came = done.returncode, done.stdout.decode() if done.stdout is not None else ""
         self.audits += 1
@@ -221,17 +222,18 @@ class Judge:
                                       "-e", f"inject=read:error=EIO:when={number}"])
 
 
-def judged(program, bits, folder, is_traced):
+def judged(command, bits, folder, is_traced):
     """The judge of a copy of a program, whose audits are done, and of one audit by the program itself."""
-    judge = Judge(os.path.abspath(program), 1 << bits, folder)
+    *before, program = command
+    judge = Judge(command, 1 << bits, folder)
     judge.put(b"", LIMIT + 5)
     judge.judge("the program itself, a sparse file of 2^40 + 5 bytes", (BAD, "log: line 1 is no log line\n"))
     with open(program, "rb") as file:
         copy = shortened(file.read(), judge.limit)
-    judge.program = f"{folder}/v6"
-    with open(judge.program, "wb") as file:
+    judge.command = [*before, f"{folder}/v6"]
+    with open(judge.command[-1], "wb") as file:
         file.write(copy)
-    os.chmod(judge.program, 0o755)
+    os.chmod(judge.command[-1], 0o755)
     judge.logs()
     judge.files()
     if is_traced:
@@ -245,7 +247,8 @@ def main(words):
     is_traced = shutil.which("strace") is not None
     with tempfile.TemporaryDirectory() as folder:
         try:
-            judge = judged(words[0] if words else f"{TOP}/bin/v6", int(words[1]) if words[1:] else 20, folder, is_traced)
+            command = shlex.split(words[0]) if words else [f"{TOP}/bin/v6"]
+            judge = judged(command, int(words[1]) if words[1:] else 20, folder, is_traced)
         except (OSError, ValueError) as error:
             sys.exit(f"too_long.py: {error}")
     print(*judge.wrong, sep="\n", end="\n" * bool(judge.wrong))

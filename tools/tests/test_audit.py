@@ -1,15 +1,20 @@
 """v6 audit over what no row can hold: every line at the edges of its numbers, odd bytes, and files that are none. The answers are
 those of docs/manual/log.md and docs/manual/audit.md, worked by hand."""
+import fcntl
 import os
 import shlex
 import subprocess
+import sys
+import termios
 import threading
 import time
 import unittest
+import unittest.mock
 
 from common import TOP, V6, Case, read, v6
 
 LAWFUL, READ_FAULT, WRITE_FAULT, UNLAWFUL, BAD = 0, 2, 3, 9, 10
+LIMIT = 2**40  # bytes of the longest log that isn't too long
 BEGINS = b"boot 1200 0\nsleep 0 -100 runout\ngo 1\n"  # slot 1 can run, so that `idle` doesn't fit
 ENDED = b"boot 64 0\nsleep 0 -100 runout\ngo 1\nexit 1 swap 4000\nidle\nend"
 # of each number of a line: a value in its range, the least and the most
@@ -125,6 +130,35 @@ class Audit(Case):
         os.close(read)
         os.close(write)
 
+    def test_a_line_of_80_bytes_waits_for_its_end(self):
+        """It isn't judged when all of it was read: the 81st byte, a line feed or the end of the file may come."""
+        for last in (b"x", b"\n", b""):
+            auditor = subprocess.Popen([*shlex.split(V6), "audit", "/dev/stdin"], stdin=subprocess.PIPE, stdout=subprocess.PIPE, bufsize=0)
+            with auditor:
+                auditor.stdin.write(BEGINS + b"x" * 80)
+                while int.from_bytes(fcntl.ioctl(auditor.stdin, termios.FIONREAD, bytes(4)), "little"):
+                    time.sleep(0.001)
+                time.sleep(0.1)
+                self.assertIsNone(auditor.poll())
+                self.assertEqual(auditor.communicate(last), (b"log: line 4 is no log line\n", None))
+            self.assertEqual(auditor.returncode, BAD)
+
+    def test_the_first_of_some_faults(self):
+        """Of lines at fault the first is named, and how it is at fault; what comes behind it is no matter, nor that an end is missing."""
+        faults = {b"idle\n": UNLAWFUL, b"boot 1200 0\n": UNLAWFUL, b"trap 2\n": UNLAWFUL, b"walk\n": BAD, b"\n": BAD, b"trap 01\n": BAD,
+                  b"x" * 81 + b"\n": BAD}
+        for first, status in faults.items():
+            said = f"log: line 4 is {'no log line' if status == BAD else 'not lawful'}\n"
+            for second in faults:
+                for rest in (first + second, first + b"trap 1\n" + second + b"end\n", first + second[:-1]):
+                    self.assertEqual(self.told(BEGINS + rest), (status, said), rest)
+            self.assertEqual(self.told(BEGINS + first + b"end\nend\n"), (status, said), first)
+        for first, line, status in ((b"boot 63 0\n", 1, UNLAWFUL), (b"boot 65536 0\n", 1, BAD), (b"boot 64 0\nsleep 0 -100 runin\n", 2, UNLAWFUL),
+                                    (b"boot 64 0\nsleep 0 -100 run\n", 2, BAD), (b"boot 64 0\nsleep 0 -100 runout\nend\n", 3, UNLAWFUL)):
+            said = f"log: line {line} is {'no log line' if status == BAD else 'not lawful'}\n"
+            for rest in (b"walk\n", b"go 2\nwalk", b"", b"x" * 81):
+                self.assertEqual(self.told(first + rest), (status, said), (first, rest))
+
     def test_the_last_line(self):
         lawful = ENDED
         for end in (b"", b"\n"):
@@ -194,18 +228,20 @@ class Audit(Case):
             self.assertEqual(self.told(data + b"idle\n"), (UNLAWFUL, f"log: line {4 + len(lines)} is not lawful\n"))
 
     def test_a_file_that_grows(self):
-        """A line that is missing when the end is read is missing, whatever comes behind it then: the answer is that of a log
-        which the file held meanwhile."""
+        """What isn't there when the end is read is missing, whatever comes behind it then: the answer is that of a log which the file
+        held meanwhile. It grows by half lines, of which the first is no line, to 200,000 bytes."""
         name = self.put("log", BEGINS)
-        lines, grown = [b"wake keys\n"] * 300 + [b"exit 1 swap 4000\n", b"idle\n", b"end\n"], 0
+        lines, grown, before = [b"wake keys\n"] * 20_000 + [b"exit 1 swap 4000\n", b"idle\n", b"end\n"], 0, 4
         with open(name, "ab", buffering=0) as file:
 
             def grow():
                 nonlocal grown
-                for line in lines:
-                    file.write(line)
-                    grown += 1
-                    time.sleep(0.001)
+                for at, line in enumerate(lines):
+                    for half in (line[:-2], line[-2:]):
+                        file.write(half)
+                        grown += 1
+                    if at % 50 == 0:
+                        time.sleep(0.001)
 
             grower = threading.Thread(target=grow)
             grower.start()
@@ -214,14 +250,32 @@ class Audit(Case):
                 status, said = self.audited(name)
                 if status == LAWFUL:
                     self.assertEqual(said, f"lawful: {3 + len(lines)} lines\n")
-                else:
-                    self.assertEqual(status, UNLAWFUL)
-                    line = int(said.split()[2])
-                    self.assertEqual(said, f"log: line {line} is not lawful\n")
-                    self.assertLessEqual(4 + least, line)
-                    self.assertLessEqual(line, 5 + grown)
+                    continue
+                self.assertIn(status, (UNLAWFUL, BAD))
+                line = int(said.split()[2])
+                self.assertEqual(said, f"log: line {line} is {'not lawful' if status == UNLAWFUL else 'no log line'}\n")
+                halves = 2 * (line - before) + (status == BAD)
+                self.assertLessEqual(least, halves)
+                self.assertLessEqual(halves, grown + 1)
             grower.join()
+        self.assertGreater(os.path.getsize(name), 200_000)
         self.assertEqual(self.audited(name), (LAWFUL, f"lawful: {3 + len(lines)} lines\n"))
+
+    def test_logs_that_are_too_long(self):
+        """A copy of the program in which 2^16 stands for 2^40 answers by the rule of the page, whatever the length is."""
+        with unittest.mock.patch.object(sys, "path", [f"{TOP}/bench", *sys.path]):
+            import too_long
+        judge = too_long.judged(shlex.split(V6), 16, self.folder, is_traced=False)
+        self.assertGreater(judge.audits, 100)
+        self.assertEqual(judge.wrong, [])
+
+    def test_a_sparse_file(self):
+        """Of a file of more than 2^40 bytes the first fault is named where it has one: zeros are no line."""
+        for data, status, line in ((b"", BAD, 1), (BEGINS, BAD, 4), (BEGINS + b"idle\n", UNLAWFUL, 4), (ENDED, BAD, 6),
+                                   (ENDED + b"\nidle\n", UNLAWFUL, 7), (BEGINS + b"wake keys\n" * 10_000, BAD, 10_004)):
+            name = self.put("log", data)
+            os.truncate(name, LIMIT + 5)
+            self.assertEqual(self.audited(name), (status, f"log: line {line} is {'no log line' if status == BAD else 'not lawful'}\n"))
 
     def test_files_that_are_none(self):
         self.assertEqual(self.audited(self.folder), (READ_FAULT, "read fault: log\n"))

@@ -1,13 +1,16 @@
 """What the benches make and judge of a terminal of eight lines, without the reference: that one is put in its place."""
+import os
 import random
 import re
 import sys
+import tempfile
 import types
 import unittest
 import unittest.mock
 
 from common import TOP, Case
 
+import rowfile
 import scriptfile
 
 LINES = [f"term.{line}" for line in range(1, 8)]
@@ -21,8 +24,9 @@ def bench(*names):
         return [__import__(name) for name in names]
 
 
-fuzz_cases, fuzz_hosts, fuzz_judge, fuzz_row, random_lines, random_script, spoil, spoiled_logs = bench(
-    "fuzz_cases", "fuzz_hosts", "fuzz_judge", "fuzz_row", "random_lines", "random_script", "spoil", "spoiled_logs")
+definition, fuzz_cases, fuzz_hosts, fuzz_judge, fuzz_row, random_lines, random_script, spoil, spoiled_logs, too_long = bench(
+    "definition", "fuzz_cases", "fuzz_hosts", "fuzz_judge", "fuzz_row", "random_lines", "random_script", "spoil", "spoiled_logs",
+    "too_long")
 RUN, RUN8, RUN2 = fuzz_cases.RUN, fuzz_cases.RUN8, fuzz_cases.RUN2
 
 
@@ -224,6 +228,65 @@ class Logs(unittest.TestCase):
         self.assertEqual(spoiled_logs.others("show.7"), ("keys.7", "read.7"))
         self.assertIn("show", spoiled_logs.others("keys"))
         self.assertEqual(spoiled_logs.others("end.1"), ())
+
+    def test_cases(self):
+        """Of all kinds of the fuzzer that run a disk; each makes the files that its command reads."""
+        self.assertEqual({"host", "command", *spoiled_logs.FUZZED}, set(fuzz_cases.KINDS))
+        for kind in spoiled_logs.FUZZED:
+            with tempfile.TemporaryDirectory() as folder:
+                case = spoiled_logs.FuzzCase(1, kind)
+                case.write(folder)
+                self.assertEqual(sorted(os.listdir(folder)), ["image", *["image2"] * case.second, "script"])
+                self.assertEqual(case.second, case.command == "run2")
+
+    def test_limit_of_a_program(self):
+        """It becomes another where machine code loads it, and a program is refused in which it stands otherwise, or isn't loaded."""
+        number, near = ((2**40 + more).to_bytes(8, "little") for more in (1, 0))
+        program = b"\x90\x48\xbb" + number + b"\x48\x89\xc3\x49\xbc" + number
+        small = program.replace(number, (2**20 + 1).to_bytes(8, "little"))
+        self.assertEqual(too_long.shortened(program, 2**20), small)
+        for other in (program + number, small, b"", program + b"\x48\xb8" + near):
+            with self.assertRaises(ValueError):
+                too_long.shortened(other, 2**20)
+
+
+class Definition(Case):
+    def test_rows_of_the_auditor(self):
+        """The definition as it stands names the line that each row names, which was worked by hand from the manual."""
+        auditor, tried = definition.Auditor(), 0
+        for name in sorted(os.listdir(os.path.join(rowfile.DATA, "rows", "audit"))):
+            row = rowfile.Row(f"audit/{name}")
+            if row.command() not in ("audit script", "audit empty"):
+                continue
+            lines = row.script.decode().split("\n") if row.command() == "audit script" else [""]
+            lines = lines if lines[-1] else lines[:-1]
+            found = auditor.first_fault(lines)
+            said = re.fullmatch(rb"log: line (\d+) is (not lawful|no log line)\n|lawful: (\d+) lines\n", row.lines["report"])
+            self.assertEqual((found, len(lines) if found is None else None), (said[1] and int(said[1]), said[3] and int(said[3])), name)
+            if found is not None and found <= len(lines):
+                entry = definition.entry_of(lines[found - 1])
+                is_line = entry is not None and auditor.names["IsInRange"](entry)
+                self.assertEqual(is_line, said[2] == b"not lawful", name)
+            tried += 1
+        self.assertGreater(tried, 150)
+
+    def test_names_that_definitions_bind(self):
+        """A parameter, a name of `let` or of a function may be that of a definition, of a constant place or of a word of Python."""
+        self.put("entry", b"pub const LAST: u8 = 4;\n")
+        self.put("It.antt", """use Some.where as place
+slots : List ℕ
+slots = range_with_len 0 LAST
+
+abbrev pub longer : List ℕ → ℕ → Bool
+longer slots lambda = nat_lt lambda (length slots)
+
+pub both : ℕ → Bool
+both n = longer slots n && (let slots : List ℕ = [] in not (longer slots n)) && list_any (λ slots. slots == n) slots
+""".encode())
+        with unittest.mock.patch.multiple(definition, TOP=self.folder, FILES=("../It",), CONSTANTS=("../entry",)):
+            os.mkdir(self.path("crates"))
+            names = definition.Definitions().compiled()
+        self.assertEqual([names["both"](n) for n in range(6)], [True] * 4 + [False] * 2)
 
 
 if __name__ == "__main__":
