@@ -112,7 +112,7 @@ in_is : (line : List ℕ) (core : ℕ) (o : Option TextRow) → text_in_core (sh
 in_is line core None = refl
 in_is line core (Some t) = refl
 
-pub spot_same : (v : Stock) (o : Owner) → IsSound v → spot_of (kept_of v) o ≡ spot v o
+spot_same : (v : Stock) (o : Owner) → IsSound v → spot_of (kept_of v) o ≡ spot v o
 spot_same v (RowOf s) h =
     let r : Row = row_at v.rows s in
     ap (λ c. keeping_spot c (keeping (kept_of v) s)) (core_kept v) ∙ ap (keeping_spot v.core) (slot_at v s)

@@ -60,4 +60,3 @@ pub mod Landing
 pub mod StandsThere
 pub mod NearCore
 pub mod FieldPut
-pub mod Loading

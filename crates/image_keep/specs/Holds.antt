@@ -1,6 +1,6 @@
 -- What core and the swap area hold: the images, the texts and what is kept of those who have ended, at their places. Byte 0 of
 -- click c is byte 64 * (c - 1) of core, byte 0 of block b is byte 512 * (b - 4000) of the swap area.
-use Rattle.std.specs.Prelude.{◌≡◌, ◌≢◌, ◌≤◌, ℕ, ◌+◌, ◌-◌, ◌*◌, ◌==◌, if◌then◌else◌, List, ◌++◌, length, Option, Some, None}
+use Rattle.std.specs.Prelude.{◌≡◌, ◌≢◌, ℕ, ◌-◌, ◌*◌, ◌==◌, if◌then◌else◌, List, ◌++◌, length, Option, Some, None}
 use Rattle.v6_base.specs.declared.entry.Place.TheVariants.{Core, Swap}
 use Rattle.core_mem.specs.Bytes.{part}
 use Rattle.u_area.specs.declared.area.UArea.{UArea}
@@ -36,10 +36,6 @@ spot_of k (InOf t) = text_in_core (shared k t)
 -- No range of a slot or of a text meets another.
 abbrev pub AreRangesApart : Kept → Type 0
 AreRangesApart k = (o p : Owner) → o ≢ p → AreApart (spot_of k o) (spot_of k p)
-
--- All that is kept stands in core.
-abbrev pub IsAllInCore : Kept → Type 0
-IsAllInCore k = (o : Owner) → (spot_of k o).at + (spot_of k o).size ≤ 64 * k.core
 
 -- Core holds the images and the texts that are there.
 pub record CoreHolds (core : List ℕ) (k : Kept) : Type 0 where

@@ -3,7 +3,6 @@ ghost use Rattle.std.specs.Prelude.{◌≡◌, ◌*◌, ◌<◌, ◌≤◌, None
 ghost use Rattle.image_keep.specs.declared.memory.TheConstants.{SWAP_BYTES};
 ghost use Rattle.image_keep.specs.Kept.{first_kept, IsKept, HasImage, HasGrave, place_of, area_of, with_keeping, text_of, Nothing};
 ghost use Rattle.image_keep.specs.Growth.{most_clicks};
-ghost use Rattle.image_keep.specs.Holds.{IsAllInCore};
 ghost use Rattle.image_keep.specs.Memory.{no_row};
 ghost use Rattle.image_keep.specs.Places.{swap_fit, with_grave_at};
 ghost use Rattle.u_area.specs.Area.{IsSized, half_bytes};
@@ -100,17 +99,6 @@ impl Images {
             core_map: Holes::new(1, core),
             swap_map: Holes::new(SWAP_START, SWAP_BLOCKS),
         })
-    }
-
-    /// Gives the swap area these bytes, while all that is kept stands in core.
-    pub fn load_swap(&mut self, bytes: &[u8])
-        requires size { length bytes.now ≡ SWAP_BYTES }
-        requires all { IsAllInCore self.old.kept }
-        ensures kept { self.new.kept ≡ self.old.kept }
-        ensures core { self.new.core ≡ self.old.core }
-        ensures swap { self.new.swap ≡ bytes.now }
-    {
-        self.memory.load_swap(bytes);
     }
 
     /// Where a slot's image stands, or what is kept of a process that has ended.

@@ -136,15 +136,6 @@ impl Memory {
         Ok(Memory { core, clicks, swap })
     }
 
-    /// Gives the swap area other bytes, as many as it has.
-    pub(crate) fn load_swap(&mut self, bytes: &[u8])
-        requires { length bytes.now ≡ length self.old.swap }
-        ensures core { self.new.core ≡ self.old.core }
-        ensures swap { self.new.swap ≡ bytes.now }
-    {
-        self.swap.copy_from_slice(bytes);
-    }
-
     /// Each byte is below 256. Nothing is read.
     #[inline(always)]
     pub(crate) fn see_bytes(&self)

@@ -22,9 +22,7 @@ use Rattle.sys_procs.specs.TextTable.{marks_of}
 use Rattle.sys_files.specs.Pipes.{ArePipes}
 use Rattle.sys_files.specs.Sound.{is_of, numbers_of}
 use Rattle.proc_tab.specs.Processes.{first_processes, member_at}
-use Rattle.image_keep.specs.Kept.{Nothing, Alive, Kept, Has, keeping, shared, first_kept, with_keeping, area_in, clicks_of, text_of}
-use Rattle.image_keep.specs.Memory.{Spot, RowOf, OutOf, InOf}
-use Rattle.image_keep.specs.Holds.{keeping_spot, text_out, text_in_core, IsAllInCore}
+use Rattle.image_keep.specs.Kept.{Nothing, Alive, Kept, Has, keeping, first_kept, with_keeping, area_in, clicks_of, text_of}
 use Rattle.image_keep.proofs.Frames.{keeping_same, keeping_other}
 use Rattle.sys_procs.specs.Process.{Process, process_in}
 use Rattle.sys_procs.specs.World.{processes_in, clock_of, text_in, texts_in}
@@ -142,23 +140,6 @@ first_image core = keeping_same (first_kept core) 1 (Alive first_held) (let long
 
 first_alone : (core s : ℕ) → s ≢ 1 → keeping (first_images core) s ≡ Nothing
 first_alone core s other = keeping_other (first_kept core) 1 s (Alive first_held) other ∙ everywhere 50 Nothing s
-
--- and it stands in core, as all that is kept
-abbrev InCore : ℕ → Spot → Type 0
-InCore core p = p.at + p.size ≤ 64 * core
-
-no_shared : (core t : ℕ) → shared (first_images core) t ≡ None
-unfolding kept.no_texts
-no_shared core t = everywhere 40 None t
-
-pub first_in_core : (core : ℕ) → 64 ≤ core → IsAllInCore (first_images core)
-first_in_core core least (RowOf s) = elim (cases_eq s 1) [
-  | inl here ↦ subst (λ r. InCore core (keeping_spot core (keeping (first_images core) r))) (sym here)
-      (subst (λ x. InCore core (keeping_spot core x)) (sym (first_image core)) (omega (arith, least)))
-  | inr other ↦ subst (λ x. InCore core (keeping_spot core x)) (sym (first_alone core s other)) (omega arith)
-]
-first_in_core core least (OutOf t) = subst (λ x. InCore core (text_out core x)) (sym (no_shared core t)) (omega arith)
-first_in_core core least (InOf t) = subst (λ x. InCore core (text_in_core x)) (sym (no_shared core t)) (omega arith)
 
 first_free : (time s : ℕ) → 2 ≤ s → row_at (first_table time) s ≡ empty_row
 first_free time zero high = absurd (omega (arith, high))

@@ -1,16 +1,15 @@
 //! What a kernel begins with.
-ghost use Rattle.std.specs.Prelude.{◌≡◌, ◌⊎◌, ◌==◌, if◌then◌else◌, ℕ, ◌≤◌, IfOk, IfErr, Some, None, slice_index, length, replicate};
+ghost use Rattle.std.specs.Prelude.{◌≡◌, ◌⊎◌, ◌==◌, if◌then◌else◌, ℕ, ◌≤◌, IfOk, IfErr, Some, None, slice_index, length};
 ghost use Rattle.v6_base.specs.Tape.{blank};
 ghost use Rattle.fs_codec.specs.Disk.{disk_of};
 ghost use Rattle.fs_codec.specs.Faults.{image_fault, fault_within};
 ghost use Rattle.fs_codec.specs.Stands.{store_of};
-ghost use Rattle.fs_codec.specs.Words.{bytes_from};
 ghost use Rattle.fs_codec.specs.declared.layout.TheConstants.{DISK_BLOCKS};
 ghost use Rattle.fs_nodes.specs.Keys.{key_count};
 ghost use Rattle.fs_tree.specs.Mounting.{AreMounts};
 ghost use Rattle.abstract_unix.specs.Runs.{stores_of};
 ghost use Rattle.unix_core.specs.Parts.{AreFirst};
-ghost use Rattle.unix_core.specs.Boots.{counted_fault, second_fault_of, blocks_on, swap_on};
+ghost use Rattle.unix_core.specs.Boots.{counted_fault, second_fault_of, blocks_on};
 
 use crate::files::take_root;
 use crate::kernel::{Kernel, Rooms, first_procs};
@@ -165,11 +164,9 @@ fn two_mounts(image: &[u8], second: &[u8]) -> Mounts
     Mounts::new(first, other)
 }
 
-/// Puts what an image has of the swap area there, where only zeros are.
+/// Puts what an image has of the swap area there.
 fn fill_swap(swap: &mut [u8], image: &[u8])
-    requires zeros { swap.old ≡ replicate (length swap.old) 0 }
-    ensures bytes { swap.new ≡ bytes_from image.now SWAP_AT (length swap.old) }
-    ensures size { length swap.new ≡ length swap.old }
+    ensures { length swap.new ≡ length swap.old }
 {
     match image.get(SWAP_AT..) {
         Some(rest) => {
@@ -180,25 +177,30 @@ fn fill_swap(swap: &mut [u8], image: &[u8])
     }
 }
 
-/// Takes the memory of a kernel with so many clicks of core, on the swap area of an image, which is put there when the first
-/// process stands in core. It stands out of line, so that its frame doesn't lie beside a kernel.
+/// The swap area of a disk with an image: its blocks as the image has them, and zeros where the image ends before.
+fn swap_area(alloc: Global, image: &[u8]) -> Result<Vec<u8>, AllocError>
+    ensures { IfOk result (λ swap. length swap.items ≡ SWAP_BYTES) }
+{
+    let mut swap = vec![in alloc; 0u8; SWAP_BYTES]?;
+    fill_swap(&mut swap, image);
+    Ok(swap)
+}
+
+/// Takes the memory of a kernel with so many clicks of core, on the swap area of an image. It stands out of line, so that its
+/// frame doesn't lie beside a kernel.
 #[inline(never)]
 fn rooms_of(alloc: Global, image: &[u8], time: u32, core: u16) -> Result<Rooms, AllocError>
     requires least { 64 ≤ core }
     requires most { core ≤ 3968 }
     ensures procs { IfOk result (λ rooms. AreFirst rooms.procs core time) }
-    ensures area { IfOk result (λ rooms. rooms.procs.images.swap ≡ swap_on image.now) }
     ensures tape { IfOk result (λ rooms. rooms.tape ≡ blank TAPE_ENTRIES TAPE_BYTES) }
 {
-    let mut swap = vec![in alloc; 0u8; SWAP_BYTES]?;
+    let swap = swap_area(alloc, image)?;
     let images = Images::new(alloc, core, &swap)?;
     let tape = Tape::new(alloc, TAPE_ENTRIES, TAPE_BYTES)?;
     let dispatch = Dispatch::new(alloc)?;
-    let mut procs = first_procs(images, time);
-    fill_swap(&mut swap, image);
-    procs.images.load_swap(&swap);
     Ok(Rooms {
-        procs,
+        procs: first_procs(images, time),
         tape,
         dispatch,
     })
@@ -220,7 +222,6 @@ impl Kernel {
         ensures system { IfOk result (λ kernel. boots image.now None core lines ≡ Some kernel.system) }
         ensures blocks { IfOk result (λ kernel. kernel.blocks ≡ blocks_on image.now None) }
         ensures stored { IfOk result (λ kernel. kernel.stored ≡ blocks_on image.now None) }
-        ensures area { IfOk result (λ kernel. kernel.swap ≡ swap_on image.now) }
         ensures phase { IfOk result (λ kernel. kernel.phase ≡ New) }
         ensures refused { IfErr result (RefusesBoot image.now) }
     {
@@ -247,7 +248,6 @@ impl Kernel {
         ensures system { IfOk result (λ kernel. boots image.now None core 1 ≡ Some kernel.system) }
         ensures blocks { IfOk result (λ kernel. kernel.blocks ≡ blocks_on image.now None) }
         ensures stored { IfOk result (λ kernel. kernel.stored ≡ blocks_on image.now None) }
-        ensures area { IfOk result (λ kernel. kernel.swap ≡ swap_on image.now) }
         ensures phase { IfOk result (λ kernel. kernel.phase ≡ New) }
         ensures refused { IfErr result (RefusesBoot image.now) }
     {
@@ -261,7 +261,6 @@ impl Kernel {
         ensures system { IfOk result (λ kernel. boots image.now None core LINES ≡ Some kernel.system) }
         ensures blocks { IfOk result (λ kernel. kernel.blocks ≡ blocks_on image.now None) }
         ensures stored { IfOk result (λ kernel. kernel.stored ≡ blocks_on image.now None) }
-        ensures area { IfOk result (λ kernel. kernel.swap ≡ swap_on image.now) }
         ensures phase { IfOk result (λ kernel. kernel.phase ≡ New) }
         ensures refused { IfErr result (RefusesBoot image.now) }
     {
@@ -284,7 +283,6 @@ impl Kernel {
         ensures system { IfOk result (λ kernel. boots image.now (Some second.now) core 1 ≡ Some kernel.system) }
         ensures blocks { IfOk result (λ kernel. kernel.blocks ≡ blocks_on image.now (Some second.now)) }
         ensures stored { IfOk result (λ kernel. kernel.stored ≡ blocks_on image.now (Some second.now)) }
-        ensures area { IfOk result (λ kernel. kernel.swap ≡ swap_on image.now) }
         ensures phase { IfOk result (λ kernel. kernel.phase ≡ New) }
         ensures refused { IfErr result (RefusesBoot2 image.now second.now) }
     {

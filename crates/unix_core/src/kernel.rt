@@ -145,7 +145,6 @@ impl Kernel {
         ensures system { IfOk result (λ kernel. kernel.system ≡ system_with nodes.store core lines) }
         ensures blocks { IfOk result (λ kernel. kernel.blocks ≡ nodes.blocks) }
         ensures stored { IfOk result (λ kernel. kernel.stored ≡ nodes.stored) }
-        ensures area { IfOk result (λ kernel. kernel.swap ≡ rooms.procs.images.swap) }
         ensures phase { IfOk result (λ kernel. kernel.phase ≡ New) }
     {
         nodes.see();
