@@ -128,13 +128,26 @@ def counted(count):
 
 
 def right_line(table, entry, is_lawful):
-    """The line that the rules give in the place of one, with why, as far as it is known to be lawful there."""
+    """The line that the rules give in the place of one, with why, as far as it is known to be lawful there; else who runs, where that
+    is another than the line wants."""
     for line, why in Wanted(table, entry).lines():
         if is_lawful(line):
             return [f"The rules would make it `{line}`: {why}"]
     if entry["word"] in CHOICES and table.entry["word"] != "idle" and is_lawful("end"):  # behind `idle` it fits beside a choice
         return ["There is no choice there"]
-    return []
+    if runs_as_wanted(table.running, entry):
+        return []
+    return ["Nobody runs there" if table.running is None else f"Slot {table.running} runs there"]
+
+
+def runs_as_wanted(running, entry):
+    """Whether somebody runs for whom the line could stand."""
+    word = entry["word"]
+    if word in ("in", "out"):
+        return running == 0
+    if word in ("time", "reap", "panic"):
+        return running is not None and (running != 0 or word == "panic")
+    return word in ("wake", "signal", "tick", "end", *CHOICES) or running == entry["S"]
 
 
 def bared(table):

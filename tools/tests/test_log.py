@@ -354,10 +354,11 @@ class Log(Case):
             ("size 1 832 keep, fork 1 5 at 833, fork 1 6 swap 4768, exit 1 swap 4871", "panic zombie", "no block is free"),
             (to_go_out + "out 1 4768", "panic swap", swapper), (to_go_out + "panic zombie", "panic swap", swapper),
         ), FULL)
-        for lines in ("size 1 2049 swap 4768", "image 1 2048 at 1", "text 1 0 2048 swap 4768", "fork 2 5 swap 4768",
+        for lines in ("size 1 2049 swap 4768", "image 1 2048 at 1", "text 1 0 2048 swap 4768",
                       "bare 1, image 1 2049 at 1", "bare 1, text 1 0 2049 swap 4768",
                       "bare 1, text 1 0 8 swap 4768, image 1 824 swap 4769, exit 1 swap 4000"):
             self.assertEqual(self.told_line(lines.split(", "), FULL), "", lines)  # nothing of the kind is due
+        self.assertEqual(self.told_line(["fork 2 5 swap 4768"], FULL), "Slot 1 runs there.")
 
     def test_audit_tells_the_panic_of_texts(self):
         """Forty texts of a block each, which stay."""
@@ -367,12 +368,20 @@ class Log(Case):
 
     def test_audit_tells_no_line(self):
         """Where none is lawful: a size that no image has, a process that doesn't run, a panic without its cause."""
-        for lines in ("size 1 8 keep", "size 1 3000 at 18", "size 1 1201 swap 4000", "size 2 80 at 18", "fork 2 3 at 18",
-                      "exit 2 swap 4000", "image 1 30 at 18", "text 1 0 9 swap 4000", "drop 1 0 plain", "bare 1, image 1 15 at 1",
-                      "bare 1, image 2 30 at 1", "bare 1, text 1 0 0 swap 4000", "bare 1, text 1 0 1201 swap 4000", "panic swap",
-                      "panic zombie", "panic text", "out 1 4000", "in 1 18", "sleep 0 -100 runin", "sleep 1 10 tout", "reap 1",
-                      "share 1 0"):
+        for lines in ("size 1 8 keep", "size 1 3000 at 18", "size 1 1201 swap 4000", "image 1 30 at 18", "text 1 0 9 swap 4000",
+                      "drop 1 0 plain", "bare 1, image 1 15 at 1", "bare 1, text 1 0 0 swap 4000", "bare 1, text 1 0 1201 swap 4000",
+                      "panic swap", "panic zombie", "panic text", "sleep 1 10 tout", "reap 1", "share 1 0", "signal 2 1"):
             self.assertEqual(self.told_line(lines.split(", ")), "", lines)
+
+    def test_audit_tells_who_runs(self):
+        """Where that is another than the line wants."""
+        waits, fills = "sleep 1 40 wait.1, ", "size 1 1200 swap 4000, trap 1, go 0, "
+        for lines, runs in (("size 2 80 at 18", 1), ("fork 2 3 at 18", 1), ("exit 2 swap 4000", 1), ("bare 1, image 2 30 at 1", 1),
+                            ("out 1 4000", 1), ("in 1 18", 1), ("sleep 0 -100 runin", 1), ("trap 0", 1), (waits + "trap 1", None),
+                            (waits + "time 1", None), (waits + "reap 1", None), (waits + "panic swap", None), (fills + "time 1", 0),
+                            (fills + "reap 1", 0), (fills + "nice 1 1", 0), (fills + "bare 1", 0)):
+            said = "Nobody runs there." if runs is None else f"Slot {runs} runs there."
+            self.assertEqual(self.told_line(lines.split(", ")), said, lines)
 
     def test_audit_tells_that_there_is_no_choice(self):
         """Slot 1 runs, and no new choice is asked for; it is in a call, up to its `trap`; slot 0 runs, which gives up for none."""
@@ -511,6 +520,15 @@ class Log(Case):
         shown = self.log("show", "--disk", os.path.join(shell, "image"), "--from", "26", "--to", "38", names[1])[1]
         self.assertIn("\n\n" + shown + "```\n", page)
         self.assertEqual(self.log("draw", names[1])[1], read(os.path.join(TOP, "docs", "tools", "log.svg")).decode())
+
+    def test_page_of_an_audit(self):
+        hi, names = os.path.join(TOP, "examples", "hi"), [self.path(name) for name in ("term", "log", "final")]
+        self.assertEqual(v6("run", os.path.join(hi, "image"), "1200", os.path.join(hi, "script"), *names)[0], 0)
+        lines = read(names[1]).decode().splitlines(True)
+        lines[4] = lines[4].replace("at 1", "at 2")
+        status, shown, _ = self.log("audit", "--v6", V6, self.text("spoiled", "".join(lines)))
+        self.assertEqual(status, 1)
+        self.assertIn("\n\n" + shown + "```\n", read(os.path.join(TOP, "docs", "tools", "log.md")).decode())
 
     def test_book(self):
         """The procedure of each line stands before what it tells, with its line in the book; the end of a script has none."""
