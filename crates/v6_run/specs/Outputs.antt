@@ -50,6 +50,10 @@ abbrev pub is_output : Outputs → Port → Bool
 is_output (ToDisk files) q = is_disk_output files q
 is_output (ToMemory final) q = same (Out out_port.Final) q
 
+-- None of the files that a run writes is open.
+abbrev pub AreClosed : Outputs → Outside → Type 0
+AreClosed outputs o = (p : OutPort) → is_output outputs (Out p) ≡ true → (o.port (Out p)).is_open ≡ false
+
 -- A run for its memory leaves its core and its swap area; after a panic it leaves nothing.
 abbrev pub memory_writes : Ends → System → List ℕ → Type 0
 memory_writes AtEnd m = IsMemory m
@@ -107,7 +111,7 @@ pub record EndsRun (outputs : Outputs) (writes : OutPort → List ℕ → Type 0
   pub ended : ends ≡ c.ending
   pub written : Tells old → (p : OutPort) → HoldsSome (writes p) (old.port (Out p)).bytes (new.port (Out p)).bytes
   pub order : Tells old → AreGood old.fixed (output_ports outputs)
-  pub is_open : (p : OutPort) → is_output outputs (Out p) ≡ true → (new.port (Out p)).is_open ≡ false
+  pub is_open : AreClosed outputs new
   pub calm : Calm old new
 
 -- One of its files has failed. Those before it are expected under their names, and all are where a byte went out.

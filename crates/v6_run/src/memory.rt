@@ -14,7 +14,8 @@ ghost use Rattle.v6_run.specs.Events.{events_of};
 ghost use Rattle.v6_run.specs.Words.{ToMemory};
 ghost use Rattle.v6_run.specs.Ports.{final_of};
 ghost use Rattle.v6_run.specs.Fronts.{HoldsFront};
-ghost use Rattle.v6_run.specs.Outputs.{memory_writes, core_writes, EndsRun, StopsBy};
+ghost use Rattle.v6_run.specs.Outputs.{memory_writes};
+ghost use Rattle.v6_run.specs.Booted.{EndsOrStops};
 
 use crate::files::write_all;
 use crate::ports::Ports;
@@ -132,13 +133,7 @@ pub(crate) fn run_to_memory<H: Host>(
     requires new { kernel.old.phase ≡ New }
     requires can { CanTake kernel.old.system events.now }
     ensures only { OnlyAt (same (Out out_port.Final)) (H.outside host.old) (H.outside host.new) }
-    ensures outcome { MatchResult result
-        (λ ends. EndsRun (ToMemory name.now)
-        (core_writes (course (started kernel.old.system) (events_of events.now)))
-        (course (started kernel.old.system) (events_of events.now)) ends (H.outside host.old) (H.outside host.new))
-        (λ error. StopsBy (ToMemory name.now)
-        (core_writes (course (started kernel.old.system) (events_of events.now))) error
-        (H.outside host.old) (H.outside host.new)) }
+    ensures outcome { EndsOrStops (ToMemory name.now) kernel.old events.now result (H.outside host.old) (H.outside host.new) }
 {
     if open_final(name, host).is_err() {
         return Err(RunError::Write(OutPort::Final));

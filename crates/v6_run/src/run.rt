@@ -1,5 +1,5 @@
 //! The commands `run`, `run8`, `run2` and `memory`: a run, and what it leaves.
-ghost use Rattle.std.specs.Prelude.{◌≡◌, ℕ, ◌<◌, ◌≤◌, ◌^◌, length, map, true, false, is_some, None, Some, IsSomeAnd, IfOk, OnOk, IfErr, MatchResult};
+ghost use Rattle.std.specs.Prelude.{◌≡◌, ℕ, ◌<◌, ◌≤◌, ◌^◌, length, map, true, is_some, None, Some, IsSomeAnd, IfOk, OnOk, IfErr, MatchResult};
 ghost use Rattle.std.specs.Option.{option_map};
 ghost use Rattle.v6_port.specs.Outside.{Out, IsOpen, OnlyAt, Tells};
 ghost use Rattle.v6_port.specs.declared.host.OutPort.{OutPort};
@@ -21,7 +21,7 @@ ghost use Rattle.v6_run.specs.Opening.{output_value};
 ghost use Rattle.v6_run.specs.Events.{events_of};
 ghost use Rattle.v6_run.specs.Ports.{HasShown, HasShownFronts};
 ghost use Rattle.v6_run.specs.Errors.{end_of, run_status};
-ghost use Rattle.v6_run.specs.Outputs.{is_shown, is_disk_output, is_output, disk_writes, HasLawfulLogs, EndsRun, StopsRun};
+ghost use Rattle.v6_run.specs.Outputs.{is_shown, is_disk_output, is_output, AreClosed, disk_writes, HasLawfulLogs, EndsRun, StopsRun};
 ghost use Rattle.v6_run.specs.Answers.{Answers, HasSecond, HasFiles};
 ghost use Rattle.v6_run.specs.Booted.{CanRun, EndsOrStops, EndsOrFails};
 ghost use Rattle.v6_run.specs.Steps.{StopsSecond};
@@ -198,8 +198,7 @@ fn run_opened<H: Host>(
     host: &mut H,
 ) -> Result<Ends, OutPort>
     requires outputs { map output_value outputs.now ≡ output_ports (ToDisk (disk_files_value files.now)) }
-    requires closed { (p : OutPort) → is_disk_output (disk_files_value files.now) (Out p) ≡ true
-        → ((H.outside host.old).port (Out p)).is_open ≡ false }
+    requires closed { AreClosed (ToDisk (disk_files_value files.now)) (H.outside host.old) }
     requires root { (head (block_at kernel.old.blocks.root)).f_size ≤ SWAP_START }
     requires second { is_some kernel.old.blocks.second ≡ is_some (disk_files_value files.now).second }
     requires new { kernel.old.phase ≡ New }
@@ -233,8 +232,7 @@ fn run_to_disk<H: Host>(
     files: &DiskFiles<'_>,
     host: &mut H,
 ) -> Result<Ends, RunError>
-    requires closed { (p : OutPort) → is_disk_output (disk_files_value files.now) (Out p) ≡ true
-        → ((H.outside host.old).port (Out p)).is_open ≡ false }
+    requires closed { AreClosed (ToDisk (disk_files_value files.now)) (H.outside host.old) }
     requires root { (head (block_at kernel.old.blocks.root)).f_size ≤ SWAP_START }
     requires second { is_some kernel.old.blocks.second ≡ is_some (disk_files_value files.now).second }
     requires new { kernel.old.phase ≡ New }
@@ -261,8 +259,7 @@ fn run_with_outputs<H: Host>(
     words: &RunWords<'_>,
     host: &mut H,
 ) -> Result<Ends, RunError>
-    requires closed { (p : OutPort) → is_output (run_words_value words.now).outputs (Out p) ≡ true
-        → ((H.outside host.old).port (Out p)).is_open ≡ false }
+    requires closed { AreClosed (run_words_value words.now).outputs (H.outside host.old) }
     requires root { (head (block_at kernel.old.blocks.root)).f_size ≤ SWAP_START }
     requires second { is_some kernel.old.blocks.second ≡ is_some (second_files (run_words_value words.now).outputs) }
     requires new { kernel.old.phase ≡ New }
@@ -346,8 +343,7 @@ fn run_made<H: Host, E: Drop>(
     requires new { IfOk made (λ kernel. kernel.phase ≡ New) }
     requires lawful { IfOk made (λ kernel. HasLawfulLogs kernel.system) }
     requires can { IfOk made (λ kernel. CanTake kernel.system events.now) }
-    requires closed { (p : OutPort) → is_output (run_words_value words.now).outputs (Out p) ≡ true
-        → ((H.outside host.old).port (Out p)).is_open ≡ false }
+    requires closed { AreClosed (run_words_value words.now).outputs (H.outside host.old) }
     ensures only { OnlyAt (is_output (run_words_value words.now).outputs) (H.outside host.old) (H.outside host.new) }
     ensures outcome { MatchResult made
         (λ kernel. EndsOrStops (run_words_value words.now).outputs kernel events.now result
@@ -371,8 +367,7 @@ fn run_on_one<H: Host>(
     host: &mut H,
 ) -> Result<Ends, RunError>
     requires can { CanRun image.now None (run_words_value words.now) events.now }
-    requires closed { (p : OutPort) → is_output (run_words_value words.now).outputs (Out p) ≡ true
-        → ((H.outside host.old).port (Out p)).is_open ≡ false }
+    requires closed { AreClosed (run_words_value words.now).outputs (H.outside host.old) }
     ensures only { OnlyAt (is_output (run_words_value words.now).outputs) (H.outside host.old) (H.outside host.new) }
     ensures outcome { EndsOrFails image.now None (run_words_value words.now) events.now result
         (H.outside host.old) (H.outside host.new) }
@@ -398,8 +393,7 @@ fn run_on_two<H: Host>(
     host: &mut H,
 ) -> Result<Ends, RunError>
     requires can { CanRun image.now (Some second.now) (run_words_value words.now) events.now }
-    requires closed { (p : OutPort) → is_output (run_words_value words.now).outputs (Out p) ≡ true
-        → ((H.outside host.old).port (Out p)).is_open ≡ false }
+    requires closed { AreClosed (run_words_value words.now).outputs (H.outside host.old) }
     ensures only { OnlyAt (is_output (run_words_value words.now).outputs) (H.outside host.old) (H.outside host.new) }
     ensures outcome { EndsOrFails image.now (Some second.now) (run_words_value words.now) events.now result
         (H.outside host.old) (H.outside host.new) }
@@ -422,8 +416,7 @@ fn run_booted<H: Host>(
     host: &mut H,
 ) -> Result<Ends, RunError>
     requires can { CanRun files.now.image.items (bytes_value files.now.second) (run_words_value words.now) events.now }
-    requires closed { (p : OutPort) → is_output (run_words_value words.now).outputs (Out p) ≡ true
-        → ((H.outside host.old).port (Out p)).is_open ≡ false }
+    requires closed { AreClosed (run_words_value words.now).outputs (H.outside host.old) }
     ensures only { OnlyAt (is_output (run_words_value words.now).outputs) (H.outside host.old) (H.outside host.new) }
     ensures outcome { EndsOrFails files.now.image.items (bytes_value files.now.second) (run_words_value words.now) events.now
         result (H.outside host.old) (H.outside host.new) }
@@ -443,8 +436,7 @@ pub(crate) fn run<H: Host>(
 ) -> Result<(), RunError>
     requires least { 64 ≤ words.now.core }
     requires most { words.now.core ≤ 3968 }
-    requires closed { (p : OutPort) → is_output (run_words_value words.now).outputs (Out p) ≡ true
-        → ((H.outside host.old).port (Out p)).is_open ≡ false }
+    requires closed { AreClosed (run_words_value words.now).outputs (H.outside host.old) }
     ensures { Answers (Run (run_words_value words.now)) (end_of run_status result) (H.outside host.old) (H.outside host.new) }
 {
     let files = read_files(alloc, words, host)?;
