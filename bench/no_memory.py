@@ -6,9 +6,9 @@
 COMMAND is a built v6 (bin/v6). It needs cc and a program that is linked dynamically: a small library stands before malloc,
 calloc and realloc, counts their calls, and refuses the one of a number, or all from that number on. For each command of v6 all
 numbers are tried, both ways, over files that are there before and over names where nothing is. The answer must be status 8 and
-the line `no memory`, or no line where the words themselves found none; and no file may have changed or come to be. Then the
-same commands run in address spaces of many sizes, where the system itself refuses memory: each is done, with the files of a
-run in ample memory, or there is no memory as before.
+the line `no memory`, or no line where the words themselves found none; and no file may have changed or come to be. An audit takes
+memory for its words alone. Then the same commands run in address spaces of many sizes, where the system itself refuses memory:
+each is done, with the files of a run in ample memory, or there is no memory as before.
 
 The exit status is 1 where anything else was answered.
 """
@@ -16,6 +16,7 @@ import collections
 import os
 import resource
 import shlex
+import shutil
 import subprocess
 import sys
 import tempfile
@@ -26,9 +27,11 @@ NO_MEMORY, DONE = 8, 0
 THERE = b"what was there before\n" * 500
 OUTPUTS = ("term", *(f"term.{line}" for line in range(1, 8)), "log", "final", "final2")
 SCRIPT = b"clock 10\nrun 100\ntype abc\nrun 100\n"
+LAWFUL = b"boot 64 0\nsleep 0 -100 runout\ngo 1\nexit 1 swap 4000\nidle\nend\n"
 STEP, LEAST, MOST = 131072, 1 << 20, 16 << 20  # bytes of address spaces that are tried
 ANSWERS = {"core size": b"core size\n", "image fault": b"image: bad super-block\n", "script fault": b"script: line 1\n",
-           "second fault": b"second image: bad super-block\n"}
+           "second fault": b"second image: bad super-block\n", "unlawful log": b"log: line 7 is not lawful\n",
+           "bad log": b"log: line 1 is no log line\n"}
 COMMANDS = {
     "run": ("run", "image", "1200", "script", "term", "log", "final"),
     "run of a whole disk": ("run", "disk", "3968", "script", "term", "log", "final"),
@@ -38,11 +41,14 @@ COMMANDS = {
     "check": ("check", "disk"),
     "make": ("make", "7", "final"),
     "demo": ("demo", "7"),
+    "audit": ("audit", "lawful"),
     "usage": ("walk", "image", "1200", "script", "term", "log", "final"),
     "core size": ("run", "image", "63", "script", "term", "log", "final"),
     "image fault": ("run", "script", "1200", "script", "term", "log", "final"),
     "script fault": ("run", "image", "1200", "image", "term", "log", "final"),
     "second fault": ("run2", "image", "1200", "image", "term", "log", "final", "script", "final2"),
+    "unlawful log": ("audit", "twice"),
+    "bad log": ("audit", "image"),
 }
 LIBRARY = r"""
 #define _GNU_SOURCE
@@ -98,6 +104,8 @@ class Tries:
         subprocess.run(["cc", "-O1", "-shared", "-fPIC", "-o", self.library, f"{folder}/refuses.c", "-ldl"], check=True)
         self.write("image", read(HI))
         self.write("script", SCRIPT)
+        self.write("lawful", LAWFUL)
+        self.write("twice", LAWFUL * 2)
         subprocess.run([*command, "make", "12", f"{folder}/disk"], check=True)
 
     def path(self, name):
@@ -146,6 +154,9 @@ class Tries:
         if ample.status not in (DONE, 1) and ANSWERS.get(name) != ample.report:
             print(f"{name}: status {ample.status} {ample.report!r} in ample memory")
             self.wrong += 1
+        if words[0] == "audit" and count > of_words:
+            print(f"{name}: {count - of_words} pieces of memory beside those of the words")
+            self.wrong += 1
         for number in range(1, count + 1):
             for last in (number, 1 << 40):
                 for are_there in (False, True):
@@ -168,12 +179,12 @@ class Tries:
                 counts["as in ample memory"] += 1
             else:
                 counts["no memory"] += 1
-                self.judge(f"{name} in {size} bytes", came, True, came.report == b"")
+                self.judge(f"{name} in {size} bytes", came, True, came.report == b"" or words[0] == "audit")
         print(f"{name}: in address spaces of {LEAST} to {MOST} bytes", dict(counts), flush=True)
 
 
 def main(words):
-    if len(words) > 1:
+    if len(words) > 1 or words and not shutil.which(shlex.split(words[0])[0]):
         sys.exit(__doc__)
     command = shlex.split(words[0] if words else f"{TOP}/bin/v6")
     command[0] = os.path.abspath(command[0]) if os.sep in command[0] else command[0]
