@@ -19,6 +19,7 @@ TOP = os.path.dirname(os.path.dirname(os.path.abspath(__file__)))
 sys.path.insert(0, os.path.join(TOP, "tools"))
 from history import History
 from moments import MomentError, Run
+from program import ProgramError
 from row import Runner, chosen
 from rowfile import DATA, Row, RowError
 from scriptfile import ScriptError
@@ -77,5 +78,5 @@ if __name__ == "__main__":
         sys.exit(__doc__)
     try:
         sys.exit(main(words[0], int((words[1:2] or [SLOTS])[0]), chosen(words[2:] or ["*/*"], DATA)))
-    except RowError as error:
+    except (ProgramError, RowError) as error:
         sys.exit(f"steps.py: {error}")
