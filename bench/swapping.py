@@ -48,4 +48,5 @@ def main():
         print(f"{(took - alone) / changes:8.1f}  a change of places, with its three passes, among {children + 1} ({changes} counted)", flush=True)
 
 
-main()
+if __name__ == "__main__":
+    main()

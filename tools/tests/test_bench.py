@@ -2,6 +2,7 @@
 import os
 import random
 import re
+import runpy
 import sys
 import tempfile
 import types
@@ -248,6 +249,22 @@ class Logs(unittest.TestCase):
         for other in (program + number, small, b"", program + b"\x48\xb8" + near):
             with self.assertRaises(ValueError):
                 too_long.shortened(other, 2**20)
+
+
+class Programs(unittest.TestCase):
+    def test_each_begins(self):
+        """Each file can be loaded; one that is a program can be called by its name, as its text says."""
+        names = [name for name, end in map(os.path.splitext, sorted(os.listdir(f"{TOP}/bench"))) if end == ".py"]
+        for name in names:
+            file = f"{TOP}/bench/{name}.py"
+            with unittest.mock.patch.dict(sys.modules), unittest.mock.patch.object(sys, "path", [f"{TOP}/bench", *sys.path]):
+                for other in names:
+                    sys.modules.pop(other, None)
+                text = runpy.run_path(file, run_name="begun")["__doc__"]
+            source = fuzz_cases.read(file)
+            is_program = source.startswith(b"#!")
+            self.assertEqual((b"__main__" in source, os.access(file, os.X_OK)), (is_program, is_program), name)
+            self.assertTrue(not is_program or f"bench/{name}.py" in text, name)
 
 
 class Definition(Case):
