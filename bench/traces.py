@@ -58,7 +58,8 @@ def name_of(process):
 
 
 def turns_of(image, core, script):
-    """(slot, process, the name of its call, kind, R0 and carry) of each turn in the kernel that the reference takes."""
+    """(slot, process, the name of its call, kind, R0 and carry) of each turn in the kernel that the reference takes. Where a process
+    ends by a signal, that is R0."""
     from abstract_unix import runs, script as scripts
 
     class Turns(runs.Run):
@@ -67,14 +68,22 @@ def turns_of(image, core, script):
             number, running = unix.passed + 1, self.t.running
             process = unix.procs[running] if running else None
             name = name_of(process) if process else None
+            if name == "disk":
+                name = waits[process.pid]
             super().slot()
             for line in self.log[since:]:
                 kind, *more = line.split(" ")
                 if kind in ENDS and more[0] != "0":
                     area = process.area(unix.text_clicks(process)) if kind == "trap" else bytes(17)
-                    found.append((number, process.pid, name, kind, area[0] | area[1] << 8, area[16] & 1))
+                    by = self.signal(more[0]) if kind == "exit" and name != "exit" else 0
+                    found.append((number, process.pid, name, kind, by or area[0] | area[1] << 8, area[16] & 1))
+                    waits[process.pid] = name
 
-    found = []
+        def signal(self, slot):
+            """The signal that was sent last to a process."""
+            return int([line for line in self.log if line.startswith(f"signal {slot} ")][-1].split(" ")[2])
+
+    found, waits = [], {}
     Turns(image, core, scripts.read(script))
     return found
 
@@ -95,12 +104,14 @@ def fits(turn, said):
     told = TOLD.fullmatch(said)
     if (int(told[1]), int(told[2])) != (slot, process):
         return False
+    if kind == "exit" and name != "exit":
+        return told[3] == f"ends by signal {r0}" or re.fullmatch(rf"{name}\(.*\), and ends by signal {r0}", told[3], re.S) is not None
     if name is None:
         return kind == "trap" and told[3].startswith("a larger stack: ")
     if not told[3].startswith(name + "("):
         return False
     if kind != "trap":
-        return ") waits " in told[3] if kind == "sleep" else name == "exit"
+        return ") waits " in told[3] if kind == "sleep" else True
     if carry:
         return f") = {ERRORS.get(r0, f'error {r0}')}" in told[3]
     if ANSWERS.get(name) in ("d", "r", "w"):
