@@ -1,5 +1,6 @@
 """How many machine instructions a command takes, by valgrind's callgrind: the same at each run in the same environment."""
 import re
+import shutil
 import subprocess
 import sys
 
@@ -20,6 +21,8 @@ def put(folder, script, image=None):
 
 def counted(words, folder=None, ends=(0,)):
     """What a command takes that runs in a folder. Where it ends with another status than these, all ends with what it said."""
+    if not shutil.which("valgrind"):
+        sys.exit("valgrind is wanted, which counts")
     run = ["valgrind", "--tool=callgrind", "--callgrind-out-file=/dev/null", *words]
     done = subprocess.run(run, cwd=folder, capture_output=True, text=True, check=False)
     if done.returncode not in ends:
