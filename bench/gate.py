@@ -2,7 +2,7 @@
 """Runs the gate, and tells what each of its parts cost, in seconds of processor time (user and system together).
 
     bench/gate.py              runs rt ci in this clone
-    bench/gate.py NAME..       runs rt ci for these crates and those below them
+    bench/gate.py NAME..       runs rt ci for these crates and those below them, with a kit whose rt ci takes names
     bench/gate.py -p PID       watches an rt ci that runs already, until it ends
 
 Printed are a line a crate, the dearest edits, and the whole. The parts are seen in /proc while they run, five times a
@@ -129,6 +129,8 @@ def tell(watch, whole):
 
 
 def main(words):
+    if any(word.startswith("-") for word in words) and not (len(words) == 2 and words[0] == "-p" and words[1].isdecimal()):
+        sys.exit(__doc__)
     watch = Watch()
     if words[:1] == ["-p"]:
         top, ran = int(words[1]), None
