@@ -5,14 +5,14 @@
     bench/auditing.py million COMMAND
     bench/auditing.py pipe COMMAND BYTES
 
-COMMAND is a built v6. Each LOG is audited under valgrind's callgrind, and so is an empty file; printed is the difference by the number
-of lines. Without a LOG it counts those of random programs of bench/processes.py, four of each kind: ordinary ones, those that fill
-the swap area, and those in a small core, where a swapper is at work.
+COMMAND is a built v6. Each LOG is audited under valgrind's callgrind, and so is an empty file; printed is the difference by the
+number of lines. Without a LOG it counts those of random programs of bench/processes.py, four of each kind: ordinary ones, those
+that fill the swap area, and those in a small core, where a swapper is at work.
 
-`million` counts logs of a million lines and some more: of the first random programs with execs, with signals and over the lines of a
-terminal that go on and on, and of a dialogue with the shell on the disk of examples/shell. `pipe` gives a lawful log of so many
-bytes through a pipe, and counts no instructions. Both tell how much memory the auditor's process had at most, before its log ends,
-and what it answers.
+`million` counts logs of a million lines and some more: of the first random programs with execs, with signals and over the lines
+of a terminal that go on and on, and of a dialogue with the shell on the disk of examples/shell. `pipe` gives a lawful log of so
+many bytes through a pipe, and counts no instructions. Both tell how much memory the auditor's process had at most, before its
+log ends, and what it answers.
 """
 import collections
 import fcntl

@@ -45,8 +45,8 @@ def part_of(words, seeded, tried):
         if over.isdigit():
             return crate, "edits", (edits_of(crate) + ["?"] * 999)[int(over)]
         if over.startswith("rt-edits-"):
-            # a kit that tries the edits of a crate in turn over one folder: the first fills it, and after the last the crate itself
-            # is proved over it
+            # a kit that tries the edits of a crate in turn over one folder: the first fills it, and after the last the crate
+            # itself is proved over it
             tried[crate] += 1
             names = edits_of(crate)
             if tried[crate] > len(names):

@@ -6,9 +6,9 @@
 COMMAND is a built v6 (bin/v6). It needs cc and a program that is linked dynamically: a small library stands before malloc,
 calloc and realloc, counts their calls, and refuses the one of a number, or all from that number on. For each command of v6 all
 numbers are tried, both ways, over files that are there before and over names where nothing is. The answer must be status 8 and
-the line `no memory`, or no line where the words themselves found none; and no file may have changed or come to be. An audit takes
-memory for its words alone. Then the same commands run in address spaces of many sizes, where the system itself refuses memory:
-each is done, with the files of a run in ample memory, or there is no memory as before.
+the line `no memory`, or no line where the words themselves found none; and no file may have changed or come to be. An audit
+takes memory for its words alone. Then the same commands run in address spaces of many sizes, where the system itself refuses
+memory: each is done, with the files of a run in ample memory, or there is no memory as before.
 
 The exit status is 1 where anything else was answered.
 """

@@ -63,8 +63,8 @@ WORDS = {
     "in": ("out",), "out": ("in",), "fork": ("size", "image"), "size": ("fork", "image"), "image": ("size", "fork"),
     "plain": ("sticky",), "sticky": ("plain",), "idle": ("end", "go 1", "tick i"), "end": ("idle", "panic swap"),
     "text": ("zombie", "swap"), "runin": ("runout", "tout"), "runout": ("runin",), "tout": ("keys", "runin"),
-    "keys": ("tout", "show"), "show": ("keys", "tout"), "share": ("in", "trap"), "zombie": ("swap",), "tick": ("wake",), "wake": ("go",), "exit": ("image",),
-    "drop": ("share",), "sleep": ("wake", "trap"),
+    "keys": ("tout", "show"), "show": ("keys", "tout"), "share": ("in", "trap"), "zombie": ("swap",),
+    "tick": ("wake",), "wake": ("go",), "exit": ("image",), "drop": ("share",), "sleep": ("wake", "trap"),
 }
 # what may stand before the dot of a channel in the place of another word
 NUMBERED = {"wait": ("disk", "read"), "read": ("write", "show"), "write": ("read",), "disk": ("wait", "keys"),
@@ -135,7 +135,8 @@ def other_word(rng, lines):
 
 @functools.lru_cache(maxsize=1)
 def choices_from_slot_0(lines):
-    """The choices that would be others, were they made from slot 0 on and not from the slot behind the last one: line and slot."""
+    """The choices that would be others, were they made from slot 0 on and not from the slot behind the last one: their lines,
+    and the slots."""
     from abstract_unix import audit, logtext
     auditor, found = audit.Auditor(), []
     for at, line in enumerate(lines):
@@ -262,7 +263,8 @@ class Tally:
         boards, by_reference, built = judges.boards(lines), judges.reference(lines), judges.built(lines)
         ends = lines[-1] == "end" or lines[-1].startswith("panic")
         if len(boards) <= len(lines) or not by_reference == built == ((0, None) if ends else (9, len(lines) + 1)):
-            self.differ(f"seed {seed}: the log isn't lawful: {built}, by the reference {by_reference}, by the definition {len(boards)}")
+            self.differ(f"seed {seed}: the log isn't lawful: {built}, by the reference {by_reference}, by the definition "
+                        f"{len(boards)}")
             return
         self.counts["logs, each lawful as far as it goes"] += 1
         self.counts["lines of these"] += len(lines)
@@ -282,7 +284,8 @@ class Tally:
             return judges.reference(lines)
         said = judges.going_on(lines, at, kept[at])
         if len(self.verdicts) % WHOLE == 0 and judges.reference(lines) != said:
-            self.differ(f"the reference says of a whole log {judges.reference(lines)}, and where it goes on from line {at} {said}")
+            self.differ(f"the reference says of a whole log {judges.reference(lines)}, and where it goes on from line {at} "
+                        f"{said}")
         return said
 
     def spoiled(self, way, at, other, named, ends):

@@ -4,10 +4,10 @@
     bench/steps.py COMMAND [SLOTS [NAME..]]
 
 COMMAND is a built v6 with the command `memory`. The rows are those of crates/run_rows/data that run a disk, or those of these
-names or patterns, as tools/row.py takes them; of a longer run the first SLOTS slots are gone through (1,000,000). The instructions
-between two turns in the kernel are done by tools/stepper.py. Compared are the registers, the codes and all of the memory of each
-process where a call begins after which more has changed than its answer, and what another call leaves alone; and each answer that
-tools/answers.py knows is compared with the program's.
+names or patterns, as tools/row.py takes them; of a longer run the first SLOTS slots are gone through (1,000,000). The
+instructions between two turns in the kernel are done by tools/stepper.py. Compared are the registers, the codes and all of the
+memory of each process where a call begins after which more has changed than its answer, and what another call leaves alone; and
+each answer that tools/answers.py knows is compared with the program's.
 """
 import os
 import sys
@@ -31,7 +31,8 @@ walk_module.is_due = lambda count: True  # each known answer is asked for
 
 
 def gone_through(command, name, most):
-    """What a row came to: how many slots and turns in the kernel were gone through, what differs, or None, and how many answers were known."""
+    """What a row came to: how many slots and turns in the kernel were gone through, what differs, or None, and how many answers
+    were known."""
     row = Row(name)
     if row.lines["command"] is not None:
         return None

@@ -3,13 +3,15 @@
 
     bench/too_long.py [COMMAND [BITS]]
 
-COMMAND is a built v6 for x86-64 (bin/v6), whose last word is the program. Of a log it reads at most 2^40 + 1 bytes. In a copy of
-it 2^BITS + 1 (2^20 + 1; BITS from 14 to 30) stands for that number wherever its machine code loads it; nothing else is changed. It
-is refused where the number isn't loaded, or stands elsewhere, or one near it is loaded. The copy audits logs of about 2^BITS bytes,
-each from a file and from a pipe, sparse files, and a log whose report fails. Where strace is there, reads fail too.
+COMMAND is a built v6 for x86-64 (bin/v6), whose last word is the program. Of a log it reads at most 2^40 + 1 bytes. In a copy
+of it 2^BITS + 1 (2^20 + 1; BITS from 14 to 30) stands for that number wherever its machine code loads it; nothing else is
+changed. It is refused where the number isn't loaded, or stands elsewhere, or one near it is loaded. The copy audits logs of
+about 2^BITS bytes, each from a file and from a pipe, sparse files, and a log whose report fails. Where strace is there, reads
+fail too.
 
 What must be answered is the rule of docs/manual/audit.md, which `answer` works over the bytes of a log, and each log has its
-status beside it. The program itself audits a sparse file of 2^40 + 5 bytes. Each wrong answer is told, and the exit status is 1 then.
+status beside it. The program itself audits a sparse file of 2^40 + 5 bytes. Each wrong answer is told, and the exit status is 1
+then.
 """
 import os
 import re
@@ -132,7 +134,8 @@ def with_long_lines(limit):
     """Logs with a line of about 80 bytes at the length."""
     for count, status in ((80, TOO_LONG), (81, BAD)):
         yield f"{count} bytes of a line up to the byte behind", log(limit + 1, b"x" * count), status
-        yield f"{count} bytes of a line up to the byte behind, and more of it", log(limit + 1, b"x" * count) + b"x" * 5000, status
+        cut = log(limit + 1, b"x" * count)
+        yield f"{count} bytes of a line up to the byte behind, and more of it", cut + b"x" * 5000, status
         yield f"lines, and zeros of which {count} are read", log(limit + 1 - count) + bytes(limit), status
     yield "the length, with 80 bytes of a line", log(limit, b"x" * 80), BAD
     yield "a line of 80 bytes that ends a byte behind", log(limit + 1, b"x" * 80 + b"\n"), BAD
@@ -160,7 +163,8 @@ def failing(limit):
     yield "a fault in the fourth piece, of which the third read fails", faulty, 3, READ_FAULT
     yield "a fault in the fourth piece, of which the fifth read would fail", faulty, 5, UNLAWFUL
     for count in (80, 81):
-        yield f"{count} bytes of a line up to the byte behind, of which the last read fails", log(limit + 1, b"x" * count), all_read, READ_FAULT
+        cut = log(limit + 1, b"x" * count)
+        yield f"{count} bytes of a line up to the byte behind, of which the last read fails", cut, all_read, READ_FAULT
 
 
 def sparse(limit):

@@ -9,9 +9,9 @@ COMMAND is a built v6. Compared are, turn by turn in the kernel, the slot of the
 call, whether it waits, ends or goes on, the error or the number that is the answer, and how many turns there are. Where the run
 comes to a panic, the turns until then are compared.
 
-The reference is the Python module `abstract_unix`; the environment variable ABSTRACT_UNIX names the folder in which it is. Of a v6
-without the command `memory`, the memory of each moment is the reference's too: then the moments, the names of processes and the
-reading of memory are judged, and not the memory itself.
+The reference is the Python module `abstract_unix`; the environment variable ABSTRACT_UNIX names the folder in which it is. Of a
+v6 without the command `memory`, the memory of each moment is the reference's too: then the moments, the names of processes and
+the reading of memory are judged, and not the memory itself.
 """
 import importlib.util
 import os
@@ -58,8 +58,8 @@ def name_of(process):
 
 
 def turns_of(image, core, script):
-    """(slot, process, the name of its call, kind, R0 and carry) of each turn in the kernel that the reference takes. Where a process
-    ends by a signal, that is R0."""
+    """(slot, process, the name of its call, kind, R0 and carry) of each turn in the kernel that the reference takes. Where a
+    process ends by a signal, that is R0."""
     from abstract_unix import runs, script as scripts
 
     class Turns(runs.Run):
@@ -105,7 +105,7 @@ def fits(turn, said):
     if (int(told[1]), int(told[2])) != (slot, process):
         return False
     if kind == "exit" and name != "exit":
-        return told[3] == f"ends by signal {r0}" or re.fullmatch(rf"{name}\(.*\), and ends by signal {r0}", told[3], re.S) is not None
+        return re.fullmatch(rf"({name}\(.*\), and )?ends by signal {r0}", told[3], re.S) is not None
     if name is None:
         return kind == "trap" and told[3].startswith("a larger stack: ")
     if not told[3].startswith(name + "("):

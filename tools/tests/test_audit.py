@@ -1,5 +1,5 @@
-"""v6 audit over what no row can hold: every line at the edges of its numbers, odd bytes, and files that are none. The answers are
-those of docs/manual/log.md and docs/manual/audit.md, worked by hand."""
+"""v6 audit over what no row can hold: every line at the edges of its numbers, odd bytes, and files that are none. The answers
+are those of docs/manual/log.md and docs/manual/audit.md, worked by hand."""
 import fcntl
 import os
 import shlex
@@ -18,8 +18,8 @@ LIMIT = 2**40  # bytes of the longest log that isn't too long
 BEGINS = b"boot 1200 0\nsleep 0 -100 runout\ngo 1\n"  # slot 1 can run, so that `idle` doesn't fit
 ENDED = b"boot 64 0\nsleep 0 -100 runout\ngo 1\nexit 1 swap 4000\nidle\nend"
 # of each number of a line: a value in its range, the least and the most
-NUMBERS = {"S": (1, 0, 49), "K": (3, 0, 39), "C": (1, 0, 65535), "N": (37, 0, 65535), "B": (4000, 4000, 4871), "I": (9, 1, 65535),
-           "P": (40, -128, 127), "X": (2, 1, 19), "L": (3, 1, 7), "TIME": (7, 0, 4294967295)}
+NUMBERS = {"S": (1, 0, 49), "K": (3, 0, 39), "C": (1, 0, 65535), "N": (37, 0, 65535), "B": (4000, 4000, 4871),
+           "I": (9, 1, 65535), "P": (40, -128, 127), "X": (2, 1, 19), "L": (3, 1, 7), "TIME": (7, 0, 4294967295)}
 LINES = """boot {C} {TIME}
 go {S}
 trap {S}
@@ -112,8 +112,9 @@ class Audit(Case):
         for line in (b"idle", b"tick u", b"tick k", b"tick i", b"wake keys", b"wake show", b"wake tout", b"wake runin",
                      b"wake runout", b"panic swap", b"panic zombie", b"panic text", b"end"):
             self.assertTrue(self.is_line(line), line)
-            for spoiled in (line + b"\r", line + b" ", b" " + line, line + b"\t", line.upper(), line + b"\0", line[:-1], line + b"x",
-                            line.replace(b" ", b"  ") if b" " in line else line + line, line.replace(b"i", b"\xed", 1) + b"\x80"):
+            for spoiled in (line + b"\r", line + b" ", b" " + line, line + b"\t", line.upper(), line + b"\0", line[:-1],
+                            line + b"x", line.replace(b" ", b"  ") if b" " in line else line + line,
+                            line.replace(b"i", b"\xed", 1) + b"\x80"):
                 self.assertFalse(self.is_line(spoiled), spoiled)
         for line in (b"", b"\0", b"\t", b"\r", b"\xff", b"walk 1", b"wake wait", b"wake wait.", b"wake disk",
                      b"wake keys.", b"tick x", b"panic core", b"go", b"end 1"):
@@ -133,7 +134,8 @@ class Audit(Case):
     def test_a_line_of_80_bytes_waits_for_its_end(self):
         """It isn't judged when all of it was read: the 81st byte, a line feed or the end of the file may come."""
         for last in (b"x", b"\n", b""):
-            auditor = subprocess.Popen([*shlex.split(V6), "audit", "/dev/stdin"], stdin=subprocess.PIPE, stdout=subprocess.PIPE, bufsize=0)
+            auditor = subprocess.Popen([*shlex.split(V6), "audit", "/dev/stdin"], stdin=subprocess.PIPE, stdout=subprocess.PIPE,
+                                       bufsize=0)
             with auditor:
                 auditor.stdin.write(BEGINS + b"x" * 80)
                 while int.from_bytes(fcntl.ioctl(auditor.stdin, termios.FIONREAD, bytes(4)), "little"):
@@ -144,17 +146,20 @@ class Audit(Case):
             self.assertEqual(auditor.returncode, BAD)
 
     def test_the_first_of_some_faults(self):
-        """Of lines at fault the first is named, and how it is at fault; what comes behind it is no matter, nor that an end is missing."""
-        faults = {b"idle\n": UNLAWFUL, b"boot 1200 0\n": UNLAWFUL, b"trap 2\n": UNLAWFUL, b"walk\n": BAD, b"\n": BAD, b"trap 01\n": BAD,
-                  b"x" * 81 + b"\n": BAD}
+        """Of lines at fault the first is named, and how it is at fault; what comes behind it is no matter, nor that an end is
+        missing."""
+        faults = {b"idle\n": UNLAWFUL, b"boot 1200 0\n": UNLAWFUL, b"trap 2\n": UNLAWFUL, b"walk\n": BAD, b"\n": BAD,
+                  b"trap 01\n": BAD, b"x" * 81 + b"\n": BAD}
         for first, status in faults.items():
             said = f"log: line 4 is {'no log line' if status == BAD else 'not lawful'}\n"
             for second in faults:
                 for rest in (first + second, first + b"trap 1\n" + second + b"end\n", first + second[:-1]):
                     self.assertEqual(self.told(BEGINS + rest), (status, said), rest)
             self.assertEqual(self.told(BEGINS + first + b"end\nend\n"), (status, said), first)
-        for first, line, status in ((b"boot 63 0\n", 1, UNLAWFUL), (b"boot 65536 0\n", 1, BAD), (b"boot 64 0\nsleep 0 -100 runin\n", 2, UNLAWFUL),
-                                    (b"boot 64 0\nsleep 0 -100 run\n", 2, BAD), (b"boot 64 0\nsleep 0 -100 runout\nend\n", 3, UNLAWFUL)):
+        for first, line, status in ((b"boot 63 0\n", 1, UNLAWFUL), (b"boot 65536 0\n", 1, BAD),
+                                    (b"boot 64 0\nsleep 0 -100 runin\n", 2, UNLAWFUL),
+                                    (b"boot 64 0\nsleep 0 -100 run\n", 2, BAD),
+                                    (b"boot 64 0\nsleep 0 -100 runout\nend\n", 3, UNLAWFUL)):
             said = f"log: line {line} is {'no log line' if status == BAD else 'not lawful'}\n"
             for rest in (b"walk\n", b"go 2\nwalk", b"", b"x" * 81):
                 self.assertEqual(self.told(first + rest), (status, said), (first, rest))
@@ -194,8 +199,8 @@ class Audit(Case):
             os.close(read)
 
     def test_a_run_that_is_judged_while_it_goes_on(self):
-        """The log is a pipe between both, which holds less of it than there is. Where the one that reads it ends at a line, the run
-        ends for want of a reader."""
+        """The log is a pipe between both, which holds less of it than there is. Where the one that reads it ends at a line, the
+        run ends for want of a reader."""
         image, log, pipe = os.path.join(TOP, "examples", "hi", "image"), self.path("log"), self.path("pipe")
         script = self.put("script", b"clock 1\nrun 20000\n")
         self.assertEqual(v6("run", image, "1200", script, self.path("term"), log, self.path("final"))[0], 0)
@@ -212,9 +217,9 @@ class Audit(Case):
 
     def test_where_a_log_is_cut(self):
         """What is left of a line is a line: it may be none of a log, or not fit, or fit; then the next is missing."""
-        for cut, answer in ((b"", UNLAWFUL), (b"wake wait.12\n", UNLAWFUL), (b"wake wait.12", UNLAWFUL), (b"wake wait.1", UNLAWFUL),
-                            (b"wake wait.", BAD), (b"w", BAD), (b"fork 1 2 at 18", UNLAWFUL), (b"fork 1 2 at 1", UNLAWFUL),
-                            (b"fork 1 2 at ", BAD)):
+        for cut, answer in ((b"", UNLAWFUL), (b"wake wait.12\n", UNLAWFUL), (b"wake wait.12", UNLAWFUL),
+                            (b"wake wait.1", UNLAWFUL), (b"wake wait.", BAD), (b"w", BAD), (b"fork 1 2 at 18", UNLAWFUL),
+                            (b"fork 1 2 at 1", UNLAWFUL), (b"fork 1 2 at ", BAD)):
             line = 5 if cut.startswith(b"wake wait.1") or cut.endswith(b"18") else 4
             words = "no log line" if answer == BAD else "not lawful"
             self.assertEqual(self.told(BEGINS + cut), (answer, f"log: line {line} is {words}\n"), cut)
@@ -222,14 +227,15 @@ class Audit(Case):
     def test_where_lines_cross_the_pieces_that_are_read(self):
         """Of a long log each line is judged whole, wherever 4,096 bytes end."""
         for more in range(12):
-            lines = [b"wake keys"] * 900 + [b"wake wait.%d" % (slot % 10 if slot < more else 10 + slot % 40) for slot in range(200)]
+            of_slots = [b"wake wait.%d" % (slot % 10 if slot < more else 10 + slot % 40) for slot in range(200)]
+            lines = [b"wake keys"] * 900 + of_slots
             data = BEGINS + b"".join(line + b"\n" for line in lines)
             self.assertGreater(len(data), 2 * 4096)
             self.assertEqual(self.told(data + b"idle\n"), (UNLAWFUL, f"log: line {4 + len(lines)} is not lawful\n"))
 
     def test_a_file_that_grows(self):
-        """What isn't there when the end is read is missing, whatever comes behind it then: the answer is that of a log which the file
-        held meanwhile. It grows by half lines, of which the first is no line, to 200,000 bytes."""
+        """What isn't there when the end is read is missing, whatever comes behind it then: the answer is that of a log which
+        the file held meanwhile. It grows by half lines, of which the first is no line, to 200,000 bytes."""
         name = self.put("log", BEGINS)
         lines, grown, before = [b"wake keys\n"] * 20_000 + [b"exit 1 swap 4000\n", b"idle\n", b"end\n"], 0, 4
         with open(name, "ab", buffering=0) as file:
@@ -275,7 +281,8 @@ class Audit(Case):
                                    (ENDED + b"\nidle\n", UNLAWFUL, 7), (BEGINS + b"wake keys\n" * 10_000, BAD, 10_004)):
             name = self.put("log", data)
             os.truncate(name, LIMIT + 5)
-            self.assertEqual(self.audited(name), (status, f"log: line {line} is {'no log line' if status == BAD else 'not lawful'}\n"))
+            said = f"log: line {line} is {'no log line' if status == BAD else 'not lawful'}\n"
+            self.assertEqual(self.audited(name), (status, said))
 
     def test_files_that_are_none(self):
         self.assertEqual(self.audited(self.folder), (READ_FAULT, "read fault: log\n"))

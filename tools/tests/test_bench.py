@@ -26,8 +26,8 @@ def bench(*names):
 
 
 definition, fuzz_cases, fuzz_hosts, fuzz_judge, fuzz_row, random_lines, random_script, spoil, spoiled_logs, too_long = bench(
-    "definition", "fuzz_cases", "fuzz_hosts", "fuzz_judge", "fuzz_row", "random_lines", "random_script", "spoil", "spoiled_logs",
-    "too_long")
+    "definition", "fuzz_cases", "fuzz_hosts", "fuzz_judge", "fuzz_row", "random_lines", "random_script", "spoil",
+    "spoiled_logs", "too_long")
 RUN, RUN8, RUN2 = fuzz_cases.RUN, fuzz_cases.RUN8, fuzz_cases.RUN2
 
 
@@ -241,7 +241,7 @@ class Logs(unittest.TestCase):
                 self.assertEqual(case.second, case.command == "run2")
 
     def test_limit_of_a_program(self):
-        """It becomes another where machine code loads it, and a program is refused in which it stands otherwise, or isn't loaded."""
+        """It becomes another where code loads it; a program is refused in which it stands otherwise, or isn't loaded."""
         number, near = ((2**40 + more).to_bytes(8, "little") for more in (1, 0))
         program = b"\x90\x48\xbb" + number + b"\x48\x89\xc3\x49\xbc" + number
         small = program.replace(number, (2**20 + 1).to_bytes(8, "little"))
@@ -279,7 +279,8 @@ class Definition(Case):
             lines = lines if lines[-1] else lines[:-1]
             found = auditor.first_fault(lines)
             said = re.fullmatch(rb"log: line (\d+) is (not lawful|no log line)\n|lawful: (\d+) lines\n", row.lines["report"])
-            self.assertEqual((found, len(lines) if found is None else None), (said[1] and int(said[1]), said[3] and int(said[3])), name)
+            wanted = said[1] and int(said[1]), said[3] and int(said[3])
+            self.assertEqual((found, len(lines) if found is None else None), wanted, name)
             if found is not None and found <= len(lines):
                 entry = definition.entry_of(lines[found - 1])
                 is_line = entry is not None and auditor.names["IsInRange"](entry)
@@ -288,7 +289,7 @@ class Definition(Case):
         self.assertGreater(tried, 150)
 
     def test_names_that_definitions_bind(self):
-        """A parameter, a name of `let` or of a function may be that of a definition, of a constant place or of a word of Python."""
+        """A parameter, a name of `let` or of a function may be that of another definition, or a word of Python."""
         self.put("entry", b"pub const LAST: u8 = 4;\n")
         self.put("It.antt", """use Some.where as place
 slots : List ℕ
