@@ -2,7 +2,7 @@
 """Compares what tools/trace.py tells of runs of random programs with the turns that a reference takes.
 
     bench/traces.py COMMAND COUNT [FIRST] [SLOTS]
-    bench/traces.py [small] [execs] COMMAND COUNT [FIRST] [SLOTS]
+    bench/traces.py [small] [execs, pipes, signals] COMMAND COUNT [FIRST] [SLOTS]
 
 The runs are those of bench/processes.py, cut after SLOTS slots (1,000): a seed gives a disk, a size of core and a script.
 COMMAND is a built v6. Compared are, turn by turn in the kernel, the slot of the run, the number of the process, the name of the
@@ -58,8 +58,8 @@ def name_of(process):
 
 
 def turns_of(image, core, script):
-    """(slot, process, the name of its call, kind, R0 and carry) of each turn in the kernel that the reference takes. Where a
-    process ends by a signal, that is R0."""
+    """(slot, process, the name of its call, kind, R0, carry and signal) of each turn in the kernel that the reference takes. The
+    signal is the one that was sent last to a process that ends, and to another one in this turn, or 0."""
     from abstract_unix import runs, script as scripts
 
     class Turns(runs.Run):
@@ -75,13 +75,13 @@ def turns_of(image, core, script):
                 kind, *more = line.split(" ")
                 if kind in ENDS and more[0] != "0":
                     area = process.area(unix.text_clicks(process)) if kind == "trap" else bytes(17)
-                    by = self.signal(more[0]) if kind == "exit" and name != "exit" else 0
-                    found.append((number, process.pid, name, kind, by or area[0] | area[1] << 8, area[16] & 1))
+                    sent = self.signal(more[0], 0 if kind == "exit" else since)
+                    found.append((number, process.pid, name, kind, area[0] | area[1] << 8, area[16] & 1, sent))
                     waits[process.pid] = name
 
-        def signal(self, slot):
-            """The signal that was sent last to a process."""
-            return int([line for line in self.log if line.startswith(f"signal {slot} ")][-1].split(" ")[2])
+        def signal(self, slot, since):
+            """The signal that was sent last to a process, from a line on."""
+            return int(([line for line in self.log[since:] if line.startswith(f"signal {slot} ")] or ["0"])[-1].split(" ")[-1])
 
     found, waits = [], {}
     Turns(image, core, scripts.read(script))
@@ -100,18 +100,21 @@ class ReferenceRun(Run):
 
 def fits(turn, said):
     """Whether a line that is told is about a turn."""
-    slot, process, name, kind, r0, carry = turn
+    slot, process, name, kind, r0, carry, sent = turn
     told = TOLD.fullmatch(said)
     if (int(told[1]), int(told[2])) != (slot, process):
         return False
     if kind == "exit" and name != "exit":
-        return re.fullmatch(rf"({name}\(.*\), and )?ends by signal {r0}", told[3], re.S) is not None
+        return re.fullmatch(rf"({name}\(.*\), and )?ends by signal {sent}", told[3], re.S) is not None
     if name is None:
-        return kind == "trap" and told[3].startswith("a larger stack: ")
+        said = f"a fault, which is signal {sent}" if sent else "a larger stack: "
+        return kind == "trap" and told[3].startswith(said)
     if not told[3].startswith(name + "("):
         return False
     if kind != "trap":
         return ") waits " in told[3] if kind == "sleep" else True
+    if name.startswith("call "):
+        return told[3].endswith(f") = signal {sent}")
     if carry:
         return f") = {ERRORS.get(r0, f'error {r0}')}" in told[3]
     if ANSWERS.get(name) in ("d", "r", "w"):
