@@ -7,9 +7,9 @@ ENDS = "the last is `end` or a `panic`, and none before it is"
 BARED = "Nothing fits then but `text`, `share`, `image` of S and `panic`, until its `image`"
 OF_BARE = "text", "share", "image", "panic"
 LEAST_CLICKS, MOST_CLICKS = 16, 2048  # of an image
-CHOICE = ("there is a choice: nobody runs, or the one that runs has to give up, since its image isn't in core, or since it "
-          "isn't slot 0, is in no call, and a new choice is asked for. S is then the first of the least priority among those that "
-          "can run and are in core, from the slot after the one chosen last on; `idle` stands where there is none")
+CHOICE = ("there is a choice: nobody runs; or the image of the one that runs isn't in core; or `runrun` is set, and the one "
+          "that runs isn't slot 0 and is in no call. S is then the first of the least priority among those that can run and are "
+          "in core, round from the slot after `last`; `idle` stands where there is none")
 SWAPPER = ("slot 0 runs, and this is the move that the rules of the swapper make; B begins the lowest free piece that is large "
            "enough for the image")
 MODES = (("tick u", "somebody other than slot 0 runs, and is in no call"), ("tick k", "one runs that is in a call, or slot 0 does"),
