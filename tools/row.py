@@ -19,6 +19,7 @@ from files import guarded, read_bytes
 from pdp11 import ARGUMENTS
 from program import V6, ProgramError, add_version
 from rowfile import DATA, DISK_BYTES, HI, SWAP_AT, TEXT, Row, RowError, names
+from rownew import UNSAID, new_row
 
 FILES = ("term", *(f"term.{line}" for line in range(1, 8)), "log", "final", "final2")
 ENDED = 0, 7  # of runs whose log comes to its end: done, and a panic
@@ -212,8 +213,15 @@ def header(data):
     return [int.from_bytes(data[at : at + 2], "little") for at in range(0, 16, 2)]
 
 
+def is_unsaid(row):
+    """Whether the words of a new row stand there still, in the place of what is to be seen."""
+    return UNSAID in row.remarks
+
+
 def tell(row, found):
-    if not found:
+    if is_unsaid(row):
+        print(f"{row.name}: it doesn't say yet what is to be seen, and what it must come to")
+    elif not found:
         print("ok", row.name)
     for what, wanted, came in found:
         wanted, came = (value if isinstance(value, int) else f'"{plain(value[:200])}"' for value in (wanted, came))
@@ -252,11 +260,11 @@ def main(words):
 
 
 def run(options):
-    """The status: 1 where a row that was run didn't come out as it says."""
+    """The status: 1 where a row that was run didn't come out as it says, or doesn't say it yet."""
     if options.source:
-        from rownew import new_row
-
-        path = new_row(options.names[1], options.source, options.page, options.slots, options.data)
+        path, is_new = new_row(options.names[1], options.source, options.page, options.slots, options.data)
+        if is_new:
+            print(f"{options.names[1].partition('/')[0]}: a new family")
         print(f"{path}: say there what it must come to, by hand; then row.py {options.names[1]}")
         return 0
     failed = 0
@@ -278,7 +286,7 @@ def run(options):
                 failed += unread(error)
                 continue
             found = differences(row, image, came)
-            failed += bool(found)
+            failed += bool(found) or is_unsaid(row)
             tell(row, found) if options.quiet else show(row, image, came, found)
     return int(failed > 0)
 

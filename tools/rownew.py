@@ -11,11 +11,12 @@ from program import TOP
 from rowfile import DATA, RowError, names
 
 NAME = re.compile(r"[a-z]\w*/\w+", re.ASCII)
+UNSAID = "What is to be seen, and why, from that page. Then the sections that say it, worked by hand and not taken from a run:"
 ROW = """\
 # {title}
 # docs/manual/{page}
-# What is to be seen, and why, from that page. Then the sections that say it, worked by hand from the page and not taken from a
-# run: term, log, left, status and report, as docs/rows.md has them.
+# {unsaid}
+# term, log, left, status and report, as docs/rows.md has them.
 made 0
 init
 {lines}
@@ -64,7 +65,7 @@ def code(words, at):
 
 
 def new_row(name, source, page, slots, data=DATA):
-    """Writes a row's file, and its line of the list; gives the path of the file."""
+    """Writes a row's file, and its line of the list; gives the path of the file, and whether the family is new."""
     if not NAME.fullmatch(name):
         raise RowError(f"{name}: a name is FAMILY/NAME, in small letters, as calls/dup_of_a_pipe")
     path = os.path.join(data, "rows", name)
@@ -73,9 +74,10 @@ def new_row(name, source, page, slots, data=DATA):
     if not os.path.exists(os.path.join(TOP, "docs", "manual", page)):
         raise RowError(f"{page}: no page of docs/manual")
     title = name.rpartition("/")[2].replace("_", " ")
-    text = ROW.format(title=title, page=page, lines="\n".join(program_lines(source)), slots=slots)
+    text = ROW.format(title=title, page=page, unsaid=UNSAID, lines="\n".join(program_lines(source)), slots=slots)
+    is_new = not os.path.isdir(os.path.dirname(path))
     os.makedirs(os.path.dirname(path), exist_ok=True)
     replace(path, text.encode("ascii", "backslashreplace"))
     if data == DATA:
         replace(os.path.join(os.path.dirname(DATA), "stdout"), "".join(f"ok {one}\n" for one in names()).encode())
-    return path
+    return path, is_new

@@ -182,8 +182,8 @@ class Command(Case):
         source = self.put("it.s", b"start:\tmov\t$name,r0\t/ a name\n\tsys\tdup; sys exit\n\n\t.data\nname:\t</a\\0>\n\t.even\n\t5\n")
         words = ("--data", self.folder, "new", "some/row_of_mine", "--from", source, "--page", "names.md", "--slots", "7")
         path = self.path("rows/some/row_of_mine")
-        self.assertEqual(self.call(row_main, *words), (0, f"{path}: say there what it must come to, by hand; then row.py "
-                                                          "some/row_of_mine\n", ""))
+        to_say = "{}: say there what it must come to, by hand; then row.py {}\n".format
+        self.assertEqual(self.call(row_main, *words), (0, "some: a new family\n" + to_say(path, "some/row_of_mine"), ""))
         text = read(path).decode()
         self.assertEqual(text.split("\n")[:2], ["# row of mine", "# docs/manual/names.md"])
         self.assertEqual(text.partition("made 0\n")[2], """\
@@ -198,6 +198,20 @@ script
     run 7
 """)
         self.assertEqual(self.call(row_main, *words)[::2], (1, f"row.py: {path}: there already\n"))
+        again = self.call(row_main, *(word.replace("of_mine", "of_yours") for word in words))
+        self.assertEqual(again, (0, to_say(self.path("rows/some/row_of_yours"), "some/row_of_yours"), ""))
+
+    def test_a_new_row_is_not_ok(self):
+        """Not before its author has said what it must come to, though the program ends with status 0 and shows nothing."""
+        source, own = self.put("it.s", b"\tsys\texit\n"), ("--data", self.folder)
+        self.assertEqual(self.call(row_main, *own, "new", "some/one", "--from", source)[0], 0)
+        unsaid = "some/one: it doesn't say yet what is to be seen, and what it must come to\n"
+        self.assertEqual(self.call(row_main, *own, "-q", "some/one"), (1, unsaid, ""))
+        self.assertTrue(self.call(row_main, *own, "some/one")[1].endswith(unsaid))
+        lines = read(self.path("rows/some/one")).decode().splitlines(True)
+        said = [*lines[:2], "# It ends at once.\n", *lines[4:], "status 0\n"]
+        self.put("rows/some/one", "".join(said).encode())
+        self.assertEqual(self.call(row_main, *own, "-q", "some/one"), (0, "ok some/one\n", ""))
 
     def test_another_folder(self):
         os.makedirs(self.path("rows/fuzz"))
