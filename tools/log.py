@@ -19,7 +19,7 @@ from lions import OF_WORDS, told
 from logpicture import Picture
 from logwords import Teller
 from processes import programs_of
-from proctable import SLOTS, LogFault, Table
+from proctable import MOST_BYTES, SLOTS, LogFault, Table
 from program import V6, ProgramError, add_version, call
 from scriptfile import ScriptError, read_script, slots_of, ticks_of
 from volume import DiskError
@@ -216,8 +216,16 @@ def is_lawful_behind(options, lines, line):
     return said.startswith("lawful: ") or bool(found) and int(found[1]) > len(lines) + 1
 
 
+def shown_line(line, is_bad):
+    """A line at fault; one that is no line of a log in quotes, as far as a line may go."""
+    if line is None:
+        return "the log ends here"
+    return repr(line[:MOST_BYTES]) + ".." * (len(line) > MOST_BYTES) if is_bad else line
+
+
 def fault_told(options, data, number, is_bad):
-    """The lines before the one at fault, that line, the rule, and the line that would be lawful, where the rules give one."""
+    """The lines before the one at fault, that line, the rule, and the line that would be lawful, where the rules give one, or which
+    part of the rule it breaks."""
     from choices import Ruled
     from logrules import bad, unlawful
 
@@ -228,8 +236,7 @@ def fault_told(options, data, number, is_bad):
         story.take(line)
     tell(story, story.lines[first - 1 : number - 1], " ")
     line = story.lines[number - 1] if number <= len(story.lines) else None
-    shown = "the log ends here" if line is None else repr(line[:60]) if is_bad else line
-    print(f"> {number:>8}  {shown}")
+    print(f"> {number:>8}  {shown_line(line, is_bad)}")
     is_lawful = functools.partial(is_lawful_behind, options, story.lines[: number - 1])
     for rule in bad(line, number) if is_bad else unlawful(story.table, line, is_lawful):
         print(textwrap.fill(rule + ".", WIDTH))

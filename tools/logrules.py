@@ -7,6 +7,9 @@ ENDS = "the last is `end` or a `panic`, and none before it is"
 BARED = "Nothing fits then but `text`, `share`, `image` of S and `panic`, until its `image`"
 OF_BARE = "text", "share", "image", "panic"
 LEAST_CLICKS, MOST_CLICKS = 16, 2048  # of an image
+LEAST_CORE, MOST_CORE = 64, 3968  # clicks
+OWN = ("trap", "nice", "size", "fork", "drop", "bare", "text", "share", "image", "exit", "signal")  # never of slot 0
+PRIORITIES = {"read": 1, "write": 1, "keys": 10, "show": 20, "wait": 40, "tout": 90, "disk": -50}  # by what is slept for
 CHOICE = ("there is a choice: nobody runs; or the image of the one that runs isn't in core; or `runrun` is set, and the one "
           "that runs isn't slot 0 and is in no call. S is then the first of the least priority among those that can run and are "
           "in core, round from the slot after `last`; `idle` stands where there is none")
@@ -123,21 +126,101 @@ class Wanted:
         return None if text is None else (f"drop {self.slot} {text} {self.entry['kind']}", f"slot {self.slot} has text {text}")
 
 
+class Broken:
+    """Which part of its rule a line breaks, by the table alone, where the one runs for whom the line could stand. Each part is told
+    only where it is so; None stands for no part that is known."""
+
+    def __init__(self, table, entry):
+        self.table, self.entry = table, entry
+        self.slot, self.row = entry.get("S"), table.rows.get(entry.get("S"))
+
+    def part(self):
+        word = self.entry["word"]
+        if self.slot == 0 and word in OWN:
+            return "S is 0, and slot 0 is the swapper's"
+        found = getattr(self, "part_of_" + word, None)
+        return found() if found else None
+
+    def clicks(self, least=LEAST_CLICKS):
+        clicks, core = self.entry["N"], self.table.core
+        if clicks < least:
+            return f"{clicks} is less than {least}"
+        if clicks > MOST_CLICKS:
+            return f"{clicks} is more than {MOST_CLICKS}"
+        return f"{clicks} is more than core, which has {core} clicks" if clicks > core else None
+
+    def with_place(self):
+        return None if self.row.place is None else f"Slot {self.slot} has a place"
+
+    def with_text(self):
+        return None if self.row.text is None else f"Slot {self.slot} has text {self.row.text}"
+
+    part_of_size, part_of_bare, part_of_exit = clicks, with_text, with_text
+
+    def part_of_image(self):
+        return self.with_place() or self.clicks()
+
+    def part_of_text(self):
+        return self.with_place() or self.with_text() or self.clicks(1)
+
+    def part_of_share(self):
+        is_there = self.entry["K"] in self.table.texts
+        return self.with_place() or self.with_text() or (None if is_there else f"Text {self.entry['K']} isn't in use")
+
+    def part_of_drop(self):
+        return f"Slot {self.slot} has no text" if self.row.text is None else None
+
+    def part_of_fork(self):
+        return "No slot is free" if len(self.table.rows) == SLOTS else None
+
+    def part_of_signal(self):
+        return None if self.row else f"Slot {self.slot} is empty"
+
+    def part_of_reap(self):
+        if not self.row:
+            return f"Slot {self.slot} is empty"
+        return None if self.row.state == "dead" else f"The process in slot {self.slot} hasn't ended"
+
+    def part_of_sleep(self):
+        channel = self.entry["W"]
+        kind, _, number = channel.partition(".")
+        if self.slot == 0:
+            return None  # then it is the swapper's, for which the rules give a line
+        if kind not in PRIORITIES:
+            return f"Slot 0 alone sleeps for {channel}"
+        if kind in ("wait", "disk") and int(number) != self.slot:
+            return f"Of the channels {kind}.S slot {self.slot} may sleep for {kind}.{self.slot} alone"
+        return None if self.entry["P"] == PRIORITIES[kind] else f"The priority of {channel} is {PRIORITIES[kind]}"
+
+    def part_of_panic(self):
+        """The room that there is, though it is said to be missing; the swapper's panic has its line by the rules."""
+        if self.table.running == 0:
+            return None
+        if self.entry["reason"] == "text":
+            free = next((text for text in range(TEXTS) if text not in self.table.texts), None)
+            return None if free is None else f"Entry {free} is free"
+        count = 1 if self.entry["reason"] == "zombie" else blocks(min(self.table.core, MOST_CLICKS))
+        block = first_fit(self.table.taken("swap"), SWAP_FIRST, SWAP_LAST, count)
+        if block is None:
+            return None
+        return f"Block {block} is free" if count == 1 else f"There is a piece of {count} free blocks, from block {block} on"
+
+
 def counted(count):
     return f"{count} block" + "s" * (count != 1)
 
 
 def right_line(table, entry, is_lawful):
     """The line that the rules give in the place of one, with why, as far as it is known to be lawful there; else who runs, where that
-    is another than the line wants."""
+    is another than the line wants; else the part of the rule that it breaks."""
     for line, why in Wanted(table, entry).lines():
         if is_lawful(line):
             return [f"The rules would make it `{line}`: {why}"]
     if entry["word"] in CHOICES and table.entry["word"] != "idle" and is_lawful("end"):  # behind `idle` it fits beside a choice
         return ["There is no choice there"]
-    if runs_as_wanted(table.running, entry):
-        return []
-    return ["Nobody runs there" if table.running is None else f"Slot {table.running} runs there"]
+    if not runs_as_wanted(table.running, entry):
+        return ["Nobody runs there" if table.running is None else f"Slot {table.running} runs there"]
+    return list(filter(None, [Broken(table, entry).part()]))
 
 
 def runs_as_wanted(running, entry):
@@ -156,14 +239,26 @@ def bared(table):
     return bool(table.running and row and row.place is None)
 
 
+def begins(table, line):
+    """Why one of the first two lines isn't lawful, or a `boot` behind them."""
+    if table.lines >= len(BEGINS):
+        return [f"{BEGINS[0]}, and no other line is"]
+    clicks = entry_of(line, table.lines + 1).get("C") if table.lines == 0 and line.startswith("boot ") else None
+    if clicks is None:
+        return [BEGINS[table.lines]]
+    return [BEGINS[0], f"{clicks} is " + (f"less than {LEAST_CORE}" if clicks < LEAST_CORE else f"more than {MOST_CORE}")]
+
+
 def unlawful(table, line, is_lawful):
     """Why a line of a log doesn't fit what the lines taken so far give; of None, why the log isn't at its end. `is_lawful` says
     whether another line would fit there."""
+    if table.lines == 0 and line is None:
+        return [f"the file is empty: {BEGINS[0]}"]
     if table.over or line is None:
         return [ENDS]
     word = line.partition(" ")[0]
     if table.lines < len(BEGINS) or word == "boot":
-        return [BEGINS[table.lines if table.lines < len(BEGINS) else 0]]
+        return begins(table, line)
     if bared(table) and word not in OF_BARE:
         return [f"slot {table.running} has given back its image. {BARED}"]
     forms, rule = RULES[word]
@@ -176,4 +271,4 @@ def bad(line, number):
         entry_of(line, number)
     except LogFault as fault:
         return [str(fault).partition(": ")[2]]
-    return ["a number is out of its range"]
+    return []

@@ -4,6 +4,7 @@ from collections import namedtuple
 from dataclasses import dataclass
 
 SLOTS, TEXTS, MOST_NUMBER = 50, 40, 32767
+MOST_BYTES = 80  # of a line
 FIRST_CLICKS, CORE_FIRST, SWAP_FIRST, SWAP_LAST, CLICKS_OF_A_BLOCK = 17, 1, 4000, 4871, 8
 TICKS_OF_A_SECOND, MOST_TIME = 60, 127
 
@@ -19,6 +20,9 @@ NUMBER = "0|[1-9][0-9]*"
 NUMBERS = {  # the letter of a number, and its range
     "S": (0, 49), "T": (0, 49), "K": (0, 39), "C": (0, 65535), "N": (0, 65535), "B": (SWAP_FIRST, SWAP_LAST), "X": (1, 19),
     "TIME": (0, 2**32 - 1), "P": (-128, 127),
+}
+OF_CHANNELS = {  # the letter of a channel's number, and its range
+    "wait": ("S", *NUMBERS["S"]), "disk": ("S", *NUMBERS["S"]), "read": ("I", 1, 65535), "write": ("I", 1, 65535),
 }
 PATTERNS = {
     "P": "(?P<P>-?[1-9][0-9]*|0)",
@@ -47,12 +51,29 @@ class LogFault(Exception):
         self.number = number
 
 
+def no_line(text):
+    """What is wrong with a line that is none of a log, whatever its numbers are."""
+    if len(text) > MOST_BYTES:
+        return f"it has {len(text)} bytes, and a line has {MOST_BYTES} at most"
+    if text.endswith("\r"):
+        return "a line ends by a line feed alone, and this one has a carriage return at its end"
+    return f"no line of a log: {text!r}"
+
+
+def check_channel(channel, text, number):
+    """The number of a channel is in its range."""
+    kind, _, value = channel.partition(".")
+    letter, least, most = OF_CHANNELS.get(kind, (None, 0, 0))
+    if letter and not least <= int(value) <= most:
+        raise LogFault(number, f"{letter} of {kind}.{letter} is {least} to {most}: {text}")
+
+
 def entry_of(text, number):
     """The word of a line and its numbers by their letters."""
     word = text.partition(" ")[0]
-    found = LINES[word].fullmatch(text) if word in LINES else None
+    found = LINES[word].fullmatch(text) if word in LINES and len(text) <= MOST_BYTES else None
     if not found:
-        raise LogFault(number, f"no line of a log: {text[:60]!r}")
+        raise LogFault(number, no_line(text))
     entry = {"word": word}
     for name, value in found.groupdict().items():
         if value is None:
@@ -61,8 +82,10 @@ def entry_of(text, number):
             value = int(value)
             least, most = NUMBERS[name]
             if not least <= value <= most:
-                raise LogFault(number, f"{name} is out of its range: {text}")
+                raise LogFault(number, f"{name} is {least} to {most}: {text}")
         entry[name] = value
+    if "W" in entry:
+        check_channel(entry["W"], text, number)
     if "C" in entry and word != "boot":
         entry["place"] = Place("at", entry["C"])
     elif "B" in entry:

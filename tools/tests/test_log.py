@@ -211,7 +211,7 @@ class Log(Case):
             "line    slots ", "   1          ", "   2          ", "   3       12 ", "   4       24 ", "   5          "])
 
     def test_spoiled(self):
-        for line, why in (("go 60", "S is out of its range: go 60"), ("go 01", "no line of a log: 'go 01'"), ("walk 1", "no line of a log: 'walk 1'"),
+        for line, why in (("go 60", "S is 0 to 49: go 60"), ("go 01", "no line of a log: 'go 01'"), ("walk 1", "no line of a log: 'walk 1'"),
                           ("go  1", "no line of a log: 'go  1'"), ("nice 1 -0", "no line of a log: 'nice 1 -0'"), ("", "no line of a log: ''"),
                           ("trap 7", "slot 7 is free there"), ("fork 1 1 at 9", "slot 1 isn't free there"),
                           ("share 1 3", "text 3 isn't in use there"), ("boot 64 0", "`boot` is the first line, and no other is")):
@@ -282,11 +282,14 @@ class Log(Case):
         begins = "boot 1200 0\nsleep 0 -100 runout\n"
         choice = ["the least priority of those that can run is 0, that of slot 1."]
         for text, wanted in (("go 1\n", ["the first line is `boot`, with 64 to 3968 clicks."]),
-                             ("boot 63 0\n", ["the first line is `boot`, with 64 to 3968 clicks."]),
+                             ("boot 63 0\n", ["the first line is `boot`, with 64 to 3968 clicks.", "63 is less than 64."]),
+                             ("boot 3969 0\n", ["the first line is `boot`, with 64 to 3968 clicks.", "3969 is more than 3968."]),
                              ("boot 64 0\ngo 1\n", ["the second is `sleep 0 -100 runout`."]),
-                             (begins + "boot 1200 0\n", ["the first line is `boot`, with 64 to 3968 clicks."]),
+                             ("boot 64 0\nboot 64 0\n", ["the second is `sleep 0 -100 runout`."]),
+                             (begins + "boot 1200 0\n", ["the first line is `boot`, with 64 to 3968 clicks, and no other line is."]),
                              (begins + "go 1\n", ["the last is `end` or a `panic`, and none before it is."]),
-                             ("", ["the last is `end` or a `panic`, and none before it is."]),
+                             ("", ["the file is empty: the first line is `boot`, with 64 to 3968 clicks."]),
+                             ("boot 64 0\n", ["the last is `end` or a `panic`, and none before it is."]),
                              (LAWFUL + "end\nend\n", ["the last is `end` or a `panic`, and none before it is."]),
                              (begins + "go 0\n", ["The rules would make it `go 1`: " + choice[0]])):
             status, said = self.audited(text)
@@ -354,10 +357,12 @@ class Log(Case):
             ("size 1 832 keep, fork 1 5 at 833, fork 1 6 swap 4768, exit 1 swap 4871", "panic zombie", "no block is free"),
             (to_go_out + "out 1 4768", "panic swap", swapper), (to_go_out + "panic zombie", "panic swap", swapper),
         ), FULL)
-        for lines in ("size 1 2049 swap 4768", "image 1 2048 at 1", "text 1 0 2048 swap 4768",
-                      "bare 1, image 1 2049 at 1", "bare 1, text 1 0 2049 swap 4768",
-                      "bare 1, text 1 0 8 swap 4768, image 1 824 swap 4769, exit 1 swap 4000"):
-            self.assertEqual(self.told_line(lines.split(", "), FULL), "", lines)  # nothing of the kind is due
+        for lines, part in (("size 1 2049 swap 4768", "2049 is more than 2048."), ("image 1 2048 at 1", "Slot 1 has a place."),
+                            ("text 1 0 2048 swap 4768", "Slot 1 has a place."), ("panic zombie", "Block 4768 is free."),
+                            ("panic text", "Entry 0 is free."), ("bare 1, image 1 2049 at 1", "2049 is more than 2048."),
+                            ("bare 1, text 1 0 2049 swap 4768", "2049 is more than 2048."),
+                            ("bare 1, text 1 0 8 swap 4768, image 1 824 swap 4769, exit 1 swap 4000", "Slot 1 has text 0.")):
+            self.assertEqual(self.told_line(lines.split(", "), FULL), part, lines)  # nothing of the kind is due
         self.assertEqual(self.told_line(["fork 2 5 swap 4768"], FULL), "Slot 1 runs there.")
 
     def test_audit_tells_the_panic_of_texts(self):
@@ -366,12 +371,60 @@ class Log(Case):
                         for text in range(40))
         self.assert_told(((texts + "bare 1, text 1 0 1 swap 4040", "panic text", "all forty texts are in use"),))
 
-    def test_audit_tells_no_line(self):
-        """Where none is lawful: a size that no image has, a process that doesn't run, a panic without its cause."""
-        for lines in ("size 1 8 keep", "size 1 3000 at 18", "size 1 1201 swap 4000", "image 1 30 at 18", "text 1 0 9 swap 4000",
-                      "drop 1 0 plain", "bare 1, image 1 15 at 1", "bare 1, text 1 0 0 swap 4000", "bare 1, text 1 0 1201 swap 4000",
-                      "panic swap", "panic zombie", "panic text", "sleep 1 10 tout", "reap 1", "share 1 0", "signal 2 1"):
-            self.assertEqual(self.told_line(lines.split(", ")), "", lines)
+    def assert_parts(self, cases, *begins):
+        for lines, part in cases:
+            self.assertEqual(self.told_line(lines.split(", "), *begins), part and part + ".", lines)
+
+    def test_audit_tells_the_part(self):
+        """Where the rules give no line: which part of the rule doesn't hold. Slot 1 runs, with 17 clicks, of 1200 in core."""
+        place, forks = "Slot 1 has a place", "fork 1 2 at 18, "
+        self.assert_parts((
+            ("size 1 8 keep", "8 is less than 16"), ("size 1 3000 at 18", "3000 is more than 2048"),
+            ("size 1 1201 swap 4000", "1201 is more than core, which has 1200 clicks"),
+            ("bare 1, image 1 15 at 1", "15 is less than 16"), ("bare 1, image 1 4000 at 90", "4000 is more than 2048"),
+            ("bare 1, text 1 0 0 swap 4000", "0 is less than 1"),
+            ("bare 1, text 1 0 1201 swap 4000", "1201 is more than core, which has 1200 clicks"),
+            ("image 1 30 at 18", place), ("text 1 0 9 swap 4000", place), ("share 1 0", place),
+            ("bare 1, share 1 3", "Text 3 isn't in use"),
+            ("drop 1 0 plain", "Slot 1 has no text"), ("signal 2 1", "Slot 2 is empty"), ("reap 2", "Slot 2 is empty"),
+            ("reap 1", "The process in slot 1 hasn't ended"), (forks + "reap 2", "The process in slot 2 hasn't ended"),
+            (forks + "sleep 1 40 wait.1, go 2, exit 2 swap 4000, wake wait.1, go 1, reap 2, signal 2 1", "Slot 2 is empty"),
+            ("signal 0 1", "S is 0, and slot 0 is the swapper's"), ("reap 0", "The process in slot 0 hasn't ended"),
+            ("panic zombie", "Block 4000 is free"), ("panic text", "Entry 0 is free"),
+            ("panic swap", "There is a piece of 150 free blocks, from block 4000 on"),
+            ("bare 1, panic swap", "There is a piece of 150 free blocks, from block 4000 on")))
+        self.assert_parts((("panic swap", "There is a piece of 256 free blocks, from block 4000 on"),),
+                          "boot 3968 0\nsleep 0 -100 runout\ngo 1\n")
+
+    def test_audit_tells_the_part_of_a_text(self):
+        """Slot 1 runs with text 0, of 20 clicks in block 4000, and an image of 30 behind it in core."""
+        self.assert_parts((
+            ("bare 1", "Slot 1 has text 0"), ("exit 1 swap 4003", "Slot 1 has text 0"), ("share 1 0", "Slot 1 has a place"),
+            ("drop 1 0 plain, bare 1, share 1 0", "Text 0 isn't in use"),
+            ("drop 1 0 sticky, bare 1, share 1 0, share 1 0", "Slot 1 has text 0"),
+            ("drop 1 0 sticky, bare 1, share 1 0, text 1 1 9 swap 4003", "Slot 1 has text 0"),
+            ("drop 1 0 sticky, panic text", "Entry 1 is free"), ("panic zombie", "Block 4003 is free"),
+            ("drop 1 0 sticky, drop 1 0 sticky", "Slot 1 has no text"),
+        ), TEXTS[: TEXTS.index("fork")].replace("boot 64", "boot 1200"))
+
+    def test_audit_tells_the_part_of_a_sleep(self):
+        """The priorities are those of the page's table; slot 0 alone sleeps for two of the channels."""
+        of_wait, of_disk = (f"Of the channels {kind}.S slot 1 may sleep for {kind}.1 alone" for kind in ("wait", "disk"))
+        self.assert_parts([(f"sleep 1 {wrong} {channel}", f"The priority of {channel} is {right}") for channel, right, wrong in (
+            ("wait.1", 40, 41), ("read.9", 1, -1), ("write.9", 1, 10), ("keys", 10, 20), ("keys.3", 10, 9), ("show", 20, 10),
+            ("show.7", 20, -20), ("tout", 90, 10), ("disk.1", -50, 50))])
+        self.assert_parts((("sleep 1 40 wait.2", of_wait), ("sleep 1 41 wait.2", of_wait), ("sleep 1 -50 disk.0", of_disk),
+                           ("sleep 1 -100 runin", "Slot 0 alone sleeps for runin"),
+                           ("sleep 1 -100 runout", "Slot 0 alone sleeps for runout")))
+
+    def test_audit_tells_that_no_slot_is_free(self):
+        """Slots 2 to 49 are of children with 17 clicks each, one behind the other; then slot 0 runs, which makes no call."""
+        forks = "".join(f"fork 1 {slot} at {1 + 17 * (slot - 1)}, " for slot in range(2, 50))
+        self.assert_parts(((forks + "fork 1 2 at 834", "No slot is free"),))
+        to_slot_0 = "size 1 1200 swap 4000, trap 1, go 0, "
+        for line in ("trap 0", "nice 0 1", "size 0 16 keep", "fork 0 2 at 18", "drop 0 0 plain", "bare 0", "text 0 0 1 swap 4150",
+                     "share 0 0", "image 0 16 at 18", "exit 0 swap 4150"):
+            self.assert_parts(((to_slot_0 + line, "S is 0, and slot 0 is the swapper's"),))
 
     def test_audit_tells_who_runs(self):
         """Where that is another than the line wants."""
@@ -401,8 +454,29 @@ class Log(Case):
                 self.assertEqual(self.told_line(lines), told, lines)
 
     def test_audit_of_numbers_that_no_line_has(self):
-        self.assertEqual(self.audited("boot 64 0\nsleep 0 -100 runout\nwake read.0\n")[1][-1], "a number is out of its range.")
-        self.assertEqual(self.audited("boot 64 0\nsleep 0 -100 runout\ngo 50\n")[1][-1], "S is out of its range: go 50.")
+        for line, part in (("wake read.0", "I of read.I is 1 to 65535"), ("sleep 1 1 write.65536", "I of write.I is 1 to 65535"),
+                           ("wake wait.50", "S of wait.S is 0 to 49"), ("wake disk.50", "S of disk.S is 0 to 49"),
+                           ("go 50", "S is 0 to 49"), ("nice 1 200", "P is -128 to 127"), ("nice 1 -129", "P is -128 to 127"),
+                           ("fork 1 50 at 18", "T is 0 to 49"), ("share 1 40", "K is 0 to 39"), ("exit 1 swap 3999", "B is 4000 to 4871"),
+                           ("signal 1 20", "X is 1 to 19"), ("size 1 65536 keep", "N is 0 to 65535"),
+                           ("time 4294967296", "TIME is 0 to 4294967295"), ("in 1 65536", "C is 0 to 65535")):
+            name = f"boot 64 0\nsleep 0 -100 runout\n{line}\n"
+            self.assertEqual(self.audited(name)[1][-1], f"{part}: {line}.")
+            self.refused(name, f"line 3: {part}: {line}")
+
+    def test_audit_of_lines_that_are_none(self):
+        """One of more than eighty bytes, whatever they are, one with a carriage return, and one of eighty bytes."""
+        for line, shown, why in (("a" * 100, repr("a" * 80) + "..", "it has 100 bytes, and a line has 80 at most"),
+                                 ("wake read." + "9" * 71, repr("wake read." + "9" * 70) + "..",
+                                  "it has 81 bytes, and a line has 80 at most"),
+                                 ("go 1\r", r"'go 1\r'", "a line ends by a line feed alone, and this one has a carriage return at its end"),
+                                 ("b" * 80, repr("b" * 80), "no line of a log: " + repr("b" * 80))):
+            text = f"boot 64 0\nsleep 0 -100 runout\n{line}\n"
+            status, said = self.audited(text)
+            self.assertEqual((status, said[0]), (1, "log: line 3 is no log line"))
+            self.assertEqual((said[3], " ".join(said[4:])), (f">        3  {shown}", why + "."))
+            self.refused(text, f"line 3: {why}")
+        self.refused("boot 64 0\nsleep 0 -100 runout\ngo " + "1" * 5000 + "\n", "line 3: it has 5003 bytes, and a line has 80 at most")
 
     def spoiled(self, lines, how):
         """A log with a line that is none from somewhere on, or cut within a line, and the number of that line."""
