@@ -302,7 +302,7 @@ def long(data, at):
 def cells(table, slot, user, command):
     """What HEAD names, of the process in a slot; its user and its command are memory's to tell."""
     row = table.rows[slot]
-    return [table.letter(slot), slot, row.number, row.parent, user, row.priority if row.state == "asleep" else "-", place_of(row),
+    return [table.letter(slot), slot, row.number, row.parent, user, "-" if row.state == "dead" else table.priority[slot], place_of(row),
             row.time, row.size if slot else "-", "-" if row.text is None else row.text, row.channel or "-",
             command if slot else "(the swapper)"]
 

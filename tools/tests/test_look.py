@@ -213,6 +213,16 @@ class Shown(unittest.TestCase):
         looker.lines_of("slot 1")
         self.assertEqual(looker.lines_of("swap")[:2], [" 4000 to  4001     2  text 0", " 4002 to  4006     5  process 1"])
 
+    def test_priorities(self):
+        """Who runs has 100, and 107 behind a nice of 7, after the next call; a child has 0 until its first; who is woken keeps its own."""
+        lines = (*START, (2, "fork 1 2 at 38"), (2, "trap 1"), (3, "nice 1 7"), (3, "go 2"), (4, "sleep 2 10 keys"), (4, "go 1"),
+                 (5, "trap 1"), (6, "wake keys"), (7, "go 2"), (8, "trap 2"))
+        looker = looker_of(ByHand(9, lines, lambda slots: placed((1, image((0,) * 8)), (38, image((0,) * 8)))))
+        for slot, wanted in ((1, ["-100", "100"]), (2, ["-100", "100", "0"]), (3, ["-100", "100", "0"]), (4, ["-100", "100", "10"]),
+                             (5, ["-100", "107", "10"]), (7, ["-100", "107", "10"]), (8, ["-100", "107", "100"])):
+            looker.lines_of(f"slot {slot}")
+            self.assertEqual([line.split()[5] for line in looker.lines_of("ps")[1:]], wanted, slot)
+
     def test_ps(self):
         """A parent that waits for its child, which is out of core, and a zombie. Both have two descriptors of one open file. The
         swapper was woken by the child's image, and hasn't run since."""
@@ -223,8 +233,9 @@ class Shown(unittest.TestCase):
             (1, image((0,) * 8, more=((18, b"\5"), (104, files)))), (4001, image((0,) * 8, more=((104, files),))))))
         looker.lines_of("slot 9")
         self.assertEqual([line.split()[:10] for line in looker.lines_of("ps")[1:4]], [
-            ["r", "0", "0", "0", "-", "-", "-", "0", "-", "-"], ["w", "1", "1", "0", "5", "40", "at", "1", "0", "37"],
-            ["o", "2", "2", "1", "0", "-", "swap", "4001", "0", "37"]])
+            ["r", "0", "0", "0", "-", "-100", "-", "0", "-", "-"], ["w", "1", "1", "0", "5", "40", "at", "1", "0", "37"],
+            ["o", "2", "2", "1", "0", "0", "swap", "4001", "0", "37"]])
+        self.assertEqual([looker.lines_of("ps")[4].split()[at] for at in (0, 1, 5)], ["z", "3", "-"])
         self.assertIn("state      z: has ended, and its parent hasn't waited for it", looker.lines_of("process 3"))
         self.assertIn("left       half of its u area, in block 4000", looker.lines_of("process 3"))
         self.assertIn("  file 1: open file 4, as 3 of process 1; 1, 3 of process 2", looker.lines_of("process 1"))

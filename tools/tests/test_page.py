@@ -299,7 +299,7 @@ class Logs(Made):
         self.assertEqual(bytes(found.columns["term"]), b"<b>&\0\x7f")
         self.assertEqual(shown(found.at(7)["ps"]), ["s\t0\t0\t0\t-\t-100\t-\t0\t-\t-\trunout\t(the swapper)",
                                                     "w\t1\t1\t0\t-\t40\tat 1\t0\t17\t-\twait.1\t",
-                                                    "R\t2\t2\t1\t-\t-\tat 18\t0\t17\t-\t-\t"])
+                                                    "R\t2\t2\t1\t-\t0\tat 18\t0\t17\t-\t-\t"])
         self.assertEqual(shown(found.at(7)["core"]), ["    1 to    17    17  process 1", "   18 to    34    17  process 2",
                                                       "   35 to   100    66  free", "66 of 100 clicks are free"])
 
