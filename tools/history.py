@@ -62,7 +62,7 @@ class History:
 
     def __init__(self, run):
         self.run, self.last = run, run.end()
-        self.tables, self.built = [Ruled()], Ruled()  # before the lines 0, APART and so on; and the table that makes more of them
+        self.tables, self.built = [Ruled()], Ruled()  # before the lines 0, APART and so on; and the one that makes more of them
         self.memories, self.guard, self.outside, self.sent = OrderedDict(), threading.Lock(), None, None
         self.kept, self.spans = KEPT, {}  # and by what was looked for the parts that were gone through for it
         self.answered = Counter()  # how often the answers of calls were known, by their names, in all that was gone through

@@ -178,8 +178,8 @@ def diff(options):
 
 def counts(one, other):
     """How often each word comes from there on, where it isn't as often."""
-    words = [collections.Counter(line.partition(" ")[0] for line in lines) for lines in (one, other)]
-    told = [f"{word} {words[0][word]}/{words[1][word]}" for word in sorted(words[0] | words[1]) if words[0][word] != words[1][word]]
+    one, other = (collections.Counter(line.partition(" ")[0] for line in lines) for lines in (one, other))
+    told = [f"{word} {one[word]}/{other[word]}" for word in sorted(one | other) if one[word] != other[word]]
     if told:
         print("from there on: " + ", ".join(told))
 
@@ -224,8 +224,8 @@ def shown_line(line, is_bad):
 
 
 def fault_told(options, data, number, is_bad):
-    """The lines before the one at fault, that line, the rule, and the line that would be lawful, where the rules give one, or which
-    part of the rule it breaks."""
+    """The lines before the one at fault, that line, the rule, and the line that would be lawful, where the rules give one, or
+    which part of the rule it breaks."""
     from choices import Ruled
     from logrules import bad, unlawful
 
@@ -249,6 +249,7 @@ def options_of(words):
     parser = argparse.ArgumentParser(prog="log.py", description="Tells, draws, compares and audits logs: docs/tools/log.md")
     add_version(parser)
     commands = parser.add_subparsers(dest="command", required=True, metavar="show, draw, diff, ask, audit")
+    first = {"dest": "first", "type": int, "default": 1, "metavar": "LINE"}
     for name, help_of in HELP.items():
         command = commands.add_parser(name, help=help_of, description=f"log.py {name}: docs/tools/log.md")
         command.add_argument("log", help="the log of a run: docs/manual/log.md")
@@ -260,10 +261,10 @@ def options_of(words):
         else:
             command.add_argument("--script", metavar="FILE", help="tells by the script of the run how many slots have passed")
         if name == "ask":
-            command.add_argument("--from", dest="first", type=int, default=1, metavar="LINE", help="the first that is asked for")
+            command.add_argument("--from", **first, help="the first that is asked for")
             command.add_argument("--count", type=int, default=sys.maxsize, metavar="N", help="how many choices are asked for")
         if name == "show":
-            command.add_argument("--from", dest="first", type=int, default=1, metavar="LINE", help="the first line that is shown")
+            command.add_argument("--from", **first, help="the first line that is shown")
             command.add_argument("--to", dest="last", type=int, default=sys.maxsize, metavar="LINE", help="the last one")
             command.add_argument("--book", action="store_true", help="names the procedures of Lions' book, with their lines")
         if name == "draw":

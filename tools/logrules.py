@@ -11,23 +11,23 @@ LEAST_CORE, MOST_CORE = 64, 3968  # clicks
 OWN = ("trap", "nice", "size", "fork", "drop", "bare", "text", "share", "image", "exit", "signal")  # never of slot 0
 PRIORITIES = {"read": 1, "write": 1, "keys": 10, "show": 20, "wait": 40, "tout": 90, "disk": -50}  # by what is slept for
 CHOICE = ("there is a choice: nobody runs; or the image of the one that runs isn't in core; or `runrun` is set, and the one "
-          "that runs isn't slot 0 and is in no call. S is then the first of the least priority among those that can run and are "
-          "in core, round from the slot after `last`; `idle` stands where there is none")
+          "that runs isn't slot 0 and is in no call. S is then the first of the least priority among those that can run and "
+          "are in core, round from the slot after `last`; `idle` stands where there is none")
 SWAPPER = ("slot 0 runs, and this is the move that the rules of the swapper make; B begins the lowest free piece that is large "
            "enough for the image")
-MODES = (("tick u", "somebody other than slot 0 runs, and is in no call"), ("tick k", "one runs that is in a call, or slot 0 does"),
-         ("tick i", "nobody runs"))
-PANICS = ("somebody other than slot 0 runs, and for `swap` the swap area has no piece for 2048 clicks, or for all of core where "
-          "that is less; for `zombie` it has no free block; for `text` no entry is free. Where slot 0 runs, `swap` alone: by the "
-          "rules of the swapper an image goes out, and there is no piece for it")
+MODES = (("tick u", "somebody other than slot 0 runs, and is in no call"),
+         ("tick k", "one runs that is in a call, or slot 0 does"), ("tick i", "nobody runs"))
+PANICS = ("somebody other than slot 0 runs, and for `swap` the swap area has no piece for 2048 clicks, or for all of core "
+          "where that is less; for `zombie` it has no free block; for `text` no entry is free. Where slot 0 runs, `swap` "
+          "alone: by the rules of the swapper an image goes out, and there is no piece for it")
 IMAGE = "N is 16 at least, and 2048 and core at most"
 RULES = {  # by the first word: the forms of the lines, and where they fit
     "go": ("`go S`, `idle`", CHOICE), "idle": ("`go S`, `idle`", CHOICE),
     "trap": ("`trap S`, `nice S P`", "S runs"), "nice": ("`trap S`, `nice S P`", "S runs"),
     "tick": ("`tick u`, `tick k`, `tick i`", "in this order: " + "; ".join(mode for _, mode in MODES)),
     "sleep": ("`sleep S P W`", "S runs, and P is the priority of W: 1 of `read.I` and `write.I`, 10 of `keys` and `keys.L`, 20 "
-              "of `show` and `show.L`, 40 of `wait.S` with S itself, 90 of `tout`, -50 of `disk.S` with S itself, and no other W. "
-              "Of slot 0: it runs, P is -100, and the rules of the swapper let it wait for W"),
+              "of `show` and `show.L`, 40 of `wait.S` with S itself, 90 of `tout`, -50 of `disk.S` with S itself, and no other "
+              "W. Of slot 0: it runs, P is -100, and the rules of the swapper let it wait for W"),
     "wake": ("`wake W`", "always"), "signal": ("`signal S X`", "S isn't 0, and the slot is in use, also by one that has ended"),
     "time": ("`time TIME`", "somebody other than slot 0 runs"),
     "size": ("`size S N ..`", f"S runs; {IMAGE}; `keep` stands exactly where N is no more than the size before, and else the "
@@ -48,8 +48,8 @@ RULES = {  # by the first word: the forms of the lines, and where they fit
 
 
 class Wanted:
-    """The lines that the rules may give in the place of one of a log: each with why. S and N are those of the log's line. Which of
-    them is lawful there, if any, is for the auditor to say."""
+    """The lines that the rules may give in the place of one of a log: each with why. S and N are those of the log's line. Which
+    of them is lawful there, if any, is for the auditor to say."""
 
     def __init__(self, table, entry):
         self.table, self.entry = table, entry
@@ -72,7 +72,7 @@ class Wanted:
         text = self.table.texts.get(self.row.text)
         may_load = text is None or text.loaded
         at = first_fit(self.table.taken("at"), CORE_FIRST, self.table.core, clicks) if may_load else None
-        why = f"first fit for {clicks} clicks is " if may_load else f"its text isn't in core, and first fit for {clicks} clicks is "
+        why = ("" if may_load else "its text isn't in core, and ") + f"first fit for {clicks} clicks is "
         if at is not None:
             return f"{begins} at {at}", f"{why}`at {at}`"
         block = self.block(clicks)
@@ -127,8 +127,8 @@ class Wanted:
 
 
 class Broken:
-    """Which part of its rule a line breaks, by the table alone, where the one runs for whom the line could stand. Each part is told
-    only where it is so; None stands for no part that is known."""
+    """Which part of its rule a line breaks, by the table alone, where the one runs for whom the line could stand. Each part is
+    told only where it is so; None stands for no part that is known."""
 
     def __init__(self, table, entry):
         self.table, self.entry = table, entry
@@ -211,8 +211,8 @@ def counted(count):
 
 
 def right_line(table, entry, is_lawful):
-    """The line that the rules give in the place of one, with why, as far as it is known to be lawful there; else who runs, where that
-    is another than the line wants; else the part of the rule that it breaks."""
+    """The line that the rules give in the place of one, with why, as far as it is known to be lawful there; else who runs,
+    where that is another than the line wants; else the part of the rule that it breaks."""
     for line, why in Wanted(table, entry).lines():
         if is_lawful(line):
             return [f"The rules would make it `{line}`: {why}"]

@@ -302,8 +302,9 @@ def long(data, at):
 def cells(table, slot, user, command):
     """What HEAD names, of the process in a slot; its user and its command are memory's to tell."""
     row = table.rows[slot]
-    return [table.letter(slot), slot, row.number, row.parent, user, "-" if row.state == "dead" else table.priority[slot], place_of(row),
-            row.time, row.size if slot else "-", "-" if row.text is None else row.text, row.channel or "-",
+    priority = "-" if row.state == "dead" else table.priority[slot]
+    return [table.letter(slot), slot, row.number, row.parent, user, priority, place_of(row), row.time, row.size if slot else "-",
+            "-" if row.text is None else row.text, row.channel or "-",
             command if slot else "(the swapper)"]
 
 

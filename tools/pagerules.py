@@ -12,8 +12,8 @@ RULES = {
     "go": ("A choice: of those that can run and are in core the first of the least priority, looked for from the slot after the one that "
            "was chosen last.", [("swtch", "pick_rules: Table::pick")]),
     "idle": ("A choice: no slot can run and is in core, so nobody does.", [("swtch", "pick_rules: Table::pick")]),
-    "trap": ("A call or a fault of the program has ended: the priority of the process is set anew, to 100 + nice + cpu / 16, and 127 at "
-             "most.", [("trap", "unix_core: Kernel::turn"), ("setpri", "pick_rules: setpri")]),
+    "trap": ("A call or a fault of the program has ended: the priority of the process is set anew, to 100 + nice + cpu / 16, "
+             "and 127 at most.", [("trap", "unix_core: Kernel::turn"), ("setpri", "pick_rules: setpri")]),
     "tick": ("The clock ticks: whoever runs is counted 1 more tick. With each sixtieth tick a second ends: times grow, use falls by 10, "
              "and who waits for the second is woken.", [("clock", "unix_core: Kernel::tick")]),
     "sleep": ("What it asks for isn't there: it sleeps for a channel, with the priority of that channel, until a wakeup of it. From 0 on "

@@ -99,8 +99,8 @@ def blocks(clicks):
 
 @dataclass
 class Row:
-    """A process: its state is "ready", "asleep" or "dead". A number below 0 wakes by no signal. Its time is for how many seconds it
-    has been in core or out of it: docs/manual/clock.md."""
+    """A process: its state is "ready", "asleep" or "dead". Below a priority of 0 no signal wakes it. Its time is for how many
+    seconds it has been in core or out of it: docs/manual/clock.md."""
 
     number: int
     parent: int
@@ -239,7 +239,7 @@ class Table:
             self.wake_swapper("runout")
 
     def wake_swapper(self, channel):
-        """Wakes the swapper, where that is what it sleeps for: docs/manual/swapper.md. The log has no line of its own for it."""
+        """Wakes the swapper, where that is what it sleeps for: docs/manual/swapper.md. The log has no line for it."""
         swapper = self.rows[0]
         if swapper.channel == channel:
             swapper.state, swapper.channel = "ready", ""

@@ -211,8 +211,8 @@ class Log(Case):
             "line    slots ", "   1          ", "   2          ", "   3       12 ", "   4       24 ", "   5          "])
 
     def test_spoiled(self):
-        for line, why in (("go 60", "S is 0 to 49: go 60"), ("go 01", "no line of a log: 'go 01'"), ("walk 1", "no line of a log: 'walk 1'"),
-                          ("go  1", "no line of a log: 'go  1'"), ("nice 1 -0", "no line of a log: 'nice 1 -0'"), ("", "no line of a log: ''"),
+        none = ((line, f"no line of a log: {line!r}") for line in ("go 01", "walk 1", "go  1", "nice 1 -0", ""))
+        for line, why in (("go 60", "S is 0 to 49: go 60"), *none,
                           ("trap 7", "slot 7 is free there"), ("fork 1 1 at 9", "slot 1 isn't free there"),
                           ("share 1 3", "text 3 isn't in use there"), ("boot 64 0", "`boot` is the first line, and no other is")):
             self.refused(f"boot 64 0\nsleep 0 -100 runout\n{line}\nend\n", f"line 3: {why}")
@@ -286,7 +286,7 @@ class Log(Case):
                              ("boot 3969 0\n", ["the first line is `boot`, with 64 to 3968 clicks.", "3969 is more than 3968."]),
                              ("boot 64 0\ngo 1\n", ["the second is `sleep 0 -100 runout`."]),
                              ("boot 64 0\nboot 64 0\n", ["the second is `sleep 0 -100 runout`."]),
-                             (begins + "boot 1200 0\n", ["the first line is `boot`, with 64 to 3968 clicks, and no other line is."]),
+                             (begins + "boot 1200 0\n", [BEGINS[0] + ", and no other line is."]),
                              (begins + "go 1\n", ["the last is `end` or a `panic`, and none before it is."]),
                              ("", ["the file is empty: the first line is `boot`, with 64 to 3968 clicks."]),
                              ("boot 64 0\n", ["the last is `end` or a `panic`, and none before it is."]),
@@ -457,8 +457,8 @@ class Log(Case):
         for line, part in (("wake read.0", "I of read.I is 1 to 65535"), ("sleep 1 1 write.65536", "I of write.I is 1 to 65535"),
                            ("wake wait.50", "S of wait.S is 0 to 49"), ("wake disk.50", "S of disk.S is 0 to 49"),
                            ("go 50", "S is 0 to 49"), ("nice 1 200", "P is -128 to 127"), ("nice 1 -129", "P is -128 to 127"),
-                           ("fork 1 50 at 18", "T is 0 to 49"), ("share 1 40", "K is 0 to 39"), ("exit 1 swap 3999", "B is 4000 to 4871"),
-                           ("signal 1 20", "X is 1 to 19"), ("size 1 65536 keep", "N is 0 to 65535"),
+                           ("fork 1 50 at 18", "T is 0 to 49"), ("share 1 40", "K is 0 to 39"),
+                           ("exit 1 swap 3999", "B is 4000 to 4871"), ("signal 1 20", "X is 1 to 19"), ("size 1 65536 keep", "N is 0 to 65535"),
                            ("time 4294967296", "TIME is 0 to 4294967295"), ("in 1 65536", "C is 0 to 65535")):
             name = f"boot 64 0\nsleep 0 -100 runout\n{line}\n"
             self.assertEqual(self.audited(name)[1][-1], f"{part}: {line}.")
@@ -469,14 +469,16 @@ class Log(Case):
         for line, shown, why in (("a" * 100, repr("a" * 80) + "..", "it has 100 bytes, and a line has 80 at most"),
                                  ("wake read." + "9" * 71, repr("wake read." + "9" * 70) + "..",
                                   "it has 81 bytes, and a line has 80 at most"),
-                                 ("go 1\r", r"'go 1\r'", "a line ends by a line feed alone, and this one has a carriage return at its end"),
+                                 ("go 1\r", r"'go 1\r'",
+                                  "a line ends by a line feed alone, and this one has a carriage return at its end"),
                                  ("b" * 80, repr("b" * 80), "no line of a log: " + repr("b" * 80))):
             text = f"boot 64 0\nsleep 0 -100 runout\n{line}\n"
             status, said = self.audited(text)
             self.assertEqual((status, said[0]), (1, "log: line 3 is no log line"))
             self.assertEqual((said[3], " ".join(said[4:])), (f">        3  {shown}", why + "."))
             self.refused(text, f"line 3: {why}")
-        self.refused("boot 64 0\nsleep 0 -100 runout\ngo " + "1" * 5000 + "\n", "line 3: it has 5003 bytes, and a line has 80 at most")
+        long = "go " + "1" * 5000
+        self.refused(f"boot 64 0\nsleep 0 -100 runout\n{long}\n", "line 3: it has 5003 bytes, and a line has 80 at most")
 
     def spoiled(self, lines, how):
         """A log with a line that is none from somewhere on, or cut within a line, and the number of that line."""

@@ -214,7 +214,7 @@ class Shown(unittest.TestCase):
         self.assertEqual(looker.lines_of("swap")[:2], [" 4000 to  4001     2  text 0", " 4002 to  4006     5  process 1"])
 
     def test_priorities(self):
-        """Who runs has 100, and 107 behind a nice of 7, after the next call; a child has 0 until its first; who is woken keeps its own."""
+        """Who runs has 100, and 107 after the next call behind a nice of 7; a child has 0 until its first; who is woken keeps his."""
         lines = (*START, (2, "fork 1 2 at 38"), (2, "trap 1"), (3, "nice 1 7"), (3, "go 2"), (4, "sleep 2 10 keys"), (4, "go 1"),
                  (5, "trap 1"), (6, "wake keys"), (7, "go 2"), (8, "trap 2"))
         looker = looker_of(ByHand(9, lines, lambda slots: placed((1, image((0,) * 8)), (38, image((0,) * 8)))))
