@@ -27,7 +27,11 @@ import walk as walk_module
 from walk import Walk
 
 SLOTS = 1_000_000
-walk_module.is_due = lambda count: True  # each known answer is asked for
+
+
+def ask_all():
+    """In a process of the pool, each known answer is asked for."""
+    walk_module.is_due = lambda count: True
 
 
 def gone_through(command, name, most):
@@ -58,7 +62,7 @@ def gone_through(command, name, most):
 def main(command, most, names):
     rows = slots = turns = differ = 0
     answered = Counter()
-    with ProcessPoolExecutor() as pool:
+    with ProcessPoolExecutor(initializer=ask_all) as pool:
         wanted = [(name, pool.submit(gone_through, command, name, most)) for name in names]
         for name, future in wanted:
             found = future.result()
