@@ -2,7 +2,7 @@
 import os
 import random
 import re
-import runpy
+import subprocess
 import sys
 import tempfile
 import types
@@ -251,20 +251,30 @@ class Logs(unittest.TestCase):
                 too_long.shortened(other, 2**20)
 
 
+LOADS = """import runpy, sys
+begun, bench = dict(sys.modules), sys.argv[1]
+for file in sys.argv[2:]:
+    sys.modules.clear()
+    sys.modules.update(begun)
+    sys.path[:0] = [bench]
+    print(file, repr(runpy.run_path(file, run_name="begun")["__doc__"]))
+"""
+
+
 class Programs(unittest.TestCase):
     def test_each_begins(self):
-        """Each file can be loaded; one that is a program can be called by its name, as its text says."""
-        names = [name for name, end in map(os.path.splitext, sorted(os.listdir(f"{TOP}/bench"))) if end == ".py"]
-        for name in names:
-            file = f"{TOP}/bench/{name}.py"
-            with unittest.mock.patch.dict(sys.modules), unittest.mock.patch.object(sys, "path", [f"{TOP}/bench", *sys.path]):
-                for other in names:
-                    sys.modules.pop(other, None)
-                text = runpy.run_path(file, run_name="begun")["__doc__"]
+        """Each file can be loaded, in another process, since some set what tools have; one that is a program can be called by its
+        name, as its text says."""
+        files = [os.path.join(TOP, "bench", name) for name in sorted(os.listdir(f"{TOP}/bench")) if name.endswith(".py")]
+        done = subprocess.run([sys.executable, "-c", LOADS, f"{TOP}/bench", *files], capture_output=True, text=True)
+        self.assertEqual((done.returncode, done.stderr), (0, ""))
+        texts = dict(line.split(" ", 1) for line in done.stdout.splitlines())
+        self.assertEqual(list(texts), files)
+        for file, text in texts.items():
             source = fuzz_cases.read(file)
             is_program = source.startswith(b"#!")
-            self.assertEqual((b"__main__" in source, os.access(file, os.X_OK)), (is_program, is_program), name)
-            self.assertTrue(not is_program or f"bench/{name}.py" in text, name)
+            self.assertEqual((b"__main__" in source, os.access(file, os.X_OK)), (is_program, is_program), file)
+            self.assertTrue(not is_program or os.path.relpath(file, TOP) in text, file)
 
 
 class Definition(Case):
