@@ -384,7 +384,7 @@ class Log(Case):
             ("bare 1, image 1 15 at 1", "15 is less than 16"), ("bare 1, image 1 4000 at 90", "4000 is more than 2048"),
             ("bare 1, text 1 0 0 swap 4000", "0 is less than 1"),
             ("bare 1, text 1 0 1201 swap 4000", "1201 is more than core, which has 1200 clicks"),
-            ("image 1 30 at 18", place), ("text 1 0 9 swap 4000", place), ("share 1 0", place),
+            ("image 1 30 at 18", place), ("image 1 8 at 18", place), ("text 1 0 9 swap 4000", place), ("share 1 0", place),
             ("bare 1, share 1 3", "Text 3 isn't in use"),
             ("drop 1 0 plain", "Slot 1 has no text"), ("signal 2 1", "Slot 2 is empty"), ("reap 2", "Slot 2 is empty"),
             ("reap 1", "The process in slot 1 hasn't ended"), (forks + "reap 2", "The process in slot 2 hasn't ended"),
@@ -452,6 +452,9 @@ class Log(Case):
                                    ("go 1", ["go 1"], "There is no choice there.")):
             with unittest.mock.patch("choices.Ruled.next_choice", lambda table: (rules, "so it is")):
                 self.assertEqual(self.told_line(lines), told, lines)
+        with unittest.mock.patch("choices.Ruled.next_move", lambda table: ("in 1 2", "so it is")):
+            for line in ("panic swap", "panic zombie", "panic text", "sleep 0 -99 runin", "sleep 0 -100 tout"):
+                self.assertEqual(self.told_line(["size 1 1200 swap 4000", "trap 1", "go 0", line]), "", line)
 
     def test_audit_of_numbers_that_no_line_has(self):
         for line, part in (("wake read.0", "I of read.I is 1 to 65535"), ("sleep 1 1 write.65536", "I of write.I is 1 to 65535"),
