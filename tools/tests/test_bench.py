@@ -21,7 +21,8 @@ MANY = 300  # seeds of a test
 def bench(*names):
     """Modules of bench/, in which some have the names of tools."""
     with unittest.mock.patch.dict(sys.modules), unittest.mock.patch.object(sys, "path", [f"{TOP}/bench", *sys.path]):
-        sys.modules.pop("console", None)
+        for file in os.listdir(f"{TOP}/bench"):
+            sys.modules.pop(file.removesuffix(".py"), None)
         return [__import__(name) for name in names]
 
 
