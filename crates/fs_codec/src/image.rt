@@ -42,9 +42,11 @@ pub fn read_bytes(image: &[u8], at: usize, into: &mut [u8])
     requires { at + length into.old < 2 ^ 63 }
     ensures { into.new ≡ bytes_from image.now at (length into.old) }
 {
-    for k in 0..into.len() {
-        into[k] = byte_in(image, at + k);
-    }
+    let start = at.min(image.len());
+    let end = (at + into.len()).min(image.len());
+    let (there, past) = into.split_at_mut(end - start);
+    there.copy_from_slice(&image[start..end]);
+    past.fill(0);
 }
 
 /// The super-block of an image.
