@@ -23,7 +23,8 @@ use Rattle.seg_regs.specs.Sizes.{is_refused}
 use Rattle.u_area.specs.declared.area.UArea.{UArea}
 use Rattle.pick_rules.specs.Effects as effect
 use Rattle.sys_files.proofs.NodeCounts.{put_back_counts}
-use Rattle.sys_files.proofs.FrameLemmas.{device_counted, put_there, finding_store}
+use Rattle.fs_tree.proofs.OtherDisk.{put_there}
+use Rattle.sys_files.proofs.FrameLemmas.{device_counted, finding_store}
 use Rattle.sys_files.proofs.OtherWalks.{IsOn}
 use Rattle.sys_procs.specs.declared.program.Program.{Program}
 use Rattle.sys_procs.specs.Process.{Process, no_process, image_of}

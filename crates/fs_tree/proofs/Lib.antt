@@ -6,3 +6,4 @@ pub mod EntryLemmas
 pub mod NamingLemmas
 pub mod MountLemmas
 pub mod MarkLemmas
+pub mod OtherDisk

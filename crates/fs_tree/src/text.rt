@@ -1,5 +1,6 @@
 //! Texts that are shared are marked: xalloc and xfree in Lions' Commentary, `text.c`.
 ghost use Rattle.std.specs.Prelude.{◌≡◌, ◌<◌, ◌≤◌, ℕ, true, false, slice_index};
+ghost use Rattle.fs_nodes.specs.Keys.{OnItsDisk};
 ghost use Rattle.fs_nodes.specs.FileSystem.{SameRest};
 ghost use Rattle.fs_tree.specs.Finding.{inodes_of, with_reference, put_back};
 ghost use Rattle.fs_tree.specs.Marks.{is_marked, with_mark, without_mark};
@@ -31,6 +32,7 @@ impl Tree {
         ensures marks { self.new.marks ≡ without_mark self.old.marks ino }
         ensures mounts { self.new.mounts ≡ self.old.mounts }
         ensures inodes { inodes_of self.new.nodes ≡ put_back (inodes_of self.old.nodes) ino }
+        ensures other { OnItsDisk self.old.nodes.store self.new.nodes.store ino }
         ensures rest { SameRest self.old.nodes self.new.nodes }
     {
         self.marks.remove(ino);

@@ -1,10 +1,12 @@
 //! The tree of names over a file system.
-ghost use Rattle.std.specs.Prelude.{◌≡◌, ◌<◌, ◌≤◌, ℕ, true, false, if◌then◌else◌, Some, IsSome, IfOk, IfErr};
+ghost use Rattle.std.specs.Prelude.{◌≡◌, ◌<◌, ◌≤◌, ℕ, true, false, if◌then◌else◌, Some, IsSome, IfOk, IfErr, MatchResult};
 ghost use Rattle.std.specs.Prelude.{slice_index};
 ghost use Rattle.fs_codec.specs.Store.{Node};
-ghost use Rattle.fs_nodes.specs.Keys.{node_numbered};
+ghost use Rattle.v6_base.specs.Access.{then_do};
+ghost use Rattle.fs_nodes.specs.Keys.{OnItsDisk, node_numbered};
 ghost use Rattle.fs_tree.specs.Mounting.{AreMounts};
 ghost use Rattle.fs_tree.specs.Marks.{no_marks};
+ghost use Rattle.fs_tree.specs.Path.{way, to_remove};
 ghost use Rattle.fs_tree.specs.Permission.{access};
 ghost use Rattle.fs_tree.specs.Finding.{find_in, make_in, remove_in, referring_both, can_refer, with_reference};
 ghost use Rattle.fs_tree.specs.Finding.{put_back, inodes_of};
@@ -211,6 +213,10 @@ impl Tree {
             ≡ (remove_in (inodes_of self.old.nodes) self.old.mounts self.old.marks who dir name.entry).answer }
         ensures inodes { inodes_of self.new.nodes
             ≡ (remove_in (inodes_of self.old.nodes) self.old.mounts self.old.marks who dir name.entry).inodes }
+        ensures other { MatchResult (then_do (way self.old.nodes.store self.old.mounts who dir name.entry)
+            (to_remove self.old.nodes.store self.old.mounts self.old.marks))
+            (λ entry. OnItsDisk self.old.nodes.store self.new.nodes.store entry.0)
+            (λ e. self.new.nodes.store ≡ self.old.nodes.store) }
         ensures marks { self.new.marks ≡ self.old.marks }
         ensures mounts { self.new.mounts ≡ self.old.mounts }
         ensures rest { SameRest self.old.nodes self.new.nodes }

@@ -1,5 +1,5 @@
 -- Changes of a node, and what stays of the other disk.
-use Rattle.std.proofs.Common.{◌≡◌, ◌+◌, ◌-◌, ◌==◌, ◌&&◌, ℕ, zero, suc, Bool, true, false, not, cond, nat_le, nat_lt, if◌then◌else◌, List, slice_index, Option, Some, None, is_some, Result, Ok, Err, refl, sym, ap, ◌∙◌, arith}
+use Rattle.std.proofs.Common.{◌≡◌, ◌+◌, ◌-◌, ◌==◌, ◌&&◌, ℕ, zero, suc, Bool, true, false, cond, nat_le, nat_lt, if◌then◌else◌, List, slice_index, Option, Some, None, is_some, Result, Ok, Err, refl, sym, ap, ◌∙◌, arith}
 use Rattle.std.proofs.lemmas.Bool.{and_right, leb-true, leb-false, le-ltb, lt-ltb}
 use Rattle.v6_base.specs.declared.errno.Errno.{Errno}
 use Rattle.v6_base.specs.declared.errno.Errno.TheVariants.{ENFILE}
@@ -10,16 +10,17 @@ use Rattle.fs_laws.specs.Numbers.{Draw, draw, new_node}
 use Rattle.fs_laws.specs.Pieces.{Moving}
 use Rattle.fs_nodes.specs.Disks.{Disks}
 use Rattle.fs_nodes.specs.FileSystem.{referenced}
-use Rattle.fs_nodes.specs.Keys.{Stores, OnItsDisk, counts, device_of, store_on, references_on, node_numbered, node_in, room_at, with_fields, without_reference}
+use Rattle.fs_nodes.specs.Keys.{Stores, OnItsDisk, counts, device_of, store_on, references_on, node_numbered, node_in, room_at, with_fields}
 use Rattle.fs_nodes.specs.Numbers.{with_draw}
 use Rattle.fs_nodes.proofs.KeyLaws.{counts_set}
 use Rattle.fs_nodes.proofs.MadeLemmas.{IsNewKey, new_key}
 use Rattle.fs_nodes.proofs.NumbersMake.{draw_free}
-use Rattle.fs_nodes.proofs.OtherDisk.{same_stores, node_there, fields_there, cut_there, gone_there}
+use Rattle.fs_nodes.proofs.OtherDisk.{same_stores, node_there, fields_there, cut_there}
 use Rattle.fs_tree.specs.declared.made.Made.{Made}
 use Rattle.fs_tree.specs.declared.user.User.{User}
 use Rattle.fs_tree.specs.Entries.{written}
-use Rattle.fs_tree.specs.Finding.{Inodes, Finding, can_refer, with_reference, refused, referring, finding, named_by_made, making, put_in, put_back, removing}
+use Rattle.fs_tree.specs.Finding.{Inodes, Finding, can_refer, with_reference, refused, referring, finding, named_by_made, making}
+use Rattle.fs_tree.proofs.OtherDisk.{put_there}
 use Rattle.mount_tab.specs.Mounted.{MountTable, split_of}
 use Rattle.pipe_ends.specs.declared.ends.Pipe.{Pipe}
 use Rattle.pipe_ends.specs.declared.ends.Piped.TheVariants.{Done, Broken}
@@ -51,14 +52,6 @@ on_then s t u key same first next = record {
   root = λ on. next.root (device_counted t s key same ∙ on) ∙ first.root on;
 }
 
--- a reference that goes
-pub put_there : (s : Stores) (key count : ℕ) (found : Option Node) → OnItsDisk s (put_in s key count found) key
-put_there s key count None = same_stores s key
-put_there s key count (Some node) = by (count == 1) where
-  by : (t : Bool) → OnItsDisk s (cond t (without_reference s key node) s) key
-  by true = gone_there s key node
-  by false = same_stores s key
-
 -- the words of rows
 pub lets_go_there : (h : Handed) (ino : ℕ) → OnItsDisk h.inodes.store (let_go h ino).inodes.store ino
 lets_go_there h ino = put_there h.inodes.store ino (slice_index h.inodes.references ino) (node_numbered h.inodes.store ino)
@@ -88,7 +81,7 @@ device_there n ino device = by (is_device (node_in n.store ino).mode) where
   by true = fields_there n.store ino changed
   by false = same_stores n.store ino
 
--- A search for a node, or for room, leaves the stores; one for a removal may give its directory back.
+-- A search for a node, or for room, leaves the stores.
 store_when : {A : Type 0} (n : Inodes) (b : Bool) (x y : Finding A) → x.inodes.store ≡ n.store → y.inodes.store ≡ n.store
     → (cond b x y).inodes.store ≡ n.store
 store_when n true x y p q = p
@@ -105,18 +98,6 @@ finding_store n (Err e) = refl
 pub making_store : (n : Inodes) (r : Result Made Errno) → (making n r).inodes.store ≡ n.store
 making_store n (Ok a) = referring_store n (named_by_made a) a
 making_store n (Err e) = refl
-
-pub removing_there : (n : Inodes) (entry : ℕ × ℕ × ℕ) → OnItsDisk n.store (removing n (Ok entry)).inodes.store entry.0
-removing_there n entry = by (not (can_refer n entry.0)) (not (can_refer once entry.2)) where
-  once : Inodes
-  once = with_reference n entry.0
-
-  by : (b c : Bool) → OnItsDisk n.store (cond {A = Finding (ℕ × ℕ × ℕ)} b (refused n ENFILE)
-      (cond c (refused (put_back once entry.0) ENFILE)
-      (record { answer = Ok entry; inodes = with_reference once entry.2 }))).inodes.store entry.0
-  by true c = same_stores n.store entry.0
-  by false true = put_there n.store entry.0 (slice_index once.references entry.0) (node_numbered n.store entry.0)
-  by false false = same_stores n.store entry.0
 
 -- A new node stands on the disk that was asked for: its key is one of it.
 no_one : {P : Type 0} → ◌≡◌ {A = ℕ} 1 0 → P

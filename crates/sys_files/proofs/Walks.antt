@@ -77,7 +77,8 @@ use Rattle.sys_files.proofs.OffsetLemmas.{moved_counts}
 use Rattle.sys_files.proofs.NodeCounts.{put_back_counts, finding_counts, making_counts, removing_counts, new_counts, entry_counts, links_counts, fields_counts, truncated_counts, device_counts, new_within}
 pub use Rattle.sys_files.proofs.WalkSteps.{asleep_for_keys, asleep_for_room, asleep_in_pipe, IsOfPipe, IsCalling, IsAwaiting, CanResume, Owns, owns_all, Walks, closes_all}
 use Rattle.sys_files.proofs.WalkSteps.{Touches, nothing, own_key, moved_there, need_some, entry_named, is_named, must_true, file_there, IsNamedBy, named_told, LetsGo, own_told}
-use Rattle.sys_files.proofs.FrameLemmas.{finding_store, making_store, removing_there, entry_there, links_there, truncated_there, device_there, changed_there, lets_go_there, read_there, write_there}
+use Rattle.fs_tree.proofs.OtherDisk.{removing_there}
+use Rattle.sys_files.proofs.FrameLemmas.{finding_store, making_store, entry_there, links_there, truncated_there, device_there, changed_there, lets_go_there, read_there, write_there}
 
 module _ {P : Handed → Type 0} {Q : Did → Type 0} {Few Known Line Here : ℕ → Type 0} {Moves Both : Type 0} {slot : ℕ}
     (k : Walks P Q Few Known Line Here Moves Both slot)

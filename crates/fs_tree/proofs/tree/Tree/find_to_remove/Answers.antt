@@ -1,7 +1,12 @@
-use Rattle.std.proofs.Common.{IsSome, sym, ap, ◌∙◌, subst}
+use Rattle.std.proofs.Common.{◌≡◌, ℕ, IsSome, Result, Ok, sym, ap, ◌∙◌, subst}
+use Rattle.v6_base.specs.Access.{then_do}
+use Rattle.v6_base.specs.declared.errno.Errno.{Errno}
 use Rattle.fs_nodes.specs.Keys.{Stores, node_numbered}
-use Rattle.fs_tree.specs.Path.{to_remove}
+use Rattle.fs_tree.specs.declared.walk.Way.{Way}
+use Rattle.fs_tree.specs.Finding.{Inodes, inodes_of, referring_both, removing}
+use Rattle.fs_tree.specs.Path.{way, to_remove}
 use Rattle.fs_tree.proofs.MountLemmas.{crosses_of}
+use Rattle.fs_tree.proofs.OtherDisk.{removing_apart}
 use Rattle.fs_tree.proofs.PathLemmas.{way_used, removed_used}
 use Rattle.fs_tree.proofs.tree.Tree.find_to_remove.Goals as goal
 
@@ -20,3 +25,18 @@ take_both-requires-clause-node g c =
     let P : Stores → Type 0 = λ s. IsSome (node_numbered s c.in_ok-entry.entry.2) in
     subst P (sym (c.to_remove.ensures.same.store ∙ c.walk.ensures.same.store))
     (removed_used fs.store c.args.self.now.mounts c.args.self.now.marks c.in_ok-way.way c.in_ok-entry.entry w (c.in_ok-entry.ensures.result ∙ ap (λ (s : Stores). to_remove s c.args.self.now.mounts c.args.self.now.marks c.in_ok-way.way) c.walk.ensures.same.store)).1
+
+pub returns-clause-other : goal.returns-clause-other
+returns-clause-other g c =
+    let fs = c.args.self.now.nodes in
+    let mounts = c.args.self.now.mounts in
+    let sought : Result (ℕ × ℕ × ℕ) Errno = then_do (way fs.store mounts c.args.who c.args.dir c.args.name) (to_remove fs.store mounts c.args.self.now.marks) in
+    let is : sought ≡ Ok c.in_ok-entry.entry =
+    ap (λ (w : Result Way Errno). then_do w (to_remove fs.store mounts c.args.self.now.marks)) (sym c.in_ok-way.ensures.result)
+    ∙ sym (c.in_ok-entry.ensures.result ∙ ap (λ (s : Stores). to_remove s mounts c.args.self.now.marks c.in_ok-way.way) c.walk.ensures.same.store) in
+    let store : c.to_remove.new.nodes.store ≡ fs.store = c.to_remove.ensures.same.store ∙ c.walk.ensures.same.store in
+    let references : c.to_remove.new.nodes.references ≡ fs.references = c.to_remove.ensures.same.references ∙ c.walk.ensures.same.references in
+    let same : inodes_of c.to_remove.new.nodes ≡ inodes_of fs = λ i. record { store = store i; references = references i } in
+    removing_apart (inodes_of fs) (inodes_of c.take_both.new.nodes) sought
+    (c.take_both.ensures.inodes ∙ ap (λ (n : Inodes). (referring_both n c.in_ok-entry.entry).inodes) same
+    ∙ sym (ap (λ (r : Result (ℕ × ℕ × ℕ) Errno). (removing (inodes_of fs) r).inodes) is))
