@@ -1,14 +1,32 @@
 //! The terminal lines.
-ghost use Rattle.std.specs.Prelude.{◌≡◌, ◌≤◌, ◌<◌, ◌⊎◌, length, take};
+ghost use Rattle.std.specs.Prelude.{◌≡◌, ◌≤◌, ◌<◌, ◌⊎◌, length};
 ghost use Rattle.std.specs.List.{All, list_any};
 ghost use Rattle.v6_base.specs.Trace as items;
 ghost use Rattle.v6_base.specs.Trace.{sent};
-ghost use Rattle.tty_line.specs.Terminal.{opened};
 ghost use Rattle.tty_line.specs.Said.{holds, flush, closed, with_modes, sends, paced};
-ghost use Rattle.tty_line.specs.Output.{shows, after_shown, written};
+ghost use Rattle.tty_line.specs.Output.{written};
 ghost use Rattle.tty_line.specs.Input.{typed};
 ghost use Rattle.tty_line.specs.Reading.{reads};
 ghost use Rattle.lines_eight.specs.Lines.{first_lines, terminal_at, with_terminal, HasRoom};
+ghost use Rattle.lines_eight.specs.LineRun.{
+  comes,
+  Open,
+  Close,
+  Key,
+  Read,
+  Write,
+  Modes,
+  SetModes,
+  Send,
+  SetPace,
+  Flush,
+  IsOpen,
+  Tells,
+  Typed,
+  Reads,
+  Wrote,
+  Words,
+};
 
 use crate::on_line::on_line;
 use arrayvec::ArrayVec;
@@ -126,7 +144,8 @@ impl Lines {
     /// Whether a line is open.
     pub fn is_open(&self, l: u8) -> bool
         requires { l < length self.now }
-        ensures { result ≡ (terminal_at self.now l).is_open }
+        ensures open { result ≡ (terminal_at self.now l).is_open }
+        ensures answer { Tells result ≡ (comes IsOpen (terminal_at self.now l)).answer }
     {
         self.lines.as_slice()[usize::from(l)].is_open()
     }
@@ -134,7 +153,8 @@ impl Lines {
     /// The modes of a line.
     pub fn modes(&self, l: u8) -> [u16; 3]
         requires { l < length self.now }
-        ensures { result ≡ (terminal_at self.now l).modes }
+        ensures words { result ≡ (terminal_at self.now l).modes }
+        ensures answer { Words result ≡ (comes Modes (terminal_at self.now l)).answer }
     {
         self.lines.as_slice()[usize::from(l)].modes()
     }
@@ -142,7 +162,7 @@ impl Lines {
     /// Opens a line.
     pub fn opened(&mut self, l: u8)
         requires { l < length self.old }
-        ensures { self.new ≡ with_terminal self.old l (opened (terminal_at self.old l)) }
+        ensures { self.new ≡ with_terminal self.old l (comes Open (terminal_at self.old l)).terminal }
     {
         self.lines.as_mut_slice()[usize::from(l)].opened();
     }
@@ -150,8 +170,9 @@ impl Lines {
     /// Loses all that was typed on a line and the bytes that wait to go out.
     pub fn flush(&mut self, l: u8) -> bool
         requires { l < length self.old }
-        ensures line { self.new ≡ with_terminal self.old l (flush (terminal_at self.old l)).terminal }
+        ensures line { self.new ≡ with_terminal self.old l (comes Flush (terminal_at self.old l)).terminal }
         ensures show { result ≡ (flush (terminal_at self.old l)).show }
+        ensures answer { Tells result ≡ (comes Flush (terminal_at self.old l)).answer }
     {
         self.lines.as_mut_slice()[usize::from(l)].flush()
     }
@@ -160,9 +181,11 @@ impl Lines {
     pub fn read<S: Space>(&mut self, l: u8, space: &mut S, at: u16, count: u16) -> Took
         requires { l < length self.old }
         ensures line { self.new
-            ≡ with_terminal self.old l (reads (terminal_at self.old l) (S.image space.old) at count).terminal }
+            ≡ with_terminal self.old l (comes (Read (S.image space.old) at count) (terminal_at self.old l)).terminal }
         ensures image { S.image space.new ≡ (reads (terminal_at self.old l) (S.image space.old) at count).image }
         ensures took { result ≡ (reads (terminal_at self.old l) (S.image space.old) at count).took }
+        ensures answer { Reads (S.image space.new) result
+            ≡ (comes (Read (S.image space.old) at count) (terminal_at self.old l)).answer }
         ensures memory { S.rest space.new ≡ S.rest space.old }
     {
         self.lines.as_mut_slice()[usize::from(l)].read(space, at, count)
@@ -174,9 +197,10 @@ impl Lines {
     /// Closes a line.
     pub fn closed<T: Trace>(&mut self, l: u8, trace: &mut T) -> bool
         requires { l < length self.old }
-        ensures line { self.new ≡ with_terminal self.old l (closed (terminal_at self.old l)).terminal }
+        ensures line { self.new ≡ with_terminal self.old l (comes Close (terminal_at self.old l)).terminal }
         ensures show { result ≡ (closed (terminal_at self.old l)).show }
-        ensures items { items.Took (T.taken trace.old) (sent l (closed (terminal_at self.old l)).shown) (T.taken trace.new) }
+        ensures answer { Tells result ≡ (comes Close (terminal_at self.old l)).answer }
+        ensures items { items.Took (T.taken trace.old) (sent l (comes Close (terminal_at self.old l)).shown) (T.taken trace.new) }
         ensures frame { T.leads_to trace.old trace.new }
     {
         let lines = self.lines.as_mut_slice();
@@ -186,9 +210,10 @@ impl Lines {
     /// Sets the modes of a line.
     pub fn set_modes<T: Trace>(&mut self, l: u8, v: [u16; 3], trace: &mut T) -> bool
         requires { l < length self.old }
-        ensures line { self.new ≡ with_terminal self.old l (with_modes (terminal_at self.old l) v).terminal }
+        ensures line { self.new ≡ with_terminal self.old l (comes (SetModes v) (terminal_at self.old l)).terminal }
         ensures show { result ≡ (with_modes (terminal_at self.old l) v).show }
-        ensures items { items.Took (T.taken trace.old) (sent l (with_modes (terminal_at self.old l) v).shown)
+        ensures answer { Tells result ≡ (comes (SetModes v) (terminal_at self.old l)).answer }
+        ensures items { items.Took (T.taken trace.old) (sent l (comes (SetModes v) (terminal_at self.old l)).shown)
             (T.taken trace.new) }
         ensures frame { T.leads_to trace.old trace.new }
     {
@@ -200,9 +225,10 @@ impl Lines {
     /// Sends the first of the bytes that wait on a line.
     pub fn send<T: Trace>(&mut self, l: u8, trace: &mut T) -> bool
         requires { l < length self.old }
-        ensures line { self.new ≡ with_terminal self.old l (sends (terminal_at self.old l)).terminal }
+        ensures line { self.new ≡ with_terminal self.old l (comes Send (terminal_at self.old l)).terminal }
         ensures show { result ≡ (sends (terminal_at self.old l)).show }
-        ensures items { items.Took (T.taken trace.old) (sent l (sends (terminal_at self.old l)).shown) (T.taken trace.new) }
+        ensures answer { Tells result ≡ (comes Send (terminal_at self.old l)).answer }
+        ensures items { items.Took (T.taken trace.old) (sent l (comes Send (terminal_at self.old l)).shown) (T.taken trace.new) }
         ensures frame { T.leads_to trace.old trace.new }
     {
         let lines = self.lines.as_mut_slice();
@@ -212,9 +238,10 @@ impl Lines {
     /// Turns the pace of a line on or off.
     pub fn set_pace<T: Trace>(&mut self, l: u8, on: bool, trace: &mut T) -> bool
         requires { l < length self.old }
-        ensures line { self.new ≡ with_terminal self.old l (paced (terminal_at self.old l) on).terminal }
+        ensures line { self.new ≡ with_terminal self.old l (comes (SetPace on) (terminal_at self.old l)).terminal }
         ensures show { result ≡ (paced (terminal_at self.old l) on).show }
-        ensures items { items.Took (T.taken trace.old) (sent l (paced (terminal_at self.old l) on).shown) (T.taken trace.new) }
+        ensures answer { Tells result ≡ (comes (SetPace on) (terminal_at self.old l)).answer }
+        ensures items { items.Took (T.taken trace.old) (sent l (comes (SetPace on) (terminal_at self.old l)).shown) (T.taken trace.new) }
         ensures frame { T.leads_to trace.old trace.new }
     {
         let lines = self.lines.as_mut_slice();
@@ -224,9 +251,10 @@ impl Lines {
     /// Takes a byte that is typed on a line.
     pub fn typed<T: Trace>(&mut self, l: u8, b: u8, trace: &mut T) -> Keyed
         requires { l < length self.old }
-        ensures line { self.new ≡ with_terminal self.old l (typed (terminal_at self.old l) b).terminal }
+        ensures line { self.new ≡ with_terminal self.old l (comes (Key b) (terminal_at self.old l)).terminal }
         ensures keyed { result ≡ (typed (terminal_at self.old l) b).keyed }
-        ensures items { items.Took (T.taken trace.old) (sent l (typed (terminal_at self.old l) b).shown) (T.taken trace.new) }
+        ensures answer { Typed result ≡ (comes (Key b) (terminal_at self.old l)).answer }
+        ensures items { items.Took (T.taken trace.old) (sent l (comes (Key b) (terminal_at self.old l)).shown) (T.taken trace.new) }
         ensures frame { T.leads_to trace.old trace.new }
     {
         let lines = self.lines.as_mut_slice();
@@ -239,8 +267,9 @@ impl Lines {
         requires there { l < length self.old }
         requires few { length bytes.now ≤ 65535 }
         ensures taken { result ≡ written (terminal_at self.old l) bytes.now }
-        ensures line { self.new ≡ with_terminal self.old l (after_shown (terminal_at self.old l) (take result bytes.now)) }
-        ensures items { items.Took (T.taken trace.old) (sent l (shows (terminal_at self.old l) (take result bytes.now)))
+        ensures answer { Wrote result ≡ (comes (Write bytes.now) (terminal_at self.old l)).answer }
+        ensures line { self.new ≡ with_terminal self.old l (comes (Write bytes.now) (terminal_at self.old l)).terminal }
+        ensures items { items.Took (T.taken trace.old) (sent l (comes (Write bytes.now) (terminal_at self.old l)).shown)
             (T.taken trace.new) }
         ensures frame { T.leads_to trace.old trace.new }
     {

@@ -24,13 +24,13 @@ pub returns-then-l-count-clause-items : goal.returns-then-l-count-clause-items
 returns-then-l-count-clause-items g c = took_nothing _ _ (ap (λ (h : Happened). h.log.items) (hung_nowhere (system_at c.args.self.now.world) c.args.l (omega (arith, c.if-l-count.true, c.count.ensures.count))))
 
 pub returns-then-not-is_open-clause-unix : goal.returns-then-not-is_open-clause-unix
-returns-then-not-is_open-clause-unix g c = sym (ap (λ (h : Happened). h.unix) (hung_shut (system_at c.args.self.now.world) c.args.l (sym c.is_open.ensures ∙ c.if-not-is_open.true)))
+returns-then-not-is_open-clause-unix g c = sym (ap (λ (h : Happened). h.unix) (hung_shut (system_at c.args.self.now.world) c.args.l (sym c.is_open.ensures.open ∙ c.if-not-is_open.true)))
 
 pub returns-then-not-is_open-clause-board : goal.returns-then-not-is_open-clause-board
-returns-then-not-is_open-clause-board g c = sym (ap (λ (h : Happened). h.log.board) (hung_shut (system_at c.args.self.now.world) c.args.l (sym c.is_open.ensures ∙ c.if-not-is_open.true)))
+returns-then-not-is_open-clause-board g c = sym (ap (λ (h : Happened). h.log.board) (hung_shut (system_at c.args.self.now.world) c.args.l (sym c.is_open.ensures.open ∙ c.if-not-is_open.true)))
 
 pub returns-then-not-is_open-clause-items : goal.returns-then-not-is_open-clause-items
-returns-then-not-is_open-clause-items g c = took_nothing _ _ (ap (λ (h : Happened). h.log.items) (hung_shut (system_at c.args.self.now.world) c.args.l (sym c.is_open.ensures ∙ c.if-not-is_open.true)))
+returns-then-not-is_open-clause-items g c = took_nothing _ _ (ap (λ (h : Happened). h.log.items) (hung_shut (system_at c.args.self.now.world) c.args.l (sym c.is_open.ensures.open ∙ c.if-not-is_open.true)))
 
 -- one that is
 pub is_open-requires : goal.is_open-requires
@@ -73,7 +73,7 @@ returns-clause-unix g c =
     c.flush-show.result c.wake-2.new.table c.wake-2.ensures.table c.wake-2.ensures.good (c.wake-2.ensures.board c.signal_line.new.p.images.kept)
     ∙ hung_unix w c.args.l (record w { procs = c.signal_line.new.p }) (key_unix w c.requires.good c.signal_line.new.p c.args.l SIGHUP c.signal_line.ensures.agree c.signal_line.ensures.state c.signal_line.ensures.board) (key_board w c.requires.good c.signal_line.new.p c.args.l SIGHUP c.signal_line.ensures.agree c.signal_line.ensures.state c.signal_line.ensures.board)
     c.flush-show.new.self c.flush-show.ensures.line c.keys_of.result c.keys_of.ensures c.show_of.result c.show_of.ensures
-    c.flush-show.result c.flush-show.ensures.show (sym c.is_open.ensures ∙ c.if-not-is_open.false)
+    c.flush-show.result c.flush-show.ensures.show (sym c.is_open.ensures.open ∙ c.if-not-is_open.false)
 
 pub returns-clause-board : goal.returns-clause-board
 returns-clause-board g c =
@@ -84,7 +84,7 @@ returns-clause-board g c =
     c.flush-show.result c.wake-2.new.table c.wake-2.ensures.table c.wake-2.ensures.good (c.wake-2.ensures.board c.signal_line.new.p.images.kept)
     ∙ hung_board w c.args.l (record w { procs = c.signal_line.new.p }) (key_unix w c.requires.good c.signal_line.new.p c.args.l SIGHUP c.signal_line.ensures.agree c.signal_line.ensures.state c.signal_line.ensures.board) (key_board w c.requires.good c.signal_line.new.p c.args.l SIGHUP c.signal_line.ensures.agree c.signal_line.ensures.state c.signal_line.ensures.board)
     c.flush-show.new.self c.flush-show.ensures.line c.keys_of.result c.keys_of.ensures c.show_of.result c.show_of.ensures
-    c.flush-show.result c.flush-show.ensures.show (sym c.is_open.ensures ∙ c.if-not-is_open.false)
+    c.flush-show.result c.flush-show.ensures.show (sym c.is_open.ensures.open ∙ c.if-not-is_open.false)
 
 pub returns-clause-images : goal.returns-clause-images
 returns-clause-images g c = c.signal_line.ensures.images
@@ -94,7 +94,7 @@ returns-clause-items g c =
     let w : World = c.args.self.now.world in
     hung_took w c.args.l (record w { procs = c.signal_line.new.p }) (key_unix w c.requires.good c.signal_line.new.p c.args.l SIGHUP c.signal_line.ensures.agree c.signal_line.ensures.state c.signal_line.ensures.board) (key_board w c.requires.good c.signal_line.new.p c.args.l SIGHUP c.signal_line.ensures.agree c.signal_line.ensures.state c.signal_line.ensures.board)
     c.flush-show.new.self c.flush-show.ensures.line c.keys_of.result c.keys_of.ensures c.show_of.result c.show_of.ensures
-    c.flush-show.result c.flush-show.ensures.show (sym c.is_open.ensures ∙ c.if-not-is_open.false)
+    c.flush-show.result c.flush-show.ensures.show (sym c.is_open.ensures.open ∙ c.if-not-is_open.false)
     _ _ _ (c.signal_line.ensures.items w.files.tree.nodes)
     (both_took (with_lines (record w { procs = c.signal_line.new.p }) c.flush-show.new.self)
     (lines_good (record w { procs = c.signal_line.new.p }) c.flush-show.new.self (key_good w c.requires.good c.signal_line.new.p c.args.l SIGHUP c.signal_line.ensures.agree c.signal_line.ensures.state c.signal_line.ensures.board))
