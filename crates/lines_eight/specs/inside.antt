@@ -1,1 +1,2 @@
+-- What contracts inside the crate speak of.
 pub mod OnLine
