@@ -1,5 +1,5 @@
 //! The copy of an image for a child: `newproc` in Lions' Commentary, `slp.c`.
-ghost use Rattle.std.specs.Prelude.{◌≡◌, ◌<◌, ℕ, None, Some, MatchResult};
+ghost use Rattle.std.specs.Prelude.{◌≡◌, ◌<◌, ℕ, None, Some, IfErr, MatchResult};
 ghost use Rattle.text_tab.specs.Table.{row_at as text_row, IsUsed};
 ghost use Rattle.image_keep.specs.Kept.{HasImage, Nothing, keeping, text_of, area_of, clicks_of};
 ghost use Rattle.image_keep.specs.Places.{placed};
@@ -55,6 +55,7 @@ impl Images {
             (λ place. placed self.old.kept from (clicks_of (area_of self.old.kept from)) ≡ Some place)
             (λ _. placed self.old.kept from (clicks_of (area_of self.old.kept from)) ≡ None) }
         ensures kept { self.new.kept ≡ forked_at self.old.kept from to (placed self.old.kept from (clicks_of (area_of self.old.kept from))) }
+        ensures stays { IfErr result (λ _. self.new ≡ self.old) }
     {
         let row = row_of(&self.rows, from as usize);
         let clicks = clicks_of(row);

@@ -1,5 +1,5 @@
 //! The growth of one image: `expand` in Lions' Commentary, `slp.c`.
-ghost use Rattle.std.specs.Prelude.{◌≡◌, ◌≢◌, ◌⊎◌, ◌||◌, ◌+◌, ◌*◌, ◌<◌, ◌≤◌, ℕ, true, false, None, Some, MatchResult, length, replicate};
+ghost use Rattle.std.specs.Prelude.{◌≡◌, ◌≢◌, ◌⊎◌, ◌||◌, ◌+◌, ◌*◌, ◌<◌, ◌≤◌, ℕ, true, false, None, Some, IfErr, MatchResult, length, replicate};
 ghost use Rattle.v6_base.specs.Image.{nseg};
 ghost use Rattle.core_mem.specs.Bytes.{part, over};
 ghost use Rattle.map_fit.specs.Free.{is_free, is_within};
@@ -277,6 +277,7 @@ impl Images {
         ensures kept { self.new.kept
             ≡ with_image_moved self.old.kept s (area_resized (area_of self.old.kept s) d stack)
             (image_resized (image_of self.old.kept s) d stack) (placed self.old.kept s (16 + d + stack)) }
+        ensures stays { IfErr result (λ _. self.new ≡ self.old) }
     {
         let bytes = sized_bytes(&self.area(s), d, stack);
         let row = row_of(&self.rows, s as usize);
@@ -321,6 +322,7 @@ impl Images {
         ensures kept { self.new.kept
             ≡ with_image_moved self.old.kept s (area_resized (area_of self.old.kept s) d stack)
             (image_resized (image_of self.old.kept s) d stack) (expanded self.old.kept s (16 + d + stack)) }
+        ensures stays { IfErr result (λ _. self.new ≡ self.old) }
     {
         if 16 + d + stack <= self.clicks(s) {
             return Ok(self.cut(s, d, stack));

@@ -1,5 +1,5 @@
 //! The images of all slots, in core and in the swap area.
-ghost use Rattle.std.specs.Prelude.{◌≡◌, ◌*◌, ◌<◌, ◌≤◌, None, Some, IfOk, MatchResult, length, replicate};
+ghost use Rattle.std.specs.Prelude.{◌≡◌, ◌*◌, ◌<◌, ◌≤◌, None, Some, IfOk, IfErr, MatchResult, length, replicate};
 ghost use Rattle.image_keep.specs.declared.memory.TheConstants.{SWAP_BYTES};
 ghost use Rattle.image_keep.specs.Kept.{first_kept, IsKept, HasImage, HasGrave, place_of, area_of, with_keeping, text_of, Nothing};
 ghost use Rattle.image_keep.specs.Growth.{most_clicks};
@@ -130,6 +130,7 @@ impl Images {
         requires no_text { text_of self.old.kept s ≡ None }
         ensures block { MatchResult result (λ block. swap_fit self.old.kept 1 ≡ Some block) (λ _. swap_fit self.old.kept 1 ≡ None) }
         ensures kept { self.new.kept ≡ with_grave_at self.old.kept s (area_of self.old.kept s) (swap_fit self.old.kept 1) }
+        ensures stays { IfErr result (λ _. self.new ≡ self.old) }
     {
         let row = row_of(&self.rows, s as usize);
         let from = place_click(self.core, place_of(row));

@@ -1,5 +1,5 @@
 //! Images come into core, and go out of it.
-ghost use Rattle.std.specs.Prelude.{◌≡◌, ◌+◌, ◌*◌, ◌-◌, ◌<◌, ◌≤◌, ℕ, ◌||◌, true, false, None, Some, MatchResult, length};
+ghost use Rattle.std.specs.Prelude.{◌≡◌, ◌+◌, ◌*◌, ◌-◌, ◌<◌, ◌≤◌, ℕ, ◌||◌, true, false, None, Some, IfErr, MatchResult, length};
 ghost use Rattle.core_mem.specs.Bytes.{part, over};
 ghost use Rattle.map_fit.specs.Free.{is_free};
 ghost use Rattle.text_tab.specs.Table.{row_at as text_row, IsUsed, unloaded, with_change};
@@ -157,6 +157,7 @@ impl Images {
         ensures place { MatchResult result (λ at. core_fit self.old.kept (clicks_to_load self.old.kept s) ≡ Some at)
             (λ _. core_fit self.old.kept (clicks_to_load self.old.kept s) ≡ None) }
         ensures kept { self.new.kept ≡ swapped_in self.old.kept s (core_fit self.old.kept (clicks_to_load self.old.kept s)) }
+        ensures stays { IfErr result (λ _. self.new ≡ self.old) }
     {
         let row = row_of(&self.rows, s as usize);
         let block = block_of(row);
@@ -186,6 +187,7 @@ impl Images {
         ensures block { MatchResult result (λ block. swap_fit self.old.kept (blocks (clicks_of (area_of self.old.kept s))) ≡ Some block)
             (λ _. swap_fit self.old.kept (blocks (clicks_of (area_of self.old.kept s))) ≡ None) }
         ensures kept { self.new.kept ≡ swapped_out self.old.kept s (swap_fit self.old.kept (blocks (clicks_of (area_of self.old.kept s)))) }
+        ensures stays { IfErr result (λ _. self.new ≡ self.old) }
     {
         let row = row_of(&self.rows, s as usize);
         let clicks = clicks_of(row);

@@ -1,5 +1,5 @@
 //! The texts that images share.
-ghost use Rattle.std.specs.Prelude.{◌≡◌, ◌+◌, ◌*◌, ◌<◌, ◌≤◌, ℕ, ◌||◌, true, false, None, Some, is_none, IsSome, length, slice_set};
+ghost use Rattle.std.specs.Prelude.{◌≡◌, ◌+◌, ◌*◌, ◌<◌, ◌≤◌, ℕ, ◌||◌, true, false, None, Some, is_none, IsSome, length, slice_set, IfErr};
 ghost use Rattle.core_mem.specs.Bytes.{part, over};
 ghost use Rattle.map_fit.specs.Free.{is_free, is_within};
 ghost use Rattle.text_tab.specs.Table.{row_at as text_row, found, free_entry, new_text as new_row, IsUsed, left, detached};
@@ -177,6 +177,7 @@ impl Images {
         ensures text { result ≡ making (free_text self.old.kept) (swap_fit self.old.kept (blocks clicks)) }
         ensures kept { self.new.kept
             ≡ with_made_text self.old.kept s ino clicks (free_text self.old.kept) (swap_fit self.old.kept (blocks clicks)) }
+        ensures stays { IfErr result (λ _. self.new ≡ self.old) }
     {
         if self.texts.is_full() {
             return Err(TextRefusal::Full);
