@@ -14,13 +14,13 @@ use Rattle.image_keep.specs.ByteOf.{line_place}
 use Rattle.image_keep.proofs.Depositing.{line_of_side}
 
 -- two lists behind each other are the same as two others, the first as long as the first
-same_first : (xs ys zs ws : List ℕ) → length xs ≡ length zs → xs ++ ys ≡ zs ++ ws → xs ≡ zs
+pub same_first : (xs ys zs ws : List ℕ) → length xs ≡ length zs → xs ++ ys ≡ zs ++ ws → xs ≡ zs
 same_first xs ys zs ws n e =
     sym (take-append-le (length xs) xs ys (omega arith) ∙ take_all (length xs) xs (omega arith))
     ∙ ap (take (length xs)) e
     ∙ take-append-le (length xs) zs ws (omega (arith, n)) ∙ take_all (length xs) zs (omega (arith, n))
 
-same_second : (xs ys zs ws : List ℕ) → length xs ≡ length zs → xs ++ ys ≡ zs ++ ws → ys ≡ ws
+pub same_second : (xs ys zs ws : List ℕ) → length xs ≡ length zs → xs ++ ys ≡ zs ++ ws → ys ≡ ws
 same_second xs ys zs ws n e =
     append_cancel_left xs ys ws (e ∙ ap (λ l. l ++ ws) (sym (same_first xs ys zs ws n e)))
 

@@ -11,15 +11,15 @@ use Rattle.pdp_step.specs.Instruction.{Stepped, stepped, instr}
 use Rattle.image_keep.specs.declared.running.Fixed.{Fixed}
 use Rattle.image_keep.specs.Kept.{Kept, image_of, area_of, with_image, with_area}
 use Rattle.image_keep.specs.State.{ImagesState}
-use Rattle.image_keep.specs.Lent.{Lent, left_of}
+use Rattle.image_keep.specs.Lent.{Lent, Outside, left_of}
 use Rattle.image_keep.specs.Running.{IsFixed, machine_in, with_machine_in, with_state}
 use Rattle.image_keep.proofs.StateOf.{kept_is}
 use Rattle.image_keep.proofs.Frames.{with_image_area}
 use Rattle.image_keep.proofs.Reading.{starts_after}
 use Rattle.image_keep.proofs.Loans.{lent_back}
 
-module _ (k lent now : ImagesState) (f : Fixed) (was is : ℕ) (a b : GName) (fixed : IsFixed k.kept f) (begins : lent ≡ k) (slot : was ≡ f.slot)
-    (same : ◌≡◌ {A = Lent} (record { loan = a; slot = is; left = left_of now.kept is }) (record { loan = b; slot = was; left = left_of lent.kept was })) where
+module _ (k lent now : ImagesState) (f : Fixed) (was is : ℕ) (a b : GName) {x y : Outside} (fixed : IsFixed k.kept f) (begins : lent ≡ k) (slot : was ≡ f.slot)
+    (same : ◌≡◌ {A = Lent} (record { loan = a; slot = is; left = left_of now.kept is; outside = x }) (record { loan = b; slot = was; left = left_of lent.kept was; outside = y })) where
   abbrev image : Image
   image = image_of now.kept is
 

@@ -22,6 +22,7 @@ pub mod Reaping
 pub mod Frames
 pub mod PlaceFrames
 pub mod Loans
+pub mod Outside
 pub mod Told
 pub mod KeptForm
 pub mod TextSearch

@@ -2,12 +2,12 @@
 use Rattle.std.proofs.Common.{◌≡◌, ℕ, sym, ap, ◌∙◌}
 use Rattle.std.specs.Borrow.{GName}
 use Rattle.image_keep.specs.Kept.{Kept, image_of, with_image}
-use Rattle.image_keep.specs.Lent.{Lent, left_of}
+use Rattle.image_keep.specs.Lent.{Lent, Outside, left_of}
 use Rattle.image_keep.proofs.Frames.{after}
 
 -- When the memory of a slot that was lent comes back, that alone has changed.
-pub lent_back : (k before now : Kept) (s was is : ℕ) (a b : GName) → before ≡ k → was ≡ s
-    → ◌≡◌ {A = Lent} (record { loan = a; slot = is; left = left_of now is }) (record { loan = b; slot = was; left = left_of before was })
+pub lent_back : (k before now : Kept) (s was is : ℕ) (a b : GName) {x y : Outside} → before ≡ k → was ≡ s
+    → ◌≡◌ {A = Lent} (record { loan = a; slot = is; left = left_of now is; outside = x }) (record { loan = b; slot = was; left = left_of before was; outside = y })
     → now ≡ with_image k s (image_of now is)
 lent_back k before now s was is a b begins slot same =
     let at : is ≡ s = ap (λ (l : Lent). l.slot) same ∙ slot in

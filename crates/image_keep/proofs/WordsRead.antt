@@ -21,7 +21,7 @@ use Rattle.image_keep.proofs.Putting.{Put, puts_byte, storable_some}
 use Rattle.std.proofs.lemmas.List.{length-set}
 
 -- the byte after one that is named
-two_room : (m : Image) (p : Named) → IsWithin m (next_byte p) → p ≢ named_is.Nothing → 2 ≤ room m p
+pub two_room : (m : Image) (p : Named) → IsWithin m (next_byte p) → p ≢ named_is.Nothing → 2 ≤ room m p
 two_room m (named_is.InText i) low some = omega (arith, low)
 two_room m (named_is.InData i) low some = omega (arith, low)
 two_room m (named_is.InStack i) low some = omega (arith, low)

@@ -30,6 +30,11 @@ abbrev pub IsWritten : ImagesState → ImagesState → ℕ → (ℕ → List ℕ
 IsWritten x y s put = (held : Held) → Has x.kept s held → (length y.core ≡ length x.core)
     × (y.core ++ y.swap ≡ put (place_at x.kept.core held.place) (x.core ++ x.swap))
 
+-- These bytes are laid at a place, and nothing else of core and the swap area after it has changed.
+abbrev pub AreLaid : ImagesState → ImagesState → Place → List ℕ → Type 0
+AreLaid x y place bytes = (length y.core ≡ length x.core)
+    × (y.core ++ y.swap ≡ over (x.core ++ x.swap) (place_at x.kept.core place) bytes)
+
 -- these bytes are, at one place of the u area
 abbrev pub AreWritten : ImagesState → ImagesState → ℕ → ℕ → List ℕ → Type 0
 AreWritten x y s field bytes = IsWritten x y s (λ at line. over line (at + field) bytes)

@@ -5,6 +5,7 @@ ghost use Rattle.v6_base.specs.Access.{load_byte, load_word, store_byte, store_w
 ghost use Rattle.v6_base.specs.Words.{IsWithin, IsStorable, next_byte, with_word};
 ghost use Rattle.image_keep.specs.Kept.{HasImage, IsKept, image_of, with_image};
 ghost use Rattle.text_tab.specs.Table.{IsUsed, row_at as text_row};
+ghost use Rattle.image_keep.specs.Lent.{outside_of};
 ghost use Rattle.image_keep.specs.Starts.{text_clicks_in, row_start, start_in, AreStarts, IsLow, IsThere, start_of};
 
 use crate::images::Images;
@@ -197,6 +198,7 @@ impl Images {
         ensures bytes { self.new.core ++ self.new.swap ≡ slice_set (self.old.core ++ self.old.swap) (start_of starts.now at) value }
         ensures core { length self.new.core ≡ length self.old.core }
         ensures starts { AreStarts self.new.kept s starts.now }
+        ensures outside { outside_of self.new s ≡ outside_of self.old s }
     {
         self.memory.set(starts.start_of(at), value);
     }
@@ -212,6 +214,7 @@ impl Images {
             ≡ with_image self.old.kept s
             (image_after (image_of self.old.kept s) (with_word (image_of self.old.kept s) at value)) }
         ensures starts { AreStarts self.new.kept s starts.now }
+        ensures outside { outside_of self.new s ≡ outside_of self.old s }
     {
         self.memory.set_word(starts.start_of(at), value);
     }
@@ -258,6 +261,7 @@ impl Images {
             ≡ with_image self.old.kept s
             (image_after (image_of self.old.kept s) (store_byte (image_of self.old.kept s) at value)) }
         ensures starts { AreStarts self.new.kept s starts.now }
+        ensures outside { outside_of self.new s ≡ outside_of self.old s }
     {
         let named = self.find(s, starts, at);
         if !is_storable(named) {
@@ -282,6 +286,7 @@ impl Images {
             ≡ with_image self.old.kept s
             (image_after (image_of self.old.kept s) (store_word (image_of self.old.kept s) at value)) }
         ensures starts { AreStarts self.new.kept s starts.now }
+        ensures outside { outside_of self.new s ≡ outside_of self.old s }
     {
         if at % 2 == 1 {
             return Err(Trap::Odd);

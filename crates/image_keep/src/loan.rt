@@ -56,13 +56,18 @@ impl Images {
 #[tactic(auto, using(crate::proofs::Frames::stores))]
 impl Space for SpaceOf<'_> {
     ghost use Rattle.image_keep.specs.Kept.{image_of};
-    ghost use Rattle.image_keep.specs.Lent.{Lent, left_of};
+    ghost use Rattle.image_keep.specs.Lent.{Lent, left_of, outside_of};
 
     ghost image = { λ space. image_of space.images.now.kept space.slot };
 
     ghost Rest = { Lent };
 
-    ghost rest = { λ space. record { loan = space.images.ghost_name; slot = space.slot; left = left_of space.images.now.kept space.slot } };
+    ghost rest = { λ space. record {
+      loan = space.images.ghost_name;
+      slot = space.slot;
+      left = left_of space.images.now.kept space.slot;
+      outside = outside_of space.images.now space.slot;
+    } };
 
     #[inline(always)]
     fn load_byte(&self, at: u16) -> Result<u8, Trap> {

@@ -1,9 +1,10 @@
 //! Images that are made anew: `exec` in Lions' Commentary, `sys1.c`.
-ghost use Rattle.std.specs.Prelude.{◌≡◌, ◌⊎◌, ◌+◌, ◌*◌, ◌<◌, ◌≤◌, None, Some, MatchResult, length};
+ghost use Rattle.std.specs.Prelude.{◌≡◌, ◌⊎◌, ◌+◌, ◌*◌, ◌<◌, ◌≤◌, None, Some, IfOk, IfErr, MatchResult, length};
 ghost use Rattle.core_mem.specs.Bytes.{over};
 ghost use Rattle.u_area.specs.Area.{area_bytes, IsSized};
 ghost use Rattle.image_keep.specs.Area.{made_area};
 ghost use Rattle.image_keep.specs.Line.{line_of};
+ghost use Rattle.image_keep.specs.Fields.{AreLaid};
 ghost use Rattle.image_keep.specs.Kept.{Nothing, keeping, text_of, text_bytes, text_clicks};
 ghost use Rattle.image_keep.specs.Places.{placed, made_image};
 ghost use Rattle.image_keep.specs.Moves.{with_image_moved};
@@ -90,6 +91,9 @@ impl Images {
             ≡ with_image_moved self.old.kept s (made_area p.text_size p.data_size p.stack_size)
             (made_image (text_bytes self.old.kept text) p.data_size p.stack_size)
             (placed self.old.kept s (16 + p.data_size + p.stack_size)) }
+        ensures written { IfOk result (λ place. AreLaid self.old self.new place
+            (cleared_bytes p.data_size p.stack_size (area_bytes (made_area p.text_size p.data_size p.stack_size)))) }
+        ensures stays { IfErr result (λ _. self.new ≡ self.old) }
     {
         let bytes = made_bytes(p.text_size, p.data_size, p.stack_size);
         let row = row_of(&self.rows, s as usize);

@@ -6,6 +6,7 @@ ghost use Rattle.v6_base.specs.Copy.{load_bytes, store_bytes, image_or, is_writa
 ghost use Rattle.v6_base.specs.Words.{IsWithin, IsStorable};
 ghost use Rattle.v6_base.specs.Runs.{room, run_at, with_run};
 ghost use Rattle.image_keep.specs.Kept.{image_of, with_image};
+ghost use Rattle.image_keep.specs.Lent.{outside_of};
 ghost use Rattle.image_keep.specs.Starts.{AreStarts};
 
 use crate::access::is_storable;
@@ -52,6 +53,7 @@ impl Images {
         requires storable { IsStorable to }
         ensures kept { self.new.kept ≡ with_image self.old.kept s (with_run (image_of self.old.kept s) to bytes.now) }
         ensures starts { AreStarts self.new.kept s starts.now }
+        ensures outside { outside_of self.new s ≡ outside_of self.old s }
     {
         self.memory.put(starts.start_of(to), bytes);
     }
@@ -107,6 +109,7 @@ impl Images {
             ≡ with_image self.old.kept s
             (image_or (image_of self.old.kept s) (store_bytes (image_of self.old.kept s) at bytes.now)) }
         ensures starts { AreStarts self.new.kept s starts.now }
+        ensures outside { outside_of self.new s ≡ outside_of self.old s }
     {
         let first = self.find(s, starts, at);
         if !bytes.is_empty() && is_storable(first) && bytes.len() <= self.room(s, starts, first) {
@@ -128,6 +131,7 @@ impl Images {
             ≡ with_image self.old.kept s
             (image_or (image_of self.old.kept s) (store_bytes (image_of self.old.kept s) at bytes.now)) }
         ensures starts { AreStarts self.new.kept s starts.now }
+        ensures outside { outside_of self.new s ≡ outside_of self.old s }
     {
         if !self.can_set(s, starts, at, bytes.len()) {
             return false;

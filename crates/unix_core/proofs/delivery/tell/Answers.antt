@@ -3,7 +3,7 @@ use Rattle.std.specs.Borrow.{GName}
 use Rattle.u_area.specs.declared.area.UArea.{UArea}
 use Rattle.u_area.specs.Fields.{with_handler}
 use Rattle.image_keep.specs.Kept.{Kept, HasImage, area_of, image_of, with_area, with_image}
-use Rattle.image_keep.specs.Lent.{Lent, left_of}
+use Rattle.image_keep.specs.Lent.{Lent, Outside, left_of}
 use Rattle.image_keep.specs.Running.{with_state}
 use Rattle.image_keep.proofs.Frames.{with_image_area, with_image_has, area_twice, with_area_same, with_area_has}
 use Rattle.sig_core.specs.Delivery.{Delivery, delivery}
@@ -13,9 +13,9 @@ use Rattle.unix_core.proofs.DeliveryLemmas.{told_area}
 use Rattle.unix_core.proofs.delivery.tell.Goals as goal
 
 -- What comes back: the memory with what was pushed, and the u area, of which the registers and one handler are put back.
-module _ (k before now : Kept) (s was is sig : ℕ) (a b : GName) (u v : UArea) (has : HasImage k s) (area : u ≡ area_of k s)
+module _ (k before now : Kept) (s was is sig : ℕ) (a b : GName) {x y : Outside} (u v : UArea) (has : HasImage k s) (area : u ≡ area_of k s)
     (begins : before ≡ k) (slot : was ≡ s)
-    (same : ◌≡◌ {A = Lent} (record { loan = a; slot = is; left = left_of now is }) (record { loan = b; slot = was; left = left_of before was }))
+    (same : ◌≡◌ {A = Lent} (record { loan = a; slot = is; left = left_of now is; outside = x }) (record { loan = b; slot = was; left = left_of before was; outside = y }))
     (told : v ≡ (delivery u sig (image_of before was)).area) (memory : image_of now is ≡ (delivery u sig (image_of before was)).image) where
   abbrev d : Delivery
   d = delivery (area_of k s) sig (image_of k s)

@@ -44,6 +44,7 @@ loop-done-preserved c =
     record {
       kept = stored.0;
       starts = c.put_part.ensures.starts;
+      outside = c.put_part.ensures.outside ∙ c.loop-done.invariant.outside;
       lengths = then_lengths start m _ (image_of c.put_part.new.self.kept c.args.s) same (run_lengths m (named m ((c.args.at + done) % 65536)) (take count (drop done bytes)) (omega (arith, long, few)) (omega (arith, long, some))) new;
       few = fits;
       same =
@@ -64,6 +65,7 @@ loop-done-init c =
     record {
       kept = sym (image_back c.args.self.now.kept c.args.s);
       starts = c.requires.starts;
+      outside = refl;
       lengths = same_lengths (image_of c.args.self.now.kept c.args.s);
       few = omega arith;
       same = ap (λ a. store_bytes (image_of c.args.self.now.kept c.args.s) a c.args.bytes.now) flat;

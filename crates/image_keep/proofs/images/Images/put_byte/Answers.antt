@@ -5,6 +5,7 @@ use Rattle.image_keep.specs.Line.{line_of}
 use Rattle.image_keep.specs.Starts.{AreStarts, start_of}
 use Rattle.image_keep.proofs.Reading.{byte_read}
 use Rattle.image_keep.proofs.Putting.{low_of, storable_some, puts_byte}
+use Rattle.image_keep.proofs.Outside.{byte_outside}
 use Rattle.image_keep.proofs.images.Images.put_byte.Goals as goal
 
 pub start_of-requires : goal.start_of-requires
@@ -30,3 +31,8 @@ returns-clause-bytes c =
 
 pub returns-clause-core : goal.returns-clause-core
 returns-clause-core c = c.set.ensures.core ∙ ap (λ (l : List ℕ). length l) (core_is c.self.view_is)
+
+pub returns-clause-outside : goal.returns-clause-outside
+returns-clause-outside c =
+    byte_outside c.args.self.now _ c.args.s c.args.starts.now c.requires.starts (returns-clause-starts c) (returns-clause-core c)
+    c.args.at c.args.value c.requires.within c.requires.storable (returns-clause-bytes c)
