@@ -17,7 +17,8 @@ use Rattle.sys_files.specs.Frame.{LeavesOther}
 use Rattle.sys_files.specs.Moving.{resumes}
 use Rattle.sys_files.specs.Sound.{IsSound}
 use Rattle.sys_files.proofs.OtherCloses.{closed_apart}
-use Rattle.sys_files.proofs.OtherWalks.{IsOn}
+use Rattle.sys_files.proofs.CoreWalk.{core_leaves_other}
+use Rattle.sys_files.proofs.OtherWalks.{IsOn, on_root, on_second}
 use Rattle.sys_procs.specs.declared.procs.Procs.{Procs}
 use Rattle.sys_procs.specs.World.{World, process_of, members, change}
 use Rattle.sys_procs.specs.Agree.{answered}
@@ -34,7 +35,7 @@ use Rattle.abstract_unix.specs.declared.calls.ProcessCall.{ProcessCall}
 use Rattle.abstract_unix.specs.Calls.{file_row, process_row, process_named}
 use Rattle.abstract_unix.specs.OtherDisk.{GoesOn, closed, CallsLeaveOther}
 use Rattle.abstract_unix.proofs.ProcessRows.{resume_plain}
-use Rattle.abstract_unix.proofs.OtherRows.{on_root, on_second, row_leaves_other, resume_leaves_other}
+use Rattle.abstract_unix.proofs.OtherRows.{row_leaves_other, resume_leaves_other}
 use Rattle.abstract_unix.proofs.OtherProcs.{plain_inodes, end_far, process_leaves_other}
 
 files_on : (h : Handed) (slot now : ℕ) → IsSound h → GoesOn h → LeavesOther h (resumes h slot now)
@@ -82,6 +83,7 @@ calls_leave_other = record {
   processes = process_leaves_other;
   processes_on = processes_on;
   forks = forks;
+  core = core_leaves_other;
   closes = closes;
   ends = ends;
 }

@@ -25,7 +25,7 @@ use Rattle.pick_rules.specs.Effects as effect
 use Rattle.sys_files.proofs.NodeCounts.{put_back_counts}
 use Rattle.fs_tree.proofs.OtherDisk.{put_there}
 use Rattle.sys_files.proofs.FrameLemmas.{device_counted, finding_store}
-use Rattle.sys_files.proofs.OtherWalks.{IsOn}
+use Rattle.sys_files.proofs.OtherWalks.{IsOn, on_root, on_second}
 use Rattle.sys_procs.specs.declared.program.Program.{Program}
 use Rattle.sys_procs.specs.Process.{Process, no_process, image_of}
 use Rattle.sys_procs.specs.World.{World, process_of, change, without_process, with_inodes, let_go}
@@ -44,7 +44,6 @@ use Rattle.abstract_unix.specs.declared.calls.ProcessCall.{ProcessCall}
 use Rattle.abstract_unix.specs.declared.calls.ProcessCall.TheVariants as process
 use Rattle.abstract_unix.specs.Calls.{process_row, process_named}
 use Rattle.abstract_unix.proofs.ProcessRows.{Plain, gives, refuses, waits, changes, due, nice, wakes, dated, buries, plain_row}
-use Rattle.abstract_unix.proofs.OtherRows.{on_root, on_second}
 
 -- Most calls leave the inodes.
 inodes_when : (b : Bool) (x y : Comes) (n : Inodes) → x.state.inodes ≡ n → y.state.inodes ≡ n → (cond b x y).state.inodes ≡ n

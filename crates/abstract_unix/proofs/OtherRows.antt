@@ -9,20 +9,13 @@ use Rattle.sys_files.specs.Did.{Did}
 use Rattle.sys_files.specs.Frame.{KeepsTo, LeavesOther}
 use Rattle.sys_files.specs.Moving.{resumes}
 use Rattle.sys_files.specs.Sound.{IsSound}
-use Rattle.sys_files.proofs.OtherWalks.{IsApart, IsOn, other_walks, keeps_own}
+use Rattle.sys_files.proofs.OtherWalks.{IsApart, IsOn, on_root, on_second, other_walks, keeps_own}
 use Rattle.sys_files.proofs.Walks.{walk_resume}
 use Rattle.abstract_unix.specs.declared.calls.FileCall.{FileCall}
 use Rattle.abstract_unix.specs.declared.calls.FileCall.TheVariants as file
 use Rattle.abstract_unix.specs.Calls.{file_row}
 use Rattle.abstract_unix.proofs.FileRows.{is_of_both, walk_row}
 use Rattle.abstract_unix.proofs.PendingRows.{Pends, can_resume}
-
--- a change of the one disk leaves the other one's store
-pub on_root : (old new : Stores) (key : ℕ) → device_of old key ≡ 0 → OnItsDisk old new key → new.second ≡ old.second
-on_root old new key on only = only.second on
-
-pub on_second : (old new : Stores) (key : ℕ) → device_of old key ≡ 1 → OnItsDisk old new key → new.root ≡ old.root
-on_second old new key on only = only.root on
 
 module _ {X : Type 0} (pick : Stores → X) (dev : ℕ)
     (law : (old new : Stores) (key : ℕ) → device_of old key ≡ dev → OnItsDisk old new key → pick new ≡ pick old) (h : Handed) (slot now : ℕ)

@@ -7,6 +7,7 @@ use Rattle.open_files.specs.Files.{file_at, times}
 use Rattle.mount_tab.specs.Mounted.{MountTable}
 use Rattle.sys_files.specs.Handed.{Handed}
 use Rattle.sys_files.specs.Did.{Did}
+use Rattle.sys_files.specs.Core.{core_file}
 use Rattle.sys_files.specs.Descriptors.{close_all}
 use Rattle.sys_files.specs.Frame.{LeavesOther}
 use Rattle.sys_files.specs.Moving.{resumes}
@@ -37,8 +38,8 @@ closed h = record { answer = Ret 0 0; state = (close_all h).state; items = (clos
 -- Where all nodes that a call names, all open files of its process and its directory are of one disk, the other disk's store is what
 -- it was: its files, its room, its lists of free blocks and inodes, its time. So it is of each call on files, but for sync, which
 -- writes both disks, and pipe, which makes a node on the root's; of each call on processes where the program that it names and the
--- text of the process are of one disk; and of both when they go on after a sleep. A process that ends closes its files, and leaves
--- its directory and its text.
+-- text of the process are of one disk; and of both when they go on after a sleep. The file `core` is written without a call. A
+-- process that ends closes its files, and leaves its directory and its text.
 pub record CallsLeaveOther : Type 0 where
   pub files : (call : FileCall) (h : Handed) (slot : ℕ) (args : List ℕ) (now : ℕ) → IsSound h → call ≢ file.Sync → call ≢ file.Pipe
       → LeavesOther h (file_row call h slot args now)
@@ -47,5 +48,6 @@ pub record CallsLeaveOther : Type 0 where
       → its.LeavesOther w s (process_named call mounts w s args) (process_row call mounts w s args)
   pub processes_on : (w : World) (s : ℕ) → its.LeavesOther w s [] (resume_proc w s)
   pub forks : (w : World) (s : ℕ) → its.LeavesOther w s [] (fork_one w s)
+  pub core : (h : Handed) (now : ℕ) → IsSound h → LeavesOther h (core_file h now)
   pub closes : (h : Handed) → IsSound h → LeavesOther h (closed h)
   pub ends : (w : World) (s status : ℕ) → its.LeavesOther w s ((process_of w s).u.dir ∷ []) (end_proc w s status)

@@ -44,6 +44,7 @@ pub mod Counting
 pub mod OtherCloses
 pub mod Steady
 pub mod CoreLemmas
+pub mod CoreWalk
 pub mod PipeMovingLemmas
 pub mod PipeOpeningLemmas
 pub mod PipeMadeLemmas

@@ -31,6 +31,13 @@ pub record IsApart {X : Type 0} (pick : Stores → X) (base now : Stores) (low :
 abbrev pub IsOn : ℕ → Stores → ℕ → Type 0
 IsOn dev base key = device_of base key ≡ dev
 
+-- a change of the one disk leaves the other one's store
+pub on_root : (old new : Stores) (key : ℕ) → device_of old key ≡ 0 → OnItsDisk old new key → new.second ≡ old.second
+on_root old new key on only = only.second on
+
+pub on_second : (old new : Stores) (key : ℕ) → device_of old key ≡ 1 → OnItsDisk old new key → new.root ≡ old.root
+on_second old new key on only = only.root on
+
 -- What is read off the stores is what every change at a key of the disk leaves.
 module _ {X : Type 0} (pick : Stores → X) (dev : ℕ) (base : Stores)
     (law : (old new : Stores) (key : ℕ) → device_of old key ≡ dev → OnItsDisk old new key → pick new ≡ pick old)

@@ -83,8 +83,7 @@ use Rattle.sys_files.proofs.FrameLemmas.{finding_store, making_store, entry_ther
 module _ {P : Handed → Type 0} {Q : Did → Type 0} {Few Known Line Here : ℕ → Type 0} {Moves Both : Type 0} {slot : ℕ}
     (k : Walks P Q Few Known Line Here Moves Both slot)
   where
-    checks : {A : Type 0} (h : Handed) (test : Result A Errno) (next : A → Did) → P h → ((a : A) → Q (next a))
-        → Q (check h test next)
+    pub checks : {A : Type 0} (h : Handed) (test : Result A Errno) (next : A → Did) → P h → ((a : A) → Q (next a)) → Q (check h test next)
     checks h (Ok a) next p goes = goes a
     checks h (Err e) next p goes = k.refused h e p
 
@@ -94,7 +93,7 @@ module _ {P : Handed → Type 0} {Q : Did → Type 0} {Few Known Line Here : ℕ
     checks_so h (Ok a) next p goes = goes a refl
     checks_so h (Err e) next p goes = k.refused h e p
 
-    walk_named : {A : Type 0} (h : Handed) (found : Finding A) (next : Handed → A → Did)
+    pub walk_named : {A : Type 0} (h : Handed) (found : Finding A) (next : Handed → A → Did)
         → counts found.inodes.store ≡ counts h.inodes.store → Touches Here Both h.inodes.store found.inodes.store → P h
         → ((now : Handed) (a : A) → P now → Q (next now a)) → Q (then_named h found next)
     walk_named h found next same touches p goes =
@@ -107,7 +106,7 @@ module _ {P : Handed → Type 0} {Q : Did → Type 0} {Few Known Line Here : ℕ
     walk_finds h name next p goes = walk_named h _ _ (finding_counts h.inodes _) (nothing (finding_store h.inodes _)) p
         (λ now ino q. k.lets_go ino (next now ino) (λ here. goes now ino here q))
 
-    walk_made : (h : Handed) (answer : Made) (there : Handed → ℕ → Did) (new : Handed → ℕ → ℕ → List ℕ → Did) → P h
+    pub walk_made : (h : Handed) (answer : Made) (there : Handed → ℕ → Did) (new : Handed → ℕ → ℕ → List ℕ → Did) → P h
         → ((now : Handed) (ino : ℕ) → Here ino → P now → Q (there now ino))
         → ((now : Handed) (dir offset : ℕ) (name : List ℕ) → Here dir → P now → Q (new now dir offset name))
         → Q (by_made there new h answer)
@@ -123,7 +122,7 @@ module _ {P : Handed → Type 0} {Q : Did → Type 0} {Few Known Line Here : ℕ
         walk_named h _ (by_made there new) (making_counts h.inodes _) (nothing (making_store h.inodes _)) p
         (λ now answer q. walk_made now answer there new q one two)
 
-    walk_writes : (h : Handed) (dir offset : ℕ) (bytes : List ℕ) (now : ℕ) (next : Handed → Did) → Here dir → P h
+    pub walk_writes : (h : Handed) (dir offset : ℕ) (bytes : List ℕ) (now : ℕ) (next : Handed → Did) → Here dir → P h
         → ((l : Handed) → P l → Q (next l))
         → Q (writes_entry h dir offset bytes now next)
     walk_writes h dir offset bytes now next here p goes = walk_named h (entry_written h.inodes dir offset bytes now)
@@ -135,7 +134,7 @@ module _ {P : Handed → Type 0} {Q : Did → Type 0} {Few Known Line Here : ℕ
         k.inodes h (with_links h ino links now).inodes (links_counts h.inodes ino links now)
         (own_key ino here (links_there h.inodes ino links now)) p
 
-    walk_node : (h : Handed) (dir offset : ℕ) (name : List ℕ) (mode now : ℕ) (next : Handed → ℕ → Did) → Here dir → P h
+    pub walk_node : (h : Handed) (dir offset : ℕ) (name : List ℕ) (mode now : ℕ) (next : Handed → ℕ → Did) → Here dir → P h
         → ((l : Handed) (ino : ℕ) → Here ino → P l → Q (next l ino)) → Q (makes_node h dir offset name mode now next)
     walk_node h dir offset name mode now next here p goes =
         let found : Finding ℕ = new_in h.inodes (disk_of h dir) mode (user_of h.u) now in
@@ -738,8 +737,7 @@ module _ {P : Handed → Type 0} {Q : Did → Type 0} {Few Known Line Here : ℕ
         checks_so h (open_entry h (r0 h)) _ p (λ entry is.
         checks_so h (need EMFILE (free_number h.u.files)) _ p (λ fd number.
         let named = entry_named h (r0 h) entry is in
-        subst (λ e. Q (returns (record h { files = with_change h.files e (with_more 1); u = with_number h.u fd (e + 1) }) fd))
-        (sym named.1)
+        subst (λ e. Q (returns (record h { files = with_change h.files e (with_more 1); u = with_number h.u fd (e + 1) }) fd)) (sym named.1)
         (k.done _ fd (r1 h) (k.given h (r0 h) fd named.0 (need_some EMFILE (free_number h.u.files) fd number) moves p))))
 
     -- 42, pipe

@@ -23,6 +23,7 @@ ghost use Rattle.sys_files.specs.Entering.{HasEntry, SameReferences, did_of};
 ghost use Rattle.sys_files.specs.Making.{entry_written, enters_new};
 ghost use Rattle.sys_files.specs.Core.{core_name, is_plain, writes_parts, writes_over, writes_new, writes_named};
 ghost use Rattle.sys_files.specs.Core.{core_file, is_written};
+ghost use Rattle.sys_files.specs.Frame.{LeavesOther};
 
 use crate::creating::truncate;
 use crate::entering::{Room, enter_new, find_to_make, make_inode};
@@ -353,7 +354,8 @@ fn write_named<S: Space>(f: &mut Files, u: &UArea, space: &S, now: u32) -> Resul
 
 /// Writes the image of a process, its per-process area, its data and its stack, to the file `core` in its directory, and says
 /// whether the whole of it was written. Where the effective user isn't the real one nothing is written, and so where the file
-/// is there and isn't plain or the user may not write it. The area has the sizes of the image.
+/// is there and isn't plain or the user may not write it. The area has the sizes of the image. Where all that it has to do with
+/// is on one disk, it leaves the other one alone.
 pub fn write_core<S: Space>(f: &mut Files, u: &UArea, space: &S, now: u32) -> bool
     requires sound { (row : Row) → IsSound (handed f.old u.now row (S.image space.now)) }
     requires text { length (S.image space.now).text ≡ CLICK * u.now.text_size }
@@ -362,6 +364,8 @@ pub fn write_core<S: Space>(f: &mut Files, u: &UArea, space: &S, now: u32) -> bo
     ensures whole { (row : Row) → result ≡ is_written (core_file (handed f.old u.now row (S.image space.now)) now).answer }
     ensures state { (row : Row) → handed f.new u.now row (S.image space.now)
         ≡ (core_file (handed f.old u.now row (S.image space.now)) now).state }
+    ensures apart { (row : Row) → let h = handed f.old u.now row (S.image space.now) in
+        LeavesOther h (record (core_file h now) { state = handed f.new u.now row (S.image space.now) }) }
     ensures kept { (row : Row)
         → IsKept (handed f.old u.now row (S.image space.now)) (handed f.new u.now row (S.image space.now)) }
     ensures blocks { SameRest f.old.tree.nodes f.new.tree.nodes }

@@ -5,6 +5,7 @@ use Rattle.sys_files.specs.Core.{is_written}
 use Rattle.sys_files.proofs.AnyLemmas.{any_row}
 use Rattle.sys_files.proofs.OwedLemmas.{directory_referred}
 use Rattle.sys_files.proofs.KeptLemmas.{kept_references}
+use Rattle.sys_files.proofs.CoreWalk.{core_left_other}
 use Rattle.sys_files.proofs.CoreLemmas.{core_goes, core_refused, told_whole, told_state, core_kept}
 use Rattle.sys_files.proofs.core_file.write_core.Goals as goal
 
@@ -45,6 +46,15 @@ returns-then-u-clause-kept g c = λ row.
     (sym (ap unnamed (core_goes h c.args.now c.if-u.true) ∙ c.write_named.ensures.did row)))
     c.write_named.ensures.kept.references c.write_named.ensures.kept.counts
 
+pub returns-then-u-clause-apart : goal.returns-then-u-clause-apart
+returns-then-u-clause-apart g c = λ row.
+    let image = g.S.Space.image c.args.space.now in
+    let h : Handed = handed c.args.f.now c.args.u.now row image in
+    let after : Handed = handed c.write_named.new.f c.args.u.now row image in
+    core_left_other h after c.args.now (c.requires.sound row)
+    (told_state after c.write_named.result ∙ ap (λ (d : Did). d.state)
+    (sym (ap unnamed (core_goes h c.args.now c.if-u.true) ∙ c.write_named.ensures.did row)))
+
 pub returns-else-u-clause-whole : goal.returns-else-u-clause-whole
 returns-else-u-clause-whole g c = λ row.
     let h : Handed = handed c.args.f.now c.args.u.now row (g.S.Space.image c.args.space.now) in
@@ -61,3 +71,9 @@ pub returns-else-u-clause-kept : goal.returns-else-u-clause-kept
 returns-else-u-clause-kept g c = λ row.
     let h : Handed = handed c.args.f.now c.args.u.now row (g.S.Space.image c.args.space.now) in
     kept_references h h (c.requires.sound row) refl refl refl refl refl (λ i. refl) refl
+
+pub returns-else-u-clause-apart : goal.returns-else-u-clause-apart
+returns-else-u-clause-apart g c = λ row.
+    let h : Handed = handed c.args.f.now c.args.u.now row (g.S.Space.image c.args.space.now) in
+    let other : (c.args.u.now.uid == c.args.u.now.ruid) ≡ false = search rules in
+    core_left_other h h c.args.now (c.requires.sound row) (ap (λ (d : Did). d.state) (sym (core_refused h c.args.now other)))
