@@ -61,3 +61,4 @@ pub mod Landing
 pub mod StandsThere
 pub mod NearCore
 pub mod FieldPut
+pub mod LaidBytes

@@ -2,14 +2,19 @@
 use Rattle.std.specs.Prelude.{◌≡◌, ℕ, ◌+◌, ◌-◌, ◌*◌, ◌%◌, Bool, true, false, List, [], ◌∷◌, ◌++◌, length}
 use Rattle.v6_base.specs.declared.entry.Place.{Place}
 use Rattle.v6_base.specs.declared.entry.Place.TheVariants.{Core, Swap}
+use Rattle.v6_base.specs.Image.{Image}
 use Rattle.core_mem.specs.Bytes.{part, over}
 use Rattle.fs_codec.specs.Bytes.{bytes_of}
 use Rattle.u_area.specs.declared.area.UArea.{UArea}
-use Rattle.u_area.specs.Area.{IsSized}
+use Rattle.u_area.specs.Area.{area_bytes, IsSized}
 use Rattle.u_area.specs.Fields.{Becomes}
 use Rattle.image_keep.specs.Kept.{Kept, Held, Has, area_of}
 use Rattle.image_keep.specs.Memory.{place_at}
 use Rattle.image_keep.specs.State.{ImagesState}
+
+-- the bytes of an image with this u area
+abbrev pub laid_bytes : UArea → Image → List ℕ
+laid_bytes u image = area_bytes u ++ (image.data ++ image.stack)
 
 -- the place in the line of core and the swap area at which the image of a slot begins, with its u area
 abbrev pub IsAreaAt : Kept → ℕ → ℕ → Type 0

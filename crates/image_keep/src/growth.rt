@@ -1,11 +1,12 @@
 //! The growth of one image: `expand` in Lions' Commentary, `slp.c`.
-ghost use Rattle.std.specs.Prelude.{◌≡◌, ◌≢◌, ◌⊎◌, ◌||◌, ◌+◌, ◌*◌, ◌<◌, ◌≤◌, ℕ, true, false, None, Some, IfErr, MatchResult, length, replicate};
+ghost use Rattle.std.specs.Prelude.{◌≡◌, ◌≢◌, ◌⊎◌, ◌||◌, ◌+◌, ◌*◌, ◌<◌, ◌≤◌, ℕ, true, false, None, Some, IfOk, IfErr, MatchResult, length, replicate};
 ghost use Rattle.v6_base.specs.Image.{nseg};
 ghost use Rattle.core_mem.specs.Bytes.{part, over};
 ghost use Rattle.map_fit.specs.Free.{is_free, is_within};
 ghost use Rattle.text_tab.specs.Table.{row_at as text_row, IsUsed};
 ghost use Rattle.u_area.specs.Area.{area_bytes, IsSized};
 ghost use Rattle.image_keep.specs.Line.{line_of};
+ghost use Rattle.image_keep.specs.Fields.{AreLaid, laid_bytes};
 ghost use Rattle.image_keep.specs.Kept.{HasImage, place_of, area_of, image_of, clicks_of};
 ghost use Rattle.image_keep.specs.Places.{placed, with_image_at};
 ghost use Rattle.image_keep.specs.Growth.{area_resized, image_resized, expanded};
@@ -248,6 +249,8 @@ impl Images {
         ensures kept { self.new.kept
             ≡ with_image_at self.old.kept s (area_resized (area_of self.old.kept s) d stack)
             (image_resized (image_of self.old.kept s) d stack) (Some result) }
+        ensures written { AreLaid self.old self.new result
+            (laid_bytes (area_resized (area_of self.old.kept s) d stack) (image_resized (image_of self.old.kept s) d stack)) }
     {
         let bytes = sized_bytes(&self.area(s), d, stack);
         let row = row_of(&self.rows, s as usize);
@@ -277,6 +280,8 @@ impl Images {
         ensures kept { self.new.kept
             ≡ with_image_moved self.old.kept s (area_resized (area_of self.old.kept s) d stack)
             (image_resized (image_of self.old.kept s) d stack) (placed self.old.kept s (16 + d + stack)) }
+        ensures written { IfOk result (λ place. AreLaid self.old self.new place
+            (laid_bytes (area_resized (area_of self.old.kept s) d stack) (image_resized (image_of self.old.kept s) d stack))) }
         ensures stays { IfErr result (λ _. self.new ≡ self.old) }
     {
         let bytes = sized_bytes(&self.area(s), d, stack);
@@ -322,6 +327,8 @@ impl Images {
         ensures kept { self.new.kept
             ≡ with_image_moved self.old.kept s (area_resized (area_of self.old.kept s) d stack)
             (image_resized (image_of self.old.kept s) d stack) (expanded self.old.kept s (16 + d + stack)) }
+        ensures written { IfOk result (λ place. AreLaid self.old self.new place
+            (laid_bytes (area_resized (area_of self.old.kept s) d stack) (image_resized (image_of self.old.kept s) d stack))) }
         ensures stays { IfErr result (λ _. self.new ≡ self.old) }
     {
         if 16 + d + stack <= self.clicks(s) {

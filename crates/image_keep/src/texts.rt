@@ -6,7 +6,8 @@ ghost use Rattle.text_tab.specs.Table.{row_at as text_row, found, free_entry, ne
 ghost use Rattle.u_area.specs.Area.{area_bytes, IsStored};
 ghost use Rattle.image_keep.specs.declared.memory.TheConstants.{SWAP_BYTES};
 ghost use Rattle.image_keep.specs.Line.{line_of};
-ghost use Rattle.image_keep.specs.Kept.{Shared, Nothing, shared, keeping, bytes_in, text_of};
+ghost use Rattle.image_keep.specs.Fields.{AreWritten};
+ghost use Rattle.image_keep.specs.Kept.{Shared, Nothing, shared, keeping, bytes_in, text_of, area_of};
 ghost use Rattle.image_keep.specs.Maps.{InsideBy};
 ghost use Rattle.image_keep.specs.Memory.{row_at, given_text, clicks_in, IsIn, place_at};
 ghost use Rattle.image_keep.specs.Places.{blocks, swap_fit};
@@ -212,6 +213,7 @@ impl Images {
         requires { (t : ℕ) × (text_of self.old.kept s ≡ Some t) }
         ensures left { result ≡ left (row_of_text self.old.kept (text_of self.old.kept s)) sticky }
         ensures kept { self.new.kept ≡ with_left_text self.old.kept s sticky (text_of self.old.kept s) }
+        ensures written { AreWritten self.old self.new s 0 (area_bytes (record (area_of self.old.kept s) { text_size = 0 })) }
     {
         let row = row_of(&self.rows, s as usize);
         let t = text_in(row);

@@ -1,5 +1,10 @@
-use Rattle.image_keep.proofs.StateOf.{kept_is}
+use Rattle.image_keep.proofs.StateOf.{kept_is, core_is, line_is}
 use Rattle.std.proofs.Common.{rules, ◌≡◌, ◌⊎◌, ◌*◌, ◌≤◌, ◌+◌, ◌∙◌, true, length, sym, ap, subst, refl, set}
+use Rattle.core_mem.specs.Bytes.{over}
+use Rattle.image_keep.specs.Kept.{Kept}
+use Rattle.image_keep.specs.Memory.{place_at}
+use Rattle.image_keep.proofs.InPlan.{core_kept}
+use Rattle.image_keep.proofs.LaidBytes.{resized_is}
 use Rattle.std.specs.Vec.{with_items}
 use Rattle.std.proofs.lemmas.List.{with_items_is}
 use Rattle.image_keep.specs.declared.row.Row.{Row}
@@ -63,3 +68,17 @@ returns-clause-place c = sym (place_is (stock_in c.self.inside) c.args.self.now.
 
 pub returns-clause-kept : goal.returns-clause-kept
 returns-clause-kept c = (cuts (stock_in c.self.inside) c.args.self.now.kept c.args.s c.args.d c.args.stack c.place_click-at.result c.place_of-place.result c.area.result c.sized_bytes-bytes.result c.self.inside.core_map c.self.inside.swap_map c.give_tail.new.core_map c.give_tail.new.swap_map c.row_of-row.result (line_of c.lay_resized.new.memory) (with_items c.self.inside.rows c.set_row.new.rows).items (kept_is c.self.view_is) c.self.invariant.sound c.self.invariant.maps c.self.invariant.counted c.self.invariant.told c.requires.image (rw c.deref.ensures.value at c.row_of-row.ensures) c.place_of-place.ensures c.requires.segments (subst (λ n. (16 + c.args.d + c.args.stack) ≤ n) (out_clicks (stock_in c.self.inside) c.args.self.now.kept c.args.s c.place_of-place.result c.row_of-row.result (clicks_in c.row_of-row.result) (kept_is c.self.view_is) c.self.invariant.sound (at_place_of (stock_in c.self.inside) c.args.self.now.kept c.args.s c.row_of-row.result c.place_of-place.result (kept_is c.self.view_is) c.self.invariant.sound c.self.invariant.counted c.requires.image (rw c.deref.ensures.value at c.row_of-row.ensures) c.place_of-place.ensures).is (rw c.deref.ensures.value at c.row_of-row.ensures) refl) c.requires.small) c.area.ensures.u c.sized_bytes-bytes.ensures.sized c.sized_bytes-bytes.ensures.written (search rules) c.place_click-at.ensures (rw c.clicks_of.ensures at c.give_tail.ensures.core) (rw c.clicks_of.ensures at c.give_tail.ensures.swap) c.lay_resized.ensures.line (with_items_is c.self.inside.rows c.set_row.new.rows (c.set_row.ensures.long ∙ c.deref_mut.ensures.len) ∙ (rw c.deref_mut.ensures.value at c.set_row.ensures.rows) ∙ ap (set c.self.inside.rows.items c.args.s) c.sized_row.ensures)).kept
+
+pub returns-clause-written : goal.returns-clause-written
+returns-clause-written c =
+    let v = stock_in c.self.inside in
+    let core : c.self.inside.core ≡ c.args.self.now.kept.core =
+    sym (core_kept v) ∙ ap (λ (k : Kept). k.core) (kept_is c.self.view_is) in
+    let at = c.place_click-at.ensures ∙ ap (λ n. place_at n c.place_of-place.result) core in
+    let bytes =
+    resized_is v c.args.self.now.kept c.args.s c.place_of-place.result c.area.result c.args.d c.args.stack c.place_click-at.result
+    c.row_of-row.result c.sized_bytes-bytes.result (kept_is c.self.view_is) (rw c.deref.ensures.value at c.row_of-row.ensures)
+    c.place_of-place.ensures c.area.ensures.u c.sized_bytes-bytes.ensures.written c.place_click-at.ensures in (
+      c.lay_resized.ensures.core ∙ ap length (core_is c.self.view_is),
+      c.lay_resized.ensures.line ∙ (λ i. over (line_is c.self.view_is i) (at i) (bytes i)),
+    )

@@ -1,12 +1,15 @@
-use Rattle.image_keep.proofs.StateOf.{kept_is}
+use Rattle.image_keep.proofs.StateOf.{kept_is, core_is, line_is}
 use Rattle.std.proofs.Common.{rules, ◌≡◌, ◌+◌, ◌∙◌, true, length, sym, ap, arith, subst, set, Some, None}
+use Rattle.core_mem.specs.Bytes.{over}
+use Rattle.image_keep.proofs.InPlan.{core_kept}
+use Rattle.image_keep.proofs.LaidBytes.{resized_is}
 use Rattle.std.specs.Vec.{with_items}
 use Rattle.std.proofs.lemmas.List.{with_items_is}
 use Rattle.map_fit.specs.Free.{is_free}
 use Rattle.image_keep.specs.declared.row.Row.{Row}
 use Rattle.image_keep.specs.Inside.{stock_in}
 use Rattle.image_keep.specs.Line.{line_of}
-use Rattle.image_keep.specs.Kept.{area_of, image_of}
+use Rattle.image_keep.specs.Kept.{Kept, area_of, image_of}
 use Rattle.image_keep.specs.Memory.{row_at, is_alive, clicks_in, RowOf, spot_by, AreApart, place_at, place_size}
 use Rattle.image_keep.specs.Maps.{InsideBy, core_units, swap_units}
 use Rattle.image_keep.specs.Finding.{found_core, found_swap}
@@ -83,3 +86,17 @@ returns-clause-place c = sym (placed_is (stock_in c.self.inside) c.args.self.now
 
 pub returns-clause-kept : goal.returns-clause-kept
 returns-clause-kept c = (grows (stock_in c.self.inside) c.args.self.now.kept c.args.s c.args.d c.args.stack c.place_click-at.result c.place_click-to.result c.place_of-from.result c.in-Some.place c.area.result c.sized_bytes-bytes.result c.self.inside.core_map c.self.inside.swap_map c.take_place.new.core_map c.give_back.new.core_map c.take_place.new.swap_map c.give_back.new.swap_map c.row_of-row.result (kept_is c.self.view_is) c.self.invariant.sound c.self.invariant.maps c.self.invariant.counted c.self.invariant.told c.requires.image (rw c.deref.ensures.value at c.row_of-row.ensures) c.place_of-from.ensures c.requires.segments c.area.ensures.u c.sized_bytes-bytes.ensures.sized c.sized_bytes-bytes.ensures.written (search rules) (sym (placed_is (stock_in c.self.inside) c.args.self.now.kept c.args.s (16 + c.args.d + c.args.stack) c.self.inside.core_map c.self.inside.swap_map c.may_stand-stands.result c.row_of-row.result (Some c.in-Some.place) (kept_is c.self.view_is) c.self.invariant.sound c.self.invariant.maps (rw c.deref.ensures.value at c.row_of-row.ensures) c.may_stand-stands.ensures c.in-Some.ensures.fit)) c.place_click-at.ensures c.place_click-to.ensures c.in-Some.ensures.core c.in-Some.ensures.swap c.give_back.ensures.core c.give_back.ensures.swap c.move_text.new.core_map (line_of c.lay_resized.new.memory) c.move_text.new.texts (with_items c.self.inside.rows c.set_row.new.rows).items c.move_text.ensures.core c.lay_resized.ensures.line c.move_text.ensures.texts (with_items_is c.self.inside.rows c.set_row.new.rows (c.set_row.ensures.long ∙ c.deref_mut.ensures.len) ∙ (rw c.deref_mut.ensures.value at c.set_row.ensures.rows) ∙ ap (set c.self.inside.rows.items c.args.s) c.sized_row.ensures)).kept ∙ ap (with_image_moved c.args.self.now.kept c.args.s (area_resized (area_of c.args.self.now.kept c.args.s) c.args.d c.args.stack) (image_resized (image_of c.args.self.now.kept c.args.s) c.args.d c.args.stack)) (placed_is (stock_in c.self.inside) c.args.self.now.kept c.args.s (16 + c.args.d + c.args.stack) c.self.inside.core_map c.self.inside.swap_map c.may_stand-stands.result c.row_of-row.result (Some c.in-Some.place) (kept_is c.self.view_is) c.self.invariant.sound c.self.invariant.maps (rw c.deref.ensures.value at c.row_of-row.ensures) c.may_stand-stands.ensures c.in-Some.ensures.fit)
+
+pub returns-clause-written : goal.returns-clause-written
+returns-clause-written c =
+    let v = stock_in c.self.inside in
+    let core : c.self.inside.core ≡ c.args.self.now.kept.core =
+    sym (core_kept v) ∙ ap (λ (k : Kept). k.core) (kept_is c.self.view_is) in
+    let at = c.place_click-to.ensures ∙ ap (λ n. place_at n c.in-Some.place) core in
+    let bytes =
+    resized_is v c.args.self.now.kept c.args.s c.place_of-from.result c.area.result c.args.d c.args.stack c.place_click-at.result
+    c.row_of-row.result c.sized_bytes-bytes.result (kept_is c.self.view_is) (rw c.deref.ensures.value at c.row_of-row.ensures)
+    c.place_of-from.ensures c.area.ensures.u c.sized_bytes-bytes.ensures.written c.place_click-at.ensures in (
+      c.lay_resized.ensures.core ∙ ap length (core_is c.self.view_is),
+      c.lay_resized.ensures.line ∙ (λ i. over (line_is c.self.view_is i) (at i) (bytes i)),
+    )

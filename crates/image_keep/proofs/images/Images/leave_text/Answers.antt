@@ -1,5 +1,10 @@
-use Rattle.image_keep.proofs.StateOf.{kept_is}
-use Rattle.std.proofs.Common.{◌<◌, ◌∙◌, ◌||◌, sym, ap, subst, length}
+use Rattle.image_keep.proofs.StateOf.{kept_is, core_is, line_is}
+use Rattle.std.proofs.Common.{◌≡◌, ◌<◌, ◌+◌, ◌∙◌, ◌||◌, ℕ, sym, ap, subst, length, arith}
+use Rattle.core_mem.specs.Bytes.{over}
+use Rattle.u_area.specs.Area.{area_bytes}
+use Rattle.image_keep.specs.Kept.{area_of}
+use Rattle.image_keep.specs.Memory.{place_at}
+use Rattle.image_keep.proofs.LaidBytes.{textless_is}
 use Rattle.std.specs.Vec.{with_items}
 use Rattle.std.proofs.lemmas.List.{with_items_is, length-set}
 use Rattle.text_tab.specs.Table.{row_at as text_row}
@@ -78,3 +83,14 @@ returns-clause-left c = c.detach.ensures.left ∙ told_answer (stock_in c.self.i
 
 pub returns-clause-kept : goal.returns-clause-kept
 returns-clause-kept c = (text_left (stock_in c.self.inside) c.args.self.now.kept c.args.s c.text_in-t.result c.args.sticky c.self.inside.core_map c.unload_text.new.core_map c.self.inside.swap_map c.detach.new.swap_map c.row_of-row.result (line_of c.clear_text_size.new.memory) c.unload_text.new.texts c.detach.new.texts (with_items c.self.inside.rows c.give_text.new.rows).items (kept_is c.self.view_is) c.self.invariant.sound c.self.invariant.maps c.self.invariant.counted (has_text_of (stock_in c.self.inside) c.args.self.now.kept c.args.s c.text_in-t.result (kept_is c.self.view_is) c.self.invariant.counted (text_named (stock_in c.self.inside) c.args.self.now.kept c.args.s c.text_in-t.result c.row_of-row.result (kept_is c.self.view_is) (rw c.deref.ensures.value at c.row_of-row.ensures) c.text_in-t.ensures)) (rw c.deref.ensures.value at c.row_of-row.ensures) c.clear_text_size.ensures.line c.clear_text_size.ensures.long (with_items_is c.self.inside.rows c.give_text.new.rows (c.give_text.ensures.long ∙ c.deref_mut.ensures.len) ∙ (rw c.deref_mut.ensures.value at c.give_text.ensures.rows)) (c.unload_text.ensures.texts ∙ ap (leave_texts c.self.inside.texts) c.loaded_text.ensures) (λ y. c.unload_text.ensures.core y ∙ ap (λ x. is_free c.self.inside.core_map y || leaving_units c.self.inside.texts x y) c.loaded_text.ensures) c.detach.ensures.table c.detach.ensures.swap).kept ∙ ap (with_left_text c.args.self.now.kept c.args.s c.args.sticky) (sym (text_named (stock_in c.self.inside) c.args.self.now.kept c.args.s c.text_in-t.result c.row_of-row.result (kept_is c.self.view_is) (rw c.deref.ensures.value at c.row_of-row.ensures) c.text_in-t.ensures))
+
+pub returns-clause-written : goal.returns-clause-written
+returns-clause-written c = λ held its.
+    let at : ℕ = place_at c.args.self.now.kept.core held.place in
+    let front : at ≡ at + 0 = omega arith in (
+      c.clear_text_size.ensures.new_core ∙ ap length (core_is c.self.view_is),
+      c.clear_text_size.ensures.line
+          ∙ textless_is (stock_in c.self.inside) c.args.self.now.kept c.args.s c.row_of-row.result held (kept_is c.self.view_is)
+          c.self.invariant.sound c.self.invariant.counted (rw c.deref.ensures.value at c.row_of-row.ensures) its
+          ∙ (λ i. over (line_is c.self.view_is i) (front i) (area_bytes (record (area_of c.args.self.now.kept c.args.s) { text_size = 0 }))),
+    )
