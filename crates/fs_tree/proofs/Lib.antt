@@ -7,3 +7,4 @@ pub mod NamingLemmas
 pub mod MountLemmas
 pub mod MarkLemmas
 pub mod OtherDisk
+pub mod AloneLemmas

@@ -5,6 +5,7 @@ ghost use Rattle.fs_codec.specs.Store.{Node};
 ghost use Rattle.v6_base.specs.Access.{then_do};
 ghost use Rattle.fs_nodes.specs.Keys.{OnItsDisk, node_numbered};
 ghost use Rattle.fs_tree.specs.Mounting.{AreMounts};
+ghost use Rattle.fs_tree.specs.Alone.{StartsOnRoot, alone, table_alone};
 ghost use Rattle.fs_tree.specs.Marks.{no_marks};
 ghost use Rattle.fs_tree.specs.Path.{way, to_remove};
 ghost use Rattle.fs_tree.specs.Permission.{access};
@@ -145,6 +146,8 @@ impl Tree {
         requires few { (i : ℕ) → slice_index self.old.nodes.references i ≤ 65530 }
         requires mounts { AreMounts self.old.mounts self.old.nodes.store }
         ensures answer { result ≡ (find_in (inodes_of self.old.nodes) self.old.mounts who dir name.entry).answer }
+        ensures alone { StartsOnRoot self.old.nodes.store self.old.mounts dir name.entry
+            → result ≡ (find_in (alone (inodes_of self.old.nodes)) (table_alone self.old.nodes.store) who dir name.entry).answer }
         ensures inodes { inodes_of self.new.nodes
             ≡ (find_in (inodes_of self.old.nodes) self.old.mounts who dir name.entry).inodes }
         ensures marks { self.new.marks ≡ self.old.marks }
@@ -178,6 +181,9 @@ impl Tree {
         requires mounts { AreMounts self.old.mounts self.old.nodes.store }
         ensures answer { result
             ≡ (make_in (inodes_of self.old.nodes) self.old.mounts self.old.marks who dir name.entry).answer }
+        ensures alone { StartsOnRoot self.old.nodes.store self.old.mounts dir name.entry
+            → result ≡ (make_in (alone (inodes_of self.old.nodes)) (table_alone self.old.nodes.store)
+            self.old.marks who dir name.entry).answer }
         ensures inodes { inodes_of self.new.nodes
             ≡ (make_in (inodes_of self.old.nodes) self.old.mounts self.old.marks who dir name.entry).inodes }
         ensures marks { self.new.marks ≡ self.old.marks }
@@ -211,6 +217,9 @@ impl Tree {
         requires mounts { AreMounts self.old.mounts self.old.nodes.store }
         ensures answer { result
             ≡ (remove_in (inodes_of self.old.nodes) self.old.mounts self.old.marks who dir name.entry).answer }
+        ensures alone { StartsOnRoot self.old.nodes.store self.old.mounts dir name.entry
+            → result ≡ (remove_in (alone (inodes_of self.old.nodes)) (table_alone self.old.nodes.store)
+            self.old.marks who dir name.entry).answer }
         ensures inodes { inodes_of self.new.nodes
             ≡ (remove_in (inodes_of self.old.nodes) self.old.mounts self.old.marks who dir name.entry).inodes }
         ensures other { MatchResult (then_do (way self.old.nodes.store self.old.mounts who dir name.entry)

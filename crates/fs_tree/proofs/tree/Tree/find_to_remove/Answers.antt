@@ -1,10 +1,11 @@
-use Rattle.std.proofs.Common.{◌≡◌, ℕ, IsSome, Result, Ok, sym, ap, ◌∙◌, subst}
+use Rattle.std.proofs.Common.{◌≡◌, ℕ, IsSome, Result, Ok, sym, ap, ◌∙◌, subst, rules}
 use Rattle.v6_base.specs.Access.{then_do}
 use Rattle.v6_base.specs.declared.errno.Errno.{Errno}
 use Rattle.fs_nodes.specs.Keys.{Stores, node_numbered}
 use Rattle.fs_tree.specs.declared.walk.Way.{Way}
-use Rattle.fs_tree.specs.Finding.{Inodes, inodes_of, referring_both, removing}
+use Rattle.fs_tree.specs.Finding.{Inodes, inodes_of, referring_both, removing, remove_in}
 use Rattle.fs_tree.specs.Path.{way, to_remove}
+use Rattle.fs_tree.proofs.AloneLemmas.{remove_alone}
 use Rattle.fs_tree.proofs.MountLemmas.{crosses_of}
 use Rattle.fs_tree.proofs.OtherDisk.{removing_apart}
 use Rattle.fs_tree.proofs.PathLemmas.{way_used, removed_used}
@@ -40,3 +41,18 @@ returns-clause-other g c =
     removing_apart (inodes_of fs) (inodes_of c.take_both.new.nodes) sought
     (c.take_both.ensures.inodes ∙ ap (λ (n : Inodes). (referring_both n c.in_ok-entry.entry).inodes) same
     ∙ sym (ap (λ (r : Result (ℕ × ℕ × ℕ) Errno). (removing (inodes_of fs) r).inodes) is))
+
+pub returns-in_err-way-clause-alone : goal.returns-in_err-way-clause-alone
+returns-in_err-way-clause-alone g c = λ on.
+    let is : c.from_residual.result ≡ (remove_in (inodes_of c.args.self.now.nodes) c.args.self.now.mounts c.args.self.now.marks c.args.who c.args.dir c.args.name).answer = search rules in
+    is ∙ remove_alone (inodes_of c.args.self.now.nodes) c.args.self.now.mounts c.requires.mounts c.args.who c.args.dir c.args.name on c.args.self.now.marks
+
+pub returns-in_err-entry-clause-alone : goal.returns-in_err-entry-clause-alone
+returns-in_err-entry-clause-alone g c = λ on.
+    let is : c.from_residual-in_err-entry.result ≡ (remove_in (inodes_of c.args.self.now.nodes) c.args.self.now.mounts c.args.self.now.marks c.args.who c.args.dir c.args.name).answer = search rules in
+    is ∙ remove_alone (inodes_of c.args.self.now.nodes) c.args.self.now.mounts c.requires.mounts c.args.who c.args.dir c.args.name on c.args.self.now.marks
+
+pub returns-clause-alone : goal.returns-clause-alone
+returns-clause-alone g c = λ on.
+    let is : c.take_both.result ≡ (remove_in (inodes_of c.args.self.now.nodes) c.args.self.now.mounts c.args.self.now.marks c.args.who c.args.dir c.args.name).answer = search rules in
+    is ∙ remove_alone (inodes_of c.args.self.now.nodes) c.args.self.now.mounts c.requires.mounts c.args.who c.args.dir c.args.name on c.args.self.now.marks
