@@ -8,5 +8,6 @@ pub mod MoveLemmas
 pub mod PassLemmas
 pub mod Ending
 pub mod Staying
+pub mod Still
 pub mod Fitting
 mod WorkedPasses

@@ -1,5 +1,5 @@
 //! One move of process 0: somebody comes in, somebody goes out, or it sleeps. `sched` in Lions' Commentary, `slp.c`.
-ghost use Rattle.std.specs.Prelude.{◌≡◌, ◌<◌, ◌∷◌, [], Ok, Some};
+ghost use Rattle.std.specs.Prelude.{◌≡◌, ◌<◌, ◌∷◌, [], Ok, None, Some};
 ghost use Rattle.v6_base.specs.Trace.{Took, Log};
 ghost use Rattle.pick_rules.specs.Table.{IsTable, row_at, with_row};
 ghost use Rattle.pick_rules.specs.Swapper.{Out, Waits, candidate, loaded_waiter, makes_room, swap_move};
@@ -22,6 +22,7 @@ fn sleep<T: Trace>(table: &mut Table, images: &Images, chan: Chan, trace: &mut T
     requires comes { swap_move (board_of table.old images.now.kept) ≡ Waits chan }
     ensures does { MakesMove table.old images.now.kept (T.taken trace.old) (Ok tt) table.new images.now.kept
         (T.taken trace.new) }
+    ensures asleep { table.new.running ≡ None }
     ensures frame { T.leads_to trace.old trace.new }
 {
     trace.entry(Entry::Sleep {
@@ -149,6 +150,8 @@ pub(crate) fn make_move<T: Trace>(
     requires { Matches table.old images.old.kept }
     ensures does { MakesMove table.old images.old.kept (T.taken trace.old) result table.new images.new.kept
         (T.taken trace.new) }
+    ensures still { candidate table.old ≡ None → images.new ≡ images.old }
+    ensures asleep { candidate table.old ≡ None → table.new.running ≡ None }
     ensures frame { T.leads_to trace.old trace.new }
 {
     match candidate(table) {

@@ -1,6 +1,7 @@
 //! A pass of process 0: `sched` in Lions' Commentary, `slp.c`.
 ghost use Rattle.std.specs.Prelude.{◌≡◌, Some, None, is_none, IfOk};
 ghost use Rattle.v6_base.specs.Trace.{entries_of};
+ghost use Rattle.pick_rules.specs.Swapper.{candidate};
 ghost use Rattle.swap_sched.specs.Lines.{FitEach};
 ghost use Rattle.swap_sched.specs.Match.{Matches, board_of};
 ghost use Rattle.swap_sched.specs.Moved.{HasMoved, SameImages, answered};
@@ -41,6 +42,7 @@ pub fn pass<T: Trace>(
     ensures fits { FitEach (board_of table.old images.old.kept)
         (entries_of (passes.pass (board_of table.old images.old.kept)).items) }
     ensures same { SameImages images.old.kept images.new.kept }
+    ensures still { candidate table.old ≡ None → images.new ≡ images.old }
     ensures sleeps { IfOk result (λ _. table.new.running ≡ None) }
     ensures frame { T.leads_to trace.old trace.new }
 {

@@ -4,12 +4,14 @@ use Rattle.swap_sched.proofs.PassLemmas.{begins, goes_on, panic_does, panic_answ
 use Rattle.swap_sched.proofs.Ending.{final_asleep}
 use Rattle.swap_sched.proofs.Staying.{final_same}
 use Rattle.swap_sched.proofs.Fitting.{pass_fits}
+use Rattle.swap_sched.proofs.Still.{still_first, still_next}
 use Rattle.swap_sched.proofs.sched.pass.Goals as goal
 
 pub loop-n-init : goal.loop-n-init
 loop-n-init g c = record {
   moves = begins c.args.table.now c.args.images.now.kept (g.T.Trace.taken c.args.trace.now) c.requires.matches c.requires.runs;
   frame = g.met.T.Trace.stays _;
+  still = still_first _ _;
 }
 
 pub make_move-requires : goal.make_move-requires
@@ -20,6 +22,7 @@ loop-n-preserved g c = record {
   moves = goes_on c.args.table.now c.loop-n.table c.make_move.new.table c.args.images.now.kept c.loop-n.images.kept c.make_move.new.images.kept _ _ _
       c.loop-n.n _ c.loop-n.invariant.moves (sym c.is_asleep.ensures ∙ c.if-is_asleep.false) c.make_move.ensures.does c.in_ok-make_move.was;
   frame = g.met.T.Trace.goes_on _ _ _ c.loop-n.invariant.frame c.make_move.ensures.frame;
+  still = still_next c.loop-n.invariant.still (sym c.is_asleep.ensures ∙ c.if-is_asleep.false) c.make_move.ensures.still c.make_move.ensures.asleep;
 }
 
 pub returns-then-is_asleep-clause-does : goal.returns-then-is_asleep-clause-does
@@ -98,3 +101,16 @@ returns-in_err-make_move-clause-fits g c = pass_fits c.args.table.now c.args.ima
 
 pub returns-clause-fits : goal.returns-clause-fits
 returns-clause-fits g c = pass_fits c.args.table.now c.args.images.now.kept c.requires.matches c.requires.runs
+
+pub returns-then-is_asleep-clause-still : goal.returns-then-is_asleep-clause-still
+returns-then-is_asleep-clause-still g c = λ none. (c.loop-n.invariant.still none).0
+
+pub returns-in_err-make_move-clause-still : goal.returns-in_err-make_move-clause-still
+returns-in_err-make_move-clause-still g c = λ none.
+    (still_next {v = c.make_move.new.table} c.loop-n.invariant.still (sym c.is_asleep.ensures ∙ c.if-is_asleep.false) c.make_move.ensures.still c.make_move.ensures.asleep none).0
+
+pub returns-clause-still : goal.returns-clause-still
+returns-clause-still g c = λ none. (c.loop-n.invariant.still none).0
+
+pub returns-in_err-make_move-clause-frame : goal.returns-in_err-make_move-clause-frame
+returns-in_err-make_move-clause-frame g c = g.met.T.Trace.goes_on _ _ _ c.loop-n.invariant.frame c.make_move.ensures.frame
