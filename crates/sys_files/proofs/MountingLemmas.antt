@@ -2,6 +2,7 @@
 use Rattle.std.proofs.Common.{◌≡◌, ◌≢◌, ◌<◌, ◌==◌, ◌&&◌, ◌||◌, ℕ, Bool, true, false, not, cond, eqb, List, [], ◌∷◌, Option, Some, None, IsSome, is_none, unwrap_or, Result, Ok, Err, MatchResult, slice_index, refl, sym, ap, ◌∙◌, subst, arith}
 use Rattle.std.proofs.lemmas.Bool.{eq-eqb, eqb-true, false≢true, and_parts}
 use Rattle.v6_base.specs.Access.{then_do}
+use Rattle.v6_base.specs.declared.answer.Answer.TheVariants.{Ret}
 use Rattle.v6_base.specs.declared.errno.Errno.{Errno}
 use Rattle.v6_base.specs.declared.errno.Errno.TheVariants.{ENXIO, ENOTBLK, EBUSY, EINVAL}
 use Rattle.fs_codec.specs.Modes.{file_type, is_directory}
@@ -312,3 +313,28 @@ module _ (old : Handed) (sound : IsSound old) where
       let r = k.references old.u.dir in
       let some = directory_referred old sound in
       can_find_at fs after name (sym same) form k.mounts (omega (arith, r, some))
+
+-- Where umount isn't refused nothing is covered.
+abbrev Uncovers : Did → Type 0
+Uncovers d = (a b : ℕ) → d.answer ≡ Ret a b → d.state.mounts.covered ≡ None
+
+uncovers_check : {A : Type 0} (h : Handed) (test : Result A Errno) (next : A → Did) → ((a : A) → Uncovers (next a))
+    → Uncovers (check h test next)
+uncovers_check h (Ok a) next goes = goes a
+uncovers_check h (Err e) next goes = λ a b is. absurd (cc is)
+
+uncovers_then : (h : Handed) (dir : Option ℕ) → Uncovers (uncovers h dir)
+uncovers_then h None = λ a b is. absurd (cc is)
+uncovers_then h (Some dir) = λ a b is. refl
+
+pub umount_uncovers : (h : Handed) (special : ℕ) → Uncovers (umount_off h special)
+umount_uncovers h special =
+    let found = find_in h.inodes h.mounts (user_of h.u) h.u.dir (name_at h.image special) in
+    let after : Handed = with_inodes h found.inodes in
+    uncovers_check after found.answer (unmounts_named after) (λ node.
+    let rest : Handed = let_go after node in
+    uncovers_check rest (disk_named after node) (unmounts rest) (λ device.
+    uncovers_check rest (must EINVAL (not ((device == 1) && is_none rest.mounts.covered)))
+    (λ mounted. check rest (must EBUSY (not (device == 0) && not (is_held rest))) (λ free. uncovers rest rest.mounts.covered)) (λ mounted.
+    uncovers_check rest (must EBUSY (not (device == 0) && not (is_held rest))) (λ free. uncovers rest rest.mounts.covered)
+    (λ free. uncovers_then rest rest.mounts.covered))))

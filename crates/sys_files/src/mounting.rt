@@ -1,5 +1,6 @@
 //! The second disk is mounted on a directory, and unmounted: `smount`, `sumount` and `getmdev` in Lions' Commentary, `sys3.c`.
-ghost use Rattle.std.specs.Prelude.{◌≡◌, ◌≢◌, ◌<◌, ◌≤◌, ◌+◌, ◌==◌, ◌&&◌, ◌||◌, ℕ, true, Some, is_none, slice_index};
+ghost use Rattle.std.specs.Prelude.{◌≡◌, ◌≢◌, ◌<◌, ◌≤◌, ◌+◌, ◌==◌, ◌&&◌, ◌||◌, ℕ, true, is_none, slice_index};
+ghost use Rattle.std.specs.Prelude.{Some, None};
 ghost use Rattle.v6_base.specs.Image.{Image};
 ghost use Rattle.proc_tab.specs.declared.row.Row.{Row};
 ghost use Rattle.fs_codec.specs.Store.{Node};
@@ -286,7 +287,8 @@ fn unmount<S: Space>(
     unmount_disk(f, device, now)
 }
 
-/// 22, umount(II): unmounts the disk of a special file, `args[0]`. R0 stays.
+/// 22, umount(II): unmounts the disk of a special file, `args[0]`: where the call isn't refused nothing is covered from then
+/// on. R0 stays.
 ///
 /// # Errors
 ///
@@ -306,6 +308,7 @@ pub fn umount_off<S: Space, T: Trace>(
     ensures does { Does (handed f.old u.old row.old (S.image space.old))
         (handed f.new u.new row.new (S.image space.new)) result (T.taken trace.old) (T.taken trace.new)
         (umount_off (handed f.old u.old row.old (S.image space.old)) (slice_index args 0)) }
+    ensures uncovered { (r0 r1 : ℕ) → result ≡ Answer.Ret r0 r1 → f.new.tree.mounts.covered ≡ None }
     ensures frame { T.leads_to trace.old trace.new }
     ensures memory { S.rest space.new ≡ S.rest space.old }
     ensures blocks { SameRest f.old.tree.nodes f.new.tree.nodes }
