@@ -9,10 +9,10 @@ from fuzz_cases import HI, TOP, read
 from fuzz_judge import MOST_SLOTS, OUTPUTS, TooSlow, check_answer, number, reference_run
 
 sys.path.append(os.path.join(TOP, "tools"))
-import disassembler
-from pdp11 import ARGUMENTS
+from v6.pdp11 import disassembler
+from v6.pdp11.names import ARGUMENTS
 from row import plain
-from rowfile import HEADER, INODE_7, RowError, Row, place
+from v6.rows.file import HEADER, INODE_7, RowError, Row, place
 
 PAGES = {"disk": "disk-image.md", "odd": "disk-image.md", "words": "calls.md", "hostile": "calls.md", "script": "scripts.md",
          "host": "ports.md", "command": "commands.md", "lines": "terminal.md", "slow": "scripts.md", "two": "calls.md"}

@@ -23,12 +23,12 @@ from comparing import asked
 from processes import kind_of
 from traces import ReferenceRun
 
-from history import History
-from lookcommands import Looker
-from lookviews import Views
-from moments import Run, Script
-from program import call
-from symbols import Programs
+from v6.debug.commands import Looker
+from v6.debug.symbols import Programs
+from v6.debug.views import Views
+from v6.host.program import call
+from v6.run.history import History
+from v6.run.moments import Run, Script
 
 LETTERS = {"srun": ("r", "o"), "swait": ("w", "W"), "ssleep": ("s", "S"), "szomb": ("z", "z")}
 WORDS = 64

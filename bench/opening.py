@@ -15,8 +15,8 @@ import sys
 import tempfile
 
 TOOLS = os.path.join(os.path.dirname(os.path.dirname(os.path.abspath(__file__))), "tools")
-sys.path[:0] = [TOOLS, os.path.join(TOOLS, "tests")]
-import browser
+sys.path.insert(0, TOOLS)
+from tests.page import browser
 
 browser.LONGEST = 600  # seconds, where other work goes on
 EMPTY = "<!DOCTYPE html><title>empty</title><main></main><script>const page = {}</script>"

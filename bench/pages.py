@@ -26,10 +26,10 @@ from processes import kind_of
 
 BENCH = os.path.dirname(os.path.abspath(__file__))
 TOOLS = os.path.join(os.path.dirname(BENCH), "tools")
-sys.path[:0] = [TOOLS, os.path.join(TOOLS, "tests")]
-from lookviews import HEAD, ROW
-from moments import Script
-from pagereader import Read, process_of, shown, table_of
+sys.path.insert(0, TOOLS)
+from tests.page.pagereader import Read, process_of, shown, table_of
+from v6.debug.views import HEAD, ROW
+from v6.run.moments import Script
 
 SLOTS = 60
 CALLS = None, "read", "write", "read", "write", "sleep", "wait", "a wait for the disk"  # that have begun, by the number of what is pending

@@ -5,9 +5,9 @@
 
 COMMAND is a built v6 with the command `memory`. The rows are those of crates/run_rows/data that run a disk, or those of these
 names or patterns, as tools/row.py takes them; of a longer run the first SLOTS slots are gone through (1,000,000). The
-instructions between two turns in the kernel are done by tools/stepper.py. Compared are the registers, the codes and all of the
+instructions between two turns in the kernel are done by tools/v6/debug/stepper.py. Compared are the registers, the codes and all of the
 memory of each process where a call begins after which more has changed than its answer, and what another call leaves alone; and
-each answer that tools/answers.py knows is compared with the program's.
+each answer that tools/v6/debug/answers.py knows is compared with the program's.
 """
 import os
 import sys
@@ -17,14 +17,14 @@ from concurrent.futures import ProcessPoolExecutor
 
 TOP = os.path.dirname(os.path.dirname(os.path.abspath(__file__)))
 sys.path.insert(0, os.path.join(TOP, "tools"))
-from history import History
-from moments import MomentError, Run
-from program import ProgramError
+from v6.host.program import ProgramError
+from v6.run.history import History
+from v6.run.moments import MomentError, Run
 from row import Runner, chosen
-from rowfile import DATA, Row, RowError
-from scriptfile import ScriptError
-import walk as walk_module
-from walk import Walk
+from v6.debug import walk as walk_module
+from v6.debug.walk import Walk
+from v6.rows.file import DATA, Row, RowError
+from v6.run.script import ScriptError
 
 SLOTS = 1_000_000
 

@@ -13,7 +13,6 @@ The reference is the Python module `abstract_unix`; the environment variable ABS
 v6 without the command `memory`, the memory of each moment is the reference's too: then the moments, the names of processes and
 the reading of memory are judged, and not the memory itself.
 """
-import importlib.util
 import os
 import re
 import sys
@@ -25,20 +24,13 @@ from processes import kind_of
 
 TOOLS = os.path.join(os.path.dirname(os.path.dirname(os.path.abspath(__file__))), "tools")
 sys.path.insert(0, TOOLS)
-from callwords import ANSWERS, ERRORS, NAMES, NUMBER, PENDING, SYS
-from moments import Memory, Run, Script
-from program import call
+from v6.debug.calls import ANSWERS, ERRORS, NAMES, NUMBER, PENDING, SYS
+from v6.debug.tracer import Tracer
+from v6.host.program import call
+from v6.run.moments import Memory, Run, Script
 
 TOLD = re.compile(r" *(\d+) \[(\d+)[^]]*\] (.*)", re.S)
 ENDS = ("trap", "sleep", "exit")
-
-
-def tracer():
-    """The module of tools/trace.py, whose name is that of another module too."""
-    spec = importlib.util.spec_from_file_location("tool_trace", os.path.join(TOOLS, "trace.py"))
-    module = importlib.util.module_from_spec(spec)
-    spec.loader.exec_module(module)
-    return module
 
 
 def name_of(process):
@@ -123,7 +115,7 @@ def fits(turn, said):
 
 
 def compare(command, count, first, slots, kind):
-    trace, differ, turns = tracer(), 0, 0
+    differ, turns = 0, 0
     has_memory = call(command, "memory", os.devnull, "63", os.devnull, os.devnull)[0] != 1
     options = types.SimpleNamespace(first=1, last=sys.maxsize, process=None)
     for seed in range(first, first + count):
@@ -133,7 +125,7 @@ def compare(command, count, first, slots, kind):
         with tempfile.TemporaryDirectory() as folder:
             case.write(folder)
             run = (Run if has_memory else ReferenceRun)(command, folder + "/image", case.core, script, folder)
-            told = [said for _, said in trace.Tracer(run, options).follow()]
+            told = [said for _, said in Tracer(run, options).follow()]
         want = turns_of(case.image, case.core, script) if not run.status else None
         if want is None:  # up to a panic
             want = turns_of(case.image, case.core, Script(script).cut(int(TOLD.match(told[-1])[1]), True))[: len(told)]

@@ -10,10 +10,10 @@ import os
 import sys
 
 sys.path.insert(0, os.path.dirname(os.path.abspath(__file__)))
-import disassembler
-from assembler import Assembler
-from files import guarded, put_out, read_bytes, same_file
-from program import add_version
+from v6.host.files import guarded, put_out, read_bytes, same_file
+from v6.host.program import add_version
+from v6.pdp11 import disassembler
+from v6.pdp11.assembler import Assembler
 
 KINDS = {1: "absolute", 2: "text", 3: "data", 4: "bss"}
 

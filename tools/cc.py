@@ -10,9 +10,9 @@ import os
 import sys
 
 sys.path.insert(0, os.path.dirname(os.path.abspath(__file__)))
-from compiler import HOME, CompileError, Compiler, Program, gcc, pcc, program_of
-from files import guarded, put_out, same_file
-from program import add_version
+from v6.host.files import guarded, put_out, same_file
+from v6.host.program import add_version
+from v6.pdp11.compiler import HOME, CompileError, Compiler, Program, gcc, pcc, program_of
 
 
 def compile_all(options):

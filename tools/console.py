@@ -16,15 +16,15 @@ import tempfile
 from dataclasses import dataclass
 
 sys.path.insert(0, os.path.dirname(os.path.abspath(__file__)))
-from columns import frame
-from dialogue import (END_OF_FILE, INTERRUPT, LINES, MANY, OVER, QUIT, RETURN, RUNS, SLEEPS, WAITS, Dialogue, DialogueError,
+from v6.disk.silent import why_silent
+from v6.host.files import place_of, read_bytes, replace, same_file, told, uninterrupted
+from v6.host.program import CORE, TOP, V6, ProgramError, add_version
+from v6.run.columns import frame
+from v6.run.dialogue import (END_OF_FILE, INTERRUPT, LINES, MANY, OVER, QUIT, RETURN, RUNS, SLEEPS, WAITS, Dialogue, DialogueError,
                       Machine, Refused, keys, line_of, shown)
-from files import place_of, read_bytes, replace, same_file, told, uninterrupted
-from processes import Processes, programs_of_all
-from program import CORE, TOP, V6, ProgramError, add_version
-from screen import without_echo
-from scriptfile import HEADER, head_of
-from silent import why_silent
+from v6.run.ends import Processes, programs_of_all
+from v6.run.screen import without_echo
+from v6.run.script import HEADER, head_of
 
 HELP = """~.      ends, and so does the end of a file that is read in the place of the keyboard
 ~^X     types a control character: ~^D is 004, ~^? is 0177
@@ -356,9 +356,9 @@ def lines(count):
 
 def commands_of(data, core, log):
     """The words with which each process was executed, by its number, from the bytes of memory."""
-    from lookviews import arguments_of, text_of  # which has more to import than a console needs
-    from moments import Memory
-    from proctable import Table
+    from v6.debug.views import arguments_of, text_of  # which has more to import than a console needs
+    from v6.run.moments import Memory
+    from v6.log.processes import Table
 
     if data is None:
         return {}

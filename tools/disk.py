@@ -13,14 +13,14 @@ import sys
 import tempfile
 
 sys.path.insert(0, os.path.dirname(os.path.abspath(__file__)))
-from archives import FORMS, Member
-from faultplace import FaultPlace
-from files import STREAMS, guarded, place_of, put_out, read_bytes, replace, same_file, uninterrupted
-from program import V6, ProgramError, add_version, call
-from repair import Repair, grow
-from survey import Survey, behind_end, damaged, walk
-from tree import KINDS, MOST_TIME, PERMISSIONS, Item, above, apply_table, number, own, place_all, plain_name, row, scan
-from volume import BLOCK, BLOCKS, DIRECTORY, PACK, PLAIN, ROOT, SWAP, DiskError, Volume, check_name, components, plural, shown
+from v6.disk.archives import FORMS, Member
+from v6.disk.faultplace import FaultPlace
+from v6.disk.repair import Repair, grow
+from v6.disk.survey import Survey, behind_end, damaged, walk
+from v6.disk.tree import KINDS, MOST_TIME, PERMISSIONS, Item, above, apply_table, number, own, place_all, plain_name, row, scan
+from v6.disk.volume import BLOCK, BLOCKS, DIRECTORY, PACK, PLAIN, ROOT, SWAP, DiskError, Volume, check_name, components, plural, shown
+from v6.host.files import STREAMS, guarded, place_of, put_out, read_bytes, replace, same_file, uninterrupted
+from v6.host.program import V6, ProgramError, add_version, call
 
 NO_SWAP = re.compile("file system of [0-9]+ blocks leaves no swap")
 MOST = PACK * BLOCK + 1  # what is read of a disk: one that is longer is too long

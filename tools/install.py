@@ -16,13 +16,14 @@ import shutil
 import sys
 
 sys.path.insert(0, os.path.dirname(os.path.abspath(__file__)))
-from files import guarded, read_bytes, replace
-from manpages import PAGES, TOOLS, TOP, installed, installed_page, page
+from v6.host.files import guarded, read_bytes, replace
+from v6.host.program import TOP
+from v6.page.manual import PAGES, TOOLS, installed, installed_page, page
 
 LIB = "lib/v6"
 KNOWN = LIB + "/installed"  # the file that tells what was put
-AT_HOME = ("install.py", "lessonhtml.py", "lessonpages.py", "manpages.py", "row.py", "rowfile.py", "rownew.py")  # tools for the repository alone
-KINDS = (".py", ".js", ".css", ".html")
+AT_HOME = ("tools/completion.bash", "tools/install.py", "tools/lessonpages.py", "tools/manpages.py", "tools/row.py", "tools/v6/rows/", "tools/dev/",
+           "tools/tests/")  # what is for the repository alone, or put elsewhere
 DOCS = ("docs/lions", "docs/manual", "docs/tools")
 COMPLETION = "share/bash-completion/completions"
 UNFIT = re.compile(r"[\s\"'\\`$]")  # what a prefix can't have, since commands and pages name it
@@ -43,8 +44,7 @@ def sources():
     """The files of the repository that are installed."""
     yield "bin/v6"
     for name in below("tools"):
-        folder, base = os.path.split(name)
-        if folder == "tools" and base.endswith(KINDS) and base not in AT_HOME or folder.startswith("tools/c"):
+        if not name.startswith(AT_HOME):
             yield name
     for folder in ("examples", *DOCS):
         yield from below(folder)
@@ -124,8 +124,10 @@ def put(place, part):
         os.chmod(place, part[1])
 
 
-def compiled(root):
-    return os.path.join(root, LIB, "tools", "__pycache__")
+def forget(root):
+    """Takes away what Python has compiled."""
+    for place in [place for place, _, _ in os.walk(os.path.join(root, LIB, "tools")) if os.path.basename(place) == "__pycache__"]:
+        shutil.rmtree(place, ignore_errors=True)
 
 
 def install(root, prefix):
@@ -142,8 +144,8 @@ def install(root, prefix):
         put(place, part)
     for name in sorted(set(old) - set(new)):
         take(os.path.join(root, name), old[name])
-    shutil.rmtree(compiled(root), ignore_errors=True)
-    compileall.compile_dir(os.path.join(root, LIB, "tools"), maxlevels=0, quiet=2, stripdir=root, prependdir=prefix)
+    forget(root)
+    compileall.compile_dir(os.path.join(root, LIB, "tools"), maxlevels=2, quiet=2, stripdir=root, prependdir=prefix)
     sums = {name: sum_of(part) for name, part in sorted(new.items())}
     folders += [os.path.relpath(folder, root) for folder in made]
     replace(os.path.join(root, KNOWN), (json.dumps({"sums": sums, "folders": folders}, indent=0) + "\n").encode())
@@ -169,7 +171,7 @@ def uninstall(root, prefix):
             raise PermissionError(13, os.strerror(13), os.path.dirname(os.path.join(root, name)))
     for name in sorted(sums):
         take(os.path.join(root, name), sums[name])
-    shutil.rmtree(compiled(root), ignore_errors=True)
+    forget(root)
     os.unlink(os.path.join(root, KNOWN))
     for folder in sorted((os.path.normpath(os.path.join(root, name)) for name in folders), reverse=True):
         if os.path.isdir(folder) and not os.listdir(folder):

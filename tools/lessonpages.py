@@ -11,14 +11,13 @@ import sys
 import tempfile
 
 sys.path.insert(0, os.path.dirname(os.path.abspath(__file__)))
-import lessonhtml
-import page
-from files import guarded, put_out, read_bytes
-from program import CORE, TOP, V6, ProgramError, add_version
+from v6.host.files import guarded, put_out, read_bytes
+from v6.host.program import CORE, TOP, V6, ProgramError, add_version
+from v6.page import command as page
+from v6.page import lesson as lessonhtml
 
 LIONS = os.path.join(TOP, "docs", "lions")
 TITLE = "Runs for Lions' book"
-BLOCK = re.compile(r"^```\n(\$ .*?)^```$", re.M | re.S)
 RUN = re.compile(r"bin/v6 run (?P<image>\S+) (?P<core>\d+) (?P<script>\w\S*) ")
 PLAYED = re.compile(r"tools/run\.py (?P<image>\S+) (?P<script>\S+) --core (?P<core>\d+)")
 TYPED = re.compile(r"tools/console\.py (?P<image>\S+) ")
@@ -33,18 +32,6 @@ class LessonError(Exception):
 
 def lessons():
     return sorted(name[:-3] for name in os.listdir(LIONS) if name.endswith(".md") and name[:-3] not in OTHERS)
-
-
-def commands(text):
-    """The commands of a page, each with what the page shows that it prints."""
-    found = []
-    for block in BLOCK.findall(text):
-        for line in block.splitlines(True):
-            if line.startswith("$ "):
-                found.append([line[2:-1], ""])
-            else:
-                found[-1][1] += line
-    return found
 
 
 def runs_of(command, number):
@@ -89,7 +76,7 @@ def pages_of(lesson, options):
     text, made, count = text_of(lesson), {}, 0
     with tempfile.TemporaryDirectory() as name:
         folder = Folder(name, options.v6)
-        for number, (command, _) in enumerate(commands(text)):
+        for number, (command, _) in enumerate(lessonhtml.commands(text)):
             command, runs = runs_of(command, number)
             folder.play(command)
             for run in runs:

@@ -14,69 +14,23 @@ import sys
 import textwrap
 
 sys.path.insert(0, os.path.dirname(os.path.abspath(__file__)))
-from files import guarded, put_out, read_bytes
-from lions import OF_WORDS, told
-from logpicture import Picture
-from logwords import Teller
-from processes import programs_of
-from proctable import MOST_BYTES, SLOTS, LogFault, Table
-from program import V6, ProgramError, add_version, call
-from scriptfile import ScriptError, read_script, slots_of, ticks_of
-from volume import DiskError
+from v6.disk.volume import DiskError
+from v6.host.files import guarded, put_out, read_bytes
+from v6.host.program import V6, ProgramError, add_version, call
+from v6.log.lions import OF_WORDS, told
+from v6.log.picture import Picture
+from v6.log.processes import MOST_BYTES, LogFault
+from v6.log.story import CUT, Story
+from v6.run.ends import programs_of
+from v6.run.script import ScriptError, read_script, slots_of, ticks_of
 
 WIDEST = len("newproc (1826)")  # of the procedures that `show --book` names
 COMMON, MORE = 3, 5  # lines that are shown before the place where two logs part, or a line at fault, and behind it
 FAULT = re.compile("log: line ([0-9]+) is (not lawful|no log line)")
 WIDTH = 100
-OTHER = "the script isn't that of this run: it has {} ticks, and the log {}"
 HELP = {"show": "tells a log in words", "draw": "makes a picture of it", "diff": "tells where two logs part",
         "ask": "hides each choice, and tells by the rules who was right",
         "audit": "asks the program whether it is lawful, and shows the first line that isn't"}
-CUT = "the log ends within a run: its last line is neither `end` nor `panic`"
-
-
-def lines_of(data):
-    """The lines of a log; one without its end counts too."""
-    *lines, last = data.decode("ascii", "replace").split("\n")
-    return lines + [last] if last else lines
-
-
-class Story:
-    """A log, told line by line. `moments` has how many slots have passed at each tick."""
-
-    def __init__(self, data, programs=None, moments=(), table=None):
-        self.lines, self.table, self.moments = lines_of(data), table or Table(), iter(moments)
-        self.teller = Teller(self.table, programs)
-        self.ticks, self.timed = 0, 0  # of the lines so far, and those of them that the script has too
-
-    def width(self):
-        """How many slots are shown: those up to the highest that a fork names."""
-        forks = [line.split(" ") for line in self.lines if line.startswith("fork ")]
-        named = [int(words[2]) for words in forks if len(words) > 2 and words[2].isdecimal()]
-        return min(max(named, default=1) + 1, SLOTS)
-
-    def take(self, line):
-        """What a line tells, and how many slots have passed, where that is known."""
-        entry = self.table.read(line)
-        words = self.teller.told(entry)
-        self.table.apply(entry)
-        return words, self.moment() if entry["word"] == "tick" else None
-
-    def moment(self):
-        """How many slots have passed at one more tick, where the script has it."""
-        passed = next(self.moments, None)
-        self.ticks, self.timed = self.ticks + 1, self.timed + (passed is not None)
-        return passed
-
-    def other_script(self):
-        """Why the script can't be that of this run, when all lines are told, or None. A run that was cut or has stopped may
-        have had fewer ticks than its script."""
-        more = sum(1 for _ in self.moments) if self.lines and self.lines[-1] == "end" else 0
-        fits = self.timed == self.ticks and not more
-        return None if fits else OTHER.format(self.timed + more, self.ticks)
-
-    def letters(self, width):
-        return "".join(self.table.letter(slot) for slot in range(width))
 
 
 def story_of(options, name, table=None):
@@ -188,8 +142,8 @@ def counts(one, other):
 
 
 def ask(options):
-    from choices import Ruled
-    from quiz import Quiz
+    from v6.log.choices import Ruled
+    from v6.log.quiz import Quiz
 
     sys.stdin.reconfigure(errors="backslashreplace")
     story = story_of(options, options.log, Ruled())
@@ -226,8 +180,8 @@ def shown_line(line, is_bad):
 def fault_told(options, data, number, is_bad):
     """The lines before the one at fault, that line, the rule, and the line that would be lawful, where the rules give one, or
     which part of the rule it breaks."""
-    from choices import Ruled
-    from logrules import bad, unlawful
+    from v6.log.choices import Ruled
+    from v6.log.rules import bad, unlawful
 
     programs = programs_of(read_bytes(options.disk)) if options.disk else None
     story = Story(data, programs, (), Ruled())

@@ -10,17 +10,17 @@ import os
 import sys
 
 sys.path.insert(0, os.path.dirname(os.path.abspath(__file__)))
-from files import folder_of_runs, guarded, read_bytes
-from history import History
-from lookcommands import Looker, LookError
-from lookviews import Views
-from moments import NO_MEMORY, MomentError, Run
-from processes import programs_of_all
-from program import CORE, V6, ProgramError, add_version
-from proctable import LogFault
-from scriptfile import ScriptError, add_replay, check_head, read_script
-from symbols import Programs
-from volume import DiskError
+from v6.debug.commands import Looker, LookError
+from v6.debug.symbols import Programs
+from v6.debug.views import Views
+from v6.disk.volume import DiskError
+from v6.host.files import folder_of_runs, guarded, read_bytes
+from v6.host.program import CORE, V6, ProgramError, add_version
+from v6.log.processes import LogFault
+from v6.run.ends import programs_of_all
+from v6.run.history import History
+from v6.run.moments import NO_MEMORY, MomentError, Run
+from v6.run.script import ScriptError, add_replay, check_head, read_script
 
 KNOWN = (LookError, MomentError, ProgramError, LogFault)
 LAST = ("end", "panic")

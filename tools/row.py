@@ -13,13 +13,13 @@ import sys
 import tempfile
 
 sys.path.insert(0, os.path.dirname(os.path.abspath(__file__)))
-import disassembler
-import program
-from files import guarded, read_bytes
-from pdp11 import ARGUMENTS
-from program import V6, ProgramError, add_version
-from rowfile import DATA, DISK_BYTES, HI, SWAP_AT, TEXT, Row, RowError, names
-from rownew import UNSAID, new_row
+from v6.host import program
+from v6.host.files import guarded, read_bytes
+from v6.host.program import V6, ProgramError, add_version
+from v6.pdp11 import disassembler
+from v6.pdp11.names import ARGUMENTS
+from v6.rows.file import DATA, DISK_BYTES, HI, SWAP_AT, TEXT, Row, RowError, names
+from v6.rows.new import UNSAID, new_row
 
 FILES = ("term", *(f"term.{line}" for line in range(1, 8)), "log", "final", "final2")
 ENDED = 0, 7  # of runs whose log comes to its end: done, and a panic

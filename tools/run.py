@@ -12,10 +12,10 @@ import sys
 import tempfile
 
 sys.path.insert(0, os.path.dirname(os.path.abspath(__file__)))
-from files import STREAMS, guarded, place_of, put_out, read_bytes, same_file
-from program import CORE, V6, ProgramError, add_version, call, named
-from scriptfile import ScriptError, add_replay, check_head, head_of, with_line
-from silent import why_silent
+from v6.disk.silent import why_silent
+from v6.host.files import STREAMS, guarded, place_of, put_out, read_bytes, same_file
+from v6.host.program import CORE, V6, ProgramError, add_version, call, named
+from v6.run.script import ScriptError, add_replay, check_head, head_of, with_line
 
 OUTPUTS = ("term", "log", "disk")
 SECOND = "second disk"  # what `v6 run2` writes beside these

@@ -12,13 +12,13 @@ import sys
 import tempfile
 
 sys.path.insert(0, os.path.dirname(os.path.abspath(__file__)))
-import compiler
-from assembler import Assembler
-from dialogue import MOST_SLOTS, Dialogue, DialogueError, Machine, Refused, total
-from files import guarded, place_of, read_bytes, replace
-from processes import BUSY, RUNS, WAITS
-from program import CORE, V6, ProgramError, add_version, call
-from volume import CHARACTER, ROOT, DiskError, Volume, check_name, plural
+from v6.disk.volume import CHARACTER, ROOT, DiskError, Volume, check_name, plural
+from v6.host.files import guarded, place_of, read_bytes, replace
+from v6.host.program import CORE, V6, ProgramError, add_version, call
+from v6.pdp11 import compiler
+from v6.pdp11.assembler import Assembler
+from v6.run.dialogue import MOST_SLOTS, Dialogue, DialogueError, Machine, Refused, total
+from v6.run.ends import BUSY, RUNS, WAITS
 
 HERE, WRITTEN = b"here", b"written"  # the directory of the root that is the folder, and the file of /etc that is the output
 FAILED, OUT_OF_SLOTS, STOPPED = 125, 124, 126  # the status where it isn't the program's own
@@ -128,7 +128,7 @@ def disk_of(options, program, name):
     for file in options.files:
         put(volume, ROOT, os.fsencode(os.path.basename(file)), read_bytes(file), 0o644)
     if has_folder(options):
-        import tryback
+        from v6.disk import tryback
 
         tryback.put_folder(volume, options.folder, HERE)
     if not options.disk:
@@ -279,7 +279,7 @@ def come_home(run, lines, options):
         replace(options.final, image)
     try:
         if options.back is not None:
-            import tryback
+            from v6.disk import tryback
 
             for line in tryback.bring(image, volume, HERE, options):
                 tell(line)

@@ -18,8 +18,8 @@ DISK_BYTES = 2494464  # of a disk that a run leaves
 HANDLED = signal.SIGINT, signal.SIGQUIT, signal.SIGTERM, signal.SIGHUP  # signals for which tools have a handler
 sys.path.insert(0, TOOLS)
 os.environ.update(PATH=f"{TESTS}/bin:{os.environ['PATH']}", V6_PYTHON=sys.executable)  # of the tools that are called
-from files import IN_MEMORY, ROOM
-from program import V6, parted, run
+from v6.host.files import IN_MEMORY, ROOM
+from v6.host.program import V6, parted, run
 
 
 def in_memory():

@@ -7,9 +7,9 @@ import shlex
 import subprocess
 import unittest.mock
 
-from common import TOP, V6, Case, read, status_of, tool, v6
+from tests.common import TOP, V6, Case, read, status_of, tool, v6
 
-from lessonpages import commands
+from v6.page.lesson import commands
 
 WORD = r"(?:'[^']*'|[^|;&<>$`*?~#()\\'\n])"  # a word as it stands, or of a text in which the shell knows nothing
 # A tool alone, or one that is typed at by printf or from a file; its output may go to a file or through filters, or other commands follow.

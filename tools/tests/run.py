@@ -1,7 +1,7 @@
 #!/usr/bin/env python3
-"""Runs all tests of the tools, those of one class in one process, or of several that share something; as many processes are at work
-as there are processors, or as --jobs says. With --times it tells how long a processor worked for each class, the dearest first, and for
-all. A class that takes longer than half an hour ends all, and where it stands is told. The program v6 is bin/v6, or the command in the
+"""Runs all tests of the tools, or those of files and folders below tools/tests that are named, as disk or run/test_try.py; those of one
+class in one process, or of several that share something. As many processes are at work as there are processors, or as --jobs says. With
+--times it tells how long a processor worked for each class, the dearest first, and for all. A class that takes longer than half an hour ends all, and where it stands is told. The program v6 is bin/v6, or the command in the
 environment's V6."""
 import argparse
 import contextlib
@@ -22,7 +22,8 @@ MOMENT, PATIENCE = 1, 20  # seconds between two looks at the processes of tests;
 PR_SET_CHILD_SUBREAPER = 36  # of prctl(2)
 ENDING = signal.SIGINT, signal.SIGQUIT, signal.SIGTERM, signal.SIGHUP, signal.SIGALRM, signal.SIGPIPE
 HERE = os.path.dirname(os.path.abspath(__file__))
-sys.path.insert(0, HERE)
+TOOLS = os.path.dirname(HERE)  # where the packages of the tests and of the tools are
+sys.path.insert(0, TOOLS)
 
 
 def classes(suite):
@@ -66,6 +67,7 @@ def run(name):
 
 def options_of(words):
     parser = argparse.ArgumentParser(prog="run.py", description=__doc__)
+    parser.add_argument("places", nargs="*", metavar="PLACE", help="a folder or a file of tests; all without one")
     parser.add_argument("--jobs", type=int, metavar="N", help="how many processes are at work at a time")
     parser.add_argument("--times", action="store_true", help="tell how long a processor worked for each class")
     return parser.parse_args(words)
@@ -128,10 +130,19 @@ def results_of(groups, jobs):
         clear()
 
 
+def wanted(places):
+    """The names of modules in which tests are wanted, and of folders of them."""
+    for place in places:
+        if not os.path.exists(os.path.join(HERE, place)):
+            sys.exit(f"run.py: {place}: no such folder or file below {HERE}")
+        yield os.path.relpath(os.path.join(HERE, place), TOOLS).removesuffix(".py").replace(os.sep, ".") + "."
+
+
 def main(options):
-    began, groups = time.monotonic(), {}
-    for shared, name in sorted(set(classes(unittest.defaultTestLoader.discover(HERE)))):
-        groups.setdefault(shared, []).append(name)
+    began, groups, places = time.monotonic(), {}, tuple(wanted(options.places))
+    for shared, name in sorted(set(classes(unittest.defaultTestLoader.discover(HERE, top_level_dir=TOOLS)))):
+        if name.startswith(places or ""):
+            groups.setdefault(shared, []).append(name)
     groups = sorted(groups.values(), key=len, reverse=True)  # what takes longest begins first
     names = [name for group in groups for name in group]
     if unittest.defaultTestLoader.errors:  # a file of tests that can't be read

@@ -1,0 +1,208 @@
+"""The second disk of run.py and console.py: where it goes, what is refused, and that no disk is lost. The disks are those of examples/pack."""
+import hashlib
+import os
+import shutil
+import subprocess
+import sys
+
+from tests.common import DISK_BYTES, TOOLS, TOP, V6, Case, read, tool, v6, write
+
+EXAMPLE = os.path.join(TOP, "examples", "pack")
+IMAGE, PACK = (os.path.join(EXAMPLE, name) for name in ("image", "pack"))
+MOUNT = "stty -lcase\n/etc/mount /dev/rk1 /usr\n"
+console_main, disk_main, run_main = tool("console").main, tool("disk").main, tool("run").main
+
+
+def digest(name):
+    return hashlib.sha256(read(name)).hexdigest()
+
+
+class Second(Case):
+    def setUp(self):
+        super().setUp()
+        self.image, self.pack = self.put("image", read(IMAGE)), self.put("pack", read(PACK))
+
+    def head(self, core=3968):
+        return f"; console: image sha256 {digest(self.image)} core {core} second sha256 {digest(self.pack)}\n"
+
+    def cat(self, disk, path):
+        return self.call(disk_main, "cat", disk, path)[:2]
+
+
+class Run(Second):
+    SCRIPT = "run 10000\ntype /etc/mount /dev/rk1 /usr\nrun 10000\ntype echo a >/usr/a; echo b >/b; cat /usr/a\nrun 20000\n"
+
+    def run_it(self, *words):
+        return self.call(run_main, "--v6", V6, *words)
+
+    def script(self):
+        return self.put("script", self.SCRIPT.encode())
+
+    def test_outputs(self):
+        """Each disk goes where it is asked for, also in the place of its image; a disk that isn't asked for stays."""
+        script, shown = self.script(), "# /ETC/MOUNT /DEV/RK1 /USR\r\n# ECHO A >/USR/A; ECHO B >/B; CAT /USR/A\r\nA\r\n# "
+        self.assertEqual(self.run_it(self.image, script, "--second", self.pack), (0, shown, ""))
+        self.assertEqual((read(self.image), read(self.pack)), (read(IMAGE), read(PACK)))
+        log, after = self.path("log"), self.path("after")
+        words = ("--second", self.pack, "--log", log, "--second-disk", after, "--disk", self.image)
+        self.assertEqual(self.run_it(self.image, script, *words), (0, shown, ""))
+        self.assertEqual((v6("audit", log)[0], read(self.pack)), (0, read(PACK)))
+        self.assertEqual((self.cat(self.image, "/b"), self.cat(after, "/a")), ((0, "b\n"), (0, "a\n")))
+        self.assertEqual([self.cat(*words)[0] for words in ((self.image, "/usr/a"), (after, "/b"))], [1, 1])
+        self.assertEqual(self.run_it(IMAGE, script, "--second", self.pack, "--second-disk", self.pack), (0, shown, ""))
+        self.assertEqual((len(read(self.pack)), self.cat(self.pack, "/a")), (DISK_BYTES, (0, "a\n")))
+
+    def test_what_is_refused(self):
+        script, before = self.script(), (read(IMAGE), read(PACK))
+        out, link = self.path("out"), self.path("link")
+        os.symlink(self.pack, link)
+        for words, said in ((("--second-disk", out), "--second-disk: there is none without --second"),
+                            (("--second", self.pack, "--eight", "--term", out), "--eight and --second: a machine has eight lines, or a second disk"),
+                            (("--second", self.pack, "--disk", link), "second and disk are the same file"),
+                            (("--second", self.pack, "--second-disk", self.image), "image and second disk are the same file"),
+                            (("--second", self.image, "--second-disk", self.image), "image and second disk are the same file"),
+                            (("--second", self.pack, "--second-disk", out, "--disk", out), "disk and second disk are the same file"),
+                            (("--second", self.pack, "--log", self.pack), "second and log are the same file"),
+                            (("--second", script), "second and script are the same file"),
+                            (("--second", self.pack, "--second-disk", script), "script and second disk are the same file")):
+            status, shown, error = self.run_it(self.image, script, *words)
+            self.assertEqual((status, shown, error.splitlines()[-1]), (2, "", f"run.py: error: {said}"))
+        absent = self.path("no/disk")
+        self.assertEqual(self.run_it(self.image, script, "--second", self.pack, "--second-disk", absent),
+                         (3, "", f"run.py: {absent}: No such file or directory\n"))
+        self.assertEqual((read(self.image), read(self.pack), os.path.exists(out)), (*before, False))
+
+    def test_faults_of_the_second_disk(self):
+        """They are told, and neither disk is written."""
+        script, disk, none = self.script(), self.path("disk"), self.path("none")
+        bad, long = self.put("bad", bytes(2000)), self.put("long", bytes(DISK_BYTES + 1))
+        many = self.put("many", read(PACK)[:514] + (4873).to_bytes(2, "little") + read(PACK)[516:])
+        for second, status, said in ((none, 2, f"{none}: No such file or directory"), (self.folder, 2, f"{self.folder}: Is a directory"),
+                                     (bad, 12, "second image: bad super-block"), (long, 12, "second image: too long"),
+                                     (many, 12, "second image: file system of 4873 blocks is too long")):
+            found = self.run_it(self.image, script, "--second", second, "--second-disk", self.path("new"), "--disk", disk)
+            self.assertEqual(found, (status, "", f"run.py: {said}\n"))
+        self.assertEqual([os.path.exists(self.path(name)) for name in ("disk", "new")], [False, False])
+
+    def test_a_run_that_is_not_done(self):
+        """A panic: the terminal is kept, and no disk takes the place of its image."""
+        source = self.put("init.s", b"\tsys\tbreak; 140000\n1:\tsys\tfork\n2:\tbr\t2b\n\tbr\t1b\n")
+        self.assertEqual(self.call(tool("as").main, "-o", self.path("init"), source), (0, "", ""))
+        self.assertEqual(self.call(disk_main, "--v6", V6, "put", self.image, self.path("init"), "/etc/init"), (0, "", ""))
+        before, log = read(self.image), self.path("log")
+        words = ("--second", self.pack, "--second-disk", self.pack, "--disk", self.image, "--log", log, "--core", "900")
+        self.assertEqual(self.run_it(self.image, self.put("script", b"run 10000\n"), *words), (7, "", "run.py: panic: out of swap space\n"))
+        self.assertEqual((read(self.image), read(self.pack), b"panic swap" in read(log)), (before, read(PACK), True))
+
+    def test_a_script_of_the_console(self):
+        """It is refused without its second disk, and beside another one; other tools, which have none, refuse it too."""
+        script, other = self.put("script", (self.head() + self.SCRIPT).encode()), self.put("other", read(PACK) + bytes(512))
+        self.assertEqual(self.run_it(self.image, script, "--second", self.pack)[::2], (0, ""))
+        shutil.copy(self.pack, self.path("copy"))
+        self.assertEqual(self.run_it(self.image, script, "--second", self.path("copy"))[0], 0)
+        for words, what in (((), "beside a second disk"), (("--second", other), f"beside another second disk than {other}")):
+            said = f"{script} was typed {what}: --replay plays it all the same\n"
+            self.assertEqual(self.run_it(self.image, script, *words), (3, "", f"run.py: {said}"))
+            self.assertEqual(self.run_it(self.image, script, *words, "--replay")[::2], (0, ""))
+        none = self.path("none")
+        self.assertEqual(self.run_it(self.image, script, "--second", none), (2, "", f"run.py: {none}: No such file or directory\n"))
+        for name, more in (("look", ("-c", "log 1")), ("trace", ()), ("page", ("-o", self.path("page")))):
+            status, _, error = self.call(tool(name).main, "--v6", V6, self.image, "3968", script, *more)
+            self.assertEqual((status, error), (1, f"{name}.py: {script} was typed beside a second disk: --replay plays it all the same\n"))
+
+
+class Console(Second):
+    def session(self, typed, *words):
+        return self.ran(console_main, "--v6", V6, self.image, *words, typed=typed.encode())
+
+    def test_both_disks(self):
+        """Neither image is changed; the disks that are left go where they are asked for, and so in the place of the images."""
+        script, disk, second = (self.path(name) for name in ("script", "disk", "second"))
+        typed = MOUNT + "echo new >/usr/new\necho old >/old\ncat /usr/new\n"
+        words = ("--second", self.pack, "--disk", disk, "--second-disk", second, "--script", script)
+        status, term, said = self.session(typed, *words)
+        self.assertEqual((status, term, said), (0, b"# STTY -LCASE\r\n# /etc/mount /dev/rk1 /usr\r\n# echo new >/usr/new\r\n"
+                                                   b"# echo old >/old\r\n# cat /usr/new\r\nnew\r\n# ", ""))
+        self.assertEqual((read(self.image), read(self.pack)), (read(IMAGE), read(PACK)))
+        self.assertEqual((self.cat(disk, "/old"), self.cat(second, "/new")), ((0, "old\n"), (0, "new\n")))
+        self.assertEqual((len(read(second)), self.cat(second, "/old")[0], self.cat(disk, "/usr/new")[0]), (DISK_BYTES, 1, 1))
+        lines = ["run 10000", *(line for one in typed.splitlines() for line in (f"type {one}", "run 10000"))]
+        self.assertEqual(read(script).decode(), self.head() + "".join(f"{line}\n" for line in lines))
+        self.assertEqual(self.session("echo a >/usr/b\n", "--second", self.pack, "--second-disk", self.pack)[0], 0)
+        self.assertEqual(self.session(MOUNT + "echo a >/usr/b\n", "--second", self.pack, "--second-disk", self.pack)[0], 0)
+        self.assertEqual(self.cat(self.pack, "/b"), (0, "a\n"))
+
+    def test_taking_back(self):
+        """What was done on the pack goes too, and the pack that is left is that of the lines that stand."""
+        second = self.path("second")
+        status, term, said = self.session(MOUNT + "echo a >/usr/a\necho b >/usr/b\n~u\nls /usr\n~g 2\n", "--second", self.pack,
+                                          "--second-disk", second)
+        self.assertEqual((status, said), (0, "\nconsole: after line 3: echo a >/usr/a\n\nconsole: after line 2: "
+                                             "/etc/mount /dev/rk1 /usr\n"))
+        self.assertTrue(term.endswith(b"# ls /usr\r\na\r\nbin\r\ndmr\r\nken\r\nreadme\r\n# "))
+        self.assertEqual([self.cat(second, path)[0] for path in ("/a", "/b", "/readme")], [1, 1, 0])
+
+    def test_a_script_goes_on(self):
+        """At the same two disks alone."""
+        script, other = self.path("script"), self.put("other", read(PACK) + bytes(512))
+        self.session(MOUNT, "--second", self.pack, "--script", script)
+        before = read(script)
+        self.assertEqual(before.decode().splitlines()[0] + "\n", self.head())
+        refused = "another --script begins a new dialogue, and --replay plays this one\n"
+        for words, what in (((), "beside a second disk, which --second names"), (("--lines",), "beside a second disk, which --second names"),
+                            (("--second", other), f"beside another second disk than {other}")):
+            self.assertEqual(self.session("ls\n", "--script", script, *words),
+                             (1, b"", f"\nconsole: {script} was typed {what}: {refused}"))
+        self.assertEqual(read(script), before)
+        self.assertEqual(self.session("ls /usr/bin\n", "--script", script, "--second", self.pack)[1].split(b"# ")[-2], b"ls /usr/bin\r\nfactor\r\n")
+        status, _, said = self.session("", "--script", script, "--second", other, "--replay")
+        self.assertEqual((status, said, digest(other) in read(script).decode()), (0, "", True))
+        one, eight = self.path("one"), self.path("eight")
+        self.session("ls\n", "--script", one)
+        self.session("ls\n", "--script", eight, "--lines")
+        for name, what in ((one, "without a second disk"), (eight, "at eight lines of the terminal")):
+            self.assertEqual(self.session("", "--script", name, "--second", self.pack)[2],
+                             f"\nconsole: {name} was typed {what}: {refused}")
+
+    def test_a_pack_that_changes_meanwhile(self):
+        """Each line is played on what was read of it; what another program has put in its place isn't written over."""
+        for second, place in ((self.path("second"), self.path("second")), (self.pack, self.pack + ".1")):
+            write(self.pack, read(PACK))
+            command = [sys.executable, "-S", os.path.join(TOOLS, "console.py"), self.image, "--v6", V6, "--second", self.pack,
+                       "--second-disk", second]
+            with subprocess.Popen(command, stdin=subprocess.PIPE, stdout=subprocess.PIPE, stderr=subprocess.PIPE) as ran:
+                self.assertEqual(ran.stdout.read(2), b"# ")
+                write(self.pack, bytes(2000))
+                out, said = ran.communicate(b"/etc/mount /dev/rk1 /usr\nls /usr/bin\n")
+            self.assertTrue(out.endswith(b"# LS /USR/BIN\r\nFACTOR\r\n# "))
+            self.assertIn(f"{self.pack} isn't any more what it was", said.decode())
+            self.assertEqual((ran.returncode, read(self.pack)), (int(place != second), bytes(2000)))
+            self.assertEqual(v6("check", place), (0, "ok 8 nodes 68 free\n"))
+
+    def test_who(self):
+        """Programs of both disks are named; `v6 memory` has one, so no words of theirs are."""
+        said = self.session(MOUNT + "sleep 100 &\n~w\n", "--second", self.pack)[2]
+        self.assertEqual(said, "\nconsole: process 1 reads the terminal (/bin/sh or /etc/init)\nprocess 4, a child of 1, sleeps for a time "
+                               "(/bin/echo or /bin/sleep)\n")
+        said = self.session(MOUNT + "~w\n", "--second", self.image)[2]
+        self.assertEqual(said, "\nconsole: process 1 reads the terminal (/bin/sh or /etc/init or /bin/sh of the second disk or /etc/init of "
+                               "the second disk)\n")
+
+    def test_what_is_refused(self):
+        script, pack = self.path("script"), self.pack
+        for words, said in ((("--second-disk", script), "--second-disk: there is none without --second"),
+                            (("--lines", "--second", pack), "--lines and --second: a machine has eight lines, or a second disk"),
+                            (("--second", pack, "--script", pack), "--script and --second are the same file"),
+                            (("--second", pack, "--disk", pack), "--disk and --second are the same file"),
+                            (("--second", pack, "--script", script, "--second-disk", script), "--script and --second-disk are the same file"),
+                            (("--second", pack, "--disk", script, "--second-disk", script), "--disk and --second-disk are the same file"),
+                            (("--second", pack, "--second-disk", self.image), "--second-disk and image are the same file")):
+            status, _, error = self.session("", *words)
+            self.assertEqual((status, error.splitlines()[-1]), (2, f"console.py: error: {said}"))
+        self.assertEqual((read(self.image), read(pack), os.path.exists(script)), (read(IMAGE), read(PACK), False))
+        none, absent = self.path("none"), self.path("no/disk")
+        for words, said in ((("--second", none), f"{none}: No such file or directory"),
+                            (("--second", self.put("bad", bytes(2000))), "second image: bad super-block"),
+                            (("--second", pack, "--second-disk", "/dev/full"), "/dev/full: not a file, and only a file is replaced"),
+                            (("--second", pack, "--second-disk", absent), f"{absent}: No such file or directory")):
+            self.assertEqual(self.session("ls\n", *words), (1, b"", f"\nconsole: {said}\n"))
