@@ -1,5 +1,5 @@
 -- The process that executes instructions does one: its memory was lent and has come back, and its registers are put back.
-use Rattle.std.proofs.Common.{◌≡◌, ◌∙◌, ℕ, length, List, sym, ap, subst}
+use Rattle.std.proofs.Common.{◌≡◌, ◌∙◌, ◌-◌, ℕ, length, List, sym, ap, subst}
 use Rattle.std.specs.Borrow.{GName}
 use Rattle.v6_base.specs.Image.{Image}
 use Rattle.u_area.specs.declared.area.UArea.{UArea}
@@ -11,15 +11,16 @@ use Rattle.pdp_step.specs.Instruction.{Stepped, stepped, instr}
 use Rattle.image_keep.specs.declared.running.Fixed.{Fixed}
 use Rattle.image_keep.specs.Kept.{Kept, image_of, area_of, with_image, with_area}
 use Rattle.image_keep.specs.State.{ImagesState}
-use Rattle.image_keep.specs.Lent.{Lent, Outside, left_of}
-use Rattle.image_keep.specs.Running.{IsFixed, machine_in, with_machine_in, with_state}
+use Rattle.image_keep.specs.Stepped.{over_outside, IsSteppedAt}
+use Rattle.image_keep.specs.Lent.{Lent, Outside, left_of, outside_of}
+use Rattle.image_keep.specs.Running.{IsFixed, machine_in, with_machine_in, with_state, state_bytes}
 use Rattle.image_keep.proofs.StateOf.{kept_is}
 use Rattle.image_keep.proofs.Frames.{with_image_area}
 use Rattle.image_keep.proofs.Reading.{starts_after}
 use Rattle.image_keep.proofs.Loans.{lent_back}
 
-module _ (k lent now : ImagesState) (f : Fixed) (was is : ℕ) (a b : GName) {x y : Outside} (fixed : IsFixed k.kept f) (begins : lent ≡ k) (slot : was ≡ f.slot)
-    (same : ◌≡◌ {A = Lent} (record { loan = a; slot = is; left = left_of now.kept is; outside = x }) (record { loan = b; slot = was; left = left_of lent.kept was; outside = y })) where
+module _ (k lent now : ImagesState) (f : Fixed) (was is : ℕ) (a b : GName) (fixed : IsFixed k.kept f) (begins : lent ≡ k) (slot : was ≡ f.slot)
+    (same : ◌≡◌ {A = Lent} (record { loan = a; slot = is; left = left_of now.kept is; outside = outside_of now is }) (record { loan = b; slot = was; left = left_of lent.kept was; outside = outside_of lent was })) where
   abbrev image : Image
   image = image_of now.kept is
 
@@ -38,6 +39,14 @@ module _ (k lent now : ImagesState) (f : Fixed) (was is : ℕ) (a b : GName) {x 
         subst (λ x. IsFixed x f) (sym back)
         (starts_after k.kept f.slot f.starts image fixed (record { text = ap length own.text; «data» = own.data; stack = own.stack }))
 
+  -- and all bytes but those of the data and of the stack
+  outside_after : (left : ImagesState) → left ≡ now → outside_of left f.slot ≡ outside_of k f.slot
+  outside_after left ended =
+      let at : is ≡ f.slot = ap (λ (l : Lent). l.slot) same ∙ slot in
+      ap (λ (x : ImagesState). outside_of x f.slot) ended
+      ∙ (ap (outside_of now) (sym at)
+      ∙ (ap (λ (l : Lent). l.outside) same ∙ ((λ i. outside_of (begins i) (slot i)))))
+
   module _ (r : List ℕ) (cc : ℕ) (regs' : Regs) (o : Outcome) (r_is : r ≡ (area_of k.kept f.slot).r) (cc_is : cc ≡ (area_of k.kept f.slot).cc)
       (step : stepped o (pdp.machine_of regs' image) ≡ instr (record { r = r; cc = cc; image = image_of lent.kept was })) where
     instr_is : stepped o (pdp.machine_of regs' image) ≡ instr (machine_in k.kept f.slot)
@@ -52,6 +61,15 @@ module _ (k lent now : ImagesState) (f : Fixed) (was is : ℕ) (a b : GName) {x 
         ∙ ap (λ x. with_area x f.slot (with_state (area_of x f.slot) regs'.r regs'.cc)) (back left ended)
         ∙ ap (λ (u : UArea). with_area (with_image k.kept f.slot image) f.slot (with_state u regs'.r regs'.cc)) (with_image_area k.kept f.slot f.slot image)
         ∙ ap (λ (x : Stepped). with_machine_in k.kept f.slot x.machine) instr_is
+
+    -- which bytes are written
+    pub written_after : (left new : ImagesState) → left ≡ now
+        → outside_of new f.slot ≡ over_outside (outside_of left f.slot) (f.starts.image - 1024) (state_bytes regs'.r regs'.cc)
+        → IsSteppedAt k new f.slot (f.starts.image - 1024) (instr (machine_in k.kept f.slot)).machine
+    written_after left new ended put =
+        put
+        ∙ ap (λ (o : Outside). over_outside o (f.starts.image - 1024) (state_bytes regs'.r regs'.cc)) (outside_after left ended)
+        ∙ ap (λ (x : Stepped). over_outside (outside_of k f.slot) (f.starts.image - 1024) (state_bytes x.machine.r x.machine.cc)) instr_is
 
 -- What is kept has not changed, and the instruction is the same.
 module _ (k now : Kept) (f : Fixed) (same : now ≡ k) where

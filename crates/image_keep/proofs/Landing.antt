@@ -32,11 +32,11 @@ over_agree : (xs ys zs : List ℕ) (k : ℕ) → take k xs ≡ take k ys → dro
 unfolding over
 over_agree xs ys zs k front back = (λ i. front i ++ (zs ++ back i))
 
-front_same : (xs ys : List ℕ) (k : ℕ) → part xs 0 k ≡ part ys 0 k → take k xs ≡ take k ys
+pub front_same : (xs ys : List ℕ) (k : ℕ) → part xs 0 k ≡ part ys 0 k → take k xs ≡ take k ys
 unfolding part
 front_same xs ys k same = same
 
-back_same : (xs ys : List ℕ) (k : ℕ) → length ys ≡ length xs → part xs k (length xs - k) ≡ part ys k (length xs - k) → drop k xs ≡ drop k ys
+pub back_same : (xs ys : List ℕ) (k : ℕ) → length ys ≡ length xs → part xs k (length xs - k) ≡ part ys k (length xs - k) → drop k xs ≡ drop k ys
 unfolding part
 back_same xs ys k size same =
     sym (take_all (length xs - k) (drop k xs) (omega (arith, length-drop k xs)))

@@ -62,3 +62,4 @@ pub mod StandsThere
 pub mod NearCore
 pub mod FieldPut
 pub mod LaidBytes
+pub mod SteppedNear

@@ -133,7 +133,7 @@ core_behind old new swap at size low same =
     let joined : part (new ++ swap) at (n + m) ≡ part (old ++ swap) at (n + m) = part-add (new ++ swap) at n m ∙ (λ i. one i ++ two i) ∙ sym (part-add (old ++ swap) at n m) in
     subst (λ i. part (new ++ swap) at i ≡ part (old ++ swap) at i) (sym long) joined
 
-core_around : (old new swap : List ℕ) (f : Standing) (r : List ℕ) (cc : ℕ) → StandsIn (length old) f → length new ≡ length old → around new f ≡ around old f → part new f.area 18 ≡ state_bytes r cc
+pub core_around : (old new swap : List ℕ) (f : Standing) (r : List ℕ) (cc : ℕ) → StandsIn (length old) f → length new ≡ length old → around new f ≡ around old f → part new f.area 18 ≡ state_bytes r cc
     → LeftAround (old ++ swap) (new ++ swap) f r cc
 core_around old new swap f r cc i size same stated =
     let ar = i.area in let e = i.end in let b = i.stack_below in let s = i.stack_in in
@@ -171,13 +171,13 @@ module _ (a : Inside) (k : Kept) (f : Fixed) (view : kept_in a ≡ k) (h : AreIm
   holds : IsKept k
   holds = kept_holds (stock_in a) k view h.sound h.table h.told bytes
 
-  there : AreaHere (stock_in a) k f.slot (f.starts.image - 1024)
+  pub there : AreaHere (stock_in a) k f.slot (f.starts.image - 1024)
   there = area_here (stock_in a) k f.slot (f.starts.image - 1024) view h.sound h.counted has (starts_fixed k f.slot f.starts fixed)
 
-  placed : 0 < f.standing.code_len → StandsAs (stock_in a) k f.slot f.starts f.standing
+  pub placed : 0 < f.standing.code_len → StandsAs (stock_in a) k f.slot f.starts f.standing
   placed some = stands_as (stock_in a) k f.slot f.starts f.standing view h.sound h.counted (holds.formed f.slot) fixed (f.near.follows some)
 
-  inside : 0 < f.standing.code_len → StandsIn (length a.memory.core) f.standing
+  pub inside : 0 < f.standing.code_len → StandsIn (length a.memory.core) f.standing
   inside some =
       let cut = h.cut in let most = h.sound.most in let c = fixed.core in
       let core : a.core ≡ k.core = sym (core_kept (stock_in a)) ∙ ap (λ (j : Kept). j.core) view in
@@ -197,7 +197,7 @@ module _ (a : Inside) (k : Kept) (f : Fixed) (view : kept_in a ≡ k) (h : AreIm
       ∙ ap (λ n. part (line_of a.memory) n 18) begins
       ∙ state_there (line_of a.memory) (f.starts.image - 1024) (area_of k f.slot) there.sized.r there.bytes
 
-  its_machine : 0 < f.standing.code_len → standing_machine a.memory.core f.standing ≡ machine_in k f.slot
+  pub its_machine : 0 < f.standing.code_len → standing_machine a.memory.core f.standing ≡ machine_in k f.slot
   its_machine some =
       let m = image some in
       let read = state_read a.memory.core f.standing.area (area_of k f.slot).r (area_of k f.slot).cc there.sized.r (area_of k f.slot).codes (stands_there some) in

@@ -12,6 +12,7 @@ use Rattle.image_keep.specs.Kept.{keeping, image_of}
 use Rattle.image_keep.specs.State.{ImagesState}
 use Rattle.image_keep.specs.Starts.{data_start, AreStarts, start_of}
 use Rattle.image_keep.specs.Lent.{around, outside_of}
+use Rattle.image_keep.specs.Stepped.{over_outside}
 use Rattle.image_keep.proofs.Putting.{one_room, storable_some}
 use Rattle.image_keep.proofs.WordsRead.{two_room}
 
@@ -47,6 +48,18 @@ module _ (old new : ImagesState) (s : ℕ) (x : Starts) (was : AreStarts old.kep
       ≡ around (old.core ++ old.swap) (data_start old.kept.core (keeping old.kept s)) size =
       (λ j. around (new.core ++ new.swap) (sym is.image j) (same_size j)) ∙ same ∙ ap (λ a. around (old.core ++ old.swap) a size) was.image in
       λ j. record { core = core j; bytes = bytes j }
+
+  -- the same where bytes have been put in front of the range
+  pub fronted : (at : ℕ) (bytes : List ℕ)
+      → around (new.core ++ new.swap) x.image size ≡ over (around (old.core ++ old.swap) x.image size) at bytes
+      → outside_of new s ≡ over_outside (outside_of old s) at bytes
+  unfolding outside_of
+  fronted at bytes same =
+      let put : around (new.core ++ new.swap) (data_start new.kept.core (keeping new.kept s)) (length (image_of new.kept s).data + length (image_of new.kept s).stack)
+      ≡ over (around (old.core ++ old.swap) (data_start old.kept.core (keeping old.kept s)) size) at bytes =
+      (λ j. around (new.core ++ new.swap) (sym is.image j) (same_size j)) ∙ same
+      ∙ ap (λ a. over (around (old.core ++ old.swap) a size) at bytes) was.image in
+      λ j. record { core = core j; bytes = put j }
 
   pub byte_outside : (p : Named) (b : ℕ) → IsWithin (image_of old.kept s) p → IsStorable p
       → new.core ++ new.swap ≡ slice_set (old.core ++ old.swap) (start_of x p) b → outside_of new s ≡ outside_of old s

@@ -25,3 +25,4 @@ pub mod Holds
 pub mod Leaves
 pub mod Deposits
 pub mod ByteOf
+pub mod Stepped

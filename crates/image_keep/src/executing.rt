@@ -1,7 +1,9 @@
 //! One instruction of the process that executes instructions: where it stands in core, or else over its memory that is lent.
-ghost use Rattle.std.specs.Prelude.{◌≡◌, ◌↔◌, IfSome, IsTrue, None, false};
+ghost use Rattle.std.specs.Prelude.{◌≡◌, ◌-◌, ◌↔◌, IfSome, IsTrue, None, false};
 ghost use Rattle.pdp_step.specs.declared.outcome.Outcome.TheVariants.{Call, Next};
 ghost use Rattle.pdp_step.specs.Instruction.{instr};
+ghost use Rattle.image_keep.specs.Lent.{outside_of};
+ghost use Rattle.image_keep.specs.Stepped.{IsStepped, IsSteppedAt};
 ghost use Rattle.image_keep.specs.Running.{IsFixed, machine_in, with_machine_in};
 
 use crate::images::Images;
@@ -19,6 +21,7 @@ impl Images {
         ensures outcome { result ≡ false → outcome.new ≡ (instr (machine_in self.old.kept fixed.now.slot)).outcome }
         ensures same { IsTrue result → outcome.new ≡ outcome.old }
         ensures kept { self.new.kept ≡ with_machine_in self.old.kept fixed.now.slot (instr (machine_in self.old.kept fixed.now.slot)).machine }
+        ensures written { IsStepped self.old self.new fixed.now.slot (instr (machine_in self.old.kept fixed.now.slot)).machine }
         ensures fixed { IsFixed self.new.kept fixed.now }
     {
         if self.execute_near(fixed, dispatch) {
@@ -36,6 +39,8 @@ impl Images {
         ensures outcome { result ≡ false → outcome.new ≡ (instr (machine_in self.old.kept fixed.now.slot)).outcome }
         ensures same { IsTrue result → outcome.new ≡ outcome.old }
         ensures kept { self.new.kept ≡ with_machine_in self.old.kept fixed.now.slot (instr (machine_in self.old.kept fixed.now.slot)).machine }
+        ensures written { IsSteppedAt self.old self.new fixed.now.slot (fixed.now.starts.image - 1024)
+            (instr (machine_in self.old.kept fixed.now.slot)).machine }
         ensures fixed { IsFixed self.new.kept fixed.now }
     {
         if let Some(n) = self.call_near(fixed) {
@@ -53,6 +58,8 @@ impl Images {
         ensures outcome { result ≡ false → outcome.new ≡ (instr (machine_in self.old.kept fixed.now.slot)).outcome }
         ensures same { IsTrue result → outcome.new ≡ outcome.old }
         ensures kept { self.new.kept ≡ with_machine_in self.old.kept fixed.now.slot (instr (machine_in self.old.kept fixed.now.slot)).machine }
+        ensures written { IsSteppedAt self.old self.new fixed.now.slot (fixed.now.starts.image - 1024)
+            (instr (machine_in self.old.kept fixed.now.slot)).machine }
         ensures fixed { IsFixed self.new.kept fixed.now }
     {
         let came = self.step_lent(fixed);
@@ -69,6 +76,8 @@ impl Images {
         requires { IsFixed self.old.kept fixed.now }
         ensures outcome { result ≡ (instr (machine_in self.old.kept fixed.now.slot)).outcome }
         ensures kept { self.new.kept ≡ with_machine_in self.old.kept fixed.now.slot (instr (machine_in self.old.kept fixed.now.slot)).machine }
+        ensures written { IsSteppedAt self.old self.new fixed.now.slot (fixed.now.starts.image - 1024)
+            (instr (machine_in self.old.kept fixed.now.slot)).machine }
         ensures fixed { IsFixed self.new.kept fixed.now }
     {
         let mut regs = self.registers_at(fixed);
@@ -89,6 +98,9 @@ impl Images {
         ensures done { IsTrue result → self.new.kept
             ≡ with_machine_in self.old.kept fixed.now.slot (instr (machine_in self.old.kept fixed.now.slot)).machine }
         ensures kept { result ≡ false → self.new.kept ≡ self.old.kept }
+        ensures written { IsTrue result → IsSteppedAt self.old self.new fixed.now.slot (fixed.now.starts.image - 1024)
+            (instr (machine_in self.old.kept fixed.now.slot)).machine }
+        ensures same { result ≡ false → outside_of self.new fixed.now.slot ≡ outside_of self.old fixed.now.slot }
         ensures fixed { IsFixed self.new.kept fixed.now }
     {
         self.memory.see_bytes();
@@ -105,6 +117,9 @@ impl Images {
             (λ n. self.new.kept
             ≡ with_machine_in self.old.kept fixed.now.slot (instr (machine_in self.old.kept fixed.now.slot)).machine) }
         ensures kept { result ≡ None → self.new.kept ≡ self.old.kept }
+        ensures written { IfSome result (λ n. IsSteppedAt self.old self.new fixed.now.slot (fixed.now.starts.image - 1024)
+            (instr (machine_in self.old.kept fixed.now.slot)).machine) }
+        ensures same { result ≡ None → outside_of self.new fixed.now.slot ≡ outside_of self.old fixed.now.slot }
         ensures fixed { IsFixed self.new.kept fixed.now }
     {
         self.memory.see_bytes();

@@ -1,11 +1,13 @@
 //! The u area of an image, read and written where it stands, whole and field by field.
-ghost use Rattle.std.specs.Prelude.{◌≡◌, ◌+◌, ◌*◌, ◌<◌, ◌≤◌, [], ◌∷◌, ◌++◌, length, replicate};
+ghost use Rattle.std.specs.Prelude.{◌≡◌, ◌+◌, ◌-◌, ◌*◌, ◌<◌, ◌≤◌, [], ◌∷◌, ◌++◌, length, replicate};
 ghost use Rattle.fs_codec.specs.Bytes.{bytes_of, long_words};
 ghost use Rattle.u_area.specs.Area.{fetched, front_bytes, IsStored};
 ghost use Rattle.u_area.specs.Fields.{with_register, with_codes, with_ids, with_handler, with_call, with_tick, with_no_times, with_child_times, with_end};
 ghost use Rattle.u_area.specs.declared.area.UArea.{UArea};
 ghost use Rattle.image_keep.specs.Kept.{Held, Has, HasImage, HasSizes, IsKept, area_of, image_of, with_area};
 ghost use Rattle.image_keep.specs.Fields.{IsAreaAt, IsPut, IsWritten, AreWritten, IsTicked, area_there, over_call, over_end};
+ghost use Rattle.image_keep.specs.Lent.{outside_of};
+ghost use Rattle.image_keep.specs.Stepped.{over_outside};
 ghost use Rattle.image_keep.specs.Running.{IsFixed, with_pc, with_results, with_state, state_bytes};
 
 use crate::images::Images;
@@ -82,6 +84,7 @@ impl Images {
         requires { IsFixed self.now.kept fixed.now }
         ensures image { HasImage self.now.kept fixed.now.slot }
         ensures place { IsAreaAt self.now.kept fixed.now.slot result }
+        ensures at { result ≡ fixed.now.starts.image - 1024 }
     {
         fixed.starts.image - AREA_SIZE
     }
@@ -177,6 +180,7 @@ impl Images {
         requires law { (u : UArea) × IsPut (area_of self.old.kept s) field bytes.now u }
         ensures kept { (u : UArea) → IsPut (area_of self.old.kept s) field bytes.now u → self.new.kept ≡ with_area self.old.kept s u }
         ensures written { AreWritten self.old self.new s field bytes.now }
+        ensures room { at + 1024 ≤ length (self.old.core ++ self.old.swap) }
         ensures image { HasImage self.new.kept s }
         ensures place { IsAreaAt self.new.kept s at }
     {
@@ -347,6 +351,8 @@ impl Images {
         requires fixed { IsFixed self.old.kept fixed.now }
         requires codes { cc < 16 }
         ensures kept { self.new.kept ≡ with_area self.old.kept fixed.now.slot (with_state (area_of self.old.kept fixed.now.slot) r.now cc) }
+        ensures outside { outside_of self.new fixed.now.slot
+            ≡ over_outside (outside_of self.old fixed.now.slot) (fixed.now.starts.image - 1024) (state_bytes r.now cc) }
         ensures fixed { IsFixed self.new.kept fixed.now }
     {
         let at = self.fixed_start(fixed);

@@ -55,3 +55,9 @@ returns-clause-image c = (stays c.args.self.now.kept _ c.args.s c.args.at c.requ
 
 pub returns-clause-place : goal.returns-clause-place
 returns-clause-place c = (stays c.args.self.now.kept _ c.args.s c.args.at c.requires.law.0 c.requires.image c.requires.place (set c c.requires.law.0 c.requires.law.1).kept).1
+
+pub returns-clause-room : goal.returns-clause-room
+returns-clause-room c =
+    let inside = (area_here (stock_in c.self.inside) c.args.self.now.kept c.args.s c.args.at (kept_is c.self.view_is) c.self.invariant.sound c.self.invariant.counted c.requires.image c.requires.place).inside in
+    let size = ap length (line_is c.self.view_is) in
+    omega (arith, inside, size)
