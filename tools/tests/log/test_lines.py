@@ -24,8 +24,7 @@ def pages():
 
 def of_the_book():
     """What the left column of the table of names has, but for headers."""
-    page = read(os.path.join(TOP, "docs", "architecture.md")).decode()
-    table = page.partition("## From the names of Lions' book")[2].partition("\n## ")[0]
+    table = read(os.path.join(TOP, "docs", "lions-names.md")).decode().partition("\n## ")[0]
     rows, file, found = [row.split(" | ")[0] for row in table.splitlines() if row.startswith("| ")], "", set()
     for row in rows:
         file = (re.findall(r"\*\*(.*)\*\*", row) or [file])[0]
