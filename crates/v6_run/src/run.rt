@@ -152,7 +152,7 @@ fn boot2(alloc: Global, image: &[u8], second: &[u8], core: u32) -> Result<Kernel
 }
 
 /// Runs the kernel over the events of a script, with the files of so many lines and the log open, and tells how the run ends.
-/// Where one of them can't be written, the run goes on without all, and then that is the answer.
+/// Where one of them can't be written, that is the answer: nothing more goes out, and the run stops soon.
 fn play<H: Host>(
     kernel: &mut Kernel,
     events: &[Event],
@@ -174,7 +174,8 @@ fn play<H: Host>(
     ensures fronts { Tells (H.outside host.old)
         → HasShownFronts (lines_value lines) (shown_by (course (started kernel.old.system) (events_of events.now)))
         (H.outside host.old) (H.outside host.new) }
-    ensures system { kernel.new.system ≡ (course (started kernel.old.system) (events_of events.now)).system }
+    ensures system { IfOk result (λ _.
+        kernel.new.system ≡ (course (started kernel.old.system) (events_of events.now)).system) }
     ensures rest { KeepsRest kernel.old kernel.new }
     ensures cause { MatchResult result (λ _. Calm (H.outside host.old) (H.outside host.new))
         (λ port. FaultAt (Out port) true (H.outside host.old) (H.outside host.new)) }
