@@ -13,6 +13,11 @@ use Rattle.v6_run.specs.Opened.{NamedPort, output, has_port, ports_before, knows
 abbrev pub output_value : Output → NamedPort
 output_value o = output o.port (string_bytes o.name)
 
+-- These are the files that a run opens by a list of them: `memory` opens its one file by its name.
+abbrev pub IsListOf : Outputs → List NamedPort → Type 0
+IsListOf (ToDisk files) ports = ports ≡ output_ports (ToDisk files)
+IsListOf (ToMemory final) ports = ⊤
+
 -- each of these is a port for writing that there is, and is opened and closed
 abbrev pub IsWritten : Port → Type 0
 IsWritten (In p) = ⊥

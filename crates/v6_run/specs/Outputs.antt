@@ -122,9 +122,9 @@ pub record StopsRun (outputs : Outputs) (writes : OutPort → List ℕ → Type 
   pub opened : Tells old → (p : OutPort) → (new.port (Out p)).bytes ≢ (old.port (Out p)).bytes
       → AreGood old.fixed (output_ports outputs)
   pub fault : FaultAt (Out port) (knows_port (output_ports outputs) old.fixed (Out port)) old new
+  pub step : StopsAt (output_ports outputs) writes port old new
 
--- Or there was no memory for the names of its files, and nothing has happened yet.
+-- Nothing else stops a run.
 abbrev pub StopsBy : Outputs → (OutPort → List ℕ → Type 0) → RunError → Outside → Outside → Type 0
 StopsBy outputs writes (run.Write port) old new = StopsRun outputs writes port old new
-StopsBy outputs writes run.NoMemory old new = new ≡ old
 StopsBy outputs writes _ old new = ⊥
