@@ -169,7 +169,7 @@ pub fn v6<H: Host>(alloc: Global, words: &Vec<String>, host: &mut H) -> Status
         → (p : OutPort) → is_report (Out p) ≡ false → ((H.outside host.new).port (Out p)).is_open ≡ false }
 
     // Each line of the log of a run has its numbers in their ranges and fits what the lines before it give, so that each choice
-    // is the one that the rules give; and the log of a run that comes to the end of its script is lawful.
+    // is one that the rules give; and the log of a run that comes to the end of its script, or to a panic, is lawful.
     ensures lawful { LogsAreLawful }
 
     // Of two disks a call leaves the one alone with which it has nothing to do.
