@@ -45,6 +45,7 @@ unwritten command s old new only ends before none order complete cause = record 
   unreported = no_file s _ before refl;
   complete = complete;
   partial = λ p is. absurd (no_file s _ before refl is);
+  steps = λ p is. absurd (no_file s _ before refl is);
   order = order;
   opened = λ told p grew. absurd (grew (ap (λ (state : PortState). state.bytes) (none p)));
   none = λ _. none;

@@ -144,6 +144,7 @@ module _ (name : List ℕ) (old new : Outside) (only : OnlyAt (same (In in_port.
     unreported = λ is. cc;
     complete = λ _ told. log_complete status.Done (old.fixed.given name) (ends_done (old.fixed.given name) count (ends (told refl)));
     partial = λ p is. absurd (cc);
+    steps = λ p is. absurd (cc);
     order = λ told. (is_there (old.fixed.given name) _ (ends told), tt);
     opened = λ told p grew. (is_there (old.fixed.given name) _ (ends told), tt);
     none = λ before. not_so _ (sym before);

@@ -111,7 +111,7 @@ module _ (image : List ℕ) (second : Option (List ℕ)) (words : RunWords) (eve
     run = stops_over (disk_of image) (block_at kernel.blocks.root) (option_map disk_of second) (option_map block_at kernel.blocks.second) root_same other_same
         words.outputs run port old new stops;
   }
-  fails run_error.NoMemory stops = stops
+  fails run_error.NoMemory stops = absurd stops
   fails (run_error.Image e) stops = absurd stops
   fails (run_error.Second e) stops = absurd stops
   fails (run_error.Script e) stops = absurd stops

@@ -13,6 +13,7 @@ use Rattle.v6_port.proofs.CauseLemmas.{not_line}
 use Rattle.v6_run.specs.Words.{Outputs, ToDisk, ToMemory, RunWords, second_image, Run}
 use Rattle.v6_run.specs.Outputs.{is_output}
 use Rattle.v6_run.specs.Opened.{NamedPort, input, second_inputs, output_ports, command_ports, has_port, ports_before, knows_port}
+use Rattle.v6_run.specs.Steps.{is_opened_before}
 use Rattle.v6_run.specs.Headline.{is_named, is_known}
 use Rattle.v6_run.proofs.LinePorts.{or_false, has_append, disk_ports}
 
@@ -60,6 +61,12 @@ second_known : (o : Option (List ℕ)) (ports : List NamedPort) (fixed : Environ
 second_known None ports fixed p = refl
 second_known (Some name) ports fixed p = ap (λ b. if b then is_given (fixed.given name) else knows_port ports fixed (Out p)) (not_input 3 p (lit< tt))
 
+second_before : (o : Option (List ℕ)) (ports : List NamedPort) (p : OutPort)
+    → ports_before (second_inputs o ++ ports) (Out p) ≡ second_inputs o ++ ports_before ports (Out p)
+second_before None ports p = refl
+second_before (Some name) ports p =
+    ap (λ b. if b then [] else input in_port.Second name ∷ ports_before ports (Out p)) (not_input 3 p (lit< tt))
+
 -- what `run` has a name for
 module _ (words : RunWords) where
   abbrev second : List NamedPort
@@ -97,6 +104,20 @@ module _ (words : RunWords) where
       ap (λ b. if b then is_given (fixed.given words.image) else knows_port (second ++ others) fixed (Out p)) (not_input 0 p (lit< tt))
       ∙ second_known (second_image words.outputs) others fixed p
       ∙ ap (λ b. if b then is_given (fixed.given words.script) else knows_port (output_ports words.outputs) fixed (Out p)) (not_input 1 p (lit< tt))
+
+  -- what is opened before an output, among the outputs
+  pub before_outputs : (p q : OutPort) → is_opened_before (command_ports (Run words)) q p ≡ is_opened_before (output_ports words.outputs) q p
+  before_outputs p q =
+      let image : NamedPort = input in_port.Image words.image in
+      let script : NamedPort = input in_port.Script words.script in
+      let rest : List NamedPort = ports_before (output_ports words.outputs) (Out p) in
+      let first : ports_before (image ∷ second ++ others) (Out p) ≡ image ∷ ports_before (second ++ others) (Out p) =
+      ap (λ b. if b then [] else image ∷ ports_before (second ++ others) (Out p)) (not_input 0 p (lit< tt)) in
+      let last : ports_before others (Out p) ≡ script ∷ rest = ap (λ b. if b then [] else script ∷ rest) (not_input 1 p (lit< tt)) in
+      ap (λ l. has_port l (Out q)) (first ∙ ap (λ l. image ∷ l) (second_before (second_image words.outputs) others p ∙ ap (λ l. second ++ l) last))
+      ∙ ap (λ b. b || has_port (second ++ script ∷ rest) (Out q)) (not_input 0 q (lit< tt))
+      ∙ has_append second (script ∷ rest) (Out q) ∙ ap (λ b. b || has_port (script ∷ rest) (Out q)) (no_second (second_image words.outputs) q)
+      ∙ ap (λ b. b || has_port rest (Out q)) (not_input 1 q (lit< tt))
 
   -- The script comes after the images.
   abbrev ports_with : Option (List ℕ) → List NamedPort

@@ -30,6 +30,7 @@ module _ (name : List ℕ) (old new : Outside) (only : OnlyAt (same (In in_port.
     unreported = λ is. cc;
     complete = λ _ told. subst (λ m. IsKnownAnd m (IsComplete Done old new)) (sym (good_completion _ (good (told refl)))) (complete_unwritten Done old new (no_output old new only));
     partial = λ p is. absurd (cc);
+    steps = λ p is. absurd (cc);
     order = λ told. (good told, tt);
     opened = λ told p grew. (good told, tt);
     none = λ before. not_so _ (sym before);

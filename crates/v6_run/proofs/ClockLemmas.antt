@@ -1,20 +1,22 @@
 -- The slots of a script, by the numbers that they have since the clock was set.
-use Rattle.std.proofs.Common.{◌≡◌, ◌≢◌, ◌<◌, ◌+◌, ◌-◌, ◌%◌, ◌==◌, ◌&&◌, ℕ, zero, suc, Bool, true, false, not, List, [], ◌∷◌, ◌++◌, refl, sym, ◌∙◌, ap, subst, flat_map, append_assoc, length, drop, get_or, replicate, eqb-true, arith}
+use Rattle.std.proofs.Common.{◌≡◌, ◌≢◌, ◌<◌, ◌≤◌, ◌+◌, ◌-◌, ◌%◌, ◌==◌, ◌&&◌, ℕ, zero, suc, Bool, true, false, not, List, [], ◌∷◌, ◌++◌, refl, sym, ◌∙◌, ap, subst, flat_map, append_assoc, length, drop, get_or, replicate, eqb-true, arith}
 use Rattle.std.specs.List.{range_with_len}
 use Rattle.std.proofs.Math.Nat.{mod-add-mod, mod-eq_of_lt, mod-lt}
 use Rattle.std.proofs.lemmas.List.{append-nil, drop_more}
-use Rattle.v6_base.specs.Trace.{Taken}
+use Rattle.v6_base.specs.Trace.{Taken, Took}
+use Rattle.v6_base.proofs.Took.{took_then}
 use Rattle.script_text.specs.declared.script.Event as asked
 use Rattle.script_text.specs.declared.script.Event.TheVariants as ask
 use Rattle.abstract_unix.specs.declared.ends.Ends.{Ends}
 use Rattle.abstract_unix.specs.declared.ends.Ends.TheVariants.{AtEnd}
 use Rattle.abstract_unix.specs.Unix.{System}
-use Rattle.abstract_unix.specs.Runs.{Event, Slot, Byte, Course, begun}
+use Rattle.abstract_unix.specs.Runs.{Event, Slot, Byte, Course, begun, course}
+use Rattle.abstract_unix.proofs.RunsLemmas.{course_joined}
 use Rattle.v6_run.specs.Events.{Clock, is_ticked, slot_with, slot_numbered, happens, clock_after, events_from, events_of}
 use Rattle.v6_run.specs.Clocks.{TicksAlike}
-use Rattle.v6_run.specs.Courses.{HasRun}
+use Rattle.v6_run.specs.Courses.{HasRun, HasRunUncut}
 use Rattle.v6_run.proofs.FinalLemmas.{flat_split}
-use Rattle.v6_run.proofs.SlotLemmas.{run_more, run_last}
+use Rattle.v6_run.proofs.SlotLemmas.{run_more, run_last, run_whole, run_cut}
 
 next_alike : (every m n j : ℕ) → m % every ≡ n % every → (m + j) % every ≡ (n + j) % every
 next_alike every m n j is = sym (mod-add-mod m every j) ∙ ap (λ r. (r + j) % every) is ∙ mod-add-mod n every j
@@ -65,6 +67,64 @@ events_alike c d (event ∷ events) alike =
     ap (λ l. l ++ events_from (clock_after c event) events) (happens_alike c d alike event)
     ∙ ap (λ l. happens d event ++ l) (events_alike (clock_after c event) (clock_after d event) events (after_alike c d alike event))
 
+alike_then : (c d e : Clock) → TicksAlike c d → TicksAlike d e → TicksAlike c e
+alike_then c d e first second = record {
+  every = first.every ∙ second.every;
+  line = first.line ∙ second.line;
+  slots = λ some. first.slots some ∙ subst (λ k. k ≢ 0 → d.slots % k ≡ e.slots % k) (sym first.every) second.slots some;
+}
+
+alike_same : (c : Clock) → TicksAlike c c
+alike_same c = record { every = refl; line = refl; slots = λ some. refl }
+
+-- The slots of a line `run` are those of two, one after the other.
+pieces_are : (c : Clock) (a b : ℕ) → happens c (ask.Run (a + b)) ≡ happens c (ask.Run a) ++ happens (clock_after c (ask.Run a)) (ask.Run b)
+pieces_are c a b =
+    let f : ℕ → List Event = slot_numbered c.every in
+    let start : c.slots + 1 + a ≡ c.slots + a + 1 = omega arith in
+    flat_split f (c.slots + 1) a b ∙ ap (λ k. flat_map f (range_with_len (c.slots + 1) a) ++ flat_map f (range_with_len k b)) start
+
+-- none of them has been taken
+pub no_piece : (c : Clock) (count : ℕ) → [] ≡ happens c (ask.Run (count - count))
+no_piece c count = let none : 0 ≡ count - count = omega arith in ap (λ n. happens c (ask.Run n)) none
+
+pub none_after : (c : Clock) (count : ℕ) → TicksAlike (clock_after c (ask.Run (count - count))) c
+none_after c count = record {
+  every = refl;
+  line = refl;
+  slots = λ some. let same : c.slots + (count - count) ≡ c.slots = omega arith in ap (λ n. n % c.every) same;
+}
+
+-- some of them have been, then come these, and then those that are left
+module _ (c now : Clock) (count left slots : ℕ) (some : left ≤ count) (few : slots ≤ left) (alike : TicksAlike (clock_after c (ask.Run (count - left))) now) where
+  more_taken : (count - left) + slots ≡ count - (left - slots)
+  more_taken = omega (arith, some, few)
+
+  pub piece_is : happens c (ask.Run (count - (left - slots))) ≡ happens c (ask.Run (count - left)) ++ happens now (ask.Run slots)
+  piece_is =
+      ap (λ n. happens c (ask.Run n)) (sym more_taken) ∙ pieces_are c (count - left) slots
+      ∙ ap (λ l. happens c (ask.Run (count - left)) ++ l) (happens_alike (clock_after c (ask.Run (count - left))) now alike (ask.Run slots))
+
+  pub piece_after : (next : Clock) → TicksAlike (clock_after now (ask.Run slots)) next → TicksAlike (clock_after c (ask.Run (count - (left - slots)))) next
+  piece_after next goes =
+      let all : c.slots + (count - left) + slots ≡ c.slots + (count - (left - slots)) = omega (arith, more_taken) in
+      subst (λ n. TicksAlike (record c { slots = n }) next) all
+      (alike_then _ _ _ (after_alike (clock_after c (ask.Run (count - left))) now alike (ask.Run slots)) goes)
+
+  pub pieces_left : happens c (ask.Run count)
+      ≡ (happens c (ask.Run (count - left)) ++ happens now (ask.Run slots)) ++ happens (clock_after c (ask.Run (count - (left - slots)))) (ask.Run (left - slots))
+  pieces_left =
+      let all : count ≡ (count - (left - slots)) + (left - slots) = omega (arith, some) in
+      ap (λ n. happens c (ask.Run n)) all ∙ pieces_are c (count - (left - slots)) (left - slots)
+      ∙ ap (λ l. l ++ happens (clock_after c (ask.Run (count - (left - slots)))) (ask.Run (left - slots))) piece_is
+
+pub all_pieces : (c : Clock) (count left : ℕ) → left ≡ 0 → happens c (ask.Run (count - left)) ≡ happens c (ask.Run count)
+all_pieces c count left none = let all : count - left ≡ count = omega (arith, none) in ap (λ n. happens c (ask.Run n)) all
+
+pub after_pieces : (c now : Clock) (count left : ℕ) → left ≡ 0 → TicksAlike (clock_after c (ask.Run (count - left))) now → TicksAlike (clock_after c (ask.Run count)) now
+after_pieces c now count left none alike =
+    let all : count - left ≡ count = omega (arith, none) in subst (λ n. TicksAlike (clock_after c (ask.Run n)) now) all alike
+
 -- slots without a clock
 pub unclocked : (from n : ℕ) → flat_map (slot_numbered 0) (range_with_len from n) ≡ replicate n Slot
 unclocked from zero = refl
@@ -114,23 +174,36 @@ pub record HasTaken (all : List asked.Event) (i : ℕ) (clock : Clock) (from : C
   pub run : HasRun from happened AtEnd system old new
   pub all_is : events_of all ≡ happened ++ events_from clock (drop i all)
 
-module _ (all : List asked.Event) (i : ℕ) (clock after : Clock) (from : Course) (m next : System) (a b c : Taken) (taken : HasTaken all i clock from m a b)
-    (event d : asked.Event) (inside : i < length all) (event_is : event ≡ get_or all i d) (ticks : TicksAlike (clock_after clock event) after) where
-  split_is : events_of all ≡ (taken.happened ++ happens clock event) ++ events_from after (drop (i + 1) all)
+module _ (all : List asked.Event) (i : ℕ) (clock : Clock) (from : Course) (m next : System) (a b c : Taken) (taken : HasTaken all i clock from m a b)
+    (event d : asked.Event) (inside : i < length all) (event_is : event ≡ get_or all i d) where
+  abbrev after_these : List Event
+  after_these = events_from (clock_after clock event) (drop (i + 1) all)
+
+  split_is : events_of all ≡ (taken.happened ++ happens clock event) ++ after_these
   split_is =
       taken.all_is
       ∙ ap (λ l. taken.happened ++ events_from clock l) (drop_more all i d inside ∙ ap (λ e. e ∷ drop (i + 1) all) (sym event_is))
-      ∙ ap (λ l. taken.happened ++ (happens clock event ++ l)) (events_alike (clock_after clock event) after (drop (i + 1) all) ticks)
-      ∙ sym (append_assoc taken.happened (happens clock event) (events_from after (drop (i + 1) all)))
+      ∙ sym (append_assoc taken.happened (happens clock event) after_these)
 
-  pub taken_more : HasRun (begun m) (happens clock event) AtEnd next b c → HasTaken all (i + 1) after from next a c
-  taken_more run = record {
+  pub taken_more : (after : Clock) → TicksAlike (clock_after clock event) after → HasRun (begun m) (happens clock event) AtEnd next b c → HasTaken all (i + 1) after from next a c
+  taken_more after ticks run = record {
     happened = taken.happened ++ happens clock event;
     run = run_more from m next AtEnd a b c taken.happened (happens clock event) _ taken.run run refl;
-    all_is = split_is;
+    all_is = split_is ∙ ap (λ l. (taken.happened ++ happens clock event) ++ l) (events_alike (clock_after clock event) after (drop (i + 1) all) ticks);
   }
 
-  -- what follows the event that ends the run doesn't happen
-  pub taken_last : (ending : Ends) → ending ≢ AtEnd → HasRun (begun m) (happens clock event) ending next b c → HasRun from (events_of all) ending next a c
-  taken_last ending early run =
-      run_last from m next ending a b c taken.happened (happens clock event) (events_from after (drop (i + 1) all)) _ taken.run early run split_is
+  -- what follows the event in which the trace is cut isn't taken
+  pub taken_cut : (ending : Ends) → c.cut ≡ true → Took b (course (begun m) (happens clock event)).items c → HasRunUncut from (events_of all) ending next a c
+  taken_cut ending is_cut took =
+      let joined = course_joined from m taken.happened (sym taken.run.ends) taken.run.system_is (happens clock event) _ refl in
+      run_cut from next ending a c (taken.happened ++ happens clock event) after_these (events_of all)
+      (took_then _ _ _ _ _ _ taken.run.items took (sym (ap (λ (e : Course). e.items) joined))) is_cut split_is
+
+  -- and what follows the one that ends the run doesn't happen
+  pub taken_last : (ending : Ends) → ending ≢ AtEnd → HasRunUncut (begun m) (happens clock event) ending next b c → HasRunUncut from (events_of all) ending next a c
+  taken_last ending early run = by c.cut refl
+    where
+      by : (is : Bool) → c.cut ≡ is → HasRunUncut from (events_of all) ending next a c
+      by true is_cut = taken_cut ending is_cut run.items
+      by false goes = run_whole _ _ _ _ _ _
+          (run_last from m next ending a b c taken.happened (happens clock event) after_these _ taken.run early (run.uncut goes) split_is)

@@ -1,5 +1,5 @@
 -- What any words are answered, with the report.
-use Rattle.std.proofs.Common.{◌≡◌, ◌≢◌, ℕ, Bool, true, false, if◌then◌else◌, Option, Some, None, is_some, IsSome, MatchOption, List, ◌++◌, refl, sym, ◌∙◌, ap, subst, Result, Ok, Err, IfOk, IsOkAnd, ◌⊎◌, inl, inr, ⊎_elim}
+use Rattle.std.proofs.Common.{◌≡◌, ◌≢◌, ℕ, Bool, true, false, not, if◌then◌else◌, Option, Some, None, is_some, IsSome, MatchOption, List, ◌++◌, refl, sym, ◌∙◌, ap, subst, Result, Ok, Err, IfOk, IsOkAnd, ◌⊎◌, inl, inr, ⊎_elim}
 use Rattle.std.specs.Option.{option_map}
 use Rattle.v6_port.specs.declared.host.InPort.{InPort}
 use Rattle.v6_port.specs.declared.host.InPort.TheVariants as in_port
@@ -29,8 +29,9 @@ use Rattle.v6_run.specs.Errors.{read_status, image_status, second_status, comman
 use Rattle.v6_run.specs.Fronts.{HoldsFront, HoldsSome, HoldsFrontOfSome}
 use Rattle.v6_run.specs.Report.{report, status_line, report_line, told_line, answer_line}
 use Rattle.v6_run.specs.Causes.{IsCaused, IsFaultOf, IsFaultless, HasCause, MissesUnknown}
-use Rattle.v6_run.specs.Headline.{MaybeCompletion, Unknown, Known, IsKnownAnd, has_core_size, refused_by, words_completion, IsComplete, IsPartial, is_named, is_touched, reports_done, may_end, words_may_end, is_known}
-use Rattle.v6_run.specs.Opened.{command_ports, words_ports, TellsInputs, AreGood, ports_passed}
+use Rattle.v6_run.specs.Headline.{MaybeCompletion, Unknown, Known, IsKnownAnd, has_core_size, refused_by, words_completion, IsComplete, IsPartial, IsStoppedAt, is_named, is_touched, reports_done, may_end, words_may_end, is_known}
+use Rattle.v6_run.specs.Steps.{is_opened_before, StopsAt}
+use Rattle.v6_run.specs.Opened.{NamedPort, has_port, command_ports, words_ports, TellsInputs, AreGood, ports_passed}
 use Rattle.v6_run.specs.Answers.{Answers, AnswersWords, Reports}
 use Rattle.v6_port.proofs.CauseLemmas.{same_is, still_tells, only_then}
 use Rattle.v6_run.proofs.OpenedLemmas.{good_before}
@@ -170,6 +171,39 @@ module _ (a b new : Outside) (only : OnlyAt (same (Out out_port.Report)) b new) 
     written = λ told p other. subst (λ (state : PortState). HoldsSome (c.writes p) (a.port (Out p)).bytes state.bytes) (sym (only.others (Out p) other)) (complete.written told p other);
   }
 
+-- so does the step at which a command has stopped
+module _ (a b new : Outside) (only : OnlyAt (same (Out out_port.Report)) b new) (ports : List NamedPort) (unnamed_report : has_port ports (Out out_port.Report) ≡ false) (p : OutPort) where
+  not_report : (q : OutPort) → has_port ports (Out q) ≡ true → is_report (Out q) ≡ false
+  not_report q among = by_test (is_report (Out q)) _
+      (λ is. absurd (let never : false ≡ true = sym unnamed_report ∙ ap (has_port ports) (same_is (Out out_port.Report) (Out q) is) ∙ among in cc)) (λ other. other)
+
+  still_as : (state : OutPort → Bool) → ((q : OutPort) → has_port ports (Out q) ≡ true → (b.port (Out q)).is_open ≡ state q)
+      → (q : OutPort) → has_port ports (Out q) ≡ true → (new.port (Out q)).is_open ≡ state q
+  still_as state were q among = ap (λ (port : PortState). port.is_open) (only.others (Out q) (not_report q among)) ∙ were q among
+
+  module _ (writes : OutPort → List ℕ → Type 0) where
+    whole_still : (q : OutPort) → is_report (Out q) ≡ false → HoldsSome (writes q) (a.port (Out q)).bytes (b.port (Out q)).bytes
+        → HoldsSome (writes q) (a.port (Out q)).bytes (new.port (Out q)).bytes
+    whole_still q other all = subst (λ (state : PortState). HoldsSome (writes q) (a.port (Out q)).bytes state.bytes) (sym (only.others (Out q) other)) all
+
+    step_then : StopsAt ports writes p a b → StopsAt ports writes p a new
+    step_then (inl opening) = inl (record {
+      states = still_as (λ q. is_opened_before ports q p) opening.states;
+      bytes = λ q other. ap (λ (state : PortState). state.bytes) (only.others (Out q) other) ∙ opening.bytes q other;
+    })
+    step_then (inr (inl writing)) = inr (inl (record {
+      states = still_as (λ q. true) writing.states;
+      written = λ told q other before. whole_still q other (writing.written told q other before);
+    }))
+    step_then (inr (inr finishing)) = inr (inr (record {
+      states = still_as (λ q. not (is_opened_before ports q p)) finishing.states;
+      written = λ told q other. whole_still q other (finishing.written told q other);
+    }))
+
+  stopped_then : (m : MaybeCompletion) → IsKnownAnd m (IsStoppedAt ports p a b) → IsKnownAnd m (IsStoppedAt ports p a new)
+  stopped_then Unknown stopped = stopped
+  stopped_then (Known c) stopped = step_then c.writes stopped
+
 partial_of_done : (fault : OutPort) (a b : Outside) (m : MaybeCompletion) → IsKnownAnd m (IsComplete Done a b) → IsKnownAnd m (IsPartial fault a b)
 partial_of_done fault a b Unknown complete = complete
 partial_of_done fault a b (Known c) complete = record {
@@ -302,6 +336,19 @@ module _ (command : Option Command) (answer : Result (Option Found) CommandError
           let complete = all.complete (ap is_decided lost) (tells_command c is told) in
           subst (λ k. IsKnownAnd (words_completion k old.fixed) (IsPartial p old new)) (sym is)
           (partial_then old middle new reports.only p _ (partial_of_done p old middle _ (subst (λ s. IsKnownAnd (words_completion (Some c) old.fixed) (IsComplete s old middle)) lost complete)))
+
+  pub stopped_in_order : (p : OutPort) → status ≡ WriteFault p → is_report (Out p) ≡ false → TellsInputs (words_ports command) old
+      → IsKnownAnd (words_completion command old.fixed) (IsStoppedAt (words_ports command) p old new)
+  stopped_in_order p failed_there other told = ends _ (λ kept _. at_kept kept came) (λ _ lost _. absurd (at_report (sym failed_there ∙ lost)))
+    where
+      at_report : WriteFault p ≡ WriteFault out_port.Report → ⊥
+      at_report is = let report_port : p ≡ out_port.Report = cc in let never : false ≡ true = sym other ∙ ap (λ q. is_report (Out q)) report_port in cc
+
+      at_kept : status ≡ end_of command_status answer → Came command answer old middle → IsKnownAnd (words_completion command old.fixed) (IsStoppedAt (words_ports command) p old new)
+      at_kept kept (Refused s is answered unopened) = absurd (not_refusal s (WriteFault p) is answered (λ o. cc) (λ o. cc) (sym kept ∙ failed_there))
+      at_kept kept (Good c is good all) =
+          subst (λ k. IsKnownAnd (words_completion k old.fixed) (IsStoppedAt (words_ports k) p old new)) (sym is)
+          (stopped_then old middle new reports.only (command_ports c) (unnamed c) p _ (all.steps p (sym kept ∙ failed_there) (tells_command c is told)))
 
   -- the order
   pub in_order : Tells old → AreGood old.fixed (ports_passed status (words_ports command))

@@ -71,6 +71,7 @@ module _ (number : ℕ) (o : Outside) where
     unreported = λ is. let some : fault_port s ≡ Some (Out out_port.Report) = ap fault_port is in cc;
     complete = λ decided told. complete decided;
     partial = λ p is. absurd (let some : fault_port s ≡ Some (Out p) = ap fault_port is in cc);
+    steps = λ p is. absurd (let some : fault_port s ≡ Some (Out p) = ap fault_port is in cc);
     order = λ told. none_passed o.fixed s;
     opened = λ told p grew. tt;
     none = λ before p. refl;

@@ -69,6 +69,7 @@ module _ (two : Bool) (disk other : List ℕ) (a b : Outside) (only : OnlyAt (sa
     front = λ told. (front told, subst (HoldsFront (second_of a).bytes other) (sym second_still) (front_of_nothing (second_of a).bytes other));
     cause = fault;
     named = refl;
+    first = λ before. absurd (let never : false ≡ true = before in cc);
   }
 
   -- the first is written, and then what there is of the second
@@ -113,6 +114,7 @@ module _ (two : Bool) (disk other : List ℕ) (a b : Outside) (only : OnlyAt (sa
       front = λ told. (front_of_all (final_of a).bytes disk (final_of c).bytes (final_whole told), second_front front told);
       cause = calm_then a b c calm cause;
       named = tt;
+      first = tt;
     }
     leaves_then (Err port) all front cause named = record {
       only = only_both;
@@ -121,6 +123,7 @@ module _ (two : Bool) (disk other : List ℕ) (a b : Outside) (only : OnlyAt (sa
       front = λ told. (front_of_all (final_of a).bytes disk (final_of c).bytes (final_whole told), second_front front told);
       cause = fault_then (Out port) true a b c only_first.fixed calm cause;
       named = right_true (same (Out out_port.Final) (Out port)) (is_other two (Out port)) named;
+      first = λ before. final_whole;
     }
 
 -- The same by another number of lines, and of disks, which is the same.

@@ -22,6 +22,7 @@ pub mod BootedLemmas
 pub mod CheckLemmas
 pub mod CommandLemmas
 pub mod OneWay
+pub mod MakeLemmas
 pub mod MemoryLemmas
 pub mod DemoLemmas
 pub mod TickLemmas

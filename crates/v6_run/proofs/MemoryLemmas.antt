@@ -1,5 +1,5 @@
 -- What has been written by `memory`, step by step.
-use Rattle.std.proofs.Common.{◌≡◌, ℕ, true, false, List, ◌++◌, refl, sym, ◌∙◌, ap, subst, lit<}
+use Rattle.std.proofs.Common.{◌≡◌, ℕ, true, false, inl, inr, List, ◌++◌, refl, sym, ◌∙◌, ap, subst, lit<}
 use Rattle.v6_port.specs.declared.host.OutPort.{OutPort}
 use Rattle.v6_port.specs.declared.host.OutPort.TheVariants as out_port
 use Rattle.v6_port.specs.Outside.{Out, same, PortState, Outside, Tells, OnlyAt}
@@ -15,8 +15,10 @@ use Rattle.v6_run.specs.Ports.{final_of}
 use Rattle.v6_run.specs.Fronts.{HoldsFront, HoldsSome, HoldsFrontOfSome}
 use Rattle.v6_run.specs.Words.{ToMemory}
 use Rattle.v6_run.specs.Opened.{output_ports, AreGood}
+use Rattle.v6_run.specs.Steps.{is_written_before}
 use Rattle.v6_run.specs.Outputs.{memory_writes, core_writes, EndsRun, StopsRun}
 use Rattle.v6_port.proofs.CauseLemmas.{still_tells, calm_then, fault_then, not_line}
+use Rattle.v6_run.proofs.MakeLemmas.{final_alone}
 use Rattle.v6_run.proofs.OutputLemmas.{nothing_of, all_of, empty_of, fault_any}
 
 -- Finishing changes nothing of what core and the swap area keep.
@@ -34,8 +36,16 @@ module _ (name : List ℕ) (run : Course) (a b : Outside) (opens : OnlyAt (same 
   others_same : (p : OutPort) → same (Out out_port.Final) (Out p) ≡ false → (b.port (Out p)).bytes ≡ (a.port (Out p)).bytes
   others_same p other = ap (λ (state : PortState). state.bytes) (opens.others (Out p) other)
 
-  pub memory_unopened : FaultAt (Out out_port.Final) (is_expected (a.fixed.expects out_port.Final) name) a b → StopsRun (ToMemory name) (core_writes run) out_port.Final a b
-  memory_unopened fault = record { named = refl; written = λ told p. nothing_of _ _ _ (all_same p); order = λ told. tt; opened = λ told p grew. absurd (grew (all_same p)); fault = fault } where
+  pub memory_unopened : (final_of b).is_open ≡ false → FaultAt (Out out_port.Final) (is_expected (a.fixed.expects out_port.Final) name) a b
+      → StopsRun (ToMemory name) (core_writes run) out_port.Final a b
+  memory_unopened closed fault = record {
+    named = refl;
+    written = λ told p. nothing_of _ _ _ (all_same p);
+    order = λ told. tt;
+    opened = λ told p grew. absurd (grew (all_same p));
+    fault = fault;
+    step = inl (record { states = final_alone name b false closed; bytes = λ q other. all_same q });
+  } where
     all_same : (p : OutPort) → (b.port (Out p)).bytes ≡ (a.port (Out p)).bytes
     all_same out_port.Term = others_same out_port.Term refl
     all_same out_port.Log = others_same out_port.Log refl
@@ -58,15 +68,24 @@ module _ (name : List ℕ) (run : Course) (a b : Outside) (opens : OnlyAt (same 
     good : Tells a → AreGood a.fixed (output_ports (ToMemory name))
     good told = (expected told, tt)
 
-    pub memory_stopped : (Tells b → HoldsFront (final_of b).bytes text (final_of c).bytes) → Calm a b → FaultAt (Out out_port.Final) true b c
+    pub memory_stopped : (final_of c).is_open ≡ true → (Tells b → HoldsFront (final_of b).bytes text (final_of c).bytes) → Calm a b → FaultAt (Out out_port.Final) true b c
         → StopsRun (ToMemory name) (core_writes run) out_port.Final a c
-    memory_stopped front calm fault = record {
+    memory_stopped still front calm fault = record {
       named = refl;
       written = at;
       order = λ told. tt;
       opened = λ told p grew. good told;
       fault = fault_any _ _ _ _ (fault_then _ _ a b c opens.fixed calm fault);
+      step = inr (inl (record { states = final_alone name c true still; written = λ told q other before. earlier q before }));
     } where
+      earlier : (q : OutPort) → is_written_before q out_port.Final ≡ true → HoldsSome (core_writes run q) (a.port (Out q)).bytes (c.port (Out q)).bytes
+      earlier out_port.Term before = empty_of _ _ _ refl (others_then out_port.Term refl)
+      earlier out_port.Log before = empty_of _ _ _ refl (others_then out_port.Log refl)
+      earlier out_port.Final before = absurd (let no : false ≡ true = before in cc)
+      earlier out_port.Report before = absurd (let no : false ≡ true = before in cc)
+      earlier out_port.Second before = absurd (let no : false ≡ true = before in cc)
+      earlier (out_port.Line l) before = empty_of _ _ _ refl (others_then (out_port.Line l) (not_line 6 l (lit< tt)))
+
       at : Tells a → (p : OutPort) → HoldsFrontOfSome (core_writes run p) (a.port (Out p)).bytes (c.port (Out p)).bytes
       at told out_port.Term = nothing_of _ _ _ (others_then out_port.Term refl)
       at told out_port.Log = nothing_of _ _ _ (others_then out_port.Log refl)
@@ -87,13 +106,15 @@ module _ (name : List ℕ) (run : Course) (a b : Outside) (opens : OnlyAt (same 
       all_written told out_port.Second = empty_of _ _ _ refl (others_last out_port.Second refl)
       all_written told (out_port.Line l) = empty_of _ _ _ refl (others_last (out_port.Line l) (not_line 6 l (lit< tt)))
 
-      pub memory_unfinished : Calm a b → Calm b c → FaultAt (Out out_port.Final) true c d → StopsRun (ToMemory name) (core_writes run) out_port.Final a d
-      memory_unfinished calm calm_too fault = record {
+      pub memory_unfinished : (final_of d).is_open ≡ true → Calm a b → Calm b c → FaultAt (Out out_port.Final) true c d
+          → StopsRun (ToMemory name) (core_writes run) out_port.Final a d
+      memory_unfinished still calm calm_too fault = record {
         named = refl;
         written = λ told p. all_of _ _ _ (all_written told p);
         order = λ told. tt;
         opened = λ told p grew. good told;
         fault = fault_any _ _ _ _ (fault_then _ _ a c d (writes.fixed ∙ opens.fixed) (calm_then _ _ _ calm calm_too) fault);
+        step = inr (inr (record { states = final_alone name d true still; written = λ told q other. all_written told q }));
       }
 
       pub memory_left : (final_of d).is_open ≡ false → Calm a b → Calm b c → Calm c d → EndsRun (ToMemory name) (core_writes run) run ended a d

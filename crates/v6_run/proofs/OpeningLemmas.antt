@@ -1,5 +1,5 @@
 -- The opening and the finishing of a run's files, one after another.
-use Rattle.std.proofs.Common.{◌≡◌, ◌≢◌, ◌+◌, ◌-◌, ◌<◌, ◌≤◌, ℕ, suc, Bool, true, false, ◌||◌, if◌then◌else◌, Option, is_some, Result, Ok, Err, is_err, List, [], ◌∷◌, ◌++◌, append_assoc, length, get_or, take, drop, take_all, length-take, length-drop, map, string_bytes, refl, sym, ◌∙◌, ap, subst, arith}
+use Rattle.std.proofs.Common.{◌≡◌, ◌≢◌, ◌+◌, ◌-◌, ◌<◌, ◌≤◌, ℕ, suc, Bool, true, false, not, ◌||◌, ◌⊎◌, inl, if◌then◌else◌, Option, is_some, Result, Ok, Err, is_err, List, [], ◌∷◌, ◌++◌, append_assoc, length, get_or, take, drop, take_all, length-take, length-drop, map, string_bytes, refl, sym, ◌∙◌, ap, subst, arith}
 use Rattle.std.specs.List.{range_with_len}
 use Rattle.std.proofs.lemmas.Bool.{eq-eqb}
 use Rattle.std.proofs.lemmas.List.FromFn.{map-range_with_len_more}
@@ -15,6 +15,7 @@ use Rattle.abstract_unix.specs.Runs.{Course}
 use Rattle.v6_run.specs.Words.{DiskFiles, ToDisk}
 use Rattle.v6_run.specs.declared.outputs.Output.{Output}
 use Rattle.v6_run.specs.Opened.{NamedPort, output, line_port, output_ports, has_port, AreApart, ports_before, knows_port, AreGood, line_output}
+use Rattle.v6_run.specs.Steps.{is_opened_before}
 use Rattle.v6_run.specs.Opening.{output_value, AreThere, Opens, Shuts}
 use Rattle.v6_run.specs.Outputs.{is_shown, is_left, is_disk_output, disk_writes, StopsRun}
 use Rattle.v6_run.proofs.CauseLemmas.{by_test, only_within, left_false, right_false, fault_known}
@@ -90,10 +91,30 @@ module _ (p : OutPort) (name : List ℕ) (ports : List NamedPort) where
         (λ is. subst (λ (r : Port). (c.port r).is_open ≡ state) (same_is (Out p) (Out q) is) (ap (λ (port : PortState). port.is_open) (only.others (Out p) apart) ∙ here))
         (others q)
 
+    -- what is told of those before another port, when the first has been passed and the others are as it says
+    states_then : (f : Bool → Bool) (b c : Outside) (q : OutPort) → has_port ports (Out q) ≡ true → OnlyAt (has_port ports) b c → (b.port (Out p)).is_open ≡ f true
+        → ((r : OutPort) → has_port ports (Out r) ≡ true → (c.port (Out r)).is_open ≡ f (is_opened_before ports r q))
+        → (r : OutPort) → has_port all (Out r) ≡ true → (c.port (Out r)).is_open ≡ f (is_opened_before all r q)
+    states_then f b c q named only here others r among =
+        either_told (same (Out p) (Out r)) (has_port ports (Out r)) _ among
+        (λ is. subst (λ (s : Port). (c.port s).is_open ≡ f true) (same_is (Out p) (Out r) is) (ap (λ (port : PortState). port.is_open) (only.others (Out p) apart) ∙ here)
+        ∙ ap (λ b. f (b || is_opened_before ports r q)) (sym is) ∙ ap (λ l. f (has_port l (Out r))) (sym (before_rest (Out q) named)))
+        (λ later. others r later ∙ ap (λ b. f (b || is_opened_before ports r q)) (sym (not_first (Out r) later)) ∙ ap (λ l. f (has_port l (Out r))) (sym (before_rest (Out q) named)))
+
+  -- the first has failed, and none comes before it
+  states_first : (f : Bool → Bool) (a b : Outside) → OnlyAt (same (Out p)) a b → (b.port (Out p)).is_open ≡ (a.port (Out p)).is_open
+      → ((r : OutPort) → has_port all (Out r) ≡ true → (a.port (Out r)).is_open ≡ f false)
+      → (r : OutPort) → has_port all (Out r) ≡ true → (b.port (Out r)).is_open ≡ f (is_opened_before all r p)
+  states_first f a b only here were r among =
+      by_test (same (Out p) (Out r)) _ (λ is. subst (λ (s : Port). (b.port s).is_open ≡ (a.port s).is_open) (same_is (Out p) (Out r) is) here)
+      (λ other. ap (λ (port : PortState). port.is_open) (only.others (Out r) other))
+      ∙ were r among ∙ ap (λ l. f (has_port l (Out r))) (sym none_before)
+
   -- it can't be opened
-  pub open_fault : (a b : Outside) (r : Result (Unit {0}) Failed) → is_err r ≡ true → OpensWrite p name a r b → Opens all (Err p) a b
-  open_fault a b (Ok x) bad opens = absurd (cc)
-  open_fault a b (Err e) bad opens = record {
+  pub open_fault : (a b : Outside) (r : Result (Unit {0}) Failed) → ((q : OutPort) → has_port all (Out q) ≡ true → (a.port (Out q)).is_open ≡ false) → is_err r ≡ true
+      → OpensWrite p name a r b → Opens all (Err p) a b
+  open_fault a b (Ok x) closed bad opens = absurd (cc)
+  open_fault a b (Err e) closed bad opens = record {
     only = only_first a b opens.only;
     bytes = bytes_step p a b opens.only opens.outcome.failed.bytes;
     is_open = tt;
@@ -104,12 +125,14 @@ module _ (p : OutPort) (name : List ℕ) (ports : List NamedPort) where
     });
     named = first_named;
     order = λ told. subst (AreGood a.fixed) (sym none_before) tt;
+    stopped = states_first (λ b. b) a b opens.only opens.outcome.failed.is_open closed;
   }
 
   -- or finished
-  pub finish_fault : (a b : Outside) (r : Result (Unit {0}) Failed) → is_err r ≡ true → Finishes p a r b → Shuts all (Err p) a b
-  finish_fault a b (Ok x) bad shuts = absurd (cc)
-  finish_fault a b (Err e) bad shuts = record {
+  pub finish_fault : (a b : Outside) (r : Result (Unit {0}) Failed) → ((q : OutPort) → has_port all (Out q) ≡ true → (a.port (Out q)).is_open ≡ true) → is_err r ≡ true
+      → Finishes p a r b → Shuts all (Err p) a b
+  finish_fault a b (Ok x) opened bad shuts = absurd (cc)
+  finish_fault a b (Err e) opened bad shuts = record {
     only = only_first a b shuts.only;
     bytes = bytes_step p a b shuts.only shuts.outcome.failed.bytes;
     is_open = tt;
@@ -119,6 +142,7 @@ module _ (p : OutPort) (name : List ℕ) (ports : List NamedPort) where
       missing = λ told known. shuts.outcome.missing;
     };
     named = first_named;
+    stopped = states_first not a b shuts.only shuts.outcome.failed.is_open opened;
   }
 
   -- it is opened, and the others after it
@@ -138,6 +162,7 @@ module _ (p : OutPort) (name : List ℕ) (ports : List NamedPort) where
       cause = calm_then a b c first_calm rest.cause;
       named = tt;
       order = λ told. (expected told, subst (λ (f : Environment). AreGood f ports) only.fixed (rest.order (still_tells _ a b only told)));
+      stopped = tt;
     }
     both_opened (Err q) rest = record {
       only = only_then (has_port all) a b c (only_first a b only) (only_rest b c rest.only);
@@ -148,6 +173,7 @@ module _ (p : OutPort) (name : List ℕ) (ports : List NamedPort) where
       named = rest_named (Out q) rest.named;
       order = λ told. subst (AreGood a.fixed) (sym (before_rest apart (Out q) rest.named))
           (expected told, subst (λ (f : Environment). AreGood f (ports_before ports (Out q))) only.fixed (rest.order (still_tells _ a b only told)));
+      stopped = states_then apart (λ b. b) b c q rest.named rest.only (ap (λ (state : PortState). state.is_open) opened) rest.stopped;
     }
 
   pub open_then : (a b c : Outside) (r : Result (Unit {0}) Failed) (s : Result (Unit {0}) OutPort) → has_port ports (Out p) ≡ false → is_err r ≡ false → OpensWrite p name a r b
@@ -170,6 +196,7 @@ module _ (p : OutPort) (name : List ℕ) (ports : List NamedPort) where
       is_open = all_at apart false b c rest.only (ap (λ (state : PortState). state.is_open) shut) rest.is_open;
       cause = calm_then a b c shut_calm rest.cause;
       named = tt;
+      stopped = tt;
     }
     both_shut (Err q) rest = record {
       only = only_then (has_port all) a b c (only_first a b only) (only_rest b c rest.only);
@@ -177,6 +204,7 @@ module _ (p : OutPort) (name : List ℕ) (ports : List NamedPort) where
       is_open = tt;
       cause = fault_then (Out q) true a b c only.fixed shut_calm rest.cause;
       named = rest_named (Out q) rest.named;
+      stopped = states_then apart not b c q rest.named rest.only (ap (λ (state : PortState). state.is_open) shut) rest.stopped;
     }
 
   pub finish_then : (a b c : Outside) (r : Result (Unit {0}) Failed) (s : Result (Unit {0}) OutPort) → has_port ports (Out p) ≡ false → is_err r ≡ false → Finishes p a r b
@@ -193,6 +221,7 @@ opens_none o = record {
   cause = calm_still o;
   named = tt;
   order = λ told. tt;
+  stopped = tt;
 }
 
 pub shuts_none : (o : Outside) → Shuts [] (Ok tt) o o
@@ -202,6 +231,7 @@ shuts_none o = record {
   is_open = λ p no. absurd (cc no);
   cause = calm_still o;
   named = tt;
+  stopped = tt;
 }
 
 -- The files that a program holds, the first before the others.
@@ -261,18 +291,22 @@ module _ (held : List Output) (first d : Output) (some : 1 ≤ length held) (fir
         → (b.port (Out q)).is_open ≡ state
     left_at b apart only = still_at first.port first_name ports_left (first_apart apart) state a b only (λ q named. are q (ap (λ l. has_port l (Out q)) split ∙ named))
 
-  pub first_unopened : (a b : Outside) (name : List ℕ) (r : Result (Unit {0}) Failed) → name ≡ first_name → is_err r ≡ true → OpensWrite first.port name a r b
-      → Opens (map output_value held) (Err first.port) a b
-  first_unopened a b name r named bad opens = subst (λ l. Opens l (Err first.port) a b) (sym split)
-      (open_fault first.port first_name ports_left a b r bad (subst (λ n. OpensWrite first.port n a r b) named opens))
+  pub first_unopened : (a b : Outside) (name : List ℕ) (r : Result (Unit {0}) Failed)
+      → ((q : OutPort) → has_port (map output_value held) (Out q) ≡ true → (a.port (Out q)).is_open ≡ false) → name ≡ first_name → is_err r ≡ true
+      → OpensWrite first.port name a r b → Opens (map output_value held) (Err first.port) a b
+  first_unopened a b name r closed named bad opens = subst (λ l. Opens l (Err first.port) a b) (sym split)
+      (open_fault first.port first_name ports_left a b r (subst (λ l. (q : OutPort) → has_port l (Out q) ≡ true → (a.port (Out q)).is_open ≡ false) split closed) bad (subst (λ n. OpensWrite first.port n a r b) named opens))
 
   pub left_opened : (a b c : Outside) (name : List ℕ) (r : Result (Unit {0}) Failed) (s : Result (Unit {0}) OutPort) → name ≡ first_name → AreApart (map output_value held)
       → is_err r ≡ false → OpensWrite first.port name a r b → Opens ports_left s b c → Opens (map output_value held) s a c
   left_opened a b c name r s named apart good opens left = subst (λ l. Opens l s a c) (sym split)
       (open_then first.port first_name ports_left a b c r s (first_apart apart) good (subst (λ n. OpensWrite first.port n a r b) named opens) left)
 
-  pub first_unshut : (a b : Outside) (r : Result (Unit {0}) Failed) → is_err r ≡ true → Finishes first.port a r b → Shuts (map output_value held) (Err first.port) a b
-  first_unshut a b r bad shuts = subst (λ l. Shuts l (Err first.port) a b) (sym split) (finish_fault first.port first_name ports_left a b r bad shuts)
+  pub first_unshut : (a b : Outside) (r : Result (Unit {0}) Failed)
+      → ((q : OutPort) → has_port (map output_value held) (Out q) ≡ true → (a.port (Out q)).is_open ≡ true) → is_err r ≡ true → Finishes first.port a r b
+      → Shuts (map output_value held) (Err first.port) a b
+  first_unshut a b r opened bad shuts = subst (λ l. Shuts l (Err first.port) a b) (sym split)
+      (finish_fault first.port first_name ports_left a b r (subst (λ l. (q : OutPort) → has_port l (Out q) ≡ true → (a.port (Out q)).is_open ≡ true) split opened) bad shuts)
 
   pub left_shut : (a b c : Outside) (r : Result (Unit {0}) Failed) (s : Result (Unit {0}) OutPort) → AreApart (map output_value held) → is_err r ≡ false
       → Finishes first.port a r b → Shuts ports_left s b c → Shuts (map output_value held) s a c
@@ -318,7 +352,17 @@ module _ (files : DiskFiles) (ports : List NamedPort) (ports_are : ports ≡ out
     order = λ told. subst (λ l. AreGood a.fixed (ports_before l (Out port))) ports_are (opens.order told);
     opened = λ told p grew. absurd (grew (opens.bytes p));
     fault = subst (λ l. FaultAt (Out port) (knows_port l a.fixed (Out port)) a b) ports_are opens.cause;
+    step = inl (record {
+      states = subst (λ l. (q : OutPort) → has_port l (Out q) ≡ true → (b.port (Out q)).is_open ≡ is_opened_before l q port) ports_are opens.stopped;
+      bytes = λ q other. opens.bytes q;
+    });
   }
+
+  -- or finished
+  pub states_unshut : (a b : Outside) (port : OutPort) → Shuts ports (Err port) a b
+      → (q : OutPort) → has_port (output_ports (ToDisk files)) (Out q) ≡ true → (b.port (Out q)).is_open ≡ not (is_opened_before (output_ports (ToDisk files)) q port)
+  states_unshut a b port shuts =
+      subst (λ l. (q : OutPort) → has_port l (Out q) ≡ true → (b.port (Out q)).is_open ≡ not (is_opened_before l q port)) ports_are shuts.stopped
 
 -- The files stay open while the run is taken and its disks are written.
 module _ (files : DiskFiles) (b c d : Outside) (opened : (p : OutPort) → is_disk_output files (Out p) ≡ true → (b.port (Out p)).is_open ≡ true)

@@ -1,5 +1,6 @@
 -- What has been written to the files of a run, step by step.
-use Rattle.std.proofs.Common.{◌≡◌, ◌||◌, ◌&&◌, ◌<◌, ◌≤◌, ◌⊎◌, inl, inr, ℕ, Bool, true, false, Option, is_some, Result, Ok, Err, is_err, OnOk, MatchResult, List, [], ◌++◌, refl, sym, ◌∙◌, ap, subst, lit<}
+use Rattle.std.proofs.Common.{◌≡◌, ◌||◌, ◌&&◌, ◌<◌, ◌≤◌, ◌⊎◌, inl, inr, ℕ, Bool, true, false, not, Option, is_some, Result, Ok, Err, is_err, OnOk, OnErr, MatchResult, List, [], ◌++◌, refl, sym, ◌∙◌, ap, subst, lit<}
+use Rattle.std.specs.Prelude.{nat_lt}
 use Rattle.std.proofs.lemmas.List.{append-nil}
 use Rattle.v6_base.specs.Trace.{text_of}
 use Rattle.v6_port.specs.declared.host.OutPort.{OutPort}
@@ -29,11 +30,12 @@ use Rattle.v6_run.specs.Ports.{HasShown, HasShownFronts}
 use Rattle.v6_run.specs.Fronts.{HoldsFront, HoldsSome, HoldsFrontOfSome}
 use Rattle.v6_run.specs.Final.{IsFinal, disk_text, second_text}
 use Rattle.v6_run.specs.Words.{DiskFiles, Outputs, ToDisk, ToMemory}
-use Rattle.v6_run.specs.Opened.{output_ports, ports_before, AreGood}
+use Rattle.v6_run.specs.Opened.{output_ports, has_port, ports_before, AreGood}
+use Rattle.v6_run.specs.Steps.{place_in_writing, is_written_before, is_opened_before, StopsAt}
 use Rattle.v6_run.specs.Opening.{Leaves}
 use Rattle.v6_run.specs.Outputs.{is_shown, is_other, is_left, is_disk_output, shown_text, second_writes, disk_writes, run_writes, IsLog, EndsRun, StopsRun}
 use Rattle.v6_port.proofs.CauseLemmas.{still_tells, calm_then, fault_then, not_line}
-use Rattle.v6_run.proofs.LinePorts.{right_true}
+use Rattle.v6_run.proofs.LinePorts.{right_true, disk_ports}
 use Rattle.v6_run.proofs.OpenedLemmas.{good_before}
 use Rattle.v6_run.proofs.SecondLemmas.{SameDisk, second_left, second_over}
 use Rattle.v6_run.proofs.FrontLemmas.{front_of_nothing, front_of_all}
@@ -52,6 +54,41 @@ empty_of writes old new fits is = record { text = []; fits = fits; holds = is �
 pub fault_any : (p : Port) (known : Bool) (a b : Outside) → FaultAt p true a b → FaultAt p known a b
 fault_any p known a b fault = record { rose = fault.rose; others = fault.others; missing = λ told _. fault.missing told refl }
 
+-- what is written last, and first
+none_after_report : (p : OutPort) → is_written_before out_port.Report p ≡ true → ⊥
+none_after_report out_port.Term before = let never : false ≡ true = before in cc
+none_after_report out_port.Log before = let never : false ≡ true = before in cc
+none_after_report out_port.Final before = let never : false ≡ true = before in cc
+none_after_report out_port.Report before = let never : false ≡ true = before in cc
+none_after_report out_port.Second before = let never : false ≡ true = before in cc
+none_after_report (out_port.Line l) before = let never : false ≡ true = before in cc
+
+none_first : (q : OutPort) → nat_lt (place_in_writing q) 0 ≡ true → ⊥
+none_first out_port.Term before = let never : false ≡ true = before in cc
+none_first out_port.Log before = let never : false ≡ true = before in cc
+none_first out_port.Final before = let never : false ≡ true = before in cc
+none_first out_port.Report before = let never : false ≡ true = before in cc
+none_first out_port.Second before = let never : false ≡ true = before in cc
+none_first (out_port.Line l) before = let never : false ≡ true = before in cc
+
+none_before_shown : (lines : ℕ) (p q : OutPort) → is_shown lines (Out p) ≡ true → is_written_before q p ≡ true → ⊥
+none_before_shown lines out_port.Term q shown before = none_first q before
+none_before_shown lines out_port.Log q shown before = none_first q before
+none_before_shown lines out_port.Final q shown before = let never : false ≡ true = shown in cc
+none_before_shown lines out_port.Report q shown before = let never : false ≡ true = shown in cc
+none_before_shown lines out_port.Second q shown before = let never : false ≡ true = shown in cc
+none_before_shown lines (out_port.Line l) q shown before = none_first q before
+
+-- the second disk comes before the report alone
+second_last : (two : Bool) (p : OutPort) → is_left two (Out p) ≡ true → is_written_before out_port.Second p ≡ true → ⊥
+second_last two out_port.Term left before = let never : false ≡ true = before in cc
+second_last two out_port.Log left before = let never : false ≡ true = before in cc
+second_last two out_port.Final left before = let never : false ≡ true = before in cc
+second_last true out_port.Report left before = let never : false ≡ true = left in cc
+second_last false out_port.Report left before = let never : false ≡ true = left in cc
+second_last two out_port.Second left before = let never : false ≡ true = before in cc
+second_last two (out_port.Line l) left before = let never : false ≡ true = before in cc
+
 -- what isn't left at a port
 and_false : (a b : Bool) → b ≡ false → (a && b) ≡ false
 and_false true b is = is
@@ -62,7 +99,7 @@ not_left two q final second = ap (λ b. b || is_other two q) final ∙ and_false
 
 module _ (files : DiskFiles) (first : Disk) (second : Option Disk) (run : Course) (lawful : Lawful (log_of run)) (a b c : Outside) (opens : OnlyAt (is_disk_output files) a b)
     (opened : (p : OutPort) → (b.port (Out p)).bytes ≡ (a.port (Out p)).bytes) (good : Tells a → AreGood a.fixed (output_ports (ToDisk files)))
-    (plays : OnlyAt (is_shown files.lines) b c) where
+    (plays : OnlyAt (is_shown files.lines) b c) (open_c : (p : OutPort) → is_disk_output files (Out p) ≡ true → (c.port (Out p)).is_open ≡ true) where
   -- what the run shows at a port, and what may be written there
   abbrev text_at : OutPort → List ℕ
   text_at p = shown_text files.lines (shown_by run) p
@@ -88,6 +125,9 @@ module _ (files : DiskFiles) (first : Disk) (second : Option Disk) (run : Course
   unplayed : (p : OutPort) → is_shown files.lines (Out p) ≡ false → (c.port (Out p)).bytes ≡ (a.port (Out p)).bytes
   unplayed p other = ap (λ (state : PortState). state.bytes) (plays.others (Out p) other) ∙ opened p
 
+  open_ports : (q : OutPort) → has_port (output_ports (ToDisk files)) (Out q) ≡ true → (c.port (Out q)).is_open ≡ true
+  open_ports q among = open_c q (sym (disk_ports files (Out q)) ∙ among)
+
   calm_c : Calm a b → Calm b c → Calm a c
   calm_c first_calm later = calm_then _ _ _ first_calm later
 
@@ -99,6 +139,7 @@ module _ (files : DiskFiles) (first : Disk) (second : Option Disk) (run : Course
     order = good_so_far port;
     opened = λ told p grew. good told;
     fault = fault_any _ _ _ _ (fault_then _ _ a b c opens.fixed calm fault);
+    step = inr (inl (record { states = open_ports; written = λ told q other before. absurd (none_before_shown files.lines port q named before) }));
   } where
     front_at : Tells a → (p : OutPort) → HoldsFront (a.port (Out p)).bytes (text_at p) (c.port (Out p)).bytes
     front_at told p = subst (λ l. HoldsFront l (text_at p) (c.port (Out p)).bytes) (opened p) (fronts (tells_b told) p)
@@ -144,7 +185,16 @@ module _ (files : DiskFiles) (first : Disk) (second : Option Disk) (run : Course
         order = good_so_far port;
         opened = λ told p grew. good told;
         fault = fault_any _ _ _ _ (fault_then _ _ a c d (plays.fixed ∙ opens.fixed) (calm_c calm calm_too) leaves.cause);
+        step = inr (inl (record { states = λ q among. leaves.is_open q ∙ open_ports q among; written = λ told q other before. earlier told q before }));
       } where
+        earlier : Tells a → (q : OutPort) → is_written_before q port ≡ true → HoldsSome (writes_at q) (a.port (Out q)).bytes (d.port (Out q)).bytes
+        earlier told out_port.Term before = term_written told
+        earlier told out_port.Log before = log_written told
+        earlier told out_port.Final before = record { text = disk; fits = fits; holds = leaves.first before (tells_c told) ∙ ap (λ l. l ++ disk) (unplayed out_port.Final refl) }
+        earlier told out_port.Report before = absurd (none_after_report port before)
+        earlier told out_port.Second before = absurd (second_last two port leaves.named before)
+        earlier told (out_port.Line l) before = line_written told l
+
         front_of : (p : OutPort) (text : List ℕ) → is_shown files.lines (Out p) ≡ false → HoldsFront (c.port (Out p)).bytes text (d.port (Out p)).bytes
             → HoldsFront (a.port (Out p)).bytes text (d.port (Out p)).bytes
         front_of p text not front = subst (λ l. HoldsFront l text (d.port (Out p)).bytes) (unplayed p not) front
@@ -169,14 +219,16 @@ module _ (files : DiskFiles) (first : Disk) (second : Option Disk) (run : Course
         written_e : Tells a → (p : OutPort) → HoldsSome (writes_at p) (a.port (Out p)).bytes (e.port (Out p)).bytes
         written_e told p = subst (HoldsSome (writes_at p) (a.port (Out p)).bytes) (sym (finishes p)) (written_d told p)
 
-        pub stopped_finishing : (port : OutPort) → is_disk_output files (Out port) ≡ true → Calm a b → Calm b c → FaultAt (Out port) true d e
-            → StopsRun (ToDisk files) (disk_writes files.lines first second run) port a e
-        stopped_finishing port named calm calm_too fault = record {
+        pub stopped_finishing : (port : OutPort) → is_disk_output files (Out port) ≡ true
+            → ((q : OutPort) → has_port (output_ports (ToDisk files)) (Out q) ≡ true → (e.port (Out q)).is_open ≡ not (is_opened_before (output_ports (ToDisk files)) q port))
+            → Calm a b → Calm b c → FaultAt (Out port) true d e → StopsRun (ToDisk files) (disk_writes files.lines first second run) port a e
+        stopped_finishing port named states calm calm_too fault = record {
           named = named;
           written = λ told p. all_of _ _ _ (written_e told p);
           order = good_so_far port;
           opened = λ told p grew. good told;
           fault = fault_any _ _ _ _ (fault_then _ _ a d e (writes.fixed ∙ plays.fixed ∙ opens.fixed) (calm_then _ _ _ (calm_c calm calm_too) leaves.cause) fault);
+          step = inr (inr (record { states = states; written = λ told q other. written_e told q }));
         }
 
         pub came_to_end : ((p : OutPort) → is_disk_output files (Out p) ≡ true → (e.port (Out p)).is_open ≡ false) → Calm a b → Calm b c → Calm d e
@@ -225,6 +277,10 @@ pub told_where_ok : {T E : Type 0} (r : Result T E) (P : Type 0) → false ≡ i
 told_where_ok (Ok x) P is holds = holds
 told_where_ok (Err e) P is holds = absurd (cc)
 
+pub told_where_err : {T E : Type 0} (r : Result T E) (P : Type 0) → true ≡ is_err r → OnErr r P → P
+told_where_err (Ok x) P is holds = absurd (cc)
+told_where_err (Err e) P is holds = holds
+
 -- A kernel has the disk of its image.
 pub same_blocks : (image : List ℕ) (blocks : List (List ℕ)) → blocks ≡ blocks_of image → (n : ℕ) → n < DISK_BLOCKS → block_at blocks n ≡ disk_of image n
 same_blocks image blocks is n low = ap (λ l. block_at l n) is ∙ block_of_image image n low
@@ -239,15 +295,26 @@ module _ (d e : Disk) (d2 e2 : Option Disk) (same_disk : (n : ℕ) → n < DISK_
   writes_over (ToDisk files) run (out_port.Line l) text fits = fits
   writes_over (ToMemory final) run p text fits = fits
 
+  some_over : (outputs : Outputs) (run : Course) (p : OutPort) (old new : List ℕ) → HoldsSome (run_writes outputs e e2 run p) old new → HoldsSome (run_writes outputs d d2 run p) old new
+  some_over outputs run p old new all = record { text = all.text; fits = writes_over outputs run p all.text all.fits; holds = all.holds }
+
   pub ends_over : (outputs : Outputs) (run : Course) (ending : Ends) (old new : Outside) → EndsRun outputs (run_writes outputs e e2 run) run ending old new
       → EndsRun outputs (run_writes outputs d d2 run) run ending old new
   ends_over outputs run ending old new ended = record {
     ended = ended.ended;
-    written = λ told p. let all = ended.written told p in record { text = all.text; fits = writes_over outputs run p all.text all.fits; holds = all.holds };
+    written = λ told p. some_over outputs run p _ _ (ended.written told p);
     order = ended.order;
     is_open = ended.is_open;
     calm = ended.calm;
   }
+
+  steps_over : (outputs : Outputs) (run : Course) (port : OutPort) (old new : Outside) → StopsAt (output_ports outputs) (run_writes outputs e e2 run) port old new
+      → StopsAt (output_ports outputs) (run_writes outputs d d2 run) port old new
+  steps_over outputs run port old new (inl opening) = inl opening
+  steps_over outputs run port old new (inr (inl writing)) =
+      inr (inl (record { states = writing.states; written = λ told q other before. some_over outputs run q _ _ (writing.written told q other before) }))
+  steps_over outputs run port old new (inr (inr finishing)) =
+      inr (inr (record { states = finishing.states; written = λ told q other. some_over outputs run q _ _ (finishing.written told q other) }))
 
   pub stops_over : (outputs : Outputs) (run : Course) (port : OutPort) (old new : Outside) → StopsRun outputs (run_writes outputs e e2 run) port old new
       → StopsRun outputs (run_writes outputs d d2 run) port old new
@@ -257,4 +324,5 @@ module _ (d e : Disk) (d2 e2 : Option Disk) (same_disk : (n : ℕ) → n < DISK_
     order = stops.order;
     opened = stops.opened;
     fault = stops.fault;
+    step = steps_over outputs run port old new stops.step;
   }

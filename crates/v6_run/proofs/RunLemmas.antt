@@ -1,5 +1,5 @@
 -- What `run` answers, exit by exit.
-use Rattle.std.proofs.Common.{◌≡◌, ◌≢◌, ℕ, Bool, true, false, ◌&&◌, Option, Some, None, IfSome, IsSomeAnd, List, [], ◌∷◌, ◌++◌, take, refl, sym, Ok, Err, IsOk, ◌∙◌, ap, subst, is_some, if◌then◌else◌, ◌||◌, lit<}
+use Rattle.std.proofs.Common.{◌≡◌, ◌≢◌, ℕ, Bool, true, false, not, ◌&&◌, ◌⊎◌, inl, inr, Option, Some, None, IfSome, IsSomeAnd, List, [], ◌∷◌, ◌++◌, take, refl, sym, Ok, Err, IsOk, ◌∙◌, ap, subst, is_some, if◌then◌else◌, ◌||◌, lit<}
 use Rattle.std.specs.Option.{option_map}
 use Rattle.v6_port.specs.declared.host.InPort.TheVariants as in_port
 use Rattle.v6_port.specs.declared.host.OutPort.{OutPort}
@@ -42,13 +42,13 @@ use Rattle.v6_run.specs.Fronts.{HoldsSome, HoldsFrontOfSome}
 use Rattle.v6_run.specs.Opened.{NamedPort, input, second_inputs, output_ports, has_port, ports_before, command_ports, knows_port, TellsInputs, IsGoodAt, AreGood, ports_passed, AreGoodAfter}
 use Rattle.v6_run.specs.Outputs.{is_output, run_writes, EndsRun, StopsRun}
 use Rattle.v6_run.specs.Causes.{IsCaused}
-use Rattle.v6_run.specs.Steps.{StopsReading, StopsImage, StopsSecond}
-use Rattle.v6_run.specs.Headline.{MaybeCompletion, Known, IsKnownAnd, ends_with, course_completion, lines_completion, bytes_completion, script_completion, fault_completion, image_completion, second_fault_completion, given_second, second_completion, command_completion, IsComplete, IsPartial, status_at, is_named, may_end, is_known}
+use Rattle.v6_run.specs.Steps.{StopsReading, StopsImage, StopsSecond, is_opened_before, StopsAt}
+use Rattle.v6_run.specs.Headline.{MaybeCompletion, Known, IsKnownAnd, ends_with, course_completion, lines_completion, bytes_completion, script_completion, fault_completion, image_completion, second_fault_completion, given_second, second_completion, command_completion, IsComplete, IsPartial, IsStoppedAt, status_at, is_named, may_end, is_known}
 use Rattle.v6_run.specs.Answers.{Answers, HasSecond, HasFiles}
 use Rattle.v6_run.proofs.OpenedLemmas.{good_first, good_later, given_and, with_image, with_images, with_images_before}
 use Rattle.v6_run.proofs.LinePorts.{or_false}
 use Rattle.v6_port.proofs.CauseLemmas.{still_tells, only_then, calm_then, fault_then}
-use Rattle.v6_run.proofs.CauseLemmas.{fault_known, only_within, not_input, second_unread, names_image, names_second, names_script, names_outputs, named_outputs, known_outputs, named_script, known_script, before_script, named_second, known_second, before_second, named_report}
+use Rattle.v6_run.proofs.CauseLemmas.{fault_known, only_within, not_input, second_unread, names_image, names_second, names_script, names_outputs, outputs_are, named_outputs, before_outputs, known_outputs, named_script, known_script, before_script, named_second, known_second, before_second, named_report}
 use Rattle.v6_run.proofs.AnswerLemmas.{not_so, unwritten, complete_unwritten, image_stops}
 
 -- what comes after the first image
@@ -366,6 +366,7 @@ module _ (words : RunWords) (image : List ℕ) (second : Option (List ℕ)) (byt
         unreported = λ is. cc;
         complete = λ _ told. run_complete AtEnd ended (told refl);
         partial = λ p is. absurd (cc);
+        steps = λ p is. absurd (cc);
         order = all_good AtEnd ended;
         opened = λ told p grew. all_good AtEnd ended told;
         none = λ before. not_so _ (sym before);
@@ -378,6 +379,7 @@ module _ (words : RunWords) (image : List ℕ) (second : Option (List ℕ)) (byt
         unreported = λ is. cc;
         complete = λ _ told. run_complete (ends.Panic kind) ended (told refl);
         partial = λ p is. absurd (cc);
+        steps = λ p is. absurd (cc);
         order = all_good (ends.Panic kind) ended;
         opened = λ told p grew. all_good (ends.Panic kind) ended told;
         none = λ before. not_so _ (sym before);
@@ -394,6 +396,34 @@ module _ (words : RunWords) (image : List ℕ) (second : Option (List ℕ)) (byt
               (stops.written (still_tells _ _ _ files.only told) p);
         })
 
+        -- at which step it was
+        among : (q : OutPort) → is_named (Run words) (Out q) ≡ true → has_port (output_ports words.outputs) (Out q) ≡ true
+        among q named = outputs_are words.outputs (Out q) ∙ sym (named_outputs words q) ∙ named
+
+        state_as : (f : Bool → Bool) (q : OutPort) → f (is_opened_before (output_ports words.outputs) q port) ≡ f (is_opened_before (command_ports (Run words)) q port)
+        state_as f q = ap f (sym (before_outputs words port q))
+
+        whole_as : (q : OutPort) → HoldsSome (writes run q) (middle.port (Out q)).bytes (new.port (Out q)).bytes
+            → HoldsSome (writes run q) (old.port (Out q)).bytes (new.port (Out q)).bytes
+        whole_as q all = subst (λ (state : PortState). HoldsSome (writes run q) state.bytes (new.port (Out q)).bytes) (files.none q) all
+
+        step_from : StopsAt (output_ports words.outputs) (writes run) port middle new → StopsAt (command_ports (Run words)) (writes run) port old new
+        step_from (inl opening) = inl (record {
+          states = λ q named. opening.states q (among q named) ∙ state_as (λ b. b) q;
+          bytes = λ q other. opening.bytes q other ∙ ap (λ (state : PortState). state.bytes) (files.none q);
+        })
+        step_from (inr (inl writing)) = inr (inl (record {
+          states = λ q named. writing.states q (among q named);
+          written = λ told q other before. whole_as q (writing.written (still_tells _ _ _ files.only told) q other before);
+        }))
+        step_from (inr (inr finishing)) = inr (inr (record {
+          states = λ q named. finishing.states q (among q named) ∙ state_as not q;
+          written = λ told q other. whole_as q (finishing.written (still_tells _ _ _ files.only told) q other);
+        }))
+
+        run_step : Tells old → IsKnownAnd (command_completion (Run words) old.fixed) (IsStoppedAt (command_ports (Run words)) port old new)
+        run_step told = subst (λ m. IsKnownAnd m (IsStoppedAt (command_ports (Run words)) port old new)) (sym (run_completion told)) (step_from stops.step)
+
         grown : (p : OutPort) → (new.port (Out p)).bytes ≢ (old.port (Out p)).bytes → (new.port (Out p)).bytes ≢ (middle.port (Out p)).bytes
         grown p grew is = grew (is ∙ ap (λ (state : PortState). state.bytes) (files.none p))
 
@@ -407,6 +437,8 @@ module _ (words : RunWords) (image : List ℕ) (second : Option (List ℕ)) (byt
               unreported = not_report words.outputs port stops.named;
               complete = λ decided. not_so _ decided;
               partial = λ p is told. let same_port : port ≡ p = cc in subst (λ q. IsKnownAnd (command_completion (Run words) old.fixed) (IsPartial q old new)) same_port (run_partial (told refl));
+              steps = λ p is told. let same_port : port ≡ p = cc in
+                  subst (λ q. IsKnownAnd (command_completion (Run words) old.fixed) (IsStoppedAt (command_ports (Run words)) q old new)) same_port (run_step (told refl));
               order = λ told. past_images_before (input in_port.Script words.script ∷ output_ports words.outputs) (Out port) told
                   (good_first old.fixed (Some image) (input in_port.Script words.script) (output_ports words.outputs) (Out port) (script_good told)
                   (with_inputs (ports_before (output_ports words.outputs) (Out port)) stops.order told));

@@ -3,7 +3,7 @@ use Rattle.std.proofs.Common.{◌≡◌, ◌<◌, ℕ, Bool, true, false, ◌&&�
 use Rattle.std.specs.Prelude.{nat_lt}
 use Rattle.std.proofs.lemmas.Bool.{lt-ltb}
 use Rattle.std.proofs.lemmas.List.{append-nil, append_cancel_left}
-use Rattle.v6_base.specs.Trace.{Item, Took, line_bytes, text_of}
+use Rattle.v6_base.specs.Trace.{Item, Taken, Took, line_bytes, text_of}
 use Rattle.v6_base.proofs.Took.{line_bytes-append, text_of-append}
 use Rattle.v6_port.specs.declared.host.OutPort.{OutPort}
 use Rattle.v6_port.specs.declared.host.OutPort.TheVariants as out_port
@@ -14,8 +14,8 @@ use Rattle.v6_run.specs.Fronts.{HoldsFront}
 use Rattle.v6_run.specs.Opened.{line_port}
 use Rattle.v6_run.specs.Outputs.{is_line, is_shown}
 use Rattle.v6_run.specs.declared.ports.Kept.{Kept}
-use Rattle.v6_run.specs.declared.ports.Kept.TheVariants.{Nothing}
-use Rattle.v6_run.specs.Ports.{line_state, log_of, failed_port, kept_byte, kept_text, taken_of, taken_by, is_counted, Extends, Goes, HasShown, HasShownFronts}
+use Rattle.v6_run.specs.declared.ports.Kept.TheVariants.{Nothing, Unwanted}
+use Rattle.v6_run.specs.Ports.{line_state, log_of, failed_port, is_silent, kept_byte, kept_text, taken_of, taken_by, is_counted, Extends, Goes, HasShown, HasShownFronts}
 use Rattle.v6_run.proofs.FrontLemmas.{front_of_nothing}
 use Rattle.v6_run.proofs.LinePorts.{other_port, is_low, is_high}
 use Rattle.v6_run.proofs.PortLemmas.{no_byte, no_text, uncounted}
@@ -101,6 +101,14 @@ module _ (lines : ℕ) (some : 0 < lines) (old new : Outside) (kept : Kept) (ite
         by true is = subst (λ q. (new.port (Out q)).bytes ≡ (old.port (Out q)).bytes ++ line_bytes l items) (is_port l is) (all_at l (is_high 1 l lines is))
         by false is = nothing_at (out_port.Line l) (no_line l is)
 
+-- A trace of which nothing is wanted is never cut.
+pub never_cut : (start_lines end_lines : ℕ) (start new : Outside) (start_kept kept : Kept) (items : List Item) → start_kept ≡ Unwanted
+    → Took (taken_by start_lines start start_kept) items (taken_by end_lines new kept) → Goes start_lines start start_kept new kept
+    → (taken_by end_lines new kept).cut ≡ false
+never_cut start_lines end_lines start new start_kept kept items is took goes =
+    let none = ap is_some ((goes.stopped (ap is_silent is)).2 ∙ ap failed_port is) in
+    ap (λ (t : Taken). t.cut) (uncounted end_lines new kept (goes.counted ∙ ap is_counted is)) ∙ none
+
 -- What stays, where the trace began as one over the host at hand.
 module _ (lines start_lines : ℕ) (old start new : Outside) (start_kept kept : Kept) (lines_are : start_lines ≡ lines) (same_start : start ≡ old) (fresh : start_kept ≡ Nothing)
     (goes : Goes start_lines start start_kept new kept) where
@@ -128,6 +136,9 @@ module _ (lines : ℕ) (some : 0 < lines) (start_lines end_lines : ℕ) (lines_a
 
   taken_first : taken_by start_lines start start_kept ≡ taken_of lines old Nothing
   taken_first = ap (λ n. taken_by n start start_kept) lines_are ∙ ap (λ s. taken_by lines s start_kept) same_start ∙ ap (taken_by lines old) fresh
+
+  pub uncut_from : is_some (failed_port kept) ≡ false → (taken_by end_lines new kept).cut ≡ false
+  uncut_from uncut = ap (λ (t : Taken). t.cut) taken_now ∙ uncut
 
   took_all : Took (taken_of lines old Nothing) items (taken_of lines new kept)
   took_all = subst (λ t. Took (taken_of lines old Nothing) items t) taken_now (subst (λ t. Took t items (taken_by end_lines new kept)) taken_first took)

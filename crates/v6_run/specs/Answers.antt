@@ -19,7 +19,7 @@ use Rattle.v6_run.specs.Errors.{command_status, end_of}
 use Rattle.v6_run.specs.Report.{report, answer_line}
 use Rattle.v6_run.specs.Fronts.{HoldsFront}
 use Rattle.v6_run.specs.Causes.{IsCaused}
-use Rattle.v6_run.specs.Headline.{refused_by, command_completion, IsKnownAnd, IsComplete, IsPartial, is_named, may_end, is_known}
+use Rattle.v6_run.specs.Headline.{refused_by, command_completion, IsKnownAnd, IsComplete, IsPartial, IsStoppedAt, is_named, may_end, is_known}
 use Rattle.v6_run.specs.Opened.{command_ports, TellsInputs, AreGood, ports_passed}
 
 -- what a good command comes to, before its report
@@ -31,6 +31,8 @@ pub record Answers (command : Command) (status : Status) (old new : Outside) : T
       → IsKnownAnd (command_completion command old.fixed) (IsComplete status old new)
   pub partial : (p : OutPort) → status ≡ WriteFault p → TellsInputs (command_ports command) old
       → IsKnownAnd (command_completion command old.fixed) (IsPartial p old new)
+  pub steps : (p : OutPort) → status ≡ WriteFault p → TellsInputs (command_ports command) old
+      → IsKnownAnd (command_completion command old.fixed) (IsStoppedAt (command_ports command) p old new)
   pub order : Tells old → AreGood old.fixed (ports_passed status (command_ports command))
   pub opened : Tells old → (p : OutPort) → (new.port (Out p)).bytes ≢ (old.port (Out p)).bytes
       → AreGood old.fixed (command_ports command)

@@ -1,5 +1,5 @@
 -- What a run over a part of its events comes to.
-use Rattle.std.specs.Prelude.{◌≡◌, ◌≤◌, ◌+◌, List, sum_by}
+use Rattle.std.specs.Prelude.{◌≡◌, ◌≤◌, ◌+◌, false, List, sum_by}
 use Rattle.v6_base.specs.Trace.{Taken, Took}
 use Rattle.script_text.specs.declared.script.Event as asked
 use Rattle.script_text.specs.Script.{slots_of, AreRates}
@@ -17,3 +17,9 @@ pub record HasRun (from : Course) (events : List Event) (ends_so : Ends) (system
   pub ends : ends_so ≡ (course from events).ending
   pub system_is : system ≡ (course from events).system
   pub items : Took old (course from events).items new
+
+-- The same of a run that stops where its trace is cut: a front of what is shown has been taken, and where the trace isn't cut,
+-- nothing was left out.
+pub record HasRunUncut (from : Course) (events : List Event) (ends_so : Ends) (system : System) (old new : Taken) : Type 0 where
+  pub items : Took old (course from events).items new
+  pub uncut : new.cut ≡ false → HasRun from events ends_so system old new

@@ -33,7 +33,8 @@ use Rattle.v6_run.specs.Events.{events_of}
 use Rattle.v6_run.specs.Status.{has_written}
 use Rattle.v6_run.specs.Fronts.{HoldsSome, HoldsFrontOfSome, exactly}
 use Rattle.v6_run.specs.Outputs.{run_writes}
-use Rattle.v6_run.specs.Opened.{command_ports, words_ports, has_port, knows_port}
+use Rattle.v6_run.specs.Opened.{NamedPort, command_ports, words_ports, has_port, knows_port}
+use Rattle.v6_run.specs.Steps.{StopsAt}
 use Rattle.v6_run.specs.Report.{store_line, course_line, lawful_line}
 
 abbrev pub is_core_size : ℕ → Bool
@@ -190,6 +191,10 @@ pub record IsPartial (fault : OutPort) (old new : Outside) (completion : Complet
   pub told : is_report (Out fault) ≡ true → completion.ends status.Done
   pub written : Tells old → (p : OutPort) → is_report (Out p) ≡ false
       → HoldsFrontOfSome (completion.writes p) (old.port (Out p)).bytes (new.port (Out p)).bytes
+
+-- The port at fault and the others show at which step the command has stopped.
+abbrev pub IsStoppedAt : List NamedPort → OutPort → Outside → Outside → Completion → Type 0
+IsStoppedAt ports p old new completion = StopsAt ports completion.writes p old new
 
 -- the ports for which a command's words have a name
 abbrev pub is_named : Command → Port → Bool

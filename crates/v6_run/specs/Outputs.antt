@@ -17,6 +17,7 @@ use Rattle.abstract_unix.specs.Runs.{Event, Course, started, course, shown_by, f
 use Rattle.v6_run.specs.declared.run.RunError.{RunError}
 use Rattle.v6_run.specs.declared.run.RunError.TheVariants as run
 use Rattle.v6_run.specs.Fronts.{HoldsSome, HoldsFrontOfSome, exactly}
+use Rattle.v6_run.specs.Steps.{StopsAt}
 use Rattle.v6_run.specs.Final.{IsFinal, IsFinalSecond, IsMemory}
 use Rattle.v6_run.specs.Words.{DiskFiles, Outputs, ToDisk, ToMemory}
 use Rattle.v6_run.specs.Opened.{output_ports, ports_before, knows_port, AreGood}
@@ -114,7 +115,8 @@ pub record EndsRun (outputs : Outputs) (writes : OutPort → List ℕ → Type 0
   pub is_open : AreClosed outputs new
   pub calm : Calm old new
 
--- One of its files has failed. Those before it are expected under their names, and all are where a byte went out.
+-- One of its files has failed. Those before it are expected under their names, and all are where a byte went out. How far the
+-- run has come shows at the ports.
 pub record StopsRun (outputs : Outputs) (writes : OutPort → List ℕ → Type 0) (port : OutPort) (old new : Outside) : Type 0 where
   pub named : is_output outputs (Out port) ≡ true
   pub written : Tells old → (p : OutPort) → HoldsFrontOfSome (writes p) (old.port (Out p)).bytes (new.port (Out p)).bytes
@@ -122,9 +124,9 @@ pub record StopsRun (outputs : Outputs) (writes : OutPort → List ℕ → Type 
   pub opened : Tells old → (p : OutPort) → (new.port (Out p)).bytes ≢ (old.port (Out p)).bytes
       → AreGood old.fixed (output_ports outputs)
   pub fault : FaultAt (Out port) (knows_port (output_ports outputs) old.fixed (Out port)) old new
+  pub step : StopsAt (output_ports outputs) writes port old new
 
--- Or there was no memory for the names of its files, and nothing has happened yet.
+-- Nothing else stops a run.
 abbrev pub StopsBy : Outputs → (OutPort → List ℕ → Type 0) → RunError → Outside → Outside → Type 0
 StopsBy outputs writes (run.Write port) old new = StopsRun outputs writes port old new
-StopsBy outputs writes run.NoMemory old new = new ≡ old
 StopsBy outputs writes _ old new = ⊥

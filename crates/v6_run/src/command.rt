@@ -11,7 +11,7 @@ ghost use Rattle.v6_run.specs.Report.{report, report_line, told_line};
 ghost use Rattle.v6_run.specs.Status.{is_decided, has_written, is_closed};
 ghost use Rattle.v6_run.specs.Errors.{command_status, end_of};
 ghost use Rattle.v6_run.specs.Causes.{HasCause, MissesUnknown};
-ghost use Rattle.v6_run.specs.Headline.{is_core_size, has_core_size, refused_by, reports_done, words_completion, done_line, IsKnownAnd, IsComplete, IsPartial, words_may_end, is_touched, is_known};
+ghost use Rattle.v6_run.specs.Headline.{is_core_size, has_core_size, refused_by, reports_done, words_completion, done_line, IsKnownAnd, IsComplete, IsPartial, IsStoppedAt, words_may_end, is_touched, is_known};
 ghost use Rattle.v6_run.specs.Logs.{AuditsEndInOneWay};
 ghost use Rattle.v6_run.specs.Opened.{words_ports, TellsInputs, AreGood, ports_passed};
 ghost use Rattle.v6_run.specs.Answers.{Answers, AnswersWords};
@@ -153,6 +153,15 @@ pub fn v6<H: Host>(alloc: Global, words: &Vec<String>, host: &mut H) -> Status
         → IsKnownAnd (words_completion (command_in words.now.items) (H.outside host.old).fixed)
         (IsPartial p (H.outside host.old) (H.outside host.new)) }
 
+    // The files are opened one after another, then written in their order, and then finished in the order in which they were
+    // opened. A write fault of one but Report comes in one of these three: those opened before it are open, and nothing was
+    // written; or all are open, and each that is written before it has got all of its text; or all have got their texts, and
+    // those that are finished before it are closed.
+    ensures steps { (p : OutPort) → result ≡ Status.WriteFault p → is_report (Out p) ≡ false
+        → TellsInputs (words_ports (command_in words.now.items)) (H.outside host.old)
+        → IsKnownAnd (words_completion (command_in words.now.items) (H.outside host.old).fixed)
+        (IsStoppedAt (words_ports (command_in words.now.items)) p (H.outside host.old) (H.outside host.new)) }
+
     // The files are opened in their order, and each that comes before the one at fault is good: an image or a script without a
     // fault, an output under the name that is expected. After done and a panic all are, and before they are no byte goes out.
     ensures order { Tells (H.outside host.old)
@@ -169,7 +178,7 @@ pub fn v6<H: Host>(alloc: Global, words: &Vec<String>, host: &mut H) -> Status
         → (p : OutPort) → is_report (Out p) ≡ false → ((H.outside host.new).port (Out p)).is_open ≡ false }
 
     // Each line of the log of a run has its numbers in their ranges and fits what the lines before it give, so that each choice
-    // is the one that the rules give; and the log of a run that comes to the end of its script is lawful.
+    // is one that the rules give; and the log of a run that comes to the end of its script, or to a panic, is lawful.
     ensures lawful { LogsAreLawful }
 
     // Of two disks a call leaves the one alone with which it has nothing to do.

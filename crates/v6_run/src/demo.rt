@@ -67,7 +67,8 @@ fn play_counted<H: Host>(kernel: &mut Kernel, events: &[Event], host: &mut H) ->
         played.ends ≡ (course (started kernel.old.system) (events_of events.now)).ending) }
     ensures shown { IfSome result (λ played. played.shown
         ≡ length (line_bytes 0 (shown_by (course (started kernel.old.system) (events_of events.now))))) }
-    ensures system { kernel.new.system ≡ (course (started kernel.old.system) (events_of events.now)).system }
+    ensures system { IfSome result (λ _.
+        kernel.new.system ≡ (course (started kernel.old.system) (events_of events.now)).system) }
     ensures rest { KeepsRest kernel.old kernel.new }
 {
     let mut ports = Ports::counting(host);

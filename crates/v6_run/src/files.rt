@@ -4,7 +4,7 @@ ghost use Rattle.std.specs.Option.{option_map};
 ghost use Rattle.v6_port.specs.Outside.{In, Out, IsOpen, IsThere, OnlyAt, Tells, same};
 ghost use Rattle.v6_port.specs.Causes.{Calm, FaultAt};
 ghost use Rattle.v6_port.specs.Calls.{is_given, is_expected};
-ghost use Rattle.v6_run.specs.Steps.{StopsReading};
+ghost use Rattle.v6_run.specs.Steps.{StopsReading, StopsFile};
 ghost use Rattle.v6_run.specs.Fronts.{HoldsFront};
 
 use std::alloc::Global;
@@ -151,6 +151,7 @@ pub(crate) fn write_file<H: Host>(
     ensures front { Tells (H.outside host.old)
         → HoldsFront ((H.outside host.old).port (Out port)).bytes text.now ((H.outside host.new).port (Out port)).bytes }
     ensures closed { OnOk result (((H.outside host.new).port (Out port)).is_open ≡ false) }
+    ensures stopped { OnErr result (StopsFile port (H.outside host.old) (H.outside host.new)) }
     ensures expected { OnOk result (Tells (H.outside host.old)
         → is_expected ((H.outside host.old).fixed.expects port) name.now ≡ true) }
     ensures opened { Tells (H.outside host.old)

@@ -22,6 +22,7 @@ pub(crate) enum MakeError {
 
 /// The command `make`: writes the disk image of this number as the file of this name.
 #[inline(never)]
+#[tactic(auto, using(crate::proofs::MakeLemmas::make_stopped))]
 pub(crate) fn make<H: Host>(
     alloc: Global,
     number: u32,

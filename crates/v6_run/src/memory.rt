@@ -1,5 +1,5 @@
 //! The command `memory`: the core and the swap area that a run leaves.
-ghost use Rattle.std.specs.Prelude.{◌≡◌, ℕ, List, true, false, ◌++◌, OnOk, MatchResult};
+ghost use Rattle.std.specs.Prelude.{◌≡◌, ℕ, List, true, false, ◌++◌, OnOk, OnErr, MatchResult};
 ghost use Rattle.v6_port.specs.declared.host.OutPort.TheVariants as out_port;
 ghost use Rattle.v6_port.specs.Outside.{Out, IsOpen, OnlyAt, Tells, same};
 ghost use Rattle.v6_port.specs.Causes.{Calm, FaultAt};
@@ -100,6 +100,7 @@ fn open_final<H: Host>(name: &str, host: &mut H) -> Result<(), Failed>
     ensures only { OnlyAt (same (Out out_port.Final)) (H.outside host.old) (H.outside host.new) }
     ensures bytes { (final_of (H.outside host.new)).bytes ≡ (final_of (H.outside host.old)).bytes }
     ensures is_open { OnOk result (IsOpen (H.outside host.new) (Out out_port.Final)) }
+    ensures closed { OnErr result ((final_of (H.outside host.new)).is_open ≡ false) }
     ensures expected { OnOk result (Tells (H.outside host.old)
         → is_expected ((H.outside host.old).fixed.expects out_port.Final) name.now ≡ true) }
     ensures cause { MatchResult result (λ _. Calm (H.outside host.old) (H.outside host.new))
@@ -114,7 +115,8 @@ fn finish_final<H: Host>(host: &mut H) -> Result<(), Failed>
     requires { IsOpen (H.outside host.old) (Out out_port.Final) }
     ensures only { OnlyAt (same (Out out_port.Final)) (H.outside host.old) (H.outside host.new) }
     ensures bytes { (final_of (H.outside host.new)).bytes ≡ (final_of (H.outside host.old)).bytes }
-    ensures is_open { OnOk result ((final_of (H.outside host.new)).is_open ≡ false) }
+    ensures closed { OnOk result ((final_of (H.outside host.new)).is_open ≡ false) }
+    ensures still_open { OnErr result (IsOpen (H.outside host.new) (Out out_port.Final)) }
     ensures cause { MatchResult result (λ _. Calm (H.outside host.old) (H.outside host.new))
         (λ _. FaultAt (Out out_port.Final) true (H.outside host.old) (H.outside host.new)) }
 {

@@ -11,16 +11,16 @@ ghost use Rattle.abstract_unix.specs.Unix.{Started, Stopped, Finished};
 ghost use Rattle.image_keep.specs.Holds.{AreRangesApart, SwapHolds};
 ghost use Rattle.unix_core.specs.Memory.{kept_in};
 ghost use Rattle.abstract_unix.specs.Runs.{finished};
-ghost use Rattle.v6_run.specs.Words.{ToDisk, disk_files_value};
+ghost use Rattle.v6_run.specs.Words.{ToDisk, disk_files_value, outputs_value};
 ghost use Rattle.v6_run.specs.Ports.{final_of, second_of};
 ghost use Rattle.v6_run.specs.Fronts.{HoldsFront};
 ghost use Rattle.v6_run.specs.Final.{disk_text, second_text};
 ghost use Rattle.v6_run.specs.Outputs.{is_other, is_left};
 ghost use Rattle.v6_run.specs.Opened.{output, line_name, line_outputs, second_outputs, output_ports, has_port, AreApart};
-ghost use Rattle.v6_run.specs.Opening.{output_value, AreThere, Opens, Leaves, Shuts};
+ghost use Rattle.v6_run.specs.Opening.{output_value, IsListOf, AreThere, Opens, Leaves, Shuts};
 
 use crate::files::write_all;
-use crate::words::DiskFiles;
+use crate::words::{DiskFiles, Outputs};
 use fs_codec::{DISK_BLOCKS, SWAP_START};
 use std::alloc::{AllocError, Global};
 use unix_core::Kernel;
@@ -90,7 +90,7 @@ fn add_second(
 
 /// The files that `run`, `run8` or `run2` writes, in the order in which they are opened: that of each line, the log, the disk,
 /// and the second disk.
-pub(crate) fn disk_outputs(alloc: Global, files: &DiskFiles<'_>) -> Result<Vec<Output>, AllocError>
+fn disk_outputs(alloc: Global, files: &DiskFiles<'_>) -> Result<Vec<Output>, AllocError>
     ensures { IfOk result (λ outputs.
         map output_value outputs.items ≡ output_ports (ToDisk (disk_files_value files.now))) }
 {
@@ -101,6 +101,19 @@ pub(crate) fn disk_outputs(alloc: Global, files: &DiskFiles<'_>) -> Result<Vec<O
     add_output(alloc, &mut outputs, OutPort::Final, files.final_disk)?;
     add_second(alloc, &mut outputs, files)?;
     Ok(outputs)
+}
+
+/// The files that a run opens by a list of them. `memory` has one file alone, and opens it by its name.
+pub(crate) fn listed_outputs(
+    alloc: Global,
+    outputs: &Outputs<'_>,
+) -> Result<Vec<Output>, AllocError>
+    ensures { IfOk result (λ list. IsListOf (outputs_value outputs.now) (map output_value list.items)) }
+{
+    match outputs {
+        Outputs::Disk(files) => disk_outputs(alloc, files),
+        Outputs::Memory(_) => Ok(Vec::new(alloc)),
+    }
 }
 
 /// Opens these files in their order, or says which could not be opened.

@@ -7,6 +7,7 @@ ghost use Rattle.v6_run.specs.Opened.{line_port};
 ghost use Rattle.v6_run.specs.Ports.{is_silent, failed_port, counted, screened, HasCounted};
 
 use crate::files::{write_byte, write_text};
+use crate::slots::TellsCut;
 use arrayvec::ArrayVec;
 use log_text::{Line, put_line};
 use v6_base::{Entry, LINES, Trace};
@@ -277,6 +278,16 @@ impl<'a, H: Host> Trace for Ports<'a, H> {
         }
         if line < self.lines {
             self.show(line, byte);
+        }
+    }
+}
+
+impl<'a, H: Host> TellsCut for Ports<'a, H> {
+    fn is_cut(&self) -> bool {
+        match &self.kept {
+            Kept::Nothing | Kept::Unwanted => false,
+            Kept::Byte(..) | Kept::Line(_) => true,
+            Kept::Screen(bytes) => bytes.is_full(),
         }
     }
 }

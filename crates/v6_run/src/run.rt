@@ -17,7 +17,7 @@ ghost use Rattle.unix_core.specs.State.{KeepsRest};
 ghost use Rattle.v6_run.specs.Courses.{CanTake};
 ghost use Rattle.v6_run.specs.Words.{Run, ToDisk, lines_value, disk_files_value, run_words_value, second_files, second_image, bytes_value};
 ghost use Rattle.v6_run.specs.Opened.{line_port, second_inputs, output_ports, has_port};
-ghost use Rattle.v6_run.specs.Opening.{output_value};
+ghost use Rattle.v6_run.specs.Opening.{output_value, IsListOf};
 ghost use Rattle.v6_run.specs.Events.{events_of};
 ghost use Rattle.v6_run.specs.Ports.{HasShown, HasShownFronts};
 ghost use Rattle.v6_run.specs.Errors.{end_of, run_status};
@@ -29,13 +29,13 @@ ghost use Rattle.v6_run.specs.Steps.{StopsSecond};
 use crate::files::{ReadError, read_file};
 use crate::image::{ImageError, SecondError, read_image, read_second};
 use crate::memory::run_to_memory;
-use crate::outputs::{Output, disk_outputs, finish_outputs, leave_disks, open_outputs};
+use crate::outputs::{Output, finish_outputs, leave_disks, listed_outputs, open_outputs};
 use crate::ports::Ports;
 use crate::slots::show_run;
 use crate::words::{DiskFiles, Lines, Outputs, RunWords};
 use fs_codec::SWAP_START;
 use script_text::{Event, MAX_BYTES, ScriptFault, read};
-use std::alloc::Global;
+use std::alloc::{AllocError, Global};
 use unix_core::{Boot2Fault, BootFault, Ends, Kernel};
 use v6_base::PanicKind;
 use v6_port::{Host, InPort, OutPort};
@@ -92,6 +92,17 @@ impl From<ReadError> for RunError {
 
     fn from(error: ReadError) -> RunError {
         RunError::Script(error)
+    }
+}
+
+impl From<AllocError> for RunError {
+    ghost use Rattle.std.specs.Prelude.{◌≡◌};
+    ghost use Rattle.v6_run.specs.declared.run.RunError.TheVariants.{NoMemory};
+
+    ghost from_gives = { λ error run_error. run_error ≡ NoMemory };
+
+    fn from(_error: AllocError) -> RunError {
+        RunError::NoMemory
     }
 }
 
@@ -152,7 +163,7 @@ fn boot2(alloc: Global, image: &[u8], second: &[u8], core: u32) -> Result<Kernel
 }
 
 /// Runs the kernel over the events of a script, with the files of so many lines and the log open, and tells how the run ends.
-/// Where one of them can't be written, the run goes on without all, and then that is the answer.
+/// Where one of them can't be written, that is the answer: nothing more goes out, and the run stops soon.
 fn play<H: Host>(
     kernel: &mut Kernel,
     events: &[Event],
@@ -174,7 +185,8 @@ fn play<H: Host>(
     ensures fronts { Tells (H.outside host.old)
         → HasShownFronts (lines_value lines) (shown_by (course (started kernel.old.system) (events_of events.now)))
         (H.outside host.old) (H.outside host.new) }
-    ensures system { kernel.new.system ≡ (course (started kernel.old.system) (events_of events.now)).system }
+    ensures system { IfOk result (λ _.
+        kernel.new.system ≡ (course (started kernel.old.system) (events_of events.now)).system) }
     ensures rest { KeepsRest kernel.old kernel.new }
     ensures cause { MatchResult result (λ _. Calm (H.outside host.old) (H.outside host.new))
         (λ port. FaultAt (Out port) true (H.outside host.old) (H.outside host.new)) }
@@ -224,14 +236,15 @@ fn run_opened<H: Host>(
     Ok(ends)
 }
 
-/// Runs the kernel for the disks that it leaves. There has to be memory for the names of the files.
+/// Runs the kernel for the disks that it leaves.
 fn run_to_disk<H: Host>(
-    alloc: Global,
     kernel: &mut Kernel,
     events: &[Event],
     files: &DiskFiles<'_>,
+    outputs: &[Output],
     host: &mut H,
 ) -> Result<Ends, RunError>
+    requires outputs { map output_value outputs.now ≡ output_ports (ToDisk (disk_files_value files.now)) }
     requires closed { AreClosed (ToDisk (disk_files_value files.now)) (H.outside host.old) }
     requires root { (head (block_at kernel.old.blocks.root)).f_size ≤ SWAP_START }
     requires second { is_some kernel.old.blocks.second ≡ is_some (disk_files_value files.now).second }
@@ -242,10 +255,7 @@ fn run_to_disk<H: Host>(
     ensures outcome { EndsOrStops (ToDisk (disk_files_value files.now)) kernel.old events.now result
         (H.outside host.old) (H.outside host.new) }
 {
-    let Ok(outputs) = disk_outputs(alloc, files) else {
-        return Err(RunError::NoMemory);
-    };
-    match run_opened(kernel, events, files, &outputs, host) {
+    match run_opened(kernel, events, files, outputs, host) {
         Ok(ends) => Ok(ends),
         Err(port) => Err(RunError::Write(port)),
     }
@@ -253,12 +263,13 @@ fn run_to_disk<H: Host>(
 
 /// Runs the kernel with the files opened that the words name, and tells how the run ends.
 fn run_with_outputs<H: Host>(
-    alloc: Global,
     kernel: &mut Kernel,
     events: &[Event],
     words: &RunWords<'_>,
+    outputs: &[Output],
     host: &mut H,
 ) -> Result<Ends, RunError>
+    requires outputs { IsListOf (run_words_value words.now).outputs (map output_value outputs.now) }
     requires closed { AreClosed (run_words_value words.now).outputs (H.outside host.old) }
     requires root { (head (block_at kernel.old.blocks.root)).f_size ≤ SWAP_START }
     requires second { is_some kernel.old.blocks.second ≡ is_some (second_files (run_words_value words.now).outputs) }
@@ -270,7 +281,7 @@ fn run_with_outputs<H: Host>(
         (H.outside host.old) (H.outside host.new) }
 {
     match &words.outputs {
-        Outputs::Disk(files) => run_to_disk(alloc, kernel, events, files, host),
+        Outputs::Disk(files) => run_to_disk(kernel, events, files, outputs, host),
         Outputs::Memory(name) => run_to_memory(kernel, events, name, host),
     }
 }
@@ -331,12 +342,13 @@ fn read_files<H: Host>(alloc: Global, words: &RunWords<'_>, host: &mut H) -> Res
 /// moved into the frame of this, and stays there.
 #[inline(never)]
 fn run_made<H: Host, E: Drop>(
-    alloc: Global,
     mut made: Result<Kernel, E>,
     events: &[Event],
     words: &RunWords<'_>,
+    outputs: &[Output],
     host: &mut H,
 ) -> Result<Ends, RunError>
+    requires outputs { IsListOf (run_words_value words.now).outputs (map output_value outputs.now) }
     requires root { IfOk made (λ kernel. (head (block_at kernel.blocks.root)).f_size ≤ SWAP_START) }
     requires second { IfOk made (λ kernel.
         is_some kernel.blocks.second ≡ is_some (second_files (run_words_value words.now).outputs)) }
@@ -351,13 +363,14 @@ fn run_made<H: Host, E: Drop>(
         (λ _. (result ≡ Err RunError.NoMemory) × (H.outside host.new ≡ H.outside host.old)) }
 {
     match &mut made {
-        Ok(kernel) => run_with_outputs(alloc, kernel, events, words, host),
+        Ok(kernel) => run_with_outputs(kernel, events, words, outputs, host),
         Err(_) => Err(RunError::NoMemory),
     }
 }
 
-/// Runs the kernel of one image with the files opened that the words name, and tells how the run ends. It stands out of line,
-/// as the next does: there is one place for a kernel in its frame, and nothing else that is large.
+/// Runs the kernel of one image with the files opened that the words name, and tells how the run ends. The names of the files
+/// are listed before the kernel is made: from then on no memory is taken. It stands out of line, as the next does: there is one
+/// place for a kernel in its frame, and nothing else that is large.
 #[inline(never)]
 fn run_on_one<H: Host>(
     alloc: Global,
@@ -372,12 +385,13 @@ fn run_on_one<H: Host>(
     ensures outcome { EndsOrFails image.now None (run_words_value words.now) events.now result
         (H.outside host.old) (H.outside host.new) }
 {
+    let outputs = listed_outputs(alloc, &words.outputs)?;
     let lines = words.outputs.lines();
     run_made(
-        alloc,
         boot(alloc, image, words.core, lines),
         events,
         words,
+        &outputs,
         host,
     )
 }
@@ -398,11 +412,12 @@ fn run_on_two<H: Host>(
     ensures outcome { EndsOrFails image.now (Some second.now) (run_words_value words.now) events.now result
         (H.outside host.old) (H.outside host.new) }
 {
+    let outputs = listed_outputs(alloc, &words.outputs)?;
     run_made(
-        alloc,
         boot2(alloc, image, second, words.core),
         events,
         words,
+        &outputs,
         host,
     )
 }

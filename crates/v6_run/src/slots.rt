@@ -1,5 +1,5 @@
 //! A run over the events of a script.
-ghost use Rattle.std.specs.Prelude.{◌≡◌, ◌<◌, ◌≤◌, ◌+◌, ◌-◌, ◌==◌, [], ◌∷◌, Ok, Err, if◌then◌else◌, replicate, flat_map};
+ghost use Rattle.std.specs.Prelude.{◌≡◌, ◌<◌, ◌≤◌, ◌+◌, ◌-◌, ◌==◌, [], ◌∷◌, false, Ok, Err, if◌then◌else◌, replicate, flat_map};
 ghost use Rattle.std.specs.List.{range_with_len};
 ghost use Rattle.abstract_unix.specs.Unix.{New, Started};
 ghost use Rattle.abstract_unix.specs.declared.ends.Ends.TheVariants.{AtEnd};
@@ -10,12 +10,21 @@ ghost use Rattle.script_text.specs.Script.{slots_of};
 ghost use Rattle.v6_run.specs.Clocks.{clock_value, TicksAlike};
 ghost use Rattle.v6_base.specs.Trace.{Took};
 ghost use Rattle.unix_core.specs.State.{KeepsRest};
-ghost use Rattle.v6_run.specs.Courses.{CanTake, HasRun};
+ghost use Rattle.v6_run.specs.Courses.{CanTake, HasRun, HasRunUncut};
 
 use crate::clock::{Clock, since_after};
 use script_text::Event;
 use unix_core::{Ends, Kernel, Turned};
 use v6_base::{Entry, PanicKind, Trace};
+
+/// After how many slots of a line `run N` a run asks whether its trace is cut.
+const SLOTS_AT_ONCE: u32 = 1_000_000;
+
+/// A trace that tells whether it is cut.
+pub(crate) trait TellsCut: Trace {
+    fn is_cut(&self) -> bool
+        ensures { result ≡ (Self.taken self.now).cut };
+}
 
 /// Takes so many slots, or those up to the first that ends the run, and tells how. It stands by itself, so that its loop has
 /// all registers.
@@ -147,18 +156,59 @@ fn run_line<T: Trace>(kernel: &mut Kernel, clock: &mut Clock, count: u32, trace:
     run_clocked(kernel, every, since, count, trace)
 }
 
-/// Takes one event of a script.
-fn take_event<T: Trace>(kernel: &mut Kernel, clock: &mut Clock, event: Event, trace: &mut T) -> Ends
+/// Takes the slots of a line `run N`, so many at once, up to those that end the run or in which the trace is cut. After the
+/// latter nothing is known of how the run ends.
+fn run_pieces<T: TellsCut>(
+    kernel: &mut Kernel,
+    clock: &mut Clock,
+    count: u32,
+    trace: &mut T,
+) -> Ends
+    requires started { kernel.old.phase ≡ Started }
+    requires fresh { kernel.old.system.unix.timing.passed + count ≤ 3000000001 }
+    ensures phase { kernel.new.phase ≡ phase_after result }
+    ensures run { HasRunUncut (begun kernel.old.system) (happens (clock_value clock.old) (Event.Run count)) result
+        kernel.new.system (T.taken trace.old) (T.taken trace.new) }
+    ensures passed { result ≡ AtEnd → (T.taken trace.new).cut ≡ false
+        → kernel.new.system.unix.timing.passed ≡ kernel.old.system.unix.timing.passed + count }
+    ensures rest { KeepsRest kernel.old kernel.new }
+    ensures frame { T.leads_to trace.old trace.new }
+    ensures clock { result ≡ AtEnd → (T.taken trace.new).cut ≡ false
+        → TicksAlike (clock_after (clock_value clock.old) (Event.Run count)) (clock_value clock.new) }
+{
+    let mut left = count;
+    'pieces: while left > 0 {
+        let slots = stretch_len(left, SLOTS_AT_ONCE);
+        match run_line(kernel, clock, slots, trace) {
+            Ends::AtEnd => {}
+            ends => return ends,
+        }
+        if trace.is_cut() {
+            return Ends::AtEnd;
+        }
+        left -= slots;
+    }
+    Ends::AtEnd
+}
+
+/// Takes one event of a script, or of the slots of a line `run N` those up to the cut of the trace.
+fn take_event<T: TellsCut>(
+    kernel: &mut Kernel,
+    clock: &mut Clock,
+    event: Event,
+    trace: &mut T,
+) -> Ends
     requires started { kernel.old.phase ≡ Started }
     requires can { CanTake kernel.old.system (event ∷ []) }
     ensures phase { kernel.new.phase ≡ phase_after result }
-    ensures run { HasRun (begun kernel.old.system) (happens (clock_value clock.old) event) result kernel.new.system
+    ensures run { HasRunUncut (begun kernel.old.system) (happens (clock_value clock.old) event) result kernel.new.system
         (T.taken trace.old) (T.taken trace.new) }
-    ensures passed { result ≡ AtEnd
+    ensures passed { result ≡ AtEnd → (T.taken trace.new).cut ≡ false
         → kernel.new.system.unix.timing.passed ≡ kernel.old.system.unix.timing.passed + slots_of event }
     ensures rest { KeepsRest kernel.old kernel.new }
     ensures frame { T.leads_to trace.old trace.new }
-    ensures clock { TicksAlike (clock_after (clock_value clock.old) event) (clock_value clock.new) }
+    ensures clock { result ≡ AtEnd → (T.taken trace.new).cut ≡ false
+        → TicksAlike (clock_after (clock_value clock.old) event) (clock_value clock.new) }
 {
     match event {
         Event::Clock(every) => {
@@ -169,7 +219,7 @@ fn take_event<T: Trace>(kernel: &mut Kernel, clock: &mut Clock, event: Event, tr
             };
             Ends::AtEnd
         }
-        Event::Run(count) => run_line(kernel, clock, count, trace),
+        Event::Run(count) => run_pieces(kernel, clock, count, trace),
         Event::Tick => ends_by(kernel.tick(trace)),
         Event::Byte(byte) => {
             kernel.typed_on(clock.line, byte, trace);
@@ -198,12 +248,13 @@ fn take_event<T: Trace>(kernel: &mut Kernel, clock: &mut Clock, event: Event, tr
     }
 }
 
-/// Takes the events of a script in turn, up to the first that ends the run.
-fn run_events<T: Trace>(kernel: &mut Kernel, events: &[Event], trace: &mut T) -> Ends
+/// Takes the events of a script in turn, up to the first that ends the run or in which the trace is cut. After the latter
+/// nothing is known of how the run ends.
+fn run_events<T: TellsCut>(kernel: &mut Kernel, events: &[Event], trace: &mut T) -> Ends
     requires started { kernel.old.phase ≡ Started }
     requires can { CanTake kernel.old.system events.now }
     ensures phase { kernel.new.phase ≡ phase_after result }
-    ensures run { HasRun (begun kernel.old.system) (events_of events.now) result kernel.new.system
+    ensures run { HasRunUncut (begun kernel.old.system) (events_of events.now) result kernel.new.system
         (T.taken trace.old) (T.taken trace.new) }
     ensures rest { KeepsRest kernel.old kernel.new }
     ensures frame { T.leads_to trace.old trace.new }
@@ -218,16 +269,19 @@ fn run_events<T: Trace>(kernel: &mut Kernel, events: &[Event], trace: &mut T) ->
             Ends::AtEnd => {}
             ends => return ends,
         }
+        if trace.is_cut() {
+            return Ends::AtEnd;
+        }
     }
     Ends::AtEnd
 }
 
 /// Starts the kernel, and takes the events of a script in turn.
-fn run_script<T: Trace>(kernel: &mut Kernel, events: &[Event], trace: &mut T) -> Ends
+fn run_script<T: TellsCut>(kernel: &mut Kernel, events: &[Event], trace: &mut T) -> Ends
     requires new { kernel.old.phase ≡ New }
     requires can { CanTake kernel.old.system events.now }
     ensures phase { kernel.new.phase ≡ phase_after result }
-    ensures run { HasRun (started kernel.old.system) (events_of events.now) result kernel.new.system
+    ensures run { HasRunUncut (started kernel.old.system) (events_of events.now) result kernel.new.system
         (T.taken trace.old) (T.taken trace.new) }
     ensures rest { KeepsRest kernel.old kernel.new }
     ensures frame { T.leads_to trace.old trace.new }
@@ -247,13 +301,16 @@ fn last_line<T: Trace>(ends: Ends, trace: &mut T)
     }
 }
 
-/// Takes a whole run, with the last line of its log.
-pub(crate) fn show_run<T: Trace>(kernel: &mut Kernel, events: &[Event], trace: &mut T) -> Ends
+/// Takes a whole run, with the last line of its log; or as much of it as comes to a cut of the trace. Then nothing is known of
+/// how it ends.
+pub(crate) fn show_run<T: TellsCut>(kernel: &mut Kernel, events: &[Event], trace: &mut T) -> Ends
     requires new { kernel.old.phase ≡ New }
     requires can { CanTake kernel.old.system events.now }
     ensures phase { kernel.new.phase ≡ phase_after result }
-    ensures ends { result ≡ (course (started kernel.old.system) (events_of events.now)).ending }
-    ensures system { kernel.new.system ≡ (course (started kernel.old.system) (events_of events.now)).system }
+    ensures ends { (T.taken trace.new).cut ≡ false
+        → result ≡ (course (started kernel.old.system) (events_of events.now)).ending }
+    ensures system { (T.taken trace.new).cut ≡ false
+        → kernel.new.system ≡ (course (started kernel.old.system) (events_of events.now)).system }
     ensures shown { Took (T.taken trace.old) (shown_by (course (started kernel.old.system) (events_of events.now)))
         (T.taken trace.new) }
     ensures rest { KeepsRest kernel.old kernel.new }

@@ -75,6 +75,17 @@ returns-clause-partial g c =
     let found = subst (λ l. IfOk answer (λ t. option_map reports_done (command_in l) ≡ Some (is_some t))) c.as_slice.ensures.value c.answer-answer.ensures.found in
     command.partly_written (command_in items) answer c.report.result old middle new answers c.report.ensures found
 
+pub returns-clause-steps : goal.returns-clause-steps
+returns-clause-steps g c =
+    let items = c.args.words.now.items in
+    let old = g.H.Host.outside c.args.host.now in
+    let middle = g.H.Host.outside c.answer-answer.new.host in
+    let new = g.H.Host.outside c.report.new.host in
+    let answer = c.answer-answer.result in
+    let answers = subst (λ l. AnswersWords (command_in l) (end_of command_status answer) old middle) c.as_slice.ensures.value c.answer-answer.ensures.answers in
+    let found = subst (λ l. IfOk answer (λ t. option_map reports_done (command_in l) ≡ Some (is_some t))) c.as_slice.ensures.value c.answer-answer.ensures.found in
+    command.stopped_in_order (command_in items) answer c.report.result old middle new answers c.report.ensures found
+
 pub returns-clause-order : goal.returns-clause-order
 returns-clause-order g c =
     let items = c.args.words.now.items in

@@ -18,7 +18,7 @@ finish-requires g t c =
 
 pub returns-then-is_err : goal.returns-then-is_err
 returns-then-is_err g t c =
-    first_unshut c.args.outputs.now _ _ c.in-len1-up.len_at_least c.first-item.is _ _ c.finish.result (sym c.is_err.ensures.value ∙ c.if-is_err.true) c.finish.ensures
+    first_unshut c.args.outputs.now _ _ c.in-len1-up.len_at_least c.first-item.is _ _ c.finish.result c.requires.is_open (sym c.is_err.ensures.value ∙ c.if-is_err.true) c.finish.ensures
 
 pub finish_outputs-requires : goal.finish_outputs-requires
 finish_outputs-requires g t c κs within =

@@ -14,7 +14,7 @@ open_write-requires g t c =
 
 pub returns-then-is_err : goal.returns-then-is_err
 returns-then-is_err g t c =
-    first_unopened c.args.outputs.now _ _ c.in-len1-up.len_at_least c.first-item.is _ _ _ c.open_write.result c.as_str.ensures.value
+    first_unopened c.args.outputs.now _ _ c.in-len1-up.len_at_least c.first-item.is _ _ _ c.open_write.result c.requires.closed c.as_str.ensures.value
     (sym c.is_err.ensures.value ∙ c.if-is_err.true) c.open_write.ensures
 
 pub open_outputs-requires : goal.open_outputs-requires

@@ -1,7 +1,7 @@
 use Rattle.std.proofs.Common.{rules, sym, ◌∙◌, ap, is_some}
 use Rattle.v6_port.specs.declared.host.OutPort.{OutPort}
 use Rattle.v6_run.proofs.LinePorts.{some_lines}
-use Rattle.v6_run.proofs.ShownLemmas.{goes_from, calm_from, fault_from, named_from, fronts_from, all_from}
+use Rattle.v6_run.proofs.ShownLemmas.{goes_from, calm_from, fault_from, named_from, fronts_from, uncut_from, all_from}
 use Rattle.v6_run.proofs.run.play.Goals as goal
 
 pub returns-in-Some-clause-only : goal.returns-in-Some-clause-only
@@ -54,6 +54,20 @@ returns-in-None-clause-is_open g c =
     let goes = goes_from _ _ _ _ _ _ _ (ports.lines ∙ c.count.ensures) (ap g.H.Host.outside ports.outside) ports.kept run.frame.0 in
     let stay = λ (p : OutPort). (goes.grows p).is_open in
     search (rules, stay)
+
+pub returns-in-None-clause-ending : goal.returns-in-None-clause-ending
+returns-in-None-clause-ending g c =
+    let run = c.show_run-ends.ensures in
+    let ports = c.new-ports.ensures in
+    let uncut = ap is_some (sym c.failed.ensures ∙ c.in-None.is) in
+    run.ends (uncut_from _ (some_lines c.args.lines) _ _ (ports.lines ∙ c.count.ensures) run.frame.2 _ _ _ _ _ _ (ap g.H.Host.outside ports.outside) ports.kept run.shown run.frame.0 uncut)
+
+pub returns-in-None-clause-system : goal.returns-in-None-clause-system
+returns-in-None-clause-system g c =
+    let run = c.show_run-ends.ensures in
+    let ports = c.new-ports.ensures in
+    let uncut = ap is_some (sym c.failed.ensures ∙ c.in-None.is) in
+    run.system (uncut_from _ (some_lines c.args.lines) _ _ (ports.lines ∙ c.count.ensures) run.frame.2 _ _ _ _ _ _ (ap g.H.Host.outside ports.outside) ports.kept run.shown run.frame.0 uncut)
 
 pub returns-in-None-clause-shown : goal.returns-in-None-clause-shown
 returns-in-None-clause-shown g c =

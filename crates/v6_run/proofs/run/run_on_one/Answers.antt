@@ -1,8 +1,16 @@
-use Rattle.std.proofs.Common.{◌≡◌, None, Some, IfOk, subst}
+use Rattle.std.proofs.Common.{◌≡◌, None, Some, IfOk, map, refl, sym, subst}
 use Rattle.abstract_unix.specs.Runs.{boots}
+use Rattle.v6_run.specs.Opening.{output_value, IsListOf}
 use Rattle.v6_run.specs.Words.{lines_value, run_words_value}
-use Rattle.v6_run.proofs.BootedLemmas.{root_below, second_kept, made_can, made_from}
+use Rattle.v6_run.proofs.ResultLemmas.{match_passed}
+use Rattle.v6_run.proofs.BootedLemmas.{nothing_only, root_below, second_kept, made_can, made_from}
 use Rattle.v6_run.proofs.run.run_on_one.Goals as goal
+
+pub returns-in_err-outputs-clause-only : goal.returns-in_err-outputs-clause-only
+returns-in_err-outputs-clause-only g c = nothing_only _ _
+
+pub returns-in_err-outputs-clause-outcome : goal.returns-in_err-outputs-clause-outcome
+returns-in_err-outputs-clause-outcome g c = match_passed _ _ _ _ c.from_residual.ensures.1 refl
 
 pub boot-requires-clause-least : goal.boot-requires-clause-least
 boot-requires-clause-least g c = c.requires.can.least
@@ -12,6 +20,9 @@ boot-requires-clause-most g c = c.requires.can.most
 
 pub boot-requires-clause-good : goal.boot-requires-clause-good
 boot-requires-clause-good g c = c.requires.can.good
+
+pub run_made-requires-clause-outputs : goal.run_made-requires-clause-outputs
+run_made-requires-clause-outputs g c = subst (λ l. IsListOf (run_words_value c.args.words.now).outputs (map output_value l)) (sym c.deref.ensures.value) c.in_ok-outputs.ensures
 
 pub run_made-requires-clause-root : goal.run_made-requires-clause-root
 run_made-requires-clause-root g c = root_below c.args.image.now None c.boot.result c.requires.can.good c.boot.ensures.blocks

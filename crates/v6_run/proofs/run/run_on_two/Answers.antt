@@ -1,9 +1,17 @@
-use Rattle.std.proofs.Common.{◌≡◌, Some, IfOk, sym, subst}
+use Rattle.std.proofs.Common.{◌≡◌, Some, IfOk, map, refl, sym, subst}
 use Rattle.abstract_unix.specs.Runs.{boots}
+use Rattle.v6_run.specs.Opening.{output_value, IsListOf}
 use Rattle.v6_run.specs.Words.{run_words_value}
 use Rattle.v6_run.proofs.RunLemmas.{one_line}
-use Rattle.v6_run.proofs.BootedLemmas.{root_below, second_kept, made_can, made_from}
+use Rattle.v6_run.proofs.ResultLemmas.{match_passed}
+use Rattle.v6_run.proofs.BootedLemmas.{nothing_only, root_below, second_kept, made_can, made_from}
 use Rattle.v6_run.proofs.run.run_on_two.Goals as goal
+
+pub returns-in_err-outputs-clause-only : goal.returns-in_err-outputs-clause-only
+returns-in_err-outputs-clause-only g c = nothing_only _ _
+
+pub returns-in_err-outputs-clause-outcome : goal.returns-in_err-outputs-clause-outcome
+returns-in_err-outputs-clause-outcome g c = match_passed _ _ _ _ c.from_residual.ensures.1 refl
 
 pub boot2-requires-clause-least : goal.boot2-requires-clause-least
 boot2-requires-clause-least g c = c.requires.can.least
@@ -16,6 +24,9 @@ boot2-requires-clause-good g c = c.requires.can.good
 
 pub boot2-requires-clause-second : goal.boot2-requires-clause-second
 boot2-requires-clause-second g c = c.requires.can.second_good
+
+pub run_made-requires-clause-outputs : goal.run_made-requires-clause-outputs
+run_made-requires-clause-outputs g c = subst (λ l. IsListOf (run_words_value c.args.words.now).outputs (map output_value l)) (sym c.deref.ensures.value) c.in_ok-outputs.ensures
 
 pub run_made-requires-clause-root : goal.run_made-requires-clause-root
 run_made-requires-clause-root g c =

@@ -8,7 +8,7 @@ use Rattle.v6_port.specs.Outside.{Out}
 use Rattle.v6_port.proofs.CauseLemmas.{only_then}
 use Rattle.v6_run.proofs.ResultLemmas.{match_passed}
 use Rattle.v6_run.proofs.LinePorts.{ports_apart, ports_there}
-use Rattle.v6_run.proofs.OpeningLemmas.{only_opened, only_shut, good_opened, all_opened, all_shut, files_at, unshut_named, stopped_opening, lines_opened, log_opened, left_open, all_open, only_played, only_written}
+use Rattle.v6_run.proofs.OpeningLemmas.{only_opened, only_shut, good_opened, all_opened, all_shut, files_at, unshut_named, states_unshut, stopped_opening, lines_opened, log_opened, left_open, all_open, only_played, only_written}
 use Rattle.v6_run.proofs.LeaveLemmas.{second_stays, leaves_on, left_on, shown_on, named_on, all_on, fronts_on}
 use Rattle.v6_run.proofs.OutputLemmas.{stopped_playing, stopped_writing, stopped_finishing, came_to_end, run_leaves, second_leaves, phase_ended}
 use Rattle.v6_run.proofs.run.run_opened.Goals as goal
@@ -61,8 +61,9 @@ returns-in_err-ends-clause-outcome g c =
     let only = only_opened files _ c.requires.outputs _ b _ opens in
     let good = good_opened files _ c.requires.outputs _ _ opens in
     let played = c.in_err-ends.ensures in
+    let still = all_open files b last last (all_opened files _ c.requires.outputs _ b opens) played.is_open (λ p. refl) in
     match_passed _ _ _ _ c.from_residual-in_err-ends.ensures.1
-    (stopped_playing files _ _ run (c.requires.lawful (events_of c.args.events.now)) _ _ _ only opens.bytes good (shown_on _ _ b last c.lines.ensures played.only)
+    (stopped_playing files _ _ run (c.requires.lawful (events_of c.args.events.now)) _ _ _ only opens.bytes good (shown_on _ _ b last c.lines.ensures played.only) still
     c.in_err-ends.field-0.0 (named_on _ _ (Out c.in_err-ends.field-0.0) c.lines.ensures played.named) (fronts_on _ _ (shown_by run) b last c.lines.ensures played.fronts) opens.cause played.cause)
 
 pub leave_disks-requires-clause-ended : goal.leave_disks-requires-clause-ended
@@ -97,12 +98,13 @@ returns-in_err-leave_disks-clause-outcome g c =
     let only = only_opened files _ c.requires.outputs _ b _ opens in
     let good = good_opened files _ c.requires.outputs _ _ opens in
     let played = c.in_ok-ends.ensures in
+    let still = all_open files b last last (all_opened files _ c.requires.outputs _ b opens) played.is_open (λ p. refl) in
     let left = c.in_err-leave_disks.ensures in
     let leaves = leaves_on _ _ _ _ _ _ _ c.has_second.ensures left.written.2 in
     let fits = run_leaves c.args.kernel.now c.play.new.kernel c.leave_disks.new.kernel run played.system played.rest left.system left.stands left.rest c.requires.root left.form left.written.0 left.written.1 left.apart in
     let fits_other = second_leaves c.args.kernel.now c.play.new.kernel c.leave_disks.new.kernel run played.system played.rest left.system left.stands left.rest left.second_form in
     match_passed _ _ _ _ c.from_residual-in_err-leave_disks.ensures.1
-    (stopped_writing files _ _ run (c.requires.lawful (events_of c.args.events.now)) _ _ _ only opens.bytes good (shown_on _ _ b last c.lines.ensures played.only)
+    (stopped_writing files _ _ run (c.requires.lawful (events_of c.args.events.now)) _ _ _ only opens.bytes good (shown_on _ _ b last c.lines.ensures played.only) still
     (all_on _ _ (shown_by run) b last c.lines.ensures played.shown) _ played.ending _ _ fits fits_other _ leaves.only _ leaves opens.cause played.cause)
 
 pub finish_outputs-requires-clause-apart : goal.finish_outputs-requires-clause-apart
@@ -142,15 +144,16 @@ returns-in_err-finish_outputs-clause-outcome g c =
     let only = only_opened files _ c.requires.outputs _ b _ opens in
     let good = good_opened files _ c.requires.outputs _ _ opens in
     let played = c.in_ok-ends.ensures in
+    let still = all_open files b last last (all_opened files _ c.requires.outputs _ b opens) played.is_open (λ p. refl) in
     let left = c.in_ok-leave_disks.ensures in
     let leaves = leaves_on _ _ _ _ _ _ _ c.has_second.ensures left.written.2 in
     let finished = c.in_err-finish_outputs.ensures in
     let fits = run_leaves c.args.kernel.now c.play.new.kernel c.leave_disks.new.kernel run played.system played.rest left.system left.stands left.rest c.requires.root left.form left.written.0 left.written.1 left.apart in
     let fits_other = second_leaves c.args.kernel.now c.play.new.kernel c.leave_disks.new.kernel run played.system played.rest left.system left.stands left.rest left.second_form in
     match_passed _ _ _ _ c.from_residual-in_err-finish_outputs.ensures.1
-    (stopped_finishing files _ _ run (c.requires.lawful (events_of c.args.events.now)) _ _ _ only opens.bytes good (shown_on _ _ b last c.lines.ensures played.only)
+    (stopped_finishing files _ _ run (c.requires.lawful (events_of c.args.events.now)) _ _ _ only opens.bytes good (shown_on _ _ b last c.lines.ensures played.only) still
     (all_on _ _ (shown_by run) b last c.lines.ensures played.shown) _ played.ending _ _ fits fits_other _ leaves.only leaves _ finished.bytes _
-    (unshut_named files _ c.requires.outputs _ _ _ finished) opens.cause played.cause finished.cause)
+    (unshut_named files _ c.requires.outputs _ _ _ finished) (states_unshut files _ c.requires.outputs _ _ _ finished) opens.cause played.cause finished.cause)
 
 pub returns-clause-only : goal.returns-clause-only
 returns-clause-only g c =
@@ -172,11 +175,12 @@ returns-clause-outcome g c =
     let only = only_opened files _ c.requires.outputs _ b _ opens in
     let good = good_opened files _ c.requires.outputs _ _ opens in
     let played = c.in_ok-ends.ensures in
+    let still = all_open files b last last (all_opened files _ c.requires.outputs _ b opens) played.is_open (λ p. refl) in
     let left = c.in_ok-leave_disks.ensures in
     let leaves = leaves_on _ _ _ _ _ _ _ c.has_second.ensures left.written.2 in
     let finished = c.in_ok-finish_outputs.ensures in
     let fits = run_leaves c.args.kernel.now c.play.new.kernel c.leave_disks.new.kernel run played.system played.rest left.system left.stands left.rest c.requires.root left.form left.written.0 left.written.1 left.apart in
     let fits_other = second_leaves c.args.kernel.now c.play.new.kernel c.leave_disks.new.kernel run played.system played.rest left.system left.stands left.rest left.second_form in
-    came_to_end files _ _ run (c.requires.lawful (events_of c.args.events.now)) _ _ _ only opens.bytes good (shown_on _ _ b last c.lines.ensures played.only)
+    came_to_end files _ _ run (c.requires.lawful (events_of c.args.events.now)) _ _ _ only opens.bytes good (shown_on _ _ b last c.lines.ensures played.only) still
     (all_on _ _ (shown_by run) b last c.lines.ensures played.shown) _ played.ending _ _ fits fits_other _ leaves.only leaves _ finished.bytes
     (all_shut files _ c.requires.outputs _ _ finished) opens.cause played.cause finished.cause

@@ -1,5 +1,5 @@
 use Rattle.std.proofs.Common.{[], refl}
-use Rattle.v6_run.proofs.SlotLemmas.{run_started, run_more}
+use Rattle.v6_run.proofs.SlotLemmas.{run_started, uncut_more}
 use Rattle.v6_run.proofs.CanLemmas.{start_can}
 use Rattle.v6_run.proofs.slots.run_script.Goals as goal
 
@@ -11,4 +11,4 @@ run_events-requires-clause-can g c =
 pub returns-clause-run : goal.returns-clause-run
 returns-clause-run g c =
     let start = c.start.ensures in
-    run_more _ _ _ _ _ _ _ [] _ _ (run_started c.args.kernel.now.system _ _ _ start.goes start.next start.items) c.run_events.ensures.run refl
+    uncut_more _ _ _ _ _ _ _ [] _ _ (run_started c.args.kernel.now.system _ _ _ start.goes start.next start.items) c.run_events.ensures.run refl

@@ -10,7 +10,7 @@ use Rattle.abstract_unix.specs.Runs.{Tick}
 use Rattle.abstract_unix.proofs.RunsLemmas.{tick_told}
 use Rattle.v6_run.specs.Clocks.{clock_value}
 use Rattle.v6_run.specs.Events.{happens}
-use Rattle.v6_run.proofs.SlotLemmas.{run_event, run_as}
+use Rattle.v6_run.proofs.SlotLemmas.{run_event, run_as, run_whole}
 use Rattle.v6_run.proofs.slots.take_event.Goals as goal
 
 pub returns-in-Tick-clause-phase : goal.returns-in-Tick-clause-phase
@@ -26,12 +26,12 @@ returns-in-Tick-clause-run g c =
     let ended =
     tick_told c.args.kernel.now.system c.ends_by.result (λ is. c.ends_by.ensures.goes (tick.answer ∙ is))
     (λ kind is. c.ends_by.ensures.stops kind (tick.answer ∙ is)) in
-    run_as _ _ _ _ _ _ _ (ap (happens (clock_value c.args.clock.now)) (sym c.in-Tick.is))
-    (run_event c.args.kernel.now.system _ Tick c.ends_by.result _ _ tick.next tick.items ended)
+    run_whole _ _ _ _ _ _ (run_as _ _ _ _ _ _ _ (ap (happens (clock_value c.args.clock.now)) (sym c.in-Tick.is))
+    (run_event c.args.kernel.now.system _ Tick c.ends_by.result _ _ tick.next tick.items ended))
 
 -- What the kernel can take.
-pub run_line-requires-clause-fresh : goal.run_line-requires-clause-fresh
-run_line-requires-clause-fresh g c =
+pub run_pieces-requires-clause-fresh : goal.run_pieces-requires-clause-fresh
+run_pieces-requires-clause-fresh g c =
     let few = c.requires.can.fresh in
     let one = sum_by-cons slots_of c.args.event [] in
     let count = ap slots_of c.in-Run.is in
@@ -50,14 +50,14 @@ hangup-requires-clause-line g c =
 
 -- How many slots have been taken then.
 pub returns-in-Clock-clause-passed : goal.returns-in-Clock-clause-passed
-returns-in-Clock-clause-passed g c goes = let none = ap slots_of c.in-Clock.is in omega (arith, none)
+returns-in-Clock-clause-passed g c goes uncut = let none = ap slots_of c.in-Clock.is in omega (arith, none)
 
 pub returns-in-Run-clause-passed : goal.returns-in-Run-clause-passed
-returns-in-Run-clause-passed g c goes =
-    let count = ap slots_of c.in-Run.is in let more = c.run_line.ensures.passed goes in omega (arith, count, more)
+returns-in-Run-clause-passed g c goes uncut =
+    let count = ap slots_of c.in-Run.is in let more = c.run_pieces.ensures.passed goes uncut in omega (arith, count, more)
 
 pub returns-in-Tick-clause-passed : goal.returns-in-Tick-clause-passed
-returns-in-Tick-clause-passed g c goes =
+returns-in-Tick-clause-passed g c goes uncut =
     let none = ap slots_of c.in-Tick.is in
     let tick = c.tick.ensures in
     let ended =
@@ -68,36 +68,36 @@ returns-in-Tick-clause-passed g c goes =
     omega (arith, none, same)
 
 pub returns-in-Byte-clause-passed : goal.returns-in-Byte-clause-passed
-returns-in-Byte-clause-passed g c goes =
+returns-in-Byte-clause-passed g c goes uncut =
     let none = ap slots_of c.in-Byte.is in
     let same = ap (λ (m : System). m.unix.timing.passed) c.typed_on.ensures.next
     ∙ ap (λ (t : Timing). t.passed) (byte_timing c.args.kernel.now.system c.args.clock.now.line c.in-Byte.byte) in
     omega (arith, none, same)
 
 pub returns-in-Pace-clause-passed : goal.returns-in-Pace-clause-passed
-returns-in-Pace-clause-passed g c goes =
+returns-in-Pace-clause-passed g c goes uncut =
     let none = ap slots_of c.in-Pace.is in
     let same = ap (λ (m : System). m.unix.timing.passed) c.set_pace.ensures.next ∙ pace_passed c.args.kernel.now.system c.in-Pace.count in
     omega (arith, none, same)
 
 pub returns-in-Line-clause-passed : goal.returns-in-Line-clause-passed
-returns-in-Line-clause-passed g c goes = let none = ap slots_of c.in-Line.is in omega (arith, none)
+returns-in-Line-clause-passed g c goes uncut = let none = ap slots_of c.in-Line.is in omega (arith, none)
 
 pub returns-in-Hangup-clause-passed : goal.returns-in-Hangup-clause-passed
-returns-in-Hangup-clause-passed g c goes =
+returns-in-Hangup-clause-passed g c goes uncut =
     let none = ap slots_of c.in-Hangup.is in
     let same = ap (λ (m : System). m.unix.timing.passed) c.hangup.ensures.next
     ∙ ap (λ (t : Timing). t.passed) (hangup_timing c.args.kernel.now.system c.in-Hangup.l) in
     omega (arith, none, same)
 
 pub returns-in-Switch-clause-passed : goal.returns-in-Switch-clause-passed
-returns-in-Switch-clause-passed g c goes =
+returns-in-Switch-clause-passed g c goes uncut =
     let none = ap slots_of c.in-Switch.is in
     let same = ap (λ (m : System). m.unix.timing.passed) c.set_switches.ensures.next in
     omega (arith, none, same)
 
 pub returns-in-Disk-clause-passed : goal.returns-in-Disk-clause-passed
-returns-in-Disk-clause-passed g c goes =
+returns-in-Disk-clause-passed g c goes uncut =
     let none = ap slots_of c.in-Disk.is in
     let same = ap (λ (m : System). m.unix.timing.passed) c.set_disk.ensures.next in
     omega (arith, none, same)
