@@ -1,6 +1,6 @@
 -- While nothing is covered, all that a call names is on the root's disk, where its process stands there; so the second disk's store
 -- stays.
-use Rattle.std.proofs.Common.{◌≡◌, ◌≢◌, ◌≤◌, ◌+◌, ◌-◌, ◌/◌, ◌%◌, ◌==◌, ◌&&◌, ◌||◌, ℕ, Bool, true, false, not, cond, nat_lt, nat_le, List, [], ◌∷◌, length, take, get_or, slice_index, is_some, IsSome, is_none, Option, Some, None, Result, Ok, Err, refl, sym, ap, ◌∙◌, subst, arith}
+use Rattle.std.proofs.Common.{◌≡◌, ◌≢◌, ◌≤◌, ◌+◌, ◌-◌, ◌/◌, ◌%◌, ◌==◌, ◌&&◌, ℕ, Bool, true, false, not, cond, nat_lt, nat_le, List, [], ◌∷◌, length, take, get_or, slice_index, is_some, IsSome, is_none, Option, Some, None, Result, Ok, Err, refl, sym, ap, ◌∙◌, subst, arith}
 use Rattle.std.specs.List.{All}
 use Rattle.std.proofs.lemmas.Bool.{leb-true, ltb-false, le-leb, le-ltb}
 use Rattle.std.proofs.lemmas.List.Elements.{All-nil, All-cons}
@@ -29,7 +29,7 @@ use Rattle.fs_tree.specs.declared.user.Want.TheVariants.{Write, Execute}
 use Rattle.mount_tab.specs.Mounted.{MountTable, split_of}
 use Rattle.fs_tree.specs.Alone.{StartsOnRoot}
 use Rattle.fs_tree.specs.Mounting.{AreMounts}
-use Rattle.fs_tree.specs.Finding.{Inodes, Finding, can_refer, with_reference, refused, referring, finding, find_in, named_by_made, making, make_in, put_back, referring_both, removing}
+use Rattle.fs_tree.specs.Finding.{Inodes, Finding, can_refer, with_reference, refused, finding, find_in, named_by_made, making, make_in, put_back, removing}
 use Rattle.fs_tree.specs.Name.{name_at, is_rooted, readable}
 use Rattle.fs_tree.specs.Permission.{permission, access}
 use Rattle.fs_tree.proofs.AloneLemmas.{found_alone, made_alone, removed_alone}
@@ -46,15 +46,15 @@ use Rattle.open_files.specs.Files.{free_number, free_entry}
 use Rattle.sys_files.specs.Handed.{Handed, r0, node_at, disk_of, file_of, user_of, line_of, line_at, with_line, with_inodes, with_changed, let_go}
 use Rattle.sys_files.specs.Did.{Did, fails, returns, is_done, check, must, need, unless_due, until_end, names, then_named, finds, by_made, makes}
 use Rattle.sys_files.specs.Core.{core_name, is_plain, writes_parts, writes_over, writes_new, writes_named as writes_core, core_file}
-use Rattle.sys_files.specs.Descriptors.{open_entry, close_file, dup_file}
+use Rattle.sys_files.specs.Descriptors.{open_entry}
 use Rattle.sys_files.specs.Making.{new_numbered, new_in, entry_written, writes_entry, enters_new, makes_node, opens_for_writing, with_no_blocks, opens_again, makes_file, creat_file, is_super_user, makes_any, mknod_at, may_link, is_covered, enters_again, links_to, link_file, empties, removes, found_to_remove, names_directory, unlink_file, with_links, with_device}
-use Rattle.sys_files.specs.Modes.{terminal_line, of_terminal, words_at, sets_modes, stty_set, tells_modes, gtty_get}
+use Rattle.sys_files.specs.Modes.{terminal_line, of_terminal, words_at, sets_modes}
 use Rattle.sys_files.specs.Mounting.{disk_named, can_cover, with_covered, covers, mounts_disk, mounts_found, mount_on, is_held, uncovers, unmounts, unmounts_named, umount_off}
-use Rattle.sys_files.specs.Moving.{with_moved, gives_count, read_of, with_read, line_read, with_line_read, write_of, waits_for_keys, waits_for_room, takes_line, reads_line, reads_by, reads_from, read_file_of, writes_line, writes_by, writes_to, write_file_of, seek_to}
-use Rattle.sys_files.specs.Names.{enters_directory, chdir_to, is_owner, changes_mode, chmod_to, chown_to, sync_all}
-use Rattle.sys_files.specs.Opening.{last_failure, open_tests, can_open, opens, opens_named, open_file}
-use Rattle.sys_files.specs.Piping.{reading_end, with_end, opens_ends, pipe_new, pipe_at, pipe_read, with_pipe_read, pipe_write, with_pipe_write, ends_read, reads_pipe, ends_write, writes_pipe, waits_in_pipe}
-use Rattle.sys_files.specs.Status.{with_stored, tells_status, stat_file, stat_open}
+use Rattle.sys_files.specs.Moving.{with_moved, gives_count, read_of, with_read, line_read, with_line_read, write_of, waits_for_room, takes_line, reads_line, reads_by, reads_from, read_file_of, writes_line, writes_by, writes_to, write_file_of}
+use Rattle.sys_files.specs.Names.{enters_directory, chdir_to, is_owner, changes_mode, sync_all}
+use Rattle.sys_files.specs.Opening.{last_failure, open_tests, can_open, opens, opens_named}
+use Rattle.sys_files.specs.Piping.{reading_end, with_end, opens_ends, pipe_new, pipe_at, pipe_read, with_pipe_read, pipe_write, with_pipe_write, ends_read, reads_pipe, ends_write, writes_pipe}
+use Rattle.sys_files.specs.Status.{with_stored, tells_status}
 use Rattle.sys_files.specs.Sound.{IsSound}
 use Rattle.pick_rules.specs.Logged.{Stop, left_by}
 use Rattle.sys_procs.specs.declared.procs.Procs.{Procs}
