@@ -34,6 +34,7 @@ pub mod PendingRows
 pub mod OtherRows
 pub mod OtherProcs
 pub mod OtherCalls
+pub mod RootNames
 pub mod GoingOnLemmas
 pub mod WaitingRows
 pub mod GoingOnSteps

@@ -37,6 +37,7 @@ use Rattle.abstract_unix.specs.OtherDisk.{GoesOn, closed, CallsLeaveOther}
 use Rattle.abstract_unix.proofs.ProcessRows.{resume_plain}
 use Rattle.abstract_unix.proofs.OtherRows.{row_leaves_other, resume_leaves_other}
 use Rattle.abstract_unix.proofs.OtherProcs.{plain_inodes, end_far, process_leaves_other}
+use Rattle.abstract_unix.proofs.RootNames.{file_stays, process_stays, core_stays}
 
 files_on : (h : Handed) (slot now : ℕ) → IsSound h → GoesOn h → LeavesOther h (resumes h slot now)
 files_on h slot now sound goes =
@@ -86,6 +87,9 @@ calls_leave_other = record {
   core = core_leaves_other;
   closes = closes;
   ends = ends;
+  files_stay = file_stays;
+  processes_stay = process_stays;
+  core_stays = core_stays;
 }
 
 -- What a call has done leaves the other disk alone, since its row does.

@@ -1,15 +1,19 @@
 -- What calls leave of two disks: a call changes nothing of the one that all it has to do with isn't on.
-use Rattle.std.specs.Prelude.{◌≡◌, ◌≢◌, ◌≤◌, ℕ, true, List, [], ◌∷◌, Some, slice_index}
+use Rattle.std.specs.Prelude.{◌≡◌, ◌≢◌, ◌≤◌, ℕ, true, false, List, [], ◌∷◌, Some, None, slice_index}
 use Rattle.v6_base.specs.declared.answer.Answer.TheVariants.{Ret}
+use Rattle.fs_codec.specs.Store.{Store}
+use Rattle.fs_nodes.specs.Disks.{OfSecond}
+use Rattle.fs_nodes.specs.Keys.{device_of}
 use Rattle.u_area.specs.Pending.{is_on_files, IsPipeCall}
 use Rattle.open_files.specs.declared.file.OpenFile.{OpenFile}
 use Rattle.open_files.specs.Files.{file_at, times}
 use Rattle.mount_tab.specs.Mounted.{MountTable}
+use Rattle.fs_tree.specs.Mounting.{AreMounts}
 use Rattle.sys_files.specs.Handed.{Handed}
 use Rattle.sys_files.specs.Did.{Did}
 use Rattle.sys_files.specs.Core.{core_file}
 use Rattle.sys_files.specs.Descriptors.{close_all}
-use Rattle.sys_files.specs.Frame.{LeavesOther}
+use Rattle.sys_files.specs.Frame.{KeepsTo, LeavesOther}
 use Rattle.sys_files.specs.Moving.{resumes}
 use Rattle.sys_files.specs.Sound.{IsSound}
 use Rattle.sys_procs.specs.World.{World, process_of}
@@ -35,11 +39,27 @@ pub record GoesOn (h : Handed) : Type 0 where
 abbrev pub closed : Handed → Did
 closed h = record { answer = Ret 0 0; state = (close_all h).state; items = (close_all h).items; named = [] }
 
+-- Nothing is covered, the open files of a process and its directory are on the root's disk, and the super-block of the second disk
+-- hasn't changed. Then no call of the process on files changes the store of the second disk.
+pub record StandsOnRoot (h : Handed) : Type 0 where
+  pub none : h.mounts.covered ≡ None
+  pub some : 1 ≤ h.inodes.store.root.count
+  pub clean : OfSecond (λ (x : Store). x.mark ≡ false) h.inodes.store.second
+  pub keeps : KeepsTo h 0 []
+
+-- Nothing is covered, and the directory and the text of a process are on the root's disk. Then no call of it on processes does.
+pub record RunsOnRoot (mounts : MountTable) (w : World) (s : ℕ) : Type 0 where
+  pub none : mounts.covered ≡ None
+  pub some : 1 ≤ w.inodes.store.root.count
+  pub dir : device_of w.inodes.store (process_of w s).u.dir ≡ 0
+  pub keeps : its.KeepsTo w s 0 []
+
 -- Where all nodes that a call names, all open files of its process and its directory are of one disk, the other disk's store is what
 -- it was: its files, its room, its lists of free blocks and inodes, its time. So it is of each call on files, but for sync, which
 -- writes both disks, and pipe, which makes a node on the root's; of each call on processes where the program that it names and the
 -- text of the process are of one disk; and of both when they go on after a sleep. The file `core` is written without a call. A
--- process that ends closes its files, and leaves its directory and its text.
+-- process that ends closes its files, and leaves its directory and its text. While nothing is covered, what a process names that
+-- stands on the root's disk is on that disk, and so the second disk's store stays.
 pub record CallsLeaveOther : Type 0 where
   pub files : (call : FileCall) (h : Handed) (slot : ℕ) (args : List ℕ) (now : ℕ) → IsSound h → call ≢ file.Sync → call ≢ file.Pipe
       → LeavesOther h (file_row call h slot args now)
@@ -51,3 +71,8 @@ pub record CallsLeaveOther : Type 0 where
   pub core : (h : Handed) (now : ℕ) → IsSound h → LeavesOther h (core_file h now)
   pub closes : (h : Handed) → IsSound h → LeavesOther h (closed h)
   pub ends : (w : World) (s status : ℕ) → its.LeavesOther w s ((process_of w s).u.dir ∷ []) (end_proc w s status)
+  pub files_stay : (call : FileCall) (h : Handed) (slot : ℕ) (args : List ℕ) (now : ℕ) → IsSound h → StandsOnRoot h
+      → (file_row call h slot args now).state.inodes.store.second ≡ h.inodes.store.second
+  pub processes_stay : (call : ProcessCall) (mounts : MountTable) (w : World) (s : ℕ) (args : List ℕ) → AreMounts mounts w.inodes.store
+      → RunsOnRoot mounts w s → (process_row call mounts w s args).state.inodes.store.second ≡ w.inodes.store.second
+  pub core_stays : (h : Handed) (now : ℕ) → IsSound h → StandsOnRoot h → (core_file h now).state.inodes.store.second ≡ h.inodes.store.second

@@ -11,6 +11,7 @@ ghost use Rattle.sys_procs.specs.Done.{HasDone};
 ghost use Rattle.sys_procs.specs.Frame as its;
 ghost use Rattle.sys_procs.specs.Handed.{handed, AreProcs, AreBare, Calls, IsMarked};
 ghost use Rattle.abstract_unix.specs.Calls.{sysent_of, file_row, process_row, process_named};
+ghost use Rattle.abstract_unix.specs.OtherDisk.{StandsOnRoot, RunsOnRoot};
 
 use fs_tree::Tree;
 use proc_tab::Row;
@@ -240,7 +241,8 @@ fn do_file_row<S: Space, T: Trace>(
     }
 }
 
-/// Does a call on files. Where all that it has to do with is on one disk, it leaves the other one alone.
+/// Does a call on files. Where all that it has to do with is on one disk, it leaves the other one alone; and while nothing is
+/// covered, a process that stands on the root's disk has to do with that one.
 #[inline(always)]
 pub fn do_file_call<S: Space, T: Trace>(
     call: FileCall,
@@ -262,6 +264,8 @@ pub fn do_file_call<S: Space, T: Trace>(
         LeavesOther h (record (file_row call h slot args now) {
           state = parts.handed files.new u.new row.new (S.image space.new);
         }) }
+    ensures unmounted { StandsOnRoot (parts.handed files.old u.old row.old (S.image space.old))
+        → files.new.tree.nodes.store.second ≡ files.old.tree.nodes.store.second }
     ensures frame { T.leads_to trace.old trace.new }
     ensures memory { S.rest space.new ≡ S.rest space.old }
     ensures blocks { SameRest files.old.tree.nodes files.new.tree.nodes }
@@ -358,6 +362,8 @@ pub fn do_process_call<T: Trace>(
         its.LeavesOther w s (process_named call tree.old.mounts w s args) (record (process_row call tree.old.mounts w s args) {
           state = handed p.new tree.new.nodes;
         })) }
+    ensures unmounted { IfOk result (λ answer. RunsOnRoot tree.old.mounts (handed p.old tree.old.nodes) s
+        → tree.new.nodes.store.second ≡ tree.old.nodes.store.second) }
     ensures frame { T.leads_to trace.old trace.new }
     ensures agree { IfOk result (λ answer. AreProcs p.new) }
     ensures left { IfErr result (λ kind. AreProcs p.new ⊎ AreBare p.new s) }
