@@ -135,7 +135,7 @@ first_fifteen (suc (suc s)) t is = absurd (let none : get_or first_told (suc (su
 abbrev first_images : ℕ → Kept
 first_images core = with_keeping (first_kept core) 1 (Alive first_held)
 
-first_image : (core : ℕ) → Has (first_images core) 1 first_held
+pub first_image : (core : ℕ) → Has (first_images core) 1 first_held
 first_image core = keeping_same (first_kept core) 1 (Alive first_held) (let long = length-replicate 50 Nothing in omega (arith, long))
 
 first_alone : (core s : ℕ) → s ≢ 1 → keeping (first_images core) s ≡ Nothing
@@ -313,6 +313,7 @@ module _ (fs : FileSystem) (core count : ℕ) (referred : (ino : ℕ) → slice_
     counted = λ goes. counted_first w.slots (unix_of w) within (ap (λ (t : Timing). t.disk) timing) (ap (λ (t : Timing). t.pace) timing) unset
         (let none : passed_in w.slots ≡ 0 = ap (λ (t : Timing). t.passed) timing in omega (arith, none, far)) low refl
         (λ s p is. nobody_waits s p (ap (λ (l : List (Option Process)). get_or l s None) (sym processes_are) ∙ is));
+    within = within;
   }
 
   first_system : system_at w ≡ system_with fs.store core count

@@ -28,7 +28,7 @@ abbrev pub made_held : Held
 made_held = record { u = sized_area 1 0; image = cleared 1 0; place = Core 1 }
 
 -- the image with the program
-abbrev filled_held : Held
+abbrev pub filled_held : Held
 filled_held = record made_held { image = record (cleared 1 0) { «data» = init_data } }
 
 module _ (k : Kept) (empty : k ≡ first_kept k.core) (least : 64 ≤ k.core) where
@@ -60,7 +60,7 @@ module _ (k : Kept) (empty : k ≡ first_kept k.core) (least : 64 ≤ k.core) wh
         is ∙ ap (with_image_at k 1 (sized_area d stack) (cleared d stack)) (first_place d stack one none)
         ∙ (λ i. with_keeping k 1 (Alive (record { u = sized_area (one i) (none i); image = cleared (one i) (none i); place = Core 1 })))
 
-    made_keeping : keeping made 1 ≡ Alive made_held
+    pub made_keeping : keeping made 1 ≡ Alive made_held
     made_keeping = ap (λ l. keeping l 1) made_is ∙ keeping_same k 1 (Alive made_held) slot_within
 
     pub made_image : HasImage made 1
@@ -84,7 +84,7 @@ module _ (k : Kept) (empty : k ≡ first_kept k.core) (least : 64 ≤ k.core) wh
           put ∙ (λ i. with_keeping (made_is i) 1 (imaged (record (made_memory i) { «data» = init_data }) (made_keeping i)))
           ∙ keeping_twice k 1 (Alive made_held) (Alive filled_held)
 
-      filled_keeping : keeping filled 1 ≡ Alive filled_held
+      pub filled_keeping : keeping filled 1 ≡ Alive filled_held
       filled_keeping = ap (λ l. keeping l 1) filled_is ∙ keeping_same k 1 (Alive filled_held) slot_within
 
       pub filled_image : HasImage filled 1

@@ -100,6 +100,7 @@ module _ (w : World) (word : ℕ) where
       calls = was.calls;
     };
     counted = λ goes. counted_same w.slots (unix_of w) (unix_of switched) refl refl refl (kernel.counted goes);
+    within = kernel.within;
   }
 
   pub switched_system : system_at switched ≡ (event_of (Switch word) (system_at w)).next
@@ -111,7 +112,7 @@ module _ (w : World) (count : ℕ) (most : count ≤ 999999999) where
   set = record w { slots = record w.slots { disk = count } }
 
   pub set_kernel : (at : Stage) → IsKernel at w → IsKernel at set
-  set_kernel at kernel = kernel_slots w (record w.slots { disk = count }) at
+  set_kernel at kernel = kernel_slots w (record w.slots { disk = count }) at kernel.within
       (λ goes. counted_set w.slots count (unix_of w) (unix_of set) most refl refl refl (kernel.counted goes)) kernel
 
   pub set_system : system_at set ≡ (event_of (Disk count) (system_at w)).next
@@ -132,24 +133,26 @@ module _ (w : World) (new : FileSystem) (store : new.store ≡ synced w.files.tr
   updated_covered covered = covered
 
 -- A run that has stopped keeps nothing together but its images, and one that is finished its files beside.
-pub stopped_kernel : (w : World) → IsCovered w → IsKernel stage.Stopped w
-stopped_kernel w covered = record {
+pub stopped_kernel : (w : World) → IsCovered w → w.slots.left ≤ w.slots.due → IsKernel stage.Stopped w
+stopped_kernel w covered within = record {
   new = λ e. absurd (cc e);
   stopped = λ e. covered;
   finished = λ e. absurd (cc e);
   running = λ f e. absurd (cc e);
   resting = λ e. absurd (cc e);
   counted = λ goes. absurd (cc goes);
+  within = within;
 }
 
-pub finished_kernel : (w : World) → IsCovered w → IsKernel stage.Finished w
-finished_kernel w covered = record {
+pub finished_kernel : (w : World) → IsCovered w → w.slots.left ≤ w.slots.due → IsKernel stage.Finished w
+finished_kernel w covered within = record {
   new = λ e. absurd (cc e);
   stopped = λ e. absurd (cc e);
   finished = λ e. covered;
   running = λ f e. absurd (cc e);
   resting = λ e. absurd (cc e);
   counted = λ goes. absurd (cc goes);
+  within = within;
 }
 
 -- the stage of a run that hasn't been started

@@ -1,5 +1,5 @@
 -- A tick delivers the signal that is due: it never ends the run of itself, and the tick comes to both logs.
-use Rattle.std.proofs.Common.{◌≡◌, ◌<◌, ◌+◌, ◌%◌, ◌^◌, ◌==◌, ◌&&◌, ◌∙◌, cond, ℕ, Bool, true, false, ◌++◌, length, Option, Some, None, Ok, Err, refl, sym, ap, subst}
+use Rattle.std.proofs.Common.{◌≡◌, ◌≤◌, ◌<◌, ◌+◌, ◌%◌, ◌^◌, ◌==◌, ◌&&◌, ◌∙◌, cond, ℕ, Bool, true, false, ◌++◌, length, Option, Some, None, Ok, Err, refl, sym, ap, subst}
 use Rattle.v6_base.specs.Trace.{Took, Taken}
 use Rattle.v6_base.proofs.Took.{took_then, took_more}
 use Rattle.v6_base.specs.declared.entry.PanicKind.{PanicKind}
@@ -151,11 +151,11 @@ module _ (m : System) (none : (logged m.board (tick_effects m)).stop ≡ None) (
         ap settled_after whole_is
         ∙ ap (λ o. settled_after (passes s.unix (record (after_items first.items then_) { stop = o }))) stops
 
-    broken_takes : IsCovered w → Takes (settled_after (tick_of m)) stage.Stopped w
-    broken_takes covered =
+    broken_takes : IsCovered w → w.slots.left ≤ w.slots.due → Takes (settled_after (tick_of m)) stage.Stopped w
+    broken_takes covered within =
         let unix = come.unix ∙ ap (λ o. left_by o s.unix) stops in
         subst (λ (x : Turn). Takes x stage.Stopped w) (sym broken_is)
-        (record { kernel = stopped_kernel w covered; system = λ i. record { unix = unix i; board = come.board i }; phase = refl })
+        (record { kernel = stopped_kernel w covered within; system = λ i. record { unix = unix i; board = come.board i }; phase = refl })
 
     broken_items : (a b c : Taken) → Took a first.items b → Took b then_.items c → Took a (settled_after (tick_of m)).items c
     broken_items a b c one two = subst (λ (x : Turn). Took a x.items c) (sym broken_is) (took_more a b c first.items then_.items one two)
@@ -180,8 +180,8 @@ module _ (m : System) (none : (logged m.board (tick_effects m)).stop ≡ None) (
     why : (stop : Stop Unix) × ((then_.stop ≡ Some stop) × (kind ≡ stop.why))
     why = why_by kind then_.stop s.ending (delivery_ends (is_as_trap m) (outside.ticked m) m.board.table.running) (sym is ∙ come.ending)
 
-    pub panic_takes : IsCovered w → Takes (settled_after (tick_of m)) stage.Stopped w
-    panic_takes covered = broken_takes why.0 why.1.0 covered
+    pub panic_takes : IsCovered w → w.slots.left ≤ w.slots.due → Takes (settled_after (tick_of m)) stage.Stopped w
+    panic_takes covered within = broken_takes why.0 why.1.0 covered within
 
     pub panic_items : (a b c : Taken) → Took a first.items b → Took b then_.items c → Took a (settled_after (tick_of m)).items c
     panic_items a b c one two = broken_items why.0 why.1.0 a b c one two

@@ -135,6 +135,7 @@ module _ (w : World) (x : ImagesState) (s : ℕ) (alive : IsAlive w.procs s) (im
           calls = λ r runs above. user_same r ∙ was.calls r runs above;
         };
         counted = λ goes. memory_counted (kernel.counted refl);
+        within = kernel.within;
       }
   memory_kernel stage.Stopped started kernel = absurd (cc started)
   memory_kernel stage.Finished started kernel = absurd (cc started)

@@ -1,5 +1,5 @@
 -- A turn ends: what belongs together still does, whether the process goes on, sleeps or has exited.
-use Rattle.std.proofs.Common.{◌≡◌, ◌≢◌, ◌<◌, ◌==◌, cond, ℕ, Bool, true, false, ℤ, int_lt, pos, [], map, Some, refl, sym, ap, ◌∙◌, subst, arith}
+use Rattle.std.proofs.Common.{◌≡◌, ◌≤◌, ◌≢◌, ◌<◌, ◌==◌, cond, ℕ, Bool, true, false, ℤ, int_lt, pos, [], map, Some, refl, sym, ap, ◌∙◌, subst, arith}
 use Rattle.std.proofs.lemmas.List.{get_or-set_same, get_or-set_other, length-set}
 use Rattle.v6_base.specs.Trace.{Took, Taken}
 use Rattle.v6_base.specs.declared.entry.Chan.{Chan}
@@ -170,12 +170,13 @@ module _ (w : World) (good : IsGood w) (s : ℕ) (above : 0 < s) (low : s < 50) 
 
 -- The run ends.
 module _ (w : World) (s : ℕ) where
-  pub stopped_takes : (e : Ending) → is_early (ending_of e) ≡ true → (is_over e ≡ true → IsCovered w) → Takes (turn_end w s e) stage.Stopped w
-  stopped_takes ending.Next f covered = absurd (cc f)
-  stopped_takes ending.Trapped f covered = absurd (cc f)
-  stopped_takes (ending.Slept pri chan) f covered = absurd (cc f)
-  stopped_takes ending.Ended f covered = absurd (cc f)
-  stopped_takes (ending.Panic kind) f covered = record { kernel = stopped_kernel w (covered refl); system = refl; phase = refl }
+  pub stopped_takes : (e : Ending) → is_early (ending_of e) ≡ true → (is_over e ≡ true → IsCovered w) → w.slots.left ≤ w.slots.due
+      → Takes (turn_end w s e) stage.Stopped w
+  stopped_takes ending.Next f covered within = absurd (cc f)
+  stopped_takes ending.Trapped f covered within = absurd (cc f)
+  stopped_takes (ending.Slept pri chan) f covered within = absurd (cc f)
+  stopped_takes ending.Ended f covered within = absurd (cc f)
+  stopped_takes (ending.Panic kind) f covered within = record { kernel = stopped_kernel w (covered refl) within; system = refl; phase = refl }
 
   pub stopped_items : (e : Ending) → is_early (ending_of e) ≡ true → (turn_end w s e).items ≡ []
   stopped_items ending.Next f = absurd (cc f)

@@ -38,6 +38,7 @@ runs_kernel w f running counted = record {
   running = λ g e. subst (λ x. IsRunning x w) (ap (fixed_or f) e) running;
   resting = λ e. absurd (cc e);
   counted = λ goes. counted;
+  within = counted.timed.within;
 }
 
 -- a process executes instructions, of which it is known what stays fixed
@@ -70,6 +71,7 @@ calls_kernel w s ready settled calls counted = record {
     calls = λ r runs above. subst (λ x. is_user (process_of (unix_of w) x) ≡ false) (ap one_of (sym ready.runs ∙ runs)) calls;
   };
   counted = λ goes. counted;
+  within = counted.timed.within;
 }
 
 -- where a tick comes

@@ -56,9 +56,9 @@ module _ (w : World) (slots : Slots) where
   unfolding kept_in
   covered_slots covered = covered
 
-  pub kernel_slots : (at : Stage) → (goes_on (phase_of at) ≡ true → IsCounted slots (unix_of (with_slots w slots))) → IsKernel at w
+  pub kernel_slots : (at : Stage) → slots.left ≤ slots.due → (goes_on (phase_of at) ≡ true → IsCounted slots (unix_of (with_slots w slots))) → IsKernel at w
       → IsKernel at (with_slots w slots)
-  kernel_slots at counted kernel = record {
+  kernel_slots at within counted kernel = record {
     new = λ e. let was = kernel.new e in record { good = good_slots was.good; runs = was.runs; nobody_out = was.nobody_out };
     stopped = λ e. covered_slots (kernel.stopped e);
     finished = λ e. covered_slots (kernel.finished e);
@@ -70,6 +70,7 @@ module _ (w : World) (slots : Slots) where
       calls = was.calls;
     };
     counted = counted;
+    within = within;
   }
 
 -- Where no byte waits, the lines send nothing.
@@ -317,8 +318,8 @@ module _ (w : World) (lines : List Terminal) (slots : Slots) where
   unfolding kept_in
   covered_lines covered = covered
 
-  pub kernel_lines : (at : Stage) → (goes_on (phase_of at) ≡ true → IsCounted slots (unix_of told_slots)) → IsKernel at w → IsKernel at told_slots
-  kernel_lines at counted kernel = record {
+  pub kernel_lines : (at : Stage) → slots.left ≤ slots.due → (goes_on (phase_of at) ≡ true → IsCounted slots (unix_of told_slots)) → IsKernel at w → IsKernel at told_slots
+  kernel_lines at within counted kernel = record {
     new = λ e. let was = kernel.new e in record { good = good_then was.good; runs = was.runs; nobody_out = was.nobody_out };
     stopped = λ e. covered_lines (kernel.stopped e);
     finished = λ e. covered_lines (kernel.finished e);
@@ -330,4 +331,5 @@ module _ (w : World) (lines : List Terminal) (slots : Slots) where
       calls = was.calls;
     };
     counted = counted;
+    within = within;
   }

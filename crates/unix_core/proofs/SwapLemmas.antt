@@ -1,6 +1,6 @@
 -- The pass of the swapper: the parts belong together before and after it, and it changes nothing of the Unix.
 use Rattle.std.specs.List.{range_with_len}
-use Rattle.std.proofs.Common.{◌≡◌, ◌∙◌, ◌<◌, ◌++◌, ℕ, zero, suc, Bool, true, false, cond, List, [], ◌∷◌, length, map, min, get_or, Option, Some, None, Result, Ok, Err, refl, sym, ap, subst, arith}
+use Rattle.std.proofs.Common.{◌≡◌, ◌≤◌, ◌∙◌, ◌<◌, ◌++◌, ℕ, zero, suc, Bool, true, false, cond, List, [], ◌∷◌, length, map, min, get_or, Option, Some, None, Result, Ok, Err, refl, sym, ap, subst, arith}
 use Rattle.std.proofs.lemmas.List.{same_lists, get_or_default, length-map, length-set}
 use Rattle.std.proofs.Math.ListN.{get_or-map}
 use Rattle.v6_base.specs.Trace.{Item, Byte, Log, Taken, Took}
@@ -334,6 +334,9 @@ module _ (w : World) (u : Table) (x : ImagesState) (a z : Taken) (good : IsGood 
     done : settled_after (pass_of (system_at w)) ≡ gone (system_at w)
     done = pass_goes (system_at w) (none_stopped _ goes)
 
+    pub goes_answer : Ran ≡ turned (settled_after (pass_of (system_at w)))
+    goes_answer = sym (ap turned done)
+
     pub after_takes : (at : Stage) (last : World) → IsKernel at last → phase_of at ≡ Started
         → system_at last ≡ record (system_at now) { board = (settled (board_in now)).board } → Takes (settled_after (pass_of (system_at w))) at last
     after_takes at last kernel started final = subst (λ (o : Turn). Takes o at last) (sym done)
@@ -390,15 +393,21 @@ module _ (w : World) (u : Table) (x : ImagesState) (a z : Taken) (good : IsGood 
         ap (λ o. settled_after (after_slot (passes (unix_of w) (over (unix_of w) (record (pass (board_in w)) { stop = o }))))) why.1
         ∙ sym (ap (λ o. settled_after (passes (unix_of w) (over (unix_of w) (record (pass (board_in w)) { stop = o })))) why.1)
 
+    pub over_answer : told.Panic kind ≡ turned (settled_after (pass_of (system_at w)))
+    over_answer = sym (ap turned over_with)
+
+    pub over_items : Took a (pass (board_in w)).items z → Took a (settled_after (pass_of (system_at w))).items z
+    over_items = subst (λ (t : Turn). Took a t.items z) (sym over_with)
+
     pub stopped_answer : told.Panic kind ≡ turned (settled_after (after_slot (pass_of (system_at w))))
     stopped_answer = sym (ap turned (not_counted ∙ over_with))
 
     pub stopped_items : Took a (pass (board_in w)).items z → Took a (settled_after (after_slot (pass_of (system_at w)))).items z
     stopped_items = subst (λ (t : Turn). Took a t.items z) (sym (not_counted ∙ over_with))
 
-    pub panic_takes : AreProcesses w.procs.rows → Takes (settled_after (pass_of (system_at w))) stage.Stopped now
-    panic_takes processes = subst (λ (o : Turn). Takes o stage.Stopped now) (sym over_with) (record {
-      kernel = stopped_kernel now (agree_covered now after_agree processes holds);
+    pub panic_takes : AreProcesses w.procs.rows → w.slots.left ≤ w.slots.due → Takes (settled_after (pass_of (system_at w))) stage.Stopped now
+    panic_takes processes within = subst (λ (o : Turn). Takes o stage.Stopped now) (sym over_with) (record {
+      kernel = stopped_kernel now (agree_covered now after_agree processes holds) within;
       system = λ i. record { unix = after_unix i; board = moved.board i };
       phase = refl;
     })

@@ -89,6 +89,10 @@ first_held = record {
   place = Core 1;
 }
 
+-- how many bytes it has: 17 clicks
+abbrev pub first_size : ℕ
+first_size = 1088
+
 -- Process 1 alone, with its first image, and the table at a time.
 pub record AreFirst (p : Procs) (core time : ℕ) : Type 0 where
   pub rows : p.rows ≡ first_processes
@@ -237,6 +241,7 @@ pub record IsKernel (at : Stage) (w : parts.World) : Type 0 where
   pub running : (f : Fixed) → at ≡ stage.Running f → IsRunning f w
   pub resting : at ≡ stage.Resting → IsPaused w
   pub counted : goes_on (phase_of at) ≡ true → IsCounted w.slots (unix_of w)
+  pub within : w.slots.left ≤ w.slots.due
 
 -- A system whose running process was in user mode, and the world after its instruction.
 pub record HasStepped (m : System) (w : parts.World) (s : ℕ) (o : Outcome) : Type 0 where

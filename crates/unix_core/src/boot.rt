@@ -1,22 +1,24 @@
 //! What a kernel begins with.
-ghost use Rattle.std.specs.Prelude.{◌≡◌, ◌⊎◌, ◌==◌, if◌then◌else◌, ℕ, ◌≤◌, IfOk, IfErr, Some, None, slice_index, length};
+ghost use Rattle.std.specs.Prelude.{◌≡◌, ◌⊎◌, ◌==◌, if◌then◌else◌, ℕ, ◌≤◌, IfOk, IfErr, Some, None, OnOk, slice_index, length, ◌++◌, ◌<◌, ◌^◌};
 ghost use Rattle.v6_base.specs.Tape.{blank};
 ghost use Rattle.fs_codec.specs.Disk.{disk_of};
 ghost use Rattle.fs_codec.specs.Faults.{image_fault, fault_within};
 ghost use Rattle.fs_codec.specs.Stands.{store_of};
+ghost use Rattle.fs_codec.specs.Words.{bytes_from};
 ghost use Rattle.fs_codec.specs.declared.layout.TheConstants.{DISK_BLOCKS};
 ghost use Rattle.fs_nodes.specs.Keys.{key_count};
 ghost use Rattle.fs_tree.specs.Mounting.{AreMounts};
+ghost use Rattle.image_keep.specs.Holds.{MemoryHolds};
 ghost use Rattle.abstract_unix.specs.Runs.{stores_of};
 ghost use Rattle.unix_core.specs.Parts.{AreFirst};
-ghost use Rattle.unix_core.specs.Boots.{counted_fault, second_fault_of, blocks_on};
+ghost use Rattle.unix_core.specs.Boots.{counted_fault, second_fault_of, blocks_on, swap_on, core_on};
 
 use crate::files::take_root;
 use crate::kernel::{Kernel, Rooms, first_procs};
 use buf_cache::{Cache, Disk};
 use fs_blocks::Volume;
 use fs_check::{ImageFault, accept, accept_second};
-use fs_codec::{BLOCK_INODES, BLOCK_SIZE, SWAP_START, super_in};
+use fs_codec::{BLOCK_INODES, BLOCK_SIZE, SWAP_START, read_bytes, super_in};
 use fs_nodes::Nodes;
 use image_keep::{Images, SWAP_BYTES};
 use mount_tab::Mounts;
@@ -31,6 +33,9 @@ const TAPE_BYTES: usize = 524288;
 
 /// Where the swap area begins on the disk, in bytes.
 const SWAP_AT: usize = BLOCK_SIZE * SWAP_START as usize;
+
+/// How many blocks it has.
+const SWAP_BLOCKS: usize = SWAP_BYTES / BLOCK_SIZE;
 
 /// Why there is no kernel for an image.
 #[derive(Clone, Copy, Debug, PartialEq, Eq)]
@@ -164,26 +169,33 @@ fn two_mounts(image: &[u8], second: &[u8]) -> Mounts
     Mounts::new(first, other)
 }
 
-/// Puts what an image has of the swap area there.
-fn fill_swap(swap: &mut [u8], image: &[u8])
-    ensures { length swap.new ≡ length swap.old }
+/// Puts the bytes of a block, which begins at a place of an image, after those that are there.
+fn push_block(bytes: &mut Vec<u8>, image: &[u8], at: usize) -> Result<(), AllocError>
+    requires { at < 2 ^ 32 }
+    ensures { OnOk result (bytes.new.items ≡ bytes.old.items ++ bytes_from image.now at BLOCK_SIZE) }
 {
-    match image.get(SWAP_AT..) {
-        Some(rest) => {
-            let count = rest.len().min(swap.len());
-            swap[..count].copy_from_slice(&rest[..count]);
-        }
-        None => {}
-    }
+    let mut block = [0; BLOCK_SIZE];
+    read_bytes(image, at, &mut block);
+    bytes.extend_from_slice(&block)
 }
 
 /// The swap area of a disk with an image: its blocks as the image has them, and zeros where the image ends before.
 fn swap_area(alloc: Global, image: &[u8]) -> Result<Vec<u8>, AllocError>
-    ensures { IfOk result (λ swap. length swap.items ≡ SWAP_BYTES) }
+    ensures bytes { IfOk result (λ swap. swap.items ≡ swap_on image.now) }
+    ensures size { IfOk result (λ swap. length swap.items ≡ SWAP_BYTES) }
 {
-    let mut swap = vec![in alloc; 0u8; SWAP_BYTES]?;
-    fill_swap(&mut swap, image);
+    let mut swap = Vec::with_capacity(alloc, SWAP_BYTES)?;
+    for n in 0..SWAP_BLOCKS {
+        push_block(&mut swap, image, SWAP_AT + BLOCK_SIZE * n)?;
+    }
     Ok(swap)
+}
+
+/// Sees what core and the swap area hold.
+fn see_memory(images: &Images)
+    ensures { MemoryHolds images.now.core images.now.swap images.now.kept }
+{
+    let _core = images.core();
 }
 
 /// Takes the memory of a kernel with so many clicks of core, on the swap area of an image. It stands out of line, so that its
@@ -193,14 +205,18 @@ fn rooms_of(alloc: Global, image: &[u8], time: u32, core: u16) -> Result<Rooms, 
     requires least { 64 ≤ core }
     requires most { core ≤ 3968 }
     ensures procs { IfOk result (λ rooms. AreFirst rooms.procs core time) }
+    ensures swap { IfOk result (λ rooms. rooms.procs.images.swap ≡ swap_on image.now) }
+    ensures core { IfOk result (λ rooms. rooms.procs.images.core ≡ core_on core) }
     ensures tape { IfOk result (λ rooms. rooms.tape ≡ blank TAPE_ENTRIES TAPE_BYTES) }
 {
     let swap = swap_area(alloc, image)?;
     let images = Images::new(alloc, core, &swap)?;
     let tape = Tape::new(alloc, TAPE_ENTRIES, TAPE_BYTES)?;
     let dispatch = Dispatch::new(alloc)?;
+    let procs = first_procs(images, time);
+    see_memory(&procs.images);
     Ok(Rooms {
-        procs: first_procs(images, time),
+        procs,
         tape,
         dispatch,
     })
@@ -222,6 +238,8 @@ impl Kernel {
         ensures system { IfOk result (λ kernel. boots image.now None core lines ≡ Some kernel.system) }
         ensures blocks { IfOk result (λ kernel. kernel.blocks ≡ blocks_on image.now None) }
         ensures stored { IfOk result (λ kernel. kernel.stored ≡ blocks_on image.now None) }
+        ensures swap { IfOk result (λ kernel. kernel.swap ≡ swap_on image.now) }
+        ensures core { IfOk result (λ kernel. kernel.core ≡ core_on core) }
         ensures phase { IfOk result (λ kernel. kernel.phase ≡ New) }
         ensures refused { IfErr result (RefusesBoot image.now) }
     {
@@ -248,6 +266,8 @@ impl Kernel {
         ensures system { IfOk result (λ kernel. boots image.now None core 1 ≡ Some kernel.system) }
         ensures blocks { IfOk result (λ kernel. kernel.blocks ≡ blocks_on image.now None) }
         ensures stored { IfOk result (λ kernel. kernel.stored ≡ blocks_on image.now None) }
+        ensures swap { IfOk result (λ kernel. kernel.swap ≡ swap_on image.now) }
+        ensures core { IfOk result (λ kernel. kernel.core ≡ core_on core) }
         ensures phase { IfOk result (λ kernel. kernel.phase ≡ New) }
         ensures refused { IfErr result (RefusesBoot image.now) }
     {
@@ -261,6 +281,8 @@ impl Kernel {
         ensures system { IfOk result (λ kernel. boots image.now None core LINES ≡ Some kernel.system) }
         ensures blocks { IfOk result (λ kernel. kernel.blocks ≡ blocks_on image.now None) }
         ensures stored { IfOk result (λ kernel. kernel.stored ≡ blocks_on image.now None) }
+        ensures swap { IfOk result (λ kernel. kernel.swap ≡ swap_on image.now) }
+        ensures core { IfOk result (λ kernel. kernel.core ≡ core_on core) }
         ensures phase { IfOk result (λ kernel. kernel.phase ≡ New) }
         ensures refused { IfErr result (RefusesBoot image.now) }
     {
@@ -283,6 +305,8 @@ impl Kernel {
         ensures system { IfOk result (λ kernel. boots image.now (Some second.now) core 1 ≡ Some kernel.system) }
         ensures blocks { IfOk result (λ kernel. kernel.blocks ≡ blocks_on image.now (Some second.now)) }
         ensures stored { IfOk result (λ kernel. kernel.stored ≡ blocks_on image.now (Some second.now)) }
+        ensures swap { IfOk result (λ kernel. kernel.swap ≡ swap_on image.now) }
+        ensures core { IfOk result (λ kernel. kernel.core ≡ core_on core) }
         ensures phase { IfOk result (λ kernel. kernel.phase ≡ New) }
         ensures refused { IfErr result (RefusesBoot2 image.now second.now) }
     {

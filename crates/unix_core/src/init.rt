@@ -2,6 +2,7 @@
 ghost use Rattle.std.specs.Prelude.{◌≡◌, ◌++◌, [], drop, length, replicate};
 ghost use Rattle.fs_codec.specs.Bytes.{bytes_of};
 ghost use Rattle.image_keep.specs.Kept.{HasImage, image_of, with_image};
+ghost use Rattle.image_keep.specs.Lent.{outside_of};
 ghost use Rattle.abstract_unix.specs.Init.{init_words, init_data};
 
 use crate::files::see_kept;
@@ -34,6 +35,7 @@ pub(crate) fn put_program(procs: &mut Procs, s: Slot)
     requires no_text { (image_of procs.old.images.kept s).text ≡ [] }
     requires cleared { (image_of procs.old.images.kept s).data ≡ replicate 64 0 }
     ensures kept { procs.new.images.kept ≡ with_image procs.old.images.kept s (record (image_of procs.old.images.kept s) { «data» = init_data }) }
+    ensures bytes { outside_of procs.new.images s ≡ outside_of procs.old.images s }
     ensures others { procs.new ≡ record procs.old { images = procs.new.images } }
 {
     see_kept(&procs.images);

@@ -1,5 +1,5 @@
 //! The kernel, which takes one event a call.
-ghost use Rattle.std.specs.Prelude.{◌≡◌, ◌≢◌, ◌⊎◌, ◌==◌, ◌<◌, ◌≤◌, ℕ, [], slice_index, slice_set, if◌then◌else◌, true, false, None, IsOk, IfOk};
+ghost use Rattle.std.specs.Prelude.{◌≡◌, ◌≢◌, ◌⊎◌, ◌==◌, ◌*◌, ◌<◌, ◌≤◌, ℕ, [], drop, length, slice_index, slice_set, if◌then◌else◌, true, false, None, IsOk, IfOk};
 ghost use Rattle.v6_base.specs.Trace.{Took};
 ghost use Rattle.v6_base.specs.Tape.{blank};
 ghost use Rattle.fs_codec.specs.Disk.{head};
@@ -11,7 +11,7 @@ ghost use Rattle.fs_nodes.specs.FileSystem.{AllStand};
 ghost use Rattle.fs_tree.specs.Mounting.{AreMounts};
 ghost use Rattle.image_keep.specs.Kept.{Alive, first_kept, with_keeping};
 ghost use Rattle.image_keep.specs.Deposits.{memory_size, HasByte, IsNobodys};
-ghost use Rattle.unix_core.specs.Parts.{first_held, AreFirst};
+ghost use Rattle.unix_core.specs.Parts.{first_held, first_size, AreFirst};
 ghost use Rattle.unix_core.specs.Deposits.{IsPutIn};
 ghost use Rattle.abstract_unix.specs.declared.ends.Ends.TheVariants.{AtEnd};
 ghost use Rattle.abstract_unix.specs.Turn.{turned, ticked_by, NobodyCanRun};
@@ -56,6 +56,9 @@ const FIRST: Proto = Proto {
 fn make_first(procs: &mut Procs)
     requires least { 64 ≤ procs.old.images.kept.core }
     requires empty { procs.old.images.kept ≡ first_kept procs.old.images.kept.core }
+    requires size { length procs.old.images.core ≡ 64 * procs.old.images.kept.core }
+    ensures swap { procs.new.images.swap ≡ procs.old.images.swap }
+    ensures core { drop first_size procs.new.images.core ≡ drop first_size procs.old.images.core }
     ensures kept { procs.new.images.kept ≡ with_keeping procs.old.images.kept 1 (Alive first_held) }
     ensures others { procs.new ≡ record procs.old { images = procs.new.images } }
 {
@@ -70,7 +73,10 @@ fn make_first(procs: &mut Procs)
 pub(crate) fn first_procs(images: Images, time: u32) -> Procs
     requires least { 64 ≤ images.kept.core }
     requires empty { images.kept ≡ first_kept images.kept.core }
-    ensures { AreFirst result images.kept.core time }
+    requires size { length images.core ≡ 64 * images.kept.core }
+    ensures first { AreFirst result images.kept.core time }
+    ensures swap { result.images.swap ≡ images.swap }
+    ensures core { drop first_size result.images.core ≡ drop first_size images.core }
 {
     let mut procs = Procs {
         rows: Rows::new(),
@@ -145,6 +151,8 @@ impl Kernel {
         ensures system { IfOk result (λ kernel. kernel.system ≡ system_with nodes.store core lines) }
         ensures blocks { IfOk result (λ kernel. kernel.blocks ≡ nodes.blocks) }
         ensures stored { IfOk result (λ kernel. kernel.stored ≡ nodes.stored) }
+        ensures swap { IfOk result (λ kernel. kernel.swap ≡ rooms.procs.images.swap) }
+        ensures core { IfOk result (λ kernel. kernel.core ≡ rooms.procs.images.core) }
         ensures phase { IfOk result (λ kernel. kernel.phase ≡ New) }
     {
         nodes.see();
@@ -186,6 +194,8 @@ impl Kernel {
         ensures texts { AllTextsStay self.old.system self.new.system }
         ensures blocks { self.new.blocks ≡ self.old.blocks }
         ensures stored { self.new.stored ≡ self.old.stored }
+        ensures core { self.new.core ≡ self.old.core }
+        ensures swap { self.new.swap ≡ self.old.swap }
         ensures rest { KeepsRest self.old self.new }
         ensures items { Took (T.taken trace.old) (start_of self.old.system).items (T.taken trace.new) }
         ensures frame { T.leads_to trace.old trace.new }
@@ -345,7 +355,6 @@ impl Kernel {
 
     /// How many slots have been taken.
     pub fn passed(&self) -> u32
-        requires { self.now.phase ≡ Started }
         ensures { result ≡ self.now.system.unix.timing.passed }
     {
         self.machine.world.slots.passed()

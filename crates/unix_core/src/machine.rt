@@ -5,6 +5,7 @@ ghost use Rattle.fs_nodes.specs.FileSystem.{SameRest};
 ghost use Rattle.pick_rules.specs.Choice.{chosen, settle};
 ghost use Rattle.pick_rules.specs.Effects.{Show};
 ghost use Rattle.pick_rules.specs.Logged.{logged};
+ghost use Rattle.pick_rules.specs.Swapper.{candidate};
 ghost use Rattle.image_keep.specs.Kept.{HasImage};
 ghost use Rattle.abstract_unix.specs.declared.ends.Ends.TheVariants.{AtEnd};
 ghost use Rattle.abstract_unix.specs.Unix.{Unix, System, Started};
@@ -282,6 +283,8 @@ impl Machine {
         ensures takes { Takes (settled_after (pass_of (system_at self.old.world))) self.new.stage self.new.world }
         ensures rest { SameRest self.old.world.files.tree.nodes self.new.world.files.tree.nodes }
         ensures files { self.new.world.files ≡ self.old.world.files }
+        ensures images { candidate self.old.world.procs.table ≡ None
+            → self.new.world.procs.images ≡ self.old.world.procs.images }
         ensures items { Took (T.taken trace.old)
             (settled_after (pass_of (system_at self.old.world))).items (T.taken trace.new) }
         ensures frame { T.leads_to trace.old trace.new }
@@ -364,6 +367,7 @@ impl Machine {
     fn end<T: Trace>(&mut self, s: Slot, ending: Ending, trace: &mut T) -> Turned
         requires good { is_over ending ≡ false → IsGood self.old.world }
         requires covered { is_over ending ≡ true → IsCovered self.old.world }
+        requires within { self.old.world.slots.left ≤ self.old.world.slots.due }
         requires user { 0 < s }
         requires slot { s < 50 }
         requires runs { is_over ending ≡ false → ending ≢ Ending.Ended → self.old.world.procs.table.running ≡ Some s }

@@ -1,5 +1,5 @@
 //! Turns and calls of a process: what an instruction comes to, and how a call goes on. `trap` in Lions' Commentary, `trap.c`.
-ghost use Rattle.std.specs.Prelude.{◌≡◌, ◌≢◌, ◌&&◌, ◌==◌, not, Some, true, false};
+ghost use Rattle.std.specs.Prelude.{◌≡◌, ◌≢◌, ◌≤◌, ◌&&◌, ◌==◌, not, Some, true, false};
 ghost use Rattle.v6_base.specs.Trace.{Took};
 ghost use Rattle.fs_nodes.specs.FileSystem.{SameRest};
 ghost use Rattle.pick_rules.specs.Logged.{logged};
@@ -278,6 +278,7 @@ fn call_processes<T: Trace>(
     ensures rest { SameRest world.old.files.tree.nodes world.new.files.tree.nodes }
     ensures slots { is_over result ≡ false
         → HasWaited (waits_in_call (unix_of world.old) s (SystemCall.OnProcesses call) args) world.old.slots world.new.slots }
+    ensures within { world.new.slots.left ≤ world.new.slots.due }
 {
     world.files.tree.nodes.see();
     see_table(&world.files.table);
@@ -415,6 +416,7 @@ fn does_call<T: Trace>(
     ensures rest { SameRest world.old.files.tree.nodes world.new.files.tree.nodes }
     ensures slots { is_over result ≡ false
         → HasWaited (waits_in_call (unix_of world.old) fixed.now.slot call args) world.old.slots world.new.slots }
+    ensures within { world.new.slots.left ≤ world.new.slots.due }
 {
     let s = fixed.slot;
     match call {
@@ -454,6 +456,7 @@ fn call<T: Trace>(world: &mut World, fixed: &Fixed, number: u8, trace: &mut T) -
     ensures rest { SameRest world.old.files.tree.nodes world.new.files.tree.nodes }
     ensures slots { is_over result ≡ false
         → HasWaited (waits_in (unix_of world.old) fixed.now.slot (Outcome.Call number)) world.old.slots world.new.slots }
+    ensures within { world.new.slots.left ≤ world.new.slots.due }
 {
     let asked = ask(&world.procs.images, fixed, number);
     let entry = sysent_of(asked.number);
@@ -524,6 +527,7 @@ pub(crate) fn come_to<T: Trace>(
     ensures rest { SameRest world.old.files.tree.nodes world.new.files.tree.nodes }
     ensures slots { is_over result ≡ false
         → HasWaited (waits_in (unix_of world.old) fixed.now.slot outcome) world.old.slots world.new.slots }
+    ensures within { world.new.slots.left ≤ world.new.slots.due }
 {
     match outcome {
         Outcome::Next => Ending::Next,

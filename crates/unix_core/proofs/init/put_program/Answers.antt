@@ -1,7 +1,8 @@
-use Rattle.std.proofs.Common.{◌≡◌, ◌∙◌, ◌++◌, List, ℕ, drop, ap}
+use Rattle.std.proofs.Common.{◌≡◌, ◌∙◌, ◌++◌, List, ℕ, drop, sym, ap}
 use Rattle.v6_base.specs.Image.{Image}
 use Rattle.fs_codec.specs.Bytes.{bytes_of}
 use Rattle.image_keep.specs.Kept.{Kept, image_of, with_image}
+use Rattle.image_keep.specs.Lent.{Lent, outside_of}
 use Rattle.abstract_unix.specs.Init.{init_words, init_data}
 use Rattle.unix_core.proofs.LoanLemmas.{same_kept}
 use Rattle.image_keep.proofs.Loans.{lent_back}
@@ -28,3 +29,12 @@ returns-clause-kept c =
     back ∙ ap (with_image k s) (done.ensures.image
     ∙ ap (λ (m : Image). record m { «data» = bytes_of init_words ++ drop 22 m.data }) was
     ∙ ap (λ (d : List ℕ). record (image_of k s) { «data» = bytes_of init_words ++ drop 22 d }) c.requires.cleared)
+
+pub returns-clause-bytes : goal.returns-clause-bytes
+returns-clause-bytes c =
+    let lent = c.space-space in
+    let done = c.store_program in
+    let slot = ap (λ (l : Lent). l.slot) done.ensures.rest ∙ lent.ensures.slot in
+    ap (outside_of done.new.space.images.now) (sym slot)
+    ∙ ap (λ (l : Lent). l.outside) done.ensures.rest
+    ∙ (λ i. outside_of (lent.ensures.images i) (lent.ensures.slot i))

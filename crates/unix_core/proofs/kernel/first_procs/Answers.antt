@@ -5,8 +5,8 @@ use Rattle.sys_procs.specs.declared.procs.Procs.{Procs}
 use Rattle.unix_core.specs.Parts.{first_held}
 use Rattle.unix_core.proofs.kernel.first_procs.Goals as goal
 
-pub returns : goal.returns
-returns c =
+pub returns-clause-first : goal.returns-clause-first
+returns-clause-first c =
     let made = c.make_first.ensures in
     record {
       rows = ap (λ (p : Procs). p.rows) made.others ∙ c.new.ensures;

@@ -63,3 +63,6 @@ returns-clause-slots g c goes =
     subst (λ b. HasWaited b w.slots c.does_call.new.world.slots)
     (entered_waits w s c.requires.ready a c.sysent_of-entry.result _ _ c.enter.new.images refl c.words_passed.ensures
     c.enter.ensures.kept c.args.number asks c.sysent_of-entry.ensures) (c.does_call.ensures.slots goes)
+
+pub returns-clause-within : goal.returns-clause-within
+returns-clause-within g c = c.does_call.ensures.within

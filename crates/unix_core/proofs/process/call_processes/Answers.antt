@@ -1,4 +1,4 @@
-use Rattle.std.proofs.Common.{◌≡◌, ◌∙◌, ◌⊎◌, ◌==◌, ◌&&◌, not, ℕ, Bool, true, List, Result, Ok, refl, sym, ap, subst}
+use Rattle.std.proofs.Common.{◌≡◌, ◌≤◌, ◌∙◌, ◌⊎◌, ◌==◌, ◌&&◌, not, ℕ, Bool, true, List, Result, Ok, refl, sym, ap, subst}
 use Rattle.std.proofs.lemmas.Result.{IfOk-at_ok, IfErr-at_err}
 use Rattle.v6_base.specs.Trace.{Took}
 use Rattle.v6_base.specs.declared.answer.Answer.{Answer}
@@ -155,6 +155,7 @@ returns-then-has_loaded g c =
       rest = subst (λ (f : Files). SameAroundEach w.files.tree.nodes.blocks f.tree.nodes.blocks) (sym last.files)
           (subst (λ b. SameAroundEach w.files.tree.nodes.blocks b) (sym e.blocks) c.do_process_call.ensures.blocks);
       slots = λ goes. waited_any _ w.slots c.conclude-ending.new.world.slots c.wait_for_disk.new.world.slots e.slots last.slots;
+      within = last.slots.within;
     }
 
 pub returns-else-has_loaded : goal.returns-else-has_loaded
@@ -173,6 +174,7 @@ returns-else-has_loaded g c =
       frame = g.met.T.Trace.goes_on _ _ _ c.do_process_call.ensures.frame e.frame;
       rest = subst (λ b. SameAroundEach w.files.tree.nodes.blocks b) (sym e.blocks) c.do_process_call.ensures.blocks;
       slots = λ goes. has_not_waited _ w.slots c.conclude-ending.new.world.slots e.slots c.requires.waits (loaded g at.After-has_loaded ∙ c.if-has_loaded.false);
+      within = subst (λ (x : Slots). x.left ≤ x.due) (sym e.slots) c.requires.waits.within;
     }
 
 pub returns-in-Err : goal.returns-in-Err
@@ -201,4 +203,5 @@ returns-in-Err g c =
       frame = e.frame;
       rest = e.blocks;
       slots = λ goes. over_then c.in-Err.kind goes;
+      within = c.requires.waits.within;
     }

@@ -1,10 +1,11 @@
-use Rattle.std.proofs.Common.{refl, sym, ap, subst}
+use Rattle.std.proofs.Common.{◌≤◌, refl, sym, ap, subst}
 use Rattle.v6_base.specs.Trace.{Took}
 use Rattle.v6_base.proofs.Took.{took_nothing}
 use Rattle.pick_rules.specs.Logged.{logged}
 use Rattle.pdp_step.specs.declared.outcome.Outcome.{Outcome}
 use Rattle.unix_core.specs.declared.world.World.{World}
 use Rattle.abstract_unix.specs.Turn.{comes_to, waits_in}
+use Rattle.unix_core.specs.declared.slots.Slots.{Slots}
 use Rattle.unix_core.specs.Slots.{HasWaited}
 use Rattle.unix_core.specs.Parts.{unix_of, board_in, HasCome}
 use Rattle.unix_core.proofs.CountLemmas.{has_not_waited}
@@ -62,3 +63,12 @@ pub returns-in-Next-clause-items : goal.returns-in-Next-clause-items
 returns-in-Next-clause-items g c =
     let w : World = c.args.world.now in
     took_nothing _ _ (ap (λ (o : Outcome). (logged (board_in w) (comes_to (unix_of w) c.args.fixed.now.slot o).effects).items) c.in-Next.is)
+
+pub returns-in-Next-clause-within : goal.returns-in-Next-clause-within
+returns-in-Next-clause-within g c = c.requires.waits.within
+
+pub returns-in-Call-clause-within : goal.returns-in-Call-clause-within
+returns-in-Call-clause-within g c = c.call.ensures.within
+
+pub returns-in-Fault-clause-within : goal.returns-in-Fault-clause-within
+returns-in-Fault-clause-within g c = subst (λ (x : Slots). x.left ≤ x.due) (sym c.fault.ensures.slots) c.requires.waits.within

@@ -1,4 +1,4 @@
-use Rattle.std.proofs.Common.{◌≡◌, ◌∙◌, ℕ, false, List, refl, sym, ap, subst}
+use Rattle.std.proofs.Common.{◌≡◌, ◌≤◌, ◌∙◌, ℕ, false, List, refl, sym, ap, subst}
 use Rattle.v6_base.proofs.Took.{took_nothing}
 use Rattle.pick_rules.specs.Logged.{logged}
 use Rattle.unix_core.specs.Parts.{unix_of, board_in}
@@ -9,6 +9,7 @@ use Rattle.abstract_unix.specs.Unix.{process_of, mounts_of}
 use Rattle.abstract_unix.specs.declared.calls.SystemCall.{SystemCall}
 use Rattle.abstract_unix.specs.Calls.{handed_of, world_of, file_row, process_row, reads_disk, loads_program, did_by, came_by, waits_in_call, does_call}
 use Rattle.unix_core.specs.declared.world.World.{World}
+use Rattle.unix_core.specs.declared.slots.Slots.{Slots}
 use Rattle.unix_core.specs.Slots.{HasWaited}
 use Rattle.unix_core.proofs.CountLemmas.{has_not_waited}
 use Rattle.unix_core.proofs.EndingLemmas.{timed_next, came_next, did_next, exit_end, fork_end, never_next}
@@ -94,3 +95,21 @@ returns-in-OnProcesses-clause-slots g c goes =
     let w : World = c.args.world.now in
     subst (λ (x : SystemCall). HasWaited (waits_in_call (unix_of w) c.args.fixed.now.slot x c.args.args) w.slots c.call_processes.new.world.slots)
     (sym c.in-OnProcesses.is) (c.call_processes.ensures.slots goes)
+
+pub returns-in-Indirect-clause-within : goal.returns-in-Indirect-clause-within
+returns-in-Indirect-clause-within g c = c.requires.waits.within
+
+pub returns-in-Exit-clause-within : goal.returns-in-Exit-clause-within
+returns-in-Exit-clause-within g c = subst (λ (x : Slots). x.left ≤ x.due) (sym c.exit.ensures.slots) c.requires.waits.within
+
+pub returns-in-Fork-clause-within : goal.returns-in-Fork-clause-within
+returns-in-Fork-clause-within g c = subst (λ (x : Slots). x.left ≤ x.due) (sym c.fork.ensures.slots) c.requires.waits.within
+
+pub returns-in-Unknown-clause-within : goal.returns-in-Unknown-clause-within
+returns-in-Unknown-clause-within g c = subst (λ (x : Slots). x.left ≤ x.due) (sym c.fail.ensures.slots) c.requires.waits.within
+
+pub returns-in-OnFiles-clause-within : goal.returns-in-OnFiles-clause-within
+returns-in-OnFiles-clause-within g c = c.call_files.ensures.slots.within
+
+pub returns-in-OnProcesses-clause-within : goal.returns-in-OnProcesses-clause-within
+returns-in-OnProcesses-clause-within g c = c.call_processes.ensures.within

@@ -2,7 +2,7 @@ use Rattle.std.proofs.Common.{◌≡◌, ◌∙◌, ◌≤◌, None, Some, refl,
 use Rattle.fs_nodes.specs.Keys.{Stores}
 use Rattle.abstract_unix.specs.Runs.{boots}
 use Rattle.abstract_unix.proofs.FirstTidy.{few_nodes}
-use Rattle.unix_core.specs.Boots.{RefusesBoot, blocks_on}
+use Rattle.unix_core.specs.Boots.{RefusesBoot, blocks_on, swap_on, core_on}
 use Rattle.unix_core.specs.Parts.{AreFirst}
 use Rattle.unix_core.proofs.BootLemmas.{boots_as, ok_mapped, no_error}
 use Rattle.unix_core.proofs.kernel.Kernel.boot_with.Goals as goal
@@ -34,6 +34,16 @@ pub returns-clause-stored : goal.returns-clause-stored
 returns-clause-stored c =
     ok_mapped c.new.result _ (λ kernel. kernel.stored ≡ blocks_on c.args.image.now None)
     (λ kernel is. is ∙ c.in-Ok.ensures.stored) c.new.ensures.stored
+
+pub returns-clause-swap : goal.returns-clause-swap
+returns-clause-swap c =
+    ok_mapped c.new.result _ (λ kernel. kernel.swap ≡ swap_on c.args.image.now)
+    (λ kernel is. is ∙ c.in-Ok-rooms_of.ensures.swap) c.new.ensures.swap
+
+pub returns-clause-core : goal.returns-clause-core
+returns-clause-core c =
+    ok_mapped c.new.result _ (λ kernel. kernel.core ≡ core_on c.args.core)
+    (λ kernel is. is ∙ c.in-Ok-rooms_of.ensures.core) c.new.ensures.core
 
 pub returns-clause-refused : goal.returns-clause-refused
 returns-clause-refused c = no_error c.new.result (RefusesBoot c.args.image.now) c.new.ensures.made

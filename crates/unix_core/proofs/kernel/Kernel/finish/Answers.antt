@@ -17,6 +17,7 @@ invariant_of-self c =
     (updated_covered m.world c.update_all.new.self c.update_all.ensures.store
     (kernel_covered m.stage m.world c.self.invariant (subst (λ (p : Phase). (p ≡ Started) ⊎ (p ≡ Stopped)) (ap (λ (v : KernelState). v.phase) (sym c.self.view_is)) c.requires)
     c.see_procs.ensures.rows c.see_procs.ensures.images))
+    c.self.invariant.within
 
 pub returns-clause-system : goal.returns-clause-system
 returns-clause-system c =

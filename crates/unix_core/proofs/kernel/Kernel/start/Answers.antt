@@ -1,7 +1,8 @@
-use Rattle.std.proofs.Common.{◌∙◌, ap, subst, sym}
+use Rattle.std.proofs.Common.{◌≡◌, ◌∙◌, ap, subst, sym}
 use Rattle.v6_base.specs.Trace.{Took}
 use Rattle.sys_files.specs.declared.files.Files.{Files}
 use Rattle.abstract_unix.specs.Unix.{System}
+use Rattle.image_keep.specs.State.{ImagesState}
 use Rattle.unix_core.specs.State.{KernelState}
 use Rattle.unix_core.specs.declared.machine.Stage.{Stage}
 use Rattle.unix_core.specs.Parts.{phase_of, goes_on}
@@ -14,6 +15,8 @@ use Rattle.unix_core.proofs.PrivateLemmas.{start_private}
 use Rattle.abstract_unix.specs.Shared.{AllTextsStay}
 use Rattle.unix_core.proofs.StayingLemmas.{start_stays}
 use Rattle.unix_core.proofs.kernel.Kernel.start.Goals as goal
+use Rattle.unix_core.proofs.kernel.Kernel.start.Given as given
+use Rattle.unix_core.proofs.kernel.Kernel.start.Goals.{After-first_pass-ran}
 
 pub first_pass-ran-requires-clause-good : goal.first_pass-ran-requires-clause-good
 first_pass-ran-requires-clause-good g c =
@@ -73,3 +76,19 @@ returns-clause-blocks g c = ap (λ (f : Files). f.tree.nodes.blocks) c.first_pas
 
 pub returns-clause-stored : goal.returns-clause-stored
 returns-clause-stored g c = ap (λ (f : Files). f.tree.nodes.stored) c.first_pass-ran.ensures.files ∙ ap (λ (v : KernelState). v.stored) c.self.view_is
+
+-- Nobody is out of core: no image moves.
+still : (g : given.Over) (c : After-first_pass-ran g) → c.first_pass-ran.new.self.world.procs.images ≡ c.self.inside.machine.world.procs.images
+still g c =
+    let m = c.self.inside.machine in
+    let new = new_stage m.stage (ap (λ (v : KernelState). v.phase) c.self.view_is ∙ c.requires) in
+    c.first_pass-ran.ensures.images (c.self.invariant.new new).nobody_out
+
+pub returns-clause-core : goal.returns-clause-core
+returns-clause-core g c = ap (λ (i : ImagesState). i.core) (still g c) ∙ ap (λ (v : KernelState). v.core) c.self.view_is
+
+pub returns-clause-swap : goal.returns-clause-swap
+returns-clause-swap g c = ap (λ (i : ImagesState). i.swap) (still g c) ∙ ap (λ (v : KernelState). v.swap) c.self.view_is
+
+pub returns-clause-frame : goal.returns-clause-frame
+returns-clause-frame g c = g.met.T.Trace.goes_on _ _ _ c.entry.ensures.frame c.first_pass-ran.ensures.frame

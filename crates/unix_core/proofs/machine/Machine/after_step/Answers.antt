@@ -52,6 +52,10 @@ end-requires-clause-timed g c goes =
     (first.ensures.slots (first_goes first.result last.result last.ensures.stopped goes))
     last.result last.new.world (last.ensures.come (board_in w) (comes_to (unix_of w) s o) first.ensures.come) last.ensures.slots goes
 
+pub end-requires-clause-within : goal.end-requires-clause-within
+end-requires-clause-within g c =
+    subst (λ (x : Slots). x.left ≤ x.due) (sym c.deliver_after-ending.ensures.slots) c.come_to-ending.ensures.within
+
 pub end-requires-clause-fresh : goal.end-requires-clause-fresh
 end-requires-clause-fresh g c goes =
     let first = c.come_to-ending in

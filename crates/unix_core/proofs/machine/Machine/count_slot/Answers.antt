@@ -36,7 +36,7 @@ returns-clause-takes g c h still =
     let counted = c.requires.kernel.counted (ap goes_on c.requires.started) in
     still_takes h w (less w counted) still (sym (less_any w counted c.if-self-eq0.false)) (sym (less_board w counted c.if-self-eq0.false))
     (less_sent w counted c.if-self-eq0.false) refl m.stage
-    (kernel_slots w (less w counted).slots m.stage (λ goes. less_counted w counted c.if-self-eq0.false) c.requires.kernel) c.requires.started
+    (kernel_slots w (less w counted).slots m.stage (less_counted w counted c.if-self-eq0.false).timed.within (λ goes. less_counted w counted c.if-self-eq0.false) c.requires.kernel) c.requires.started
 
 pub returns-clause-items : goal.returns-clause-items
 returns-clause-items g c h still =

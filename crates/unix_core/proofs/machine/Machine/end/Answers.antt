@@ -56,7 +56,7 @@ returns-in_default-clause-answer g c = c.turned.ensures.answer ∙ end_answer c.
 pub returns-in_default-clause-takes : goal.returns-in_default-clause-takes
 returns-in_default-clause-takes g c =
     let m = c.args.self.now in
-    stopped_takes m.world c.args.s c.args.ending (c.turned.ensures.stops c.in_default.not-Ran) c.requires.covered
+    stopped_takes m.world c.args.s c.args.ending (c.turned.ensures.stops c.in_default.not-Ran) c.requires.covered c.requires.within
 
 pub returns-in_default-clause-items : goal.returns-in_default-clause-items
 returns-in_default-clause-items g c =

@@ -1,6 +1,7 @@
+use Rattle.std.proofs.Common.{◌∙◌}
 use Rattle.unix_core.specs.declared.world.World.{World}
 use Rattle.sys_procs.proofs.Places.{agree_matches}
-use Rattle.unix_core.proofs.SwapLemmas.{after_good, after_counted, after_takes, after_items, panic_takes}
+use Rattle.unix_core.proofs.SwapLemmas.{after_good, after_counted, goes_answer, after_takes, after_items, over_answer, over_items, panic_takes}
 use Rattle.unix_core.proofs.machine.Machine.first_pass.Goals as goal
 
 pub pass-first-requires-clause-matches : goal.pass-first-requires-clause-matches
@@ -41,7 +42,37 @@ returns-in-Err-clause-takes g c =
     let w : World = c.args.self.now.world in
     let first = c.pass-first in
     panic_takes w first.new.table first.new.images _ _ c.requires.good first.ensures.does first.ensures.same c.see_procs.ensures.images
-    c.in-Err.kind c.in-Err.ensures.answer c.see_procs.ensures.rows
+    c.in-Err.kind c.in-Err.ensures.answer c.see_procs.ensures.rows c.requires.counted.timed.within
 
 pub returns-in-Ok-clause-files : goal.returns-in-Ok-clause-files
 returns-in-Ok-clause-files g c = c.settle.ensures.files
+
+pub returns-in-Ok-clause-images : goal.returns-in-Ok-clause-images
+returns-in-Ok-clause-images g c = λ none. c.settle.ensures.images ∙ c.pass-first.ensures.still none
+
+pub returns-in-Err-clause-images : goal.returns-in-Err-clause-images
+returns-in-Err-clause-images g c = c.pass-first.ensures.still
+
+pub returns-in-Ok-clause-answer : goal.returns-in-Ok-clause-answer
+returns-in-Ok-clause-answer g c =
+    let w : World = c.args.self.now.world in
+    let first = c.pass-first in
+    goes_answer w first.new.table first.new.images _ _ c.requires.good first.ensures.does first.ensures.same c.see_procs.ensures.images
+    c.in-Ok.ensures.answer
+
+pub returns-in-Ok-clause-frame : goal.returns-in-Ok-clause-frame
+returns-in-Ok-clause-frame g c = g.met.T.Trace.goes_on _ _ _ c.pass-first.ensures.frame c.settle.ensures.frame
+
+pub returns-in-Err-clause-answer : goal.returns-in-Err-clause-answer
+returns-in-Err-clause-answer g c =
+    let w : World = c.args.self.now.world in
+    let first = c.pass-first in
+    over_answer w first.new.table first.new.images _ _ c.requires.good first.ensures.does first.ensures.same c.see_procs.ensures.images
+    c.in-Err.kind c.in-Err.ensures.answer
+
+pub returns-in-Err-clause-items : goal.returns-in-Err-clause-items
+returns-in-Err-clause-items g c =
+    let w : World = c.args.self.now.world in
+    let first = c.pass-first in
+    over_items w first.new.table first.new.images _ _ c.requires.good first.ensures.does first.ensures.same c.see_procs.ensures.images
+    c.in-Err.kind c.in-Err.ensures.answer first.ensures.does.items

@@ -25,6 +25,9 @@ end-requires-clause-timed g c goes =
     (c.requires.kernel.counted (ap (λ t. goes_on (phase_of t)) c.requires.resting)).timed (paused.calls c.args.s c.requires.runs c.requires.user)
     c.go_on-ending.result c.go_on-ending.new.self.world c.go_on-ending.ensures.come c.go_on-ending.ensures.slots goes
 
+pub end-requires-clause-within : goal.end-requires-clause-within
+end-requires-clause-within g c = subst (λ (x : Slots). x.left ≤ x.due) (sym c.go_on-ending.ensures.slots) c.requires.kernel.within
+
 pub end-requires-clause-fresh : goal.end-requires-clause-fresh
 end-requires-clause-fresh g c goes = subst (λ (x : Slots). passed_in x ≤ 3000000000) (sym c.go_on-ending.ensures.slots) c.requires.fresh
 

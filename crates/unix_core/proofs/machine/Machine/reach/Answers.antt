@@ -55,7 +55,7 @@ returns-clause-takes g c h still =
     c.reach.ensures.ended.others ∙ ap (λ (p : Procs). record w { files = record w.files { lines = v.files.lines }; procs = p; slots = v.slots }) same in
     let kernel : IsKernel m.stage v =
     subst (IsKernel m.stage) (sym there)
-    (kernel_lines (one_before w) v.files.lines v.slots m.stage
+    (kernel_lines (one_before w) v.files.lines v.slots m.stage c.reach.ensures.ended.counted.timed.within
     (λ goes. subst (λ (x : World). IsCounted v.slots (unix_of x)) there c.reach.ensures.ended.counted) c.requires.kernel) in
     quiet_takes w c.requires.left (c.requires.kernel.counted (ap goes_on c.requires.started)) h still v c.reach.ensures.ended.unix c.reach.ensures.ended.board
     (sym c.if-reach.false ∙ c.reach.ensures.ended.any) (ap board_by same) m.stage kernel c.requires.started

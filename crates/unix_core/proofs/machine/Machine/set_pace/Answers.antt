@@ -58,7 +58,7 @@ returns-else-set_pace-clause-takes g c =
     c.set_pace.ensures.others ∙ ap (λ (p : Procs). record w { files = record w.files { lines = v.files.lines }; procs = p; slots = v.slots }) same in
     let kernel : IsKernel m.stage v =
     subst (IsKernel m.stage) (sym there)
-    (kernel_lines w v.files.lines v.slots m.stage
+    (kernel_lines w v.files.lines v.slots m.stage c.set_pace.ensures.counted.timed.within
     (λ goes. subst (λ (x : World). IsCounted v.slots (unix_of x)) there c.set_pace.ensures.counted) c.requires.kernel) in
     stays_takes (paced_of (system_at c.args.self.now.world) c.args.n) refl (sym c.set_pace.ensures.settles ∙ c.if-set_pace.false) c.set_pace.new.world c.set_pace.ensures.unix c.set_pace.ensures.board
     m.stage kernel c.requires.started

@@ -71,7 +71,7 @@ returns-in-Err-clause-takes g c =
     (sym (not_counted w passed.new.table passed.new.images _ _ c.requires.good passed.ensures.does passed.ensures.same c.see_procs.ensures.images
     c.in-Err.kind c.in-Err.ensures.answer))
     (panic_takes w passed.new.table passed.new.images _ _ c.requires.good passed.ensures.does passed.ensures.same c.see_procs.ensures.images
-    c.in-Err.kind c.in-Err.ensures.answer c.see_procs.ensures.rows)
+    c.in-Err.kind c.in-Err.ensures.answer c.see_procs.ensures.rows c.requires.counted.timed.within)
 
 pub returns-in-Ok-clause-frame : goal.returns-in-Ok-clause-frame
 returns-in-Ok-clause-frame g c =

@@ -1,4 +1,4 @@
-use Rattle.std.proofs.Common.{◌≡◌, ◌∷◌, [], false, rules, refl, sym, ap, subst}
+use Rattle.std.proofs.Common.{◌≡◌, ◌∙◌, ◌≤◌, ◌∷◌, [], false, rules, refl, sym, ap, subst}
 use Rattle.v6_base.specs.Trace.{Took, Log}
 use Rattle.v6_base.specs.declared.entry.Entry.{Entry}
 use Rattle.fs_nodes.specs.FileSystem.{SameAroundEach}
@@ -82,7 +82,8 @@ returns-in-Panic g c =
     let kind = c.in-Panic.kind in
     record {
       answer = panic_answer m it.stop c.deliver.result last come kind c.in-Panic.is;
-      takes = panic_takes m it.stop c.deliver.result last come kind c.in-Panic.is (c.deliver.ensures.covered (ap is_over c.in-Panic.is));
+      takes = panic_takes m it.stop c.deliver.result last come kind c.in-Panic.is (c.deliver.ensures.covered (ap is_over c.in-Panic.is))
+          (subst (λ (x : Slots). x.left ≤ x.due) (sym (c.deliver.ensures.slots ∙ c.charge.ensures.slots)) c.requires.kernel.within);
       rest = subst (λ b. SameAroundEach b last.files.tree.nodes.blocks) c.charge.ensures.blocks c.deliver.ensures.rest;
       items = panic_items m it.stop c.deliver.result last come kind c.in-Panic.is _ _ _ (shown g at) (it.shows _ _ c.deliver.ensures.items);
       frame = g.met.T.Trace.goes_on _ _ _ c.entry.ensures.frame (g.met.T.Trace.goes_on _ _ _ c.wake.ensures.frame c.deliver.ensures.frame);
