@@ -26,6 +26,7 @@ use Rattle.sys_procs.specs.Comes.{Comes}
 use Rattle.sys_procs.specs.Tests.{node_in, node_at}
 use Rattle.sys_procs.specs.ExecFile.{AreSized, data_clicks, reads_text, begins_anew, executes}
 use Rattle.sys_procs.specs.inside.Begun.{takes, takes_image, new_entry, taken_by, sized, fills, begins_in, row_in, area_in}
+use Rattle.sys_procs.specs.inside.Parts.{IsUnread}
 use Rattle.sys_procs.specs.Agree.{ended_by}
 use Rattle.sys_procs.specs.Handed.{IsBare, board, came, handed, process_here}
 use Rattle.sys_procs.specs.Done.{HasDone, HasLeft, HasEnded}
@@ -37,18 +38,23 @@ use Rattle.sys_procs.proofs.KeptOwner.{SameOwner, text_owner}
 use Rattle.sys_procs.proofs.LoadForms.{anew_is, begun_is, answer_is, row_kept, area_kept}
 use Rattle.sys_procs.proofs.TakenText.{Stopped, goes_on, bare_text, taken_clicks, taken_row, taken_long, taken_store, taken_references}
 
-fresh_by : (k : Kept) (s size : ℕ) (o : Option ℕ) → IfSome o (λ t. text_of k s ≡ Some t)
-    → IfSome o (λ t. (x : Shared) × (shared k t ≡ Some x) × (x.row.loaded ≡ 0) × (x.row.clicks ≡ size))
+fresh_by : (k : Kept) (s size : ℕ) (o : Option ℕ) → IfSome o (λ t. text_of k s ≡ Some t) → IfSome o (λ t. IsUnread k t size 0)
     → IfSome o (λ t. (text_of k s ≡ Some t) × (size ≡ shared_clicks (shared k t)))
-fresh_by k s size None text out = tt
-fresh_by k s size (Some t) text out = (text, sym out.3 ∙ sym (ap shared_clicks out.1))
+fresh_by k s size None text unread = tt
+fresh_by k s size (Some t) text unread = (text, sym unread.size ∙ sym (ap shared_clicks unread.there))
 
-pub out_still : (k l : Kept) (size : ℕ) (o : Option ℕ)
+pub unread_still : (k l : Kept) (size : ℕ) (o : Option ℕ)
     → ((t : ℕ) (x : Shared) → shared k t ≡ Some x → x.row.loaded ≡ 0 → shared l t ≡ Some x)
-    → IfSome o (λ t. (x : Shared) × (shared k t ≡ Some x) × (x.row.loaded ≡ 0) × (x.row.clicks ≡ size))
-    → IfSome o (λ t. (x : Shared) × (shared l t ≡ Some x) × (x.row.loaded ≡ 0) × (x.row.clicks ≡ size))
-out_still k l size None stays out = tt
-out_still k l size (Some t) stays out = (out.0, stays t out.0 out.1 out.2, out.2, out.3)
+    → IfSome o (λ t. IsUnread k t size 0) → IfSome o (λ t. IsUnread l t size 0)
+unread_still k l size None stays unread = tt
+unread_still k l size (Some t) stays unread = record {
+  text = unread.text;
+  there = stays t unread.text unread.there unread.out;
+  out = unread.out;
+  size = unread.size;
+  long = unread.long;
+  zeros = unread.zeros;
+}
 
 -- an image that finds no place
 ended_stopped : (o : Option (Stop World)) (kind : PanicKind) → Err kind ≡ ended_by o → Stopped o kind
@@ -133,13 +139,13 @@ module _ (p q : Procs) (fs gs : FileSystem) (s : ℕ) (program : Program) (bare 
 
     pub clicks_are : AreLong q.images.kept → IsBare q s → text_of p.images.kept s ≡ None → (0 < size → AreSized w.texts ino size)
         → IfSome new (λ t. text_of q.images.kept s ≡ Some t)
-        → IfSome new (λ t. (x : Shared) × (shared q.images.kept t ≡ Some x) × (x.row.loaded ≡ 0) × (x.row.clicks ≡ size))
+        → IfSome new (λ t. IsUnread q.images.kept t size 0)
         → size ≡ text_clicks q.images.kept (text_of q.images.kept s)
-    clicks_are long now none sized text out =
+    clicks_are long now none sized text unread =
         taken_clicks w s ino size low q.images.kept long sized (sym (bare_text p s bare) ∙ none) (ap (λ (v : World). v.texts) after_is)
         (bare_text q s now ∙ ap (λ (v : World). (process_of v s).text) after_is)
         (subst (λ o. IfSome o (λ t. (text_of q.images.kept s ≡ Some t) × (size ≡ shared_clicks (shared q.images.kept t)))) new_is
-        (fresh_by q.images.kept s size new text out))
+        (fresh_by q.images.kept s size new text unread))
 
     module _ (r : Procs) where
       -- An image that finds no place.

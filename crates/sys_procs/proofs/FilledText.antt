@@ -76,13 +76,13 @@ image_filled x t bytes user has = by (is_text t user)
     by true = image_with x bytes has
     by false = has
 
-place_filled : (bytes : List ℕ) (o : Option Shared) → text_place (filled 0 bytes o) ≡ text_place o
-place_filled bytes None = refl
-place_filled bytes (Some x) = refl
+place_filled : (at : ℕ) (bytes : List ℕ) (o : Option Shared) → text_place (filled at bytes o) ≡ text_place o
+place_filled at bytes None = refl
+place_filled at bytes (Some x) = refl
 
-module _ (p : Procs) (l : Kept) (t : ℕ) (bytes : List ℕ) (x : Shared) (there : shared p.images.kept t ≡ Some x)
-    (texts : l.texts ≡ set p.images.kept.texts t (filled 0 bytes (shared p.images.kept t)))
-    (slots : (s : ℕ) → keeping l s ≡ retexted t (bytes_in (filled 0 bytes (shared p.images.kept t))) (text_of p.images.kept s)
+module _ (p : Procs) (l : Kept) (t at : ℕ) (bytes : List ℕ) (x : Shared) (there : shared p.images.kept t ≡ Some x)
+    (texts : l.texts ≡ set p.images.kept.texts t (filled at bytes (shared p.images.kept t)))
+    (slots : (s : ℕ) → keeping l s ≡ retexted t (bytes_in (filled at bytes (shared p.images.kept t))) (text_of p.images.kept s)
     (keeping p.images.kept s))
     (users : l.users ≡ p.images.kept.users) where
   abbrev k : Kept
@@ -95,7 +95,7 @@ module _ (p : Procs) (l : Kept) (t : ℕ) (bytes : List ℕ) (x : Shared) (there
       ≡ process_in (member_at members s) (keeping k s) (text_of k s)
   one_process members s =
       (λ i. process_in (member_at members s) (slots s i) (same_text s i))
-      ∙ process_filled (member_at members s) (keeping k s) t (bytes_in (filled 0 bytes (shared k t))) (text_of k s)
+      ∙ process_filled (member_at members s) (keeping k s) t (bytes_in (filled at bytes (shared k t))) (text_of k s)
 
   pub processes_filled : (members : List (Option Member)) → processes_in members l ≡ processes_in members k
   unfolding processes_in
@@ -104,26 +104,26 @@ module _ (p : Procs) (l : Kept) (t : ℕ) (bytes : List ℕ) (x : Shared) (there
   pub text_there : table.text_of (texts_in k) t ≡ record { ino = x.row.ino; bytes = x.bytes; users = x.row.users }
   text_there = ap (λ o. unwrap_or o no_text) (get_or-map text_in k.texts t None ∙ ap text_in there)
 
-  put_at : (old : List ℕ) → run_set old 0 bytes ≡ patched 0 bytes old
+  put_at : (old : List ℕ) → run_set old at bytes ≡ patched at bytes old
   unfolding run_set
   put_at old = refl
 
   filled_by : (y : Text) → y ≡ record { ino = x.row.ino; bytes = x.bytes; users = x.row.users }
-      → text_in (filled 0 bytes (Some x)) ≡ Some (record y { bytes = patched 0 bytes y.bytes })
+      → text_in (filled at bytes (Some x)) ≡ Some (record y { bytes = patched at bytes y.bytes })
   filled_by y is =
-      ap (λ new. Some (record { ino = x.row.ino; bytes = new; users = x.row.users })) (run_over x.bytes 0 bytes ∙ put_at x.bytes)
-      ∙ ap (λ (z : Text). Some (record z { bytes = patched 0 bytes z.bytes })) (sym is)
+      ap (λ new. Some (record { ino = x.row.ino; bytes = new; users = x.row.users })) (run_over x.bytes at bytes ∙ put_at x.bytes)
+      ∙ ap (λ (z : Text). Some (record z { bytes = patched at bytes z.bytes })) (sym is)
 
   pub texts_filled : texts_in l ≡ table.with_text (texts_in k) t
-      (record (table.text_of (texts_in k) t) { bytes = patched 0 bytes (table.text_of (texts_in k) t).bytes })
+      (record (table.text_of (texts_in k) t) { bytes = patched at bytes (table.text_of (texts_in k) t).bytes })
   texts_filled =
       ap (λ ts. map text_in ts) texts
-      ∙ (map-set text_in k.texts t (filled 0 bytes (shared k t))
+      ∙ (map-set text_in k.texts t (filled at bytes (shared k t))
       ∙ ap (λ o. set (texts_in k) t o)
-      (ap (λ o. text_in (filled 0 bytes o)) there ∙ filled_by (table.text_of (texts_in k) t) text_there))
+      (ap (λ o. text_in (filled at bytes o)) there ∙ filled_by (table.text_of (texts_in k) t) text_there))
 
   same_marks : (ino : ℕ) (o : Option Text) (y : Text) → o ≡ Some y
-      → is_text_of ino (Some (record (unwrap_or o no_text) { bytes = patched 0 bytes (unwrap_or o no_text).bytes }))
+      → is_text_of ino (Some (record (unwrap_or o no_text) { bytes = patched at bytes (unwrap_or o no_text).bytes }))
       ≡ is_text_of ino o
   same_marks ino None y e = absurd (cc e)
   same_marks ino (Some z) y e = refl
@@ -132,19 +132,19 @@ module _ (p : Procs) (l : Kept) (t : ℕ) (bytes : List ℕ) (x : Shared) (there
   marks_filled =
       ap (λ ts. marks_of ts) texts_filled
       ∙ marks_same (texts_in k) t
-      (Some (record (table.text_of (texts_in k) t) { bytes = patched 0 bytes (table.text_of (texts_in k) t).bytes }))
+      (Some (record (table.text_of (texts_in k) t) { bytes = patched at bytes (table.text_of (texts_in k) t).bytes }))
       (λ ino. same_marks ino (get_or (texts_in k) t None) (record { ino = x.row.ino; bytes = x.bytes; users = x.row.users })
       (get_or-map text_in k.texts t None ∙ ap text_in there))
 
   pub places_filled : map text_place l.texts ≡ map text_place k.texts
   places_filled =
       ap (λ ts. map text_place ts) texts
-      ∙ (map-set text_place k.texts t (filled 0 bytes (shared k t))
-      ∙ (ap (λ o. set (map text_place k.texts) t o) (place_filled bytes (shared k t) ∙ sym (get_or-map text_place k.texts t None))
+      ∙ (map-set text_place k.texts t (filled at bytes (shared k t))
+      ∙ (ap (λ o. set (map text_place k.texts) t o) (place_filled at bytes (shared k t) ∙ sym (get_or-map text_place k.texts t None))
       ∙ set-get_or (map text_place k.texts) t None))
 
   abbrev whole : List ℕ
-  whole = bytes_in (filled 0 bytes (shared k t))
+  whole = bytes_in (filled at bytes (shared k t))
 
   nothing_filled : (b : Bool) → (if b then with_text whole Nothing else Nothing) ≡ Nothing
   nothing_filled true = refl

@@ -51,3 +51,7 @@ pub mod LeavesFirst
 pub mod Signalled
 pub mod SentAll
 pub mod SignalCalls
+pub mod PartedReads
+pub mod SetTwice
+pub mod TextParts
+pub mod ReadParts

@@ -2,3 +2,4 @@
 pub mod Sender
 pub mod Packed
 pub mod Begun
+pub mod Parts

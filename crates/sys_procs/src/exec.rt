@@ -1,17 +1,19 @@
 //! exec(II).
-ghost use Rattle.std.specs.Prelude.{◌≡◌, ◌≤◌, ◌<◌, ◌+◌, ◌*◌, ◌%◌, ◌==◌, if◌then◌else◌, ℕ, false, Some, None, List, length, IfOk, IfErr, IfSome, map, replicate, slice_index, is_some, count_by};
+ghost use Rattle.std.specs.Prelude.{◌≡◌, ◌≤◌, ◌<◌, ◌+◌, ◌-◌, ◌*◌, ◌%◌, ◌==◌, if◌then◌else◌, ℕ, false, Some, None, List, length, IfOk, IfErr, IfSome, IsSome, map, replicate, slice_index, is_some, count_by};
 ghost use Rattle.v6_base.specs.Image.{nseg};
-ghost use Rattle.fs_nodes.specs.Keys.{with_node};
+ghost use Rattle.fs_laws.specs.Pieces.{piece_end};
+ghost use Rattle.fs_nodes.specs.Keys.{with_node, node_numbered};
 ghost use Rattle.fs_nodes.specs.FileSystem.{FileSystem, SameRest};
 ghost use Rattle.seg_regs.specs.Sizes.{is_refused};
-ghost use Rattle.image_keep.specs.Kept.{Shared, shared, text_of};
+ghost use Rattle.image_keep.specs.Kept.{text_of};
 ghost use Rattle.fs_tree.specs.Mounting.{AreMounts};
 ghost use Rattle.sys_procs.specs.TextTable.{is_text_of, marks_of};
 ghost use Rattle.sys_procs.specs.World.{texts_in, with_process};
 ghost use Rattle.sys_procs.specs.Tests.{node_in};
 ghost use Rattle.sys_procs.specs.Stack.{first_stack};
-ghost use Rattle.sys_procs.specs.ExecFile.{exec_file, loads, begins_anew, data_clicks, cleared_image, data_in, with_text_read, reads_text, text_room, text_in, kept_handler, begun_area, IsTested};
+ghost use Rattle.sys_procs.specs.ExecFile.{exec_file, loads, begins_anew, data_clicks, cleared_image, data_in, with_text_read, reads_text, text_room, kept_handler, begun_area, IsTested};
 ghost use Rattle.sys_procs.specs.inside.Begun.{fills, begins_in, user_in, group_in, row_in, area_in};
+ghost use Rattle.sys_procs.specs.inside.Parts.{part_in, with_part, IsUnread, KeepsOthers};
 ghost use Rattle.sys_procs.specs.Handed.{AreProcs, AreBare, Calls, IsAlive, IsBare, IsMarked, board, handed, process_here, memory_here};
 ghost use Rattle.sys_procs.specs.Done.{HasDone};
 
@@ -23,19 +25,19 @@ use crate::stack::put_stack;
 use crate::tested::test_program;
 use crate::texts::{leave_text, take_text};
 use aout_head::Plan;
-use fs_codec::{ISGID, ISUID};
+use fs_codec::{BLOCK_SIZE, ISGID, ISUID};
 use fs_nodes::Nodes;
 use fs_tree::{Tree, let_go};
 use proc_tab::Row;
 use text_tab::TextId;
 use u_area::UArea;
-use v6_base::{Answer, PanicKind, Slot, Space, Trace};
+use v6_base::{Answer, Errno, PanicKind, Slot, Space, Trace};
 
 /// Where text and data begin in a file: a.out(V).
 const HEADER: u32 = 16;
 
-/// The bytes of the longest text: seven segments, since the stack has one.
-const LONGEST_TEXT: usize = 57_344;
+/// The bytes of a block of a disk.
+const BLOCK: u32 = BLOCK_SIZE as u32;
 
 /// The clicks of the data of a program, with the bss.
 fn data_clicks(plan: &Plan) -> u16
@@ -127,39 +129,83 @@ fn new_area(nodes: &Nodes, u: UArea, program: &Program) -> UArea
     begun
 }
 
-/// Reads the text of a program from its file into bytes that are zeros.
-fn read_bytes(nodes: &mut Nodes, program: &Program, part: &mut [u8], now: u32)
-    requires referenced { 0 < slice_index nodes.old.references program.now.ino }
-    requires zeros { part.old ≡ replicate (text_room program.now) 0 }
-    requires few { text_room program.now ≤ 65535 }
-    ensures long { length part.new ≡ text_room program.now }
-    ensures bytes { part.new ≡ (text_in nodes.old.store program.now now).memory }
-    ensures store { nodes.new.store ≡ with_node nodes.old.store program.now.ino (text_in nodes.old.store program.now now).node
-        (text_in nodes.old.store program.now now).room }
-    ensures references { nodes.new.references ≡ nodes.old.references }
-    ensures blocks { SameRest nodes.old nodes.new }
-{
-    nodes.see();
-    let _ = nodes.read_kernel(program.ino, HEADER, part, now);
-}
-
 /// How many bytes the text of a program has.
-fn text_room(program: &Program) -> usize
+fn text_room(program: &Program) -> u32
     requires fits { is_refused program.now.text_clicks (data_clicks program.now.plan) 20 2048 ≡ false }
     ensures count { result ≡ text_room program.now }
-    ensures few { result ≤ LONGEST_TEXT }
+    ensures few { result ≤ 57344 }
 {
-    usize::from(program.plan.text).min(64 * usize::from(program.text_clicks))
+    u32::from(program.plan.text).min(64 * u32::from(program.text_clicks))
 }
 
-/// Reads the text of a program into one that is zeros. It stands out of line, since a call whose frame had all these bytes would
-/// touch each of their pages, whatever it does.
-#[inline(never)]
+/// Where the part of a text ends that begins at a byte: with its block of the file, or with the text.
+fn part_end(at: u32, end: u32) -> u32
+    requires before { at < end }
+    requires few { end ≤ 57344 }
+    ensures { 16 + result ≡ piece_end (16 + at) (16 + end) }
+{
+    end.min(at + BLOCK - (HEADER + at) % BLOCK)
+}
+
+/// Reads a part of the text of a program, up to a byte. The answer is the error with which that ends, if any.
+fn read_part(
+    p: &mut Procs,
+    tree: &mut Tree,
+    t: TextId,
+    program: &Program,
+    at: u32,
+    end: u32,
+) -> Option<Errno>
+    requires unread { IsUnread p.old.images.kept t program.now.text_clicks at }
+    requires before { at < end }
+    requires few { end ≤ at + 512 }
+    requires fits { end ≤ 64 * program.now.text_clicks }
+    requires referenced { 0 < slice_index tree.old.nodes.references program.now.ino }
+    ensures state { handed p.new tree.new.nodes ≡ with_part (handed p.old tree.old.nodes) t program.now at (end - at) }
+    ensures error { result ≡ (part_in tree.old.nodes.store program.now at (end - at) p.old.table.now).error }
+    ensures there { IsSome (node_numbered tree.old.nodes.store program.now.ino) }
+    ensures unread { IsUnread p.new.images.kept t program.now.text_clicks end }
+    ensures others { KeepsOthers p.old p.new tree.old tree.new }
+{
+    let mut bytes = [0; BLOCK_SIZE];
+    let part = &mut bytes[..(end - at) as usize];
+    tree.nodes.see();
+    let read = tree
+        .nodes
+        .read_kernel(program.ino, HEADER + at, part, p.table.now);
+    p.images.text_bytes(t, at, part);
+    read.error
+}
+
+/// Reads the part of the text of a program that begins at a byte. The answer is where the next one begins: at the end, where the
+/// file can't be read to it. What comes after that part stays zeros.
+fn read_next(p: &mut Procs, tree: &mut Tree, t: TextId, program: &Program, at: u32, end: u32) -> u32
+    requires unread { IsUnread p.old.images.kept t program.now.text_clicks at }
+    requires before { at < end }
+    requires few { end ≤ 57344 }
+    requires fits { end ≤ 64 * program.now.text_clicks }
+    requires referenced { 0 < slice_index tree.old.nodes.references program.now.ino }
+    ensures further { at < result }
+    ensures within { result ≤ end }
+    ensures state { with_part (handed p.new tree.new.nodes) t program.now result (end - result)
+        ≡ with_part (handed p.old tree.old.nodes) t program.now at (end - at) }
+    ensures unread { IsUnread p.new.images.kept t program.now.text_clicks result }
+    ensures others { KeepsOthers p.old p.new tree.old tree.new }
+{
+    let next = part_end(at, end);
+    let error = read_part(p, tree, t, program, at, next);
+    tree.nodes.see();
+    match error {
+        None => next,
+        Some(_) => end,
+    }
+}
+
+/// Reads the text of a program into one that is zeros, a block of its file at a time.
 fn read_text(p: &mut Procs, tree: &mut Tree, s: Slot, t: TextId, program: &Program)
     requires alive { IsAlive p.old s }
     requires text { text_of p.old.images.kept s ≡ Some t }
-    requires out { (x : Shared) × (shared p.old.images.kept t ≡ Some x) × (x.row.loaded ≡ 0)
-        × (x.row.clicks ≡ program.now.text_clicks) }
+    requires unread { IsUnread p.old.images.kept t program.now.text_clicks 0 }
     requires referenced { 0 < slice_index tree.old.nodes.references program.now.ino }
     requires fits { is_refused program.now.text_clicks (data_clicks program.now.plan) 20 2048 ≡ false }
     ensures state { handed p.new tree.new.nodes ≡ with_text_read (handed p.old tree.old.nodes) s program.now }
@@ -171,19 +217,19 @@ fn read_text(p: &mut Procs, tree: &mut Tree, s: Slot, t: TextId, program: &Progr
     ensures marked { marks_of (texts_in p.new.images.kept) ≡ marks_of (texts_in p.old.images.kept) }
     ensures alive { IsAlive p.new s }
 {
-    let mut bytes = [0; LONGEST_TEXT];
-    let count = text_room(program);
-    let part = &mut bytes[..count];
-    read_bytes(&mut tree.nodes, program, part, p.table.now);
-    p.images.text_bytes(t, 0, part);
+    let end = text_room(program);
+    let mut at = 0;
+    while at < end {
+        at = read_next(p, tree, t, program, at, end);
+    }
+    tree.nodes.see();
 }
 
 /// Reads the text of a program, if it is new.
 fn fill_text(p: &mut Procs, tree: &mut Tree, s: Slot, new: Option<TextId>, program: &Program)
     requires alive { IsAlive p.old s }
     requires text { IfSome new (λ t. text_of p.old.images.kept s ≡ Some t) }
-    requires out { IfSome new (λ t. (x : Shared) × (shared p.old.images.kept t ≡ Some x) × (x.row.loaded ≡ 0)
-        × (x.row.clicks ≡ program.now.text_clicks)) }
+    requires unread { IfSome new (λ t. IsUnread p.old.images.kept t program.now.text_clicks 0) }
     requires referenced { 0 < slice_index tree.old.nodes.references program.now.ino }
     requires fits { is_refused program.now.text_clicks (data_clicks program.now.plan) 20 2048 ≡ false }
     ensures state { handed p.new tree.new.nodes ≡ reads_text (is_some new) (handed p.old tree.old.nodes) s program.now }
@@ -289,8 +335,7 @@ fn fill_program(
 )
     requires alive { IsAlive p.old s }
     requires text { IfSome new (λ t. text_of p.old.images.kept s ≡ Some t) }
-    requires out { IfSome new (λ t. (x : Shared) × (shared p.old.images.kept t ≡ Some x) × (x.row.loaded ≡ 0)
-        × (x.row.clicks ≡ program.now.text_clicks)) }
+    requires unread { IfSome new (λ t. IsUnread p.old.images.kept t program.now.text_clicks 0) }
     requires referenced { 0 < slice_index tree.old.nodes.references program.now.ino }
     requires fits { is_refused program.now.text_clicks (data_clicks program.now.plan) 20 2048 ≡ false }
     requires zeros { (process_here p.old s).data ≡ replicate (64 * data_clicks program.now.plan) 0 }

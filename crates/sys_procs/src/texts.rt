@@ -3,7 +3,7 @@ ghost use Rattle.std.specs.Prelude.{◌≡◌, ◌≤◌, ◌<◌, ◌==◌, not
 ghost use Rattle.fs_codec.specs.declared.modes.TheConstants.{ISVTX};
 ghost use Rattle.fs_nodes.specs.FileSystem.{SameRest};
 ghost use Rattle.pick_rules.specs.Apply.{change_row};
-ghost use Rattle.image_keep.specs.Kept.{Shared, text_of, shared};
+ghost use Rattle.image_keep.specs.Kept.{text_of, shared};
 ghost use Rattle.image_keep.specs.SharedTexts.{row_in, found_text};
 ghost use Rattle.sys_procs.specs.Tests.{node_in};
 ghost use Rattle.sys_procs.specs.TextTable.{is_text_of};
@@ -11,6 +11,7 @@ ghost use Rattle.sys_procs.specs.Texts.{free_entry, xfree, xalloc_by};
 ghost use Rattle.sys_procs.specs.World.{texts_in};
 ghost use Rattle.sys_procs.specs.Comes.{nothing};
 ghost use Rattle.sys_procs.specs.inside.Begun.{leaves, takes, new_entry, taken_by};
+ghost use Rattle.sys_procs.specs.inside.Parts.{IsUnread};
 ghost use Rattle.sys_procs.specs.Handed.{IsAlive, IsBare, IsMarked, came, handed};
 ghost use Rattle.sys_procs.specs.Done.{HasLeft};
 
@@ -161,8 +162,7 @@ fn make_text<T: Trace>(
     ensures made { IfOk result (λ t. ((came p.old
         (xalloc_by (handed p.old tree.old.nodes) s ino clicks None (λ placed is_new. nothing placed))).stop ≡ None)
         × (t ≡ free_entry (texts_in p.old.images.kept)) × (text_of p.new.images.kept s ≡ Some t)) }
-    ensures out { IfOk result (λ t. (x : Shared) × (shared p.new.images.kept t ≡ Some x) × (x.row.loaded ≡ 0)
-        × (x.row.clicks ≡ clicks)) }
+    ensures unread { IfOk result (λ t. IsUnread p.new.images.kept t clicks 0) }
     ensures frame { T.leads_to trace.old trace.new }
     ensures bare { IsBare p.new s }
     ensures marks { IsMarked p.new tree.new.marks }
@@ -215,8 +215,7 @@ pub(crate) fn take_text<T: Trace>(
         (came p.old (takes (handed p.old tree.old.nodes) s program.now.ino program.now.text_clicks)).stop
         (new_entry (texts_in p.old.images.kept) program.now.ino program.now.text_clicks) }
     ensures new { IfOk result (λ new. IfSome new (λ t. text_of p.new.images.kept s ≡ Some t)) }
-    ensures out { IfOk result (λ new. IfSome new (λ t.
-        (x : Shared) × (shared p.new.images.kept t ≡ Some x) × (x.row.loaded ≡ 0) × (x.row.clicks ≡ program.now.text_clicks))) }
+    ensures unread { IfOk result (λ new. IfSome new (λ t. IsUnread p.new.images.kept t program.now.text_clicks 0)) }
     ensures frame { T.leads_to trace.old trace.new }
     ensures bare { IsBare p.new s }
     ensures marks { IsMarked p.new tree.new.marks }

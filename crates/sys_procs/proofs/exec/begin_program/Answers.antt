@@ -11,7 +11,7 @@ use Rattle.sys_procs.specs.ExecFile.{data_clicks, begins_anew}
 use Rattle.sys_procs.specs.inside.Begun.{takes_image}
 use Rattle.sys_procs.specs.Handed.{handed}
 use Rattle.sys_procs.specs.Done.{HasDone, HasEnded}
-use Rattle.sys_procs.proofs.BegunProgram.{stopped_first, referenced_still, clicks_are, stopped_second, image_here, row_still, program_begins, texts_still, out_still}
+use Rattle.sys_procs.proofs.BegunProgram.{stopped_first, referenced_still, clicks_are, stopped_second, image_here, row_still, program_begins, texts_still, unread_still}
 use Rattle.sys_procs.proofs.TakenText.{stopped_by}
 use Rattle.sys_procs.proofs.exec.begin_program.Goals as goal
 
@@ -32,7 +32,7 @@ place_image-requires-clause-clicks g c =
     c.requires.bare
     c.in_ok-new.new c.in_ok-new.ensures.answer c.in_ok-new.ensures.left c.see_texts.ensures.long c.in_ok-new.ensures.bare
     c.requires.none
-    c.requires.tested.shared c.in_ok-new.ensures.new c.in_ok-new.ensures.out
+    c.requires.tested.shared c.in_ok-new.ensures.new c.in_ok-new.ensures.unread
 
 -- what the placing of the image comes to, for the clicks of the program's data
 ended_is : {q r : Procs} {result : Result (Unit {0}) PanicKind} {start end : Taken} (fs : FileSystem) (s size : ℕ) {n m : ℕ} → n
@@ -69,11 +69,11 @@ returns-in_err-place_image-clause-marks g c =
     (ended_is c.take_text.new.tree.nodes c.args.s c.args.program.now.text_clicks c.data_clicks.ensures.clicks
     c.in_err-place_image.ensures.does)))
 
-pub fill_program-requires-clause-out : goal.fill_program-requires-clause-out
-fill_program-requires-clause-out g c =
-    out_still c.take_text.new.p.images.kept c.place_image.new.p.images.kept c.args.program.now.text_clicks c.in_ok-new.new
+pub fill_program-requires-clause-unread : goal.fill_program-requires-clause-unread
+fill_program-requires-clause-unread g c =
+    unread_still c.take_text.new.p.images.kept c.place_image.new.p.images.kept c.args.program.now.text_clicks c.in_ok-new.new
     c.place_image.ensures.stays
-    c.in_ok-new.ensures.out
+    c.in_ok-new.ensures.unread
 
 pub fill_program-requires-clause-referenced : goal.fill_program-requires-clause-referenced
 fill_program-requires-clause-referenced g c =

@@ -1,4 +1,5 @@
-use Rattle.std.proofs.Common.{◌≡◌, ◌∙◌, sym, ap, subst, Some, IsSome, refl, arith}
+use Rattle.std.proofs.Common.{◌≡◌, ◌∙◌, ◌-◌, ◌*◌, ℕ, replicate, sym, ap, subst, Some, IsSome, refl, arith}
+use Rattle.std.proofs.lemmas.List.{length-replicate}
 use Rattle.image_keep.specs.Kept.{Kept, IsKept, shared, text_of}
 use Rattle.image_keep.specs.SharedTexts.{zeros_text, free_text}
 use Rattle.image_keep.specs.Places.{swap_fit, blocks}
@@ -60,14 +61,20 @@ returns-in-Ok-clause-made g c = (
       ∙ user_now c.args.p.now c.args.s c.args.ino c.args.clicks (bare g c) (all g c) c.in-Ok.t (made g c),
 )
 
-pub returns-in-Ok-clause-out : goal.returns-in-Ok-clause-out
-returns-in-Ok-clause-out g c = (
-  zeros_text c.args.ino c.args.clicks (made g c).block,
-  ap (λ (k : Kept). shared k c.in-Ok.t) (it_now g c).kept
-      ∙ text_now c.args.p.now c.args.s c.args.ino c.args.clicks (bare g c) (all g c) c.in-Ok.t (made g c),
-  refl,
-  refl,
-)
+pub returns-in-Ok-clause-unread : goal.returns-in-Ok-clause-unread
+returns-in-Ok-clause-unread g c =
+    let nought : ℕ = 0 in
+    let whole : 64 * c.args.clicks ≡ 64 * c.args.clicks - 0 = omega arith in
+    record {
+      text = zeros_text c.args.ino c.args.clicks (made g c).block;
+      there =
+          ap (λ (k : Kept). shared k c.in-Ok.t) (it_now g c).kept
+          ∙ text_now c.args.p.now c.args.s c.args.ino c.args.clicks (bare g c) (all g c) c.in-Ok.t (made g c);
+      out = refl;
+      size = refl;
+      long = length-replicate (64 * c.args.clicks) nought;
+      zeros = ap (λ n. replicate n nought) whole;
+    }
 
 pub returns-in-Ok-clause-bare : goal.returns-in-Ok-clause-bare
 returns-in-Ok-clause-bare g c =
