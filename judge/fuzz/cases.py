@@ -11,7 +11,6 @@ from judge.compare import file_calls
 from judge.random import hostile
 from judge.compare import processes
 from judge.random import spoil
-from judge.random import two_disks
 from judge.fuzz.hosts import random_host
 from judge.random.disk import Tree
 from judge.random.lines import over, random_lines
@@ -243,7 +242,7 @@ def slow(rng, seed):
 
 def of_two(seed):
     """The images, the core and the script of a case over two disks."""
-    case = two_disks.TwoDisks(seed)
+    case = file_calls.TwoDisks(seed)
     lines, end = lines_of(case.script)
     return Case(seed, "", case.image, str(case.core), lines, end, command=RUN2, sort="TwoDisks", second=case.second_image)
 
