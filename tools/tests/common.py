@@ -16,7 +16,7 @@ TOOLS = os.path.dirname(TESTS)
 TOP = os.path.dirname(TOOLS)
 DISK_BYTES = 2494464  # of a disk that a run leaves
 HANDLED = signal.SIGINT, signal.SIGQUIT, signal.SIGTERM, signal.SIGHUP  # signals for which tools have a handler
-sys.path.insert(0, TOOLS)
+sys.path[:0] = [TOOLS, TOP]  # judge/ and speed/ stand in TOP
 os.environ.update(PATH=f"{TESTS}/bin:{os.environ['PATH']}", V6_PYTHON=sys.executable)  # of the tools that are called
 from v6.host.files import IN_MEMORY, ROOM
 from v6.host.program import V6, parted, run
@@ -102,7 +102,7 @@ class Case(unittest.TestCase):
     """A test with a folder of its own, in which a tool is called by its words."""
 
     def setUp(self):
-        self.random = random.Random(self.id())
+        self.random = random.Random(self.id()[self.id().index("test_"):])  # whatever folder its file is in
         folder = tempfile.TemporaryDirectory()
         self.addCleanup(folder.cleanup)
         self.folder = folder.name

@@ -4,7 +4,6 @@ import contextlib
 import os
 import random
 import signal
-import sys
 import unittest
 import unittest.mock
 
@@ -22,8 +21,7 @@ from v6.run import history
 from v6.run.history import History
 from v6.run.moments import MomentError, Run
 
-sys.path.append(os.path.join(TOP, "bench"))
-from random_instructions import InstructionCase
+from judge.random.instructions import InstructionCase
 
 look, as_main, disk_main = tool("look"), tool("as").main, tool("disk").main
 # Each eighth time round calls a routine: 5 instructions each time, and 3 more then. The word `seen` becomes k in slot 42 + 43(k - 1).

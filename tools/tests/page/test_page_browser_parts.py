@@ -1,6 +1,5 @@
 """Pages of runs with eight lines and of two disks, of lessons, and of long logs, in a browser without a window."""
 import contextlib
-import importlib.util
 import io
 import os
 import re
@@ -9,6 +8,7 @@ from array import array
 from tests.common import TOP, read, tool
 from tests.page.pagebrowser import Browsed
 
+from speed import opening
 from v6.page.pack import packed
 
 lesson_pages = tool("lessonpages")
@@ -16,14 +16,6 @@ EVENING, PACK = (os.path.join(TOP, "examples", name) for name in ("timesharing",
 COMPLETE = "document.readyState === 'complete' && location.href !== 'about:blank'"
 MANY, OF_A_PAGE = 1_000_000, 5000  # lines
 OPENED = 3  # seconds in which a log of so many lines is to be opened
-
-
-def opening():
-    """The module bench/opening.py, which measures in browsers of its own."""
-    spec = importlib.util.spec_from_file_location("opening", os.path.join(TOP, "bench", "opening.py"))
-    module = importlib.util.module_from_spec(spec)
-    spec.loader.exec_module(module)
-    return module
 
 
 class Parts(Browsed):
@@ -120,7 +112,7 @@ class Parts(Browsed):
     def test_a_million_lines(self):
         """A page of a million lines opens soon, and is stepped line by line."""
         last = self.long_page()
-        _, thread, _, _ = opening().opened_in(self.browser, self.path("long.html"))
+        _, thread, _, _ = opening.opened_in(self.browser, self.path("long.html"))
         self.assertLess(thread, OPENED)  # of a processor: what else the machine does counts in seconds that pass
         self.open("#line=999000", name="long.html")
         self.assertEqual((self.line(), self.value("page.run.lines"), last > MANY), (999000, last, True))

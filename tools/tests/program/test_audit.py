@@ -4,12 +4,9 @@ import fcntl
 import os
 import shlex
 import subprocess
-import sys
 import termios
 import threading
 import time
-import unittest
-import unittest.mock
 
 from tests.common import TOP, V6, Case, read, v6
 
@@ -269,8 +266,8 @@ class Audit(Case):
 
     def test_logs_that_are_too_long(self):
         """A copy of the program in which 2^16 stands for 2^40 answers by the rule of the page, whatever the length is."""
-        with unittest.mock.patch.object(sys, "path", [f"{TOP}/bench", *sys.path]):
-            import too_long
+        from judge.compare import too_long
+
         judge = too_long.judged(shlex.split(V6), 16, self.folder, is_traced=False)
         self.assertGreater(judge.audits, 100)
         self.assertEqual(judge.wrong, [])
