@@ -1,9 +1,11 @@
 """The small programs for those who work at v6."""
 import os
+import re
 import subprocess
 import sys
+import unittest
 
-from tests.common import TOOLS, Case, write
+from tests.common import TOOLS, TOP, Case, read, write
 
 SOURCE = b"fn f() {\n    a();\n    b();\n    b();\n}\n"
 
@@ -50,3 +52,43 @@ class Definitions(Case):
         status, said = dev("definitions.py")
         self.assertEqual(status, 0)
         self.assertGreater(sum(line.startswith("  ") and not line.startswith("   ") for line in said.splitlines()), 200)
+
+
+class Crates(unittest.TestCase):
+    """The floors of crates.txt, those of crates/README.md, and the folders."""
+
+    def floors(self):
+        """Of crates.txt: the crates of each floor, in their order; and on which each crate stands."""
+        floors, stands = {}, {}
+        for line in read(os.path.join(TOP, "crates.txt")).decode().splitlines()[1:]:
+            if line.startswith("# "):
+                floors[line[2:]] = []
+            elif line:
+                name, _, below = line.partition(":")
+                floors[[*floors][-1]].append(name)
+                stands[name] = below.split()
+        return floors, stands
+
+    def test_floors(self):
+        """A crate stands on none of a floor after its own."""
+        floors, stands = self.floors()
+        place = {name: number for number, names in enumerate(floors.values()) for name in names}
+        for name, below in stands.items():
+            for one in below:
+                self.assertLessEqual(place.get(one, 0), place[name], (name, one))
+        folders = [name for name in os.listdir(os.path.join(TOP, "crates")) if os.path.isdir(os.path.join(TOP, "crates", name, "src"))]
+        self.assertEqual(sorted(place), sorted(folders))
+
+    def test_page(self):
+        """It has the same floors with the same crates, and a sentence for each."""
+        floors, name = {}, None
+        for line in read(os.path.join(TOP, "crates", "README.md")).decode().splitlines():
+            row = re.fullmatch(r"\| \[`(\w+)`\]\((\w+)/README\.md\) \| (.*\.) \|", line)
+            if line.startswith("## "):
+                name = line[3:]
+                floors[name] = []
+            elif row:
+                self.assertEqual(row[1], row[2])
+                floors[name].append(row[1])
+        self.assertEqual(floors, self.floors()[0])
+        self.assertEqual([*floors], [*self.floors()[0]])
