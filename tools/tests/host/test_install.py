@@ -136,7 +136,7 @@ class Installed(Maker):
             if place.endswith(".md"):
                 for target in re.findall(r"\]\(([^)#]+)(?:#[^)]*)?\)", read(place).decode()):
                     self.assertTrue(os.path.exists(os.path.join(os.path.dirname(place), target)), (place, target))
-                self.assertNotIn("in the repository -->", read(place).decode())
+                self.assertNotRegex(read(place).decode(), r"in\s+the\s+repository\s*-->")
 
     def user(self, command, status=0):
         """What a user sees who has the installed commands on the PATH and nothing of the repository."""

@@ -23,7 +23,7 @@ PAGES = {  # by its name and section: the source, and what it is in a line; that
     **{(f"v6-{name}", 1): (f"tools/{PAGE_OF.get(name, name)}.md", None) for name in TOOLS},
     ("v6shell", 7): ("tools/shell.md", "the shell on the disk of v6 and its commands"),
 }
-HOME = re.compile(r"[ \n]*<!-- in the repository -->.*?<!-- -->", re.S)  # a part that is of the repository alone
+HOME = re.compile(r"[ \n]*<!--\s*in\s+the\s+repository\s*-->.*?<!-- -->", re.S)  # a part that is of the repository alone
 LINK = re.compile(r"(!?)\[([^\]]*)\]\(([^)#]*)(#[^)]*)?\)")
 
 
