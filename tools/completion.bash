@@ -6,7 +6,7 @@ _v6() {
     v6) [ "$COMP_CWORD" -eq 1 ] && words='run run8 run2 memory check make demo audit' ;;
     v6-disk | disk.py)
         if [ "$COMP_CWORD" -eq 1 ]; then
-            words='list cat get put new grow mkdir rm mv ln chmod chown check repair'
+            words='list cat get put new grow mkdir rm mv ln chmod chown check wants repair'
             case $word in -*) words='--help --pack --v6 --version' ;; esac
         else
             case $word in -*) words='--as --blocks --damaged --help --inodes --mode --replace --short --table --time -l -r' ;; esac

@@ -19,6 +19,7 @@ from v6.disk.repair import Repair, grow
 from v6.disk.survey import Survey, behind_end, damaged, walk
 from v6.disk.tree import KINDS, MOST_TIME, PERMISSIONS, Item, above, apply_table, number, own, place_all, plain_name, row, scan
 from v6.disk.volume import BLOCK, BLOCKS, DIRECTORY, PACK, PLAIN, ROOT, SWAP, DiskError, Volume, check_name, components, plural, shown
+from v6.disk.wants import table
 from v6.host.files import STREAMS, guarded, place_of, put_out, read_bytes, replace, same_file, uninterrupted
 from v6.host.program import V6, ProgramError, add_version, call
 
@@ -511,6 +512,17 @@ def check_disk(options):
     return int(bool(lines or status))
 
 
+def wants(options):
+    """Tells what the programs of a disk want that isn't there; the status is 1 where there is anything to tell."""
+    volume = open_for_reading(options)
+    paths = [path_of(path) for path in options.paths or ["/"]]
+    lines, (programs, devices, told) = table(volume, [(find(volume, path), path) for path in paths])
+    for text in lines:
+        print(text)
+    print(f"{plural(programs, 'program')} and {plural(devices, 'device')}; {told} with a line")
+    return int(bool(told))
+
+
 def repair_disk(options):
     if os.path.lexists(options.new) and not options.replace:
         raise DiskError(f"{options.new}: there already; --replace makes it anew")
@@ -598,6 +610,8 @@ def options_of(words):
     for one in (modes, owners):
         one.add_argument("paths", nargs="+")
     add("check", check_disk, "tells all faults of a disk")
+    wanting = add("wants", wants, "tells what programs want that isn't there", **DAMAGED)
+    wanting.add_argument("paths", nargs="*", metavar="path", help="a program, or a directory with those below it (all of the disk)")
     add("repair", repair_disk, "makes a good disk of what is whole on a damaged one", "new", **REPLACE)
     return parser.parse_args(words)
 

@@ -10,7 +10,7 @@ from tests.common import TOOLS, Case, read
 BELOW = {  # the folders whose modules those of a folder may import
     "host": set(),
     "pdp11": {"host"},
-    "disk": {"host"},
+    "disk": {"host", "pdp11"},
     "log": {"host"},
     "run": {"host", "pdp11", "disk", "log"},
     "debug": {"host", "pdp11", "disk", "log", "run"},

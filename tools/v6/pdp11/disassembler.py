@@ -1,4 +1,5 @@
 """The disassembler: source of which the assembler makes the same words."""
+import functools
 import struct
 
 from v6.pdp11.names import ARGUMENTS, CALLS, CODES, INSTRUCTIONS, MAGIC, REGISTERS, SEGMENT, SHARED, signed
@@ -64,6 +65,28 @@ def operands(form, word, more):
     return {"": "", "r": REGISTER[word & 7], "b": more.place(more.at + 2 * signed(word, 8)),
             "r,b": f"{register},{more.place(more.at - 2 * low)}", "n6": f"{low:o}", "n8": f"{word & 0o377:o}",
             "call": CALL.get(word & 0o377, f"{word & 0o377:o}")}[form]
+
+
+def more_words(spec):
+    """How many words an operand takes after its instruction."""
+    return int(spec >> 3 >= 6 or spec & 7 == 7 and spec >> 3 in (2, 3))
+
+
+@functools.lru_cache(maxsize=None)
+def known(word):
+    """The name and the form of the instruction that begins with a word, and how many words it has; None where the word is none."""
+    if 0o240 <= word <= 0o277:
+        return CODE.get(word, ""), "", 1
+    for bits in sorted(set(BITS.values())):
+        name, form = FORMS.get((word >> bits << bits, bits), (None, None))
+        if name is not None:
+            break
+    else:
+        return None
+    if form in ("j", "r,j") and not word & 0o70:
+        return None
+    specs = {"s,d": (word >> 6 & 0o77, word & 0o77)}.get(form, (word & 0o77,) if form in ("d", "j", "s,r", "r,d", "r,j") else ())
+    return name, form, 1 + sum(map(more_words, specs))
 
 
 def codes(word):
