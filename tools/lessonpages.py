@@ -23,7 +23,7 @@ PLAYED = re.compile(r"tools/run\.py (?P<image>\S+) (?P<script>\S+) --core (?P<co
 TYPED = re.compile(r"tools/console\.py (?P<image>\S+) ")
 SCRIPT, SECOND = (re.compile(rf" --{word} (\S+)") for word in ("script", "second"))  # of a command with which lines are typed
 OTHERS = "README", "answers"  # pages that are no lessons
-PICTURE = re.compile(r"!\[[^]]*\]\(([a-z]+\.svg)\)")
+PICTURE = re.compile(r"!\[[^]]*\]\(((?:pictures/)?[a-z]+\.svg)\)")
 
 
 class LessonError(Exception):
@@ -122,6 +122,7 @@ def tell(lesson, made, chosen, folder):
     text = text_of(lesson)
     put_out(os.path.join(folder, lesson + ".html"), lessonhtml.Lesson(text, made, {*chosen, "answers"}).told())
     for name in PICTURE.findall(text):
+        os.makedirs(os.path.join(folder, os.path.dirname(name)), exist_ok=True)
         shutil.copyfile(os.path.join(LIONS, name), os.path.join(folder, name))
 
 

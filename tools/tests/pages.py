@@ -16,7 +16,7 @@ WORD = r"(?:'[^']*'|[^|;&<>$`*?~#()\\'\n])"  # a word as it stands, or of a text
 CALLED = re.compile(rf"(?:(?P<typed>printf '[^']*') \| )?tools/(?P<tool>as|cc|console|disk|log|look|page|run|trace|try)\.py (?P<words>{WORD}*)"
                     r"(?:<(?P<file>\w+))?(?:>(?P<to>\w+)|\| (?P<through>[^;&<>`]*)|; (?P<then>[^|&<>`]*))?")
 PROGRAM = re.compile(rf"bin/v6 (?P<words>{WORD}*)(?P<then>; echo status \$\?)?")
-PICTURE = re.compile(r"!\[[^]]*\]\(([a-z]+\.svg)\)")
+PICTURE = re.compile(r"!\[[^]]*\]\(((?:pictures/)?[a-z]+\.svg)\)")
 LINK = re.compile(r"\]\(([^)#]*)(?:#([^)]*))?\)")
 
 
@@ -106,4 +106,4 @@ class Runs(Case):
         for command, shown in commands(page):
             self.assertEqual(self.play(command), (0, shown), command)
         for picture in PICTURE.findall(page):
-            self.assertEqual(read(self.path(picture)), read(os.path.join(TOP, "docs", *path[:-1], picture)))
+            self.assertEqual(read(self.path(os.path.basename(picture))), read(os.path.join(TOP, "docs", *path[:-1], picture)))

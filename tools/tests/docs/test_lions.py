@@ -42,7 +42,7 @@ class Links(unittest.TestCase):
             text = self.page(page + ".md")
             self.assertTrue(PICTURE.findall(text), page)
             for picture in PICTURE.findall(text):
-                self.assertTrue(any(f" {picture}" in command for command, _ in commands(text)), (page, picture))
+                self.assertTrue(any(f" {os.path.basename(picture)}" in command for command, _ in commands(text)), (page, picture))
 
     def test_questions(self):
         """Each page has two questions, each with an answer of its own; and the first page leads to each."""

@@ -63,7 +63,7 @@ class Lessons(Case):
         """Its pages are made without what core holds, and the terminal is the lesson's."""
         out = self.path("out")
         self.assertEqual(self.call(lesson_pages.main, "-o", out, "--moments", "8", "mount")[:2], (0, ""))
-        self.assertEqual(sorted(os.listdir(out))[2:], ["mount-1.html", "mount-2.html", "mount-3.html", "mount.html", "mount.svg"])
+        self.assertEqual(sorted(os.listdir(out))[2:], ["mount-1.html", "mount-2.html", "mount-3.html", "mount.html", "pictures"])
         found = Read(read(os.path.join(out, "mount-1.html")))
         shown = read(os.path.join(lesson_pages.LIONS, "mount.md")).decode().split("<typed; echo\n")[1].split("```")[0]
         self.assertEqual((found.head["hasMemory"], found.terminal(found.head["lines"]).decode().replace("\r\n", "\n")),
@@ -87,7 +87,7 @@ class Lessons(Case):
         """A page of the lesson, which leads to those of its runs and their lines, and one that leads to it. An unknown name is refused."""
         out = self.path("out")
         self.assertEqual(self.call(lesson_pages.main, "-o", out, "slp"), (0, "", ""))
-        self.assertEqual(sorted(os.listdir(out)), ["answers.html", "index.html", "slp-1.html", "slp.html", "slp.svg"])
+        self.assertEqual(sorted(os.listdir(out)), ["answers.html", "index.html", "pictures", "slp-1.html", "slp.html"])
         index, lesson = (read(os.path.join(out, name)).decode() for name in ("index.html", "slp.html"))
         self.assertIn('<a href="slp.html">swtch, sleep and wakeup</a>: <a href="slp-1.html">run 1</a>', index)
         self.assertIn('\n  <a href="slp-1.html#line=18">18</a>  srr  woken are those who wait for keys: process 1, process 2\n', lesson)
