@@ -3,7 +3,7 @@ import resource
 import subprocess
 import unittest
 
-from common import V6, Case, parted, with_init
+from tests.common import V6, Case, parted, with_init
 
 # Each turn is a call, or a branch back to it: the log has more bytes than a file's buffer (2,048) after some hundred slots.
 CALLS = b"1:\tsys\tgetpid\n\tbr\t1b\n"
