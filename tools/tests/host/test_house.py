@@ -70,6 +70,14 @@ class House(unittest.TestCase):
             names = {name.partition(".")[0] for name in imported(os.path.join(TOOLS, command + ".py"))}
             self.assertFalse(names & set(COMMANDS), command)
 
+    def test_tests(self):
+        """They stand in folders, all of which are packages: those of the package, and some more."""
+        place, folders, names = next(below("tests"))
+        self.assertFalse([name for name in names if name.startswith("test_")])
+        self.assertLessEqual({*BELOW, "program", "docs", "dev", "judge"}, set(folders))
+        for folder in set(folders) - {"bin"}:
+            self.assertTrue(os.path.exists(os.path.join(place, folder, "__init__.py")), folder)
+
     def test_no_folder_is_full(self):
         for place, _, names in below("."):
             self.assertLessEqual(len(names), MOST_FILES, place)

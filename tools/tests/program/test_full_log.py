@@ -1,7 +1,6 @@
 """The first fault of an output ends a run, and not the end of its slots."""
 import resource
 import subprocess
-import unittest
 
 from tests.common import V6, Case, parted, with_init
 
@@ -25,7 +24,3 @@ class FullLog(Case):
                 after = resource.getrusage(resource.RUSAGE_CHILDREN)
                 self.assertEqual((done.returncode, done.stdout), (3, b"write fault: log\n"))
                 self.assertLess(after.ru_utime + after.ru_stime - before.ru_utime - before.ru_stime, LIMIT)
-
-
-if __name__ == "__main__":
-    unittest.main()
