@@ -15,6 +15,7 @@
 	clr	r0
 	sys	write; 0:0; 9.
 	sys	exec; shell; list
+	sys	exit
 list:	dash; 0
 dash:	<-\0>
 tty:	</dev/tty8\0>
