@@ -6,6 +6,7 @@ import sys
 import unittest
 
 from tests.common import TOOLS, TOP, Case, read, write
+from tests.pages import broken_links
 
 SOURCE = b"fn f() {\n    a();\n    b();\n    b();\n}\n"
 
@@ -92,3 +93,4 @@ class Crates(unittest.TestCase):
                 floors[name].append(row[1])
         self.assertEqual(floors, self.floors()[0])
         self.assertEqual([*floors], [*self.floors()[0]])
+        self.assertEqual(broken_links("..", "crates", "README.md"), [])

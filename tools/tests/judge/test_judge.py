@@ -10,6 +10,7 @@ import unittest
 import unittest.mock
 
 from tests.common import TOP, Case
+from tests.pages import broken_links
 
 from judge.compare import definition, spoiled_logs, too_long
 from judge.fuzz import cases as fuzz_cases
@@ -270,6 +271,19 @@ class Programs(unittest.TestCase):
             is_program = source.startswith(b"#!")
             self.assertEqual((b"__main__" in source, os.access(os.path.join(TOP, file), os.X_OK)), (is_program, is_program), file)
             self.assertTrue(not is_program or file in text, file)
+
+
+class Pages(unittest.TestCase):
+    def test_each_program_is_told(self):
+        """On the page of its folder, whose links lead somewhere."""
+        for folder in ("judge", "speed"):
+            page = fuzz_cases.read(os.path.join(TOP, folder, "README.md")).decode()
+            self.assertEqual(broken_links("..", folder, "README.md"), [])
+            for place, _, names in os.walk(os.path.join(TOP, folder)):
+                for name in names:
+                    file = os.path.join(place, name)
+                    if name.endswith(".py") and os.access(file, os.X_OK):
+                        self.assertIn(f"`{os.path.relpath(file, os.path.join(TOP, folder))}", page)
 
 
 class Speed(unittest.TestCase):
