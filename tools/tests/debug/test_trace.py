@@ -6,6 +6,7 @@ import unittest.mock
 
 from tests.common import TOP, V6, Case, read, tool, v6, with_init, words, write
 
+from v6.debug import tracer
 from v6.debug.calls import FORMS, Call, answer, call_at
 from v6.disk.volume import gathered
 from v6.host import files
@@ -215,7 +216,7 @@ class Traces(Case):
         told = (' 1 [1] exec("/etc/init", ["/etc/init"]) = done\n 2 [1 /etc/init] open("/dev/tty8", 1) = 0\n'
                 ' 3 [1 /etc/init] write(0, "hi\\n", 3) = 3\n 5 [1 /etc/init] exit(0)\n')
         self.assertEqual(self.trace(*words_), (0, told, ""))
-        with unittest.mock.patch.object(trace, "AT_ONCE", 1):
+        with unittest.mock.patch.object(tracer, "AT_ONCE", 1):
             self.assertEqual(self.trace("--from", "8", "--to", "9", *words_), (0, "".join(told.splitlines(True)[1:3]), ""))
         self.assertEqual(self.trace("--process", "2", *words_), (1, "", "trace.py: process 2 makes no call there\n"))
 
@@ -230,7 +231,7 @@ class Traces(Case):
         self.assertEqual(self.trace("--v6", V6, image, "1200", script), (0, TOLD, ""))
         some = "--v6", V6, "--from", "18", "--to", "22", image, "1200", script
         self.assertEqual(self.trace(*some)[1].splitlines(), TOLD.splitlines()[5:7])
-        with unittest.mock.patch.object(trace, "SLOTS_A_TURN", 0):  # as in a long run with few calls
+        with unittest.mock.patch.object(tracer, "SLOTS_A_TURN", 0):  # as in a long run with few calls
             self.assertEqual(self.trace("--v6", V6, image, "1200", script), (0, TOLD, ""))
             # from the middle on, the descriptor of a call that waits already isn't known, and neither is when it began
             told = [" 61 [1 /etc/init] read(.., 063, 100) = 4 \"one\\n\"", " 62 [2 /etc/init] read(.., 063, 100) waits for keys"]
