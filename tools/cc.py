@@ -12,15 +12,16 @@ import sys
 sys.path.insert(0, os.path.dirname(os.path.abspath(__file__)))
 from v6.host.files import guarded, put_out, same_file
 from v6.host.program import add_version
+from v6.host.progress import Progress
 from v6.pdp11.compiler import HOME, CompileError, Compiler, Program, gcc, pcc, program_of
 
 
-def compile_all(options):
+def compile_all(options, progress):
     for name in options.sources:
         if same_file(name, options.out):
             raise CompileError(f"{name}: the source itself, and the program would take its place")
     words = [f"-I{name}" for name in options.folders] + [f"-D{name}" for name in options.defined]
-    compiler = Compiler(options.compiler, words, gcc if options.gcc else pcc, options.lines)
+    compiler = Compiler(options.compiler, words, gcc if options.gcc else pcc, options.lines, progress)
     if options.assembly:
         program = Program(compiler)
         for name in options.sources:
@@ -44,7 +45,13 @@ def main(words):
     parser.add_argument("--gcc", action="store_true", help="with GCC, which tools/c/build-gcc.sh makes, in the place of pcc")
     parser.add_argument("--compiler", metavar="FOLDER", default=HOME, help="where tools/c/build.sh has put the compiler")
     add_version(parser)
-    return guarded("cc.py", lambda: compile_all(parser.parse_args(words)), CompileError)
+
+    def body():
+        options = parser.parse_args(words)
+        with Progress("cc.py") as progress:
+            compile_all(options, progress)
+
+    return guarded("cc.py", body, CompileError)
 
 
 if __name__ == "__main__":

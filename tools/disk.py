@@ -22,6 +22,7 @@ from v6.disk.volume import BLOCK, BLOCKS, DIRECTORY, PACK, PLAIN, ROOT, SWAP, Di
 from v6.disk.wants import table
 from v6.host.files import STREAMS, guarded, place_of, put_out, read_bytes, replace, same_file, uninterrupted
 from v6.host.program import V6, ProgramError, add_version, call
+from v6.host.progress import Progress
 
 NO_SWAP = re.compile("file system of [0-9]+ blocks leaves no swap")
 MOST = PACK * BLOCK + 1  # what is read of a disk: one that is longer is too long
@@ -516,7 +517,9 @@ def wants(options):
     """Tells what the programs of a disk want that isn't there; the status is 1 where there is anything to tell."""
     volume = open_for_reading(options)
     paths = [path_of(path) for path in options.paths or ["/"]]
-    lines, (programs, devices, told) = table(volume, [(find(volume, path), path) for path in paths])
+    tops = [(find(volume, path), path) for path in paths]
+    with Progress("disk.py") as progress:
+        lines, (programs, devices, told) = table(volume, tops, progress)
     for text in lines:
         print(text)
     print(f"{plural(programs, 'program')} and {plural(devices, 'device')}; {told} with a line")

@@ -13,6 +13,7 @@ import tempfile
 sys.path.insert(0, os.path.dirname(os.path.abspath(__file__)))
 from v6.host.files import guarded, put_out, read_bytes
 from v6.host.program import CORE, TOP, V6, ProgramError, add_version
+from v6.host.progress import Progress
 from v6.page import command as page
 from v6.page import lesson as lessonhtml
 
@@ -71,13 +72,14 @@ def text_of(lesson):
     return read_bytes(os.path.join(LIONS, lesson + ".md")).decode()
 
 
-def pages_of(lesson, options):
+def pages_of(lesson, options, progress):
     """Plays a lesson, and makes its pages: of each command that has runs, by its number, the names and the titles of these."""
     text, made, count = text_of(lesson), {}, 0
     with tempfile.TemporaryDirectory() as name:
         folder = Folder(name, options.v6)
         for number, (command, _) in enumerate(lessonhtml.commands(text)):
             command, runs = runs_of(command, number)
+            progress.tell(f"{lesson}: {command}")
             folder.play(command)
             for run in runs:
                 if os.path.exists(folder.path(run[2])):
@@ -107,11 +109,12 @@ def make_all(options):
         raise LessonError(f"{unknown[0]}: no such lesson; there are {', '.join(lessons())}")
     os.makedirs(options.output, exist_ok=True)
     chosen, items = options.lessons or lessons(), []
-    for lesson in chosen:
-        made = pages_of(lesson, options)
-        tell(lesson, made, chosen, options.output)
-        runs = [link_to(*one) for pages in made.values() for one in pages]
-        items.append(f"<li>{link_to(lesson + '.html', title_of(text_of(lesson)))}: {', '.join(runs)}</li>")
+    with Progress("lessonpages.py") as progress:
+        for lesson in chosen:
+            made = pages_of(lesson, options, progress)
+            tell(lesson, made, chosen, options.output)
+            runs = [link_to(*one) for pages in made.values() for one in pages]
+            items.append(f"<li>{link_to(lesson + '.html', title_of(text_of(lesson)))}: {', '.join(runs)}</li>")
     tell("answers", {}, chosen, options.output)
     index = "\n".join([f"<h1>{TITLE}</h1>", "<ul>", *items, "</ul>", f"<p>{link_to('answers.html', 'Answers')}</p>"])
     put_out(os.path.join(options.output, "index.html"), lessonhtml.page(TITLE, index))

@@ -160,10 +160,11 @@ def below(volume, tops):
                     yield full, inode, data
 
 
-def table(volume, tops):
+def table(volume, tops, progress):
     """The lines of the table, and how many programs and devices there were, and of how many there is a line."""
     rows, counts = [], [0, 0, 0]
     for path, inode, data in below(volume, tops):
+        progress.tell(shown(path))
         counts[data is None] += 1
         if data is None:
             what, here = device(inode)

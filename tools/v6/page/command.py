@@ -6,6 +6,7 @@ import sys
 from v6.disk.volume import DiskError
 from v6.host.files import folder_of_runs, guarded, place_of, put_out, read_bytes, same_file
 from v6.host.program import CORE, V6, ProgramError, add_version
+from v6.host.progress import Progress
 from v6.log.processes import LogFault
 from v6.run.moments import MomentError
 from v6.run.script import ScriptError, add_replay
@@ -48,11 +49,13 @@ def page_of_run(options):
         programs, sizes = Programs(disks[0], options.symbols), programs_of_all(disks)
         for name in programs.strangers():
             print(f"page.py: {name}: no program, so it has no names", file=sys.stderr)
-        if run.has_memory:
-            account = account_of_run(run, Views(programs, sizes), ticks_of(script), options.moments)
-        else:
+        if not run.has_memory:
             print(f"page.py: {WITHOUT}", file=sys.stderr)
-            account = account_of_lines(run, sizes, ticks_of(script), options.moments)
+        with Progress("page.py") as progress:
+            if run.has_memory:
+                account = account_of_run(run, Views(programs, sizes), ticks_of(script), options.moments, progress)
+            else:
+                account = account_of_lines(run, sizes, ticks_of(script), options.moments, progress)
         if run.status:
             print(f"page.py: {run.said}: core is shown up to slot {account.last}", file=sys.stderr)
         if account.left_out():
@@ -73,7 +76,8 @@ def page_of_log(options):
     script = read_script(options.script_of_log) if options.script_of_log else None
     ticks, slots = ((), None) if script is None else (ticks_of(script), slots_of(script))
     terminals = [read_bytes(name) for name in options.term]
-    account = account_of_log(log, sizes, ticks, slots)
+    with Progress("page.py") as progress:
+        account = account_of_log(log, sizes, ticks, slots, progress)
     if not account.table.over:
         print(f"page.py: {options.log}: {CUT}", file=sys.stderr)
     return html_of_log(account, terminals, head_of(options, options.log, account)), account.table.over

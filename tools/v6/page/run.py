@@ -20,6 +20,7 @@ from v6.run.moments import FURTHER, Run
 
 KEPT = 80  # memories that are kept, since the calls of several moments are looked at together
 AT_ONCE = 16  # stretches of a run that are halved together
+MANY = 256  # lines of a log between two at which it is told how far the work is
 CHOICE, CALL, SECOND = 1, 2, 4  # what a line is, for those who step by it
 ROWS = {"letters": 1, "second": 1, "running": 1, "call": 1, "rule": 1, "book": 4, "ps": SLOTS, "texts": 41, "core": 192, "swap": 192}
 PARTS = {"process": 16, "code": 64, "stack": 20, "u area": 28}  # rows of the parts of a process
@@ -79,8 +80,8 @@ class Looks:
     """At which moments of a run it is looked at: of all that have lines, or, where these are too many, of as many as are wanted, spread
     over the lines. `found` has (slots, lines before, lines after, whether these came with this slot)."""
 
-    def __init__(self, history, most):
-        self.history, self.most = history, most
+    def __init__(self, history, most, progress):
+        self.history, self.most, self.progress = history, most, progress
         self.counts = {}
         self.find()
         known = sorted(self.counts.items())
@@ -95,6 +96,7 @@ class Looks:
         self.look([0, last])
         stretches = [(self.counts[0] - self.counts[last], 0, last)]
         while stretches and (left := self.most - len(set(self.counts.values()))) > 0:
+            self.progress.tell(f"{len(self.counts)} moments counted")
             taken = [heapq.heappop(stretches) for _ in range(min(AT_ONCE, left, len(stretches)))]
             taken = [(low, high) for lines, low, high in taken if lines and high - low > 1]
             self.look([(low + high) // 2 for low, high in taken])
@@ -292,23 +294,26 @@ class Account:
         return "\t".join(map(str, cells(self.table, slot, user, command)))
 
 
-def account_of_log(log, sizes, ticks=(), slots=None):
+def account_of_log(log, sizes, ticks, slots, progress):
     """The account of a log alone: nothing of it comes from core."""
     account = Account(log, sizes, ticks, slots)
-    for text in log:
+    for number, text in enumerate(log):
+        if number % MANY == 0:
+            progress.tell(f"line {number} of {len(log)}")
         account.take(text)
     return account
 
 
-def account_of_run(run, views, ticks, most):
-    """The account of a run, whose core is looked at in so many moments at most."""
+def account_of_run(run, views, ticks, most, progress):
+    """The account of a run, whose core is looked at in `most` moments at most."""
     history = History(run)
-    looks, ahead = Looks(history, most), Table()
+    looks, ahead = Looks(history, most, progress), Table()
     account = Account(run.log, views.sizes, ticks, run.script.slots)
     account.memory = Memory(views, account.panels)
     calls = Ahead(Calls(run, looks.exact()).follow())
     for number, (slots, before, after, is_exact) in enumerate(looks.found):
         start = before if is_exact else after - 1
+        progress.tell(f"line {before} of {len(run.log)}")
         for line in range(before, start):
             ahead.take(run.log[line])
             account.take(run.log[line], number - 1)
@@ -325,12 +330,13 @@ def account_of_run(run, views, ticks, most):
     return account
 
 
-def account_of_lines(run, sizes, ticks, most):
+def account_of_lines(run, sizes, ticks, most, progress):
     """The account of a run of which core isn't known: only when the terminal has shown what comes from its moments."""
     history = History(run)
-    account, looks = Account(run.log, sizes, ticks, run.script.slots), Looks(history, most)
+    account, looks = Account(run.log, sizes, ticks, run.script.slots), Looks(history, most, progress)
     for number, (slots, before, after, is_exact) in enumerate(looks.found):
         start = before if is_exact else after - 1
+        progress.tell(f"line {before} of {len(run.log)}")
         for line in range(before, after):
             account.take(run.log[line], number - (line < start), slots=slots if is_exact else None)
     for line in range(looks.found[-1][2], len(run.log)):

@@ -6,6 +6,7 @@ import sys
 import tempfile
 
 from v6.host.files import read_bytes
+from v6.host.progress import clear
 from v6.pdp11.assembler import Assembler
 from v6.pdp11.clibrary import FOLDER, NAME, Library, labels_of, names_of
 
@@ -40,6 +41,7 @@ def run(words):
     if done.returncode:
         raise CompileError(said or f"{words[0]}: status {done.returncode}")
     if said:
+        clear()
         print(said, file=sys.stderr)
 
 
@@ -85,8 +87,8 @@ class Compiler:
 
     parts = {}  # of the library, as a compiler has made them for these words
 
-    def __init__(self, folder, words, make=pcc, lines=False):
-        self.folder, self.words, self.make, self.lines = folder, words, make, lines
+    def __init__(self, folder, words, make=pcc, lines=False, progress=None):
+        self.folder, self.words, self.make, self.lines, self.progress = folder, words, make, lines, progress
 
     def program(self, name):
         path = os.path.join(self.folder, name)
@@ -98,6 +100,8 @@ class Compiler:
     def assembly(self, path):
         """What the compiler makes of a file in C."""
         check_bytes(path)
+        if self.progress:
+            self.progress.tell(os.path.basename(path))
         with tempfile.TemporaryDirectory() as folder:
             name = os.path.join(os.curdir, path) if path.startswith("-") else path
             source = self.make(self, name, os.path.join(folder, "out.s"))
