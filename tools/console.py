@@ -6,6 +6,7 @@ if __name__ == "__main__":
     signal.signal(signal.SIGINT, signal.SIG_DFL)  # an interrupt before main ends it without a word
 
 import argparse
+import contextlib
 import errno
 import itertools
 import os
@@ -13,18 +14,18 @@ import re
 import shutil
 import sys
 import tempfile
-from dataclasses import dataclass
 
 sys.path.insert(0, os.path.dirname(os.path.abspath(__file__)))
 from v6.disk.silent import why_silent
 from v6.host.files import place_of, read_bytes, replace, same_file, told, uninterrupted
 from v6.host.program import CORE, TOP, V6, ProgramError, add_version
 from v6.run.columns import frame
-from v6.run.dialogue import (END_OF_FILE, INTERRUPT, LINES, MANY, OVER, QUIT, RETURN, RUNS, SLEEPS, WAITS, Dialogue, DialogueError,
-                      Machine, Refused, keys, line_of, shown)
+from v6.run.dialogue import (END_OF_FILE, HIDDEN, INTERRUPT, LINES, MANY, OVER, PROBE, QUIT, RETURN, RUNS, SLEEPS, WAITS, Dialogue,
+                             DialogueError, Machine, Refused, keys, line_of, shown)
 from v6.run.ends import Processes, programs_of_all
 from v6.run.screen import without_echo
 from v6.run.script import HEADER, head_of
+from dataclasses import dataclass  # after v6, which tells a Python that hasn't it
 
 HELP = """~.      ends, and so does the end of a file that is read in the place of the keyboard
 ~^X     types a control character: ~^D is 004, ~^? is 0177
@@ -43,6 +44,9 @@ HELP = """~.      ends, and so does the end of a file that is read in the place 
 SHELL = os.path.join(TOP, "examples", "shell", "image")
 COPY = "my.image"  # of the shell's disk, where no IMAGE is named
 ENDS = signal.SIGTERM, signal.SIGHUP
+FULL = errno.ENOSPC, errno.EDQUOT  # why a host has no room
+WELCOME = "~? tells what the console does itself, and ~. ends it"
+OVER_SSH = "; over ssh type ~~. for it, since ~. ends ssh"
 LINE = re.compile(r"^(script: (?:too many slots at )?line )([0-9]+)")  # of a script that has a head, which a file needn't have
 CONTROL = re.compile(rb"\^([?-~])")  # a control character, as it is typed in ~k
 TWO_FILES = (("script", "disk"), ("script", "image"), ("script", "second"), ("script", "second_disk"), ("disk", "second"),
@@ -60,6 +64,7 @@ class Typed:
 
     lines: list
     echo: bytes = b""
+    is_hidden: bool = False  # the keyboard's own terminal hasn't shown it
 
 
 @dataclass
@@ -100,6 +105,7 @@ class Keyboard:
         self.file, self.person = file, file.isatty()
         self.waiting, self.rest, self.ended = [], b"", False
         self.editor, self.prompt = None, lambda: b""
+        self.hides, self.is_hidden = lambda: False, False
 
     def edit(self, lines):
         """Has a person's lines edited by readline, with those that were typed before as its history, where the terminal can."""
@@ -122,17 +128,36 @@ class Keyboard:
         except EOFError:
             return b""
 
+    def unseen(self):
+        """A line of a person that the host's terminal doesn't show, as far as there is one that can be told so."""
+        with contextlib.ExitStack() as stack:
+            with contextlib.suppress(ImportError, OSError, ValueError):
+                import termios
+
+                handle = self.file.fileno()
+                before = termios.tcgetattr(handle)
+                stack.callback(termios.tcsetattr, handle, termios.TCSADRAIN, before)
+                termios.tcsetattr(handle, termios.TCSADRAIN, [*before[:3], before[3] & ~termios.ECHO, *before[4:]])
+            return self.file.read1(65536)
+
+    def piece(self):
+        """What comes next of the file, or of a person."""
+        self.is_hidden = self.person and self.hides()
+        if self.is_hidden:
+            return self.unseen()
+        return self.edited() if self.editor else self.file.read1(65536)
+
     def fill(self):
-        """Reads what there is; at least one line, but at the end."""
+        """Reads what there is; at least one line, but at the end. Lines of a file may end as on other hosts, with a carriage return too."""
         while not self.waiting and not self.ended:
-            piece = self.edited() if self.editor else self.file.read1(65536)
+            piece = self.piece()
             if self.person:
                 self.waiting = piece.splitlines(keepends=True) or [b""]
             elif piece:
                 *self.waiting, self.rest = (self.rest + piece).split(b"\n")
-                self.waiting = [line + b"\n" for line in self.waiting]
+                self.waiting = [line.removesuffix(b"\r") + b"\n" for line in self.waiting]
             else:
-                self.waiting, self.ended = [self.rest + b"\n"] * bool(self.rest), True
+                self.waiting, self.ended = [self.rest.removesuffix(b"\r") + b"\n"] * bool(self.rest), True
 
     def read(self):
         """The next line; None at the end."""
@@ -146,7 +171,7 @@ class Keyboard:
             return None
         line = self.waiting.pop(0)
         if not line.endswith(b"\n"):
-            return Typed(keys(line + bytes([END_OF_FILE])), line)
+            return Typed(keys(line + bytes([END_OF_FILE])), line, self.is_hidden and line != b"")
         line = line[:-1]
         return self.command(line[1:]) if line.startswith(b"~") else self.typed(line)
 
@@ -161,7 +186,7 @@ class Keyboard:
         return found
 
     def typed(self, line):
-        return Typed(keys(line + bytes([RETURN])), line + b"\r" if self.person else b"")
+        return Typed(keys(line + bytes([RETURN])), line + b"\r" if self.person and not self.is_hidden else b"", self.is_hidden)
 
     def command(self, line):
         if line == b".":
@@ -189,6 +214,7 @@ class Console:
     def __init__(self, dialogue, keyboard, side=False):
         self.dialogue, self.keyboard, self.side, self.refused = dialogue, keyboard, side, False
         self.line, self.shown, self.told = 0, [0] * LINES, set()
+        self.is_kept = True  # what was typed, as far as it is to be
 
     def write(self, data):
         sys.stdout.buffer.write(data)
@@ -226,6 +252,10 @@ class Console:
         """What the line shows at its end."""
         return self.dialogue.played.terms()[self.line].rsplit(b"\n", 1)[-1]
 
+    def hides(self):
+        """Whether what is typed isn't echoed, as after `Password:`. Where the line doesn't end with a question, it counts as echoed."""
+        return self.last().rstrip().endswith(b":") and not self.dialogue.echoes(self.typed(PROBE))
+
     def prompt(self):
         """Shows the last line of the terminal again, to a person to whom something was told in between."""
         terms = self.dialogue.played.terms()
@@ -244,7 +274,7 @@ class Console:
     def add(self, line):
         is_typed = any(one.startswith((b"type", b"byte")) for one in line.lines)
         try:
-            found = self.dialogue.add(self.typed(line.lines) if is_typed else line.lines)
+            found = self.dialogue.add([HIDDEN] * line.is_hidden + (self.typed(line.lines) if is_typed else line.lines))
         except Refused as error:
             self.show(error.terms, line.echo)
             raise
@@ -381,6 +411,19 @@ def tell(text):
             raise
 
 
+def keep(console, save):
+    """Keeps what was typed. Where the host has no room for it, a person is told so after each line, and goes on."""
+    try:
+        save()
+        console.is_kept = True
+    except OSError as error:
+        if not (console.keyboard.person and error.errno in FULL):
+            raise
+        console.is_kept = False
+        tell(f"{told(error)}: what is typed isn't kept until there is room")
+        console.prompt()
+
+
 def talk(console, found, save):
     """Reads lines until the end, or until no key can change anything any more."""
     many = MANY
@@ -392,17 +435,23 @@ def talk(console, found, save):
         try:
             if found == WAITS and console.add_all(many):
                 found, many = console.dialogue.state(), min(2 * many, MANY)
-                save()
+                keep(console, save)
                 continue
             many = 16
             line = console.keyboard.read()
             if line is None:
                 return
             found = (console.add(line) if isinstance(line, Typed) else console.order(line)) or console.dialogue.state()
-            save()
+            keep(console, save)
         except DialogueError as error:
             console.refused = True
             tell(f"{error}" + ("" if isinstance(error, ConsoleError) else "\nconsole: this line is taken back"))
+            console.prompt()
+            found = WAITS
+        except OSError as error:
+            if not (console.keyboard.person and error.errno in FULL):
+                raise
+            tell(f"{told(error)}\nconsole: this line is taken back")
             console.prompt()
             found = WAITS
         except KeyboardInterrupt:
@@ -543,8 +592,12 @@ def run(options, folder):
         if console.dialogue.at < len(console.dialogue.steps):
             script.keep(machine.text([line for step in console.dialogue.steps for line in step]))
 
+    disks = {}  # where the disks go that are left, what is there now
     for name in filter(None, (options.disk, options.second_disk)):
         place_of(name)  # what can't be written is told before anything is typed
+        disks[name] = read_bytes(name) if os.path.exists(name) else None
+    if keyboard.person:
+        tell(WELCOME + OVER_SSH * ("SSH_CONNECTION" in os.environ))
     try:
         check_header(options, machine, head)
         found = console.dialogue.begin(old)
@@ -557,38 +610,45 @@ def run(options, folder):
         if why:
             tell(why)
     except DialogueError as error:
-        tell(error if head else LINE.sub(lambda line: f"{line[1]}{int(line[2]) - 1}", str(error), count=1))
+        said = str(error) if head else LINE.sub(lambda line: f"{line[1]}{int(line[2]) - 1}", str(error), count=1)
+        tell(f"{options.script}: {said.removeprefix('script: ')}" if said.startswith("script: ") else said)
         return 1
     save()
-    console.keyboard.prompt = console.last
-    console.keyboard.edit([shown(step) for step in console.dialogue.steps[console.dialogue.first() :]])
+    console.keyboard.prompt, console.keyboard.hides = console.last, console.hides
+    console.keyboard.edit([shown(step) for step in console.dialogue.steps[console.dialogue.first() :] if HIDDEN not in step])
     status = 0
     try:
         talk(console, found, save)
+        if not console.is_kept:
+            save()
     except Ended as error:  # what has been typed is kept, as at the end
         status = 128 + error.args[0]
         save()
-    is_kept = put_disks(options, machine, console.dialogue.lines())
+    is_kept = put_disks(options, machine, console.dialogue.lines(), disks)
     return status or int(console.refused and not console.keyboard.person or script.moved or not is_kept)
 
 
-def put_disks(options, machine, lines):
-    """Writes the disks that are left, as far as they are asked for. Gives whether each is where it was."""
+def put_disks(options, machine, lines, before):
+    """Writes the disks that are left, as far as they are asked for. Gives whether each is where it was asked for. `before` has what was
+    there when the dialogue began."""
     asked = options.disk, options.second_disk
     disks = machine.disks(lines) if any(asked) else []
-    return all([put_disk(name, image, disk) for name, image, disk in zip(asked, machine.images, disks) if name])
+    return all([put_disk(name, image, disk, before[name]) for name, image, disk in zip(asked, machine.images, disks) if name])
 
 
-def put_disk(name, image, disk):
-    """Writes a disk that is left. It doesn't take the place of an image that another program has changed since it was read: what
-    that has done would be lost. Gives whether the disk is where it was asked for."""
-    place = name
+def put_disk(name, image, disk, before):
+    """Writes a disk that is left. It doesn't take the place of a file that another program, as a second console, has changed or made since
+    the dialogue began: what that has done would be lost. Gives whether the disk is where it was asked for."""
+    place, is_image = name, same_file(name, image.named)
     if image.has_changed():
         told = f"{image.named} isn't any more what it was when the dialogue began: another program has changed it"
-        if same_file(name, image.named):
+        if is_image:
             place = beside(name)
             told += f". It is left so, and the disk of this dialogue goes to {place}"
         tell(told)
+    if not is_image and os.path.exists(name) and read_bytes(name) not in (before, disk):
+        place = beside(name)
+        tell(f"another program has written {name} since the dialogue began. It is left so, and the disk of this dialogue goes to {place}")
     replace(place, disk)
     return place == name
 

@@ -1,4 +1,5 @@
 """The console: what it makes of what is typed, of the log, and of a run that goes on or isn't taken."""
+import errno
 import hashlib
 import importlib.util
 import io
@@ -11,6 +12,7 @@ import signal
 import struct
 import subprocess
 import sys
+import termios
 import time
 import unittest
 import unittest.mock
@@ -132,6 +134,13 @@ class Person(io.BytesIO):
         return line
 
 
+def as_person(begin):
+    """How a keyboard begins that a person has."""
+    def begun(self, file):
+        begin(self, Person(file.read()))
+    return begun
+
+
 class Parts(unittest.TestCase):
     def test_state(self):
         for log, wanted in LOGS:
@@ -186,6 +195,12 @@ class Parts(unittest.TestCase):
         keyboard = console.Keyboard(Person(b"ab"))
         self.assertEqual(self.read(keyboard), ([b"byte 141", b"byte 142", b"byte 004"], b"ab"))
         self.assertEqual(self.read(keyboard), ([b"byte 004"], b""))
+
+    def test_a_file_of_another_host(self):
+        """A carriage return before the end of a line isn't typed; one within a line is."""
+        keyboard = console.Keyboard(io.BytesIO(b"ls\r\na\rb\r\n\r\nlast\r"))
+        self.assertEqual([self.read(keyboard)[0] for _ in range(4)],
+                         [[b"type ls"], [b"byte 141", b"byte 015", b"byte 142", b"byte 015"], [b"type"], [b"type last"]])
 
     def test_a_file(self):
         keyboard = console.Keyboard(io.BytesIO(b"ls\nno return"))
@@ -308,6 +323,46 @@ class Sessions(Case):
         self.assertEqual(read(script), self.script("run 10000\ntype echo one\nrun 10000\n"))
         self.assertEqual(read(script + ".1"), self.script("run 10000\ntype echo two\nrun 10000\ntype echo more\nrun 10000\n"))
 
+    def test_two_consoles_with_one_new_disk(self):
+        """The one that ends last doesn't write over what the other has left."""
+        disk, words = self.path("disk"), ("--disk", self.path("disk"))
+        self.assertEqual(self.session("echo one >/usr/a\n", *words)[::2], (0, ""))
+        one = read(disk)
+        os.unlink(disk)
+        real = console.talk
+
+        def talk(*words):  # another console ends meanwhile
+            real(*words)
+            write(disk, one)
+
+        with unittest.mock.patch.object(console, "talk", talk):
+            status, _, said = self.session("echo two >/usr/a\n", *words)
+        self.assertEqual((status, said), (1, f"\nconsole: another program has written {disk} since the dialogue began. It is left so, "
+                                             f"and the disk of this dialogue goes to {disk}.1\n"))
+        self.assertEqual(read(disk), one)
+        self.assertNotEqual(read(disk + ".1"), one)
+        self.assertEqual(self.session("echo three >/usr/a\n", *words)[::2], (0, ""))  # over what was there before
+        self.assertNotEqual(read(disk), one)
+
+    def test_a_host_without_room(self):
+        """A person is told so after each line and types on, and the script is kept when there is room again."""
+        script, full, real = self.path("script"), [False, True, True, False], console.replace
+
+        def replace(name, *words):
+            if full.pop(0) if full else False:
+                raise OSError(errno.ENOSPC, "No space left on device", name)
+            real(name, *words)
+
+        with unittest.mock.patch.object(console, "replace", replace), \
+                unittest.mock.patch.object(console.Keyboard, "__init__", as_person(console.Keyboard.__init__)):
+            status, _, said = self.session("echo a\necho b\necho c\n~.\n", "--script", script)
+        told = f"\nconsole: {script}: No space left on device: what is typed isn't kept until there is room\n"
+        self.assertEqual((status, said.count(told)), (0, 2))
+        self.assertIn(b"type echo a\nrun 10000\ntype echo b\nrun 10000\ntype echo c\n", read(script))
+        full[:] = [False, True]
+        with unittest.mock.patch.object(console, "replace", replace):  # what a file types ends
+            self.assertEqual(self.session("echo a\n", "--script", self.path("other"))[0], 1)
+
     def test_a_script_goes_on(self):
         script = self.put("script", b"run 10000\ntype chdir /usr\nrun 10000\n")
         self.assertEqual(self.session("ls\n", "--script", script), (0, b"# CHDIR /USR\r\n# LS\r\nSYS\r\n# ", ""))
@@ -344,7 +399,7 @@ class Sessions(Case):
         status, term, said = self.session("echo a\n~:walk\necho é\necho b\n", "--script", script)
         self.assertEqual((status, term), (1, b"# ECHO A\r\nA\r\n# ECHO B\r\nB\r\n# "))
         back = "\nconsole: this line is taken back\n"
-        self.assertEqual(said, f"\nconsole: script: line 5: 'walk'{back}\nconsole: only characters of ASCII can be typed{back}")
+        self.assertEqual(said, f"\nconsole: script: line 5: 'walk': no line of a script{back}\nconsole: only characters of ASCII can be typed{back}")
         self.assertEqual(read(script), self.script("run 10000\ntype echo a\nrun 10000\ntype echo b\nrun 10000\n"))
         self.assertEqual(self.session("~x\n"), (1, b"# ", "\nconsole: no command of the console; ~? tells which there are\n"))
         self.assertEqual(self.session("~?\n"), (0, b"# ", f"\nconsole: lines that begin with ~:\n{console.HELP}"))
@@ -505,9 +560,9 @@ class Sessions(Case):
 
     def test_faults(self):
         bad = self.put("bad", bytes(2000))
-        self.assertEqual(self.session("", image=bad), (1, b"", "\nconsole: image: bad super-block\n"))
+        self.assertEqual(self.session("", image=bad), (1, b"", f"\nconsole: {bad}: bad super-block\n"))
         script = self.put("script", b"walk\n")
-        self.assertEqual(self.session("", "--script", script), (1, b"", "\nconsole: script: line 1: 'walk'\n"))
+        self.assertEqual(self.session("", "--script", script), (1, b"", f"\nconsole: {script}: line 1: 'walk': no line of a script\n"))
         self.assertEqual(read(script), b"walk\n")
         self.assertEqual(self.session("", "--core", "63"), (1, b"", "\nconsole: core size: 63 clicks, and 64 to 3968 are wanted\n"))
         for option in ("--script", "--disk"):
@@ -687,6 +742,32 @@ class Terminals(Case):
         self.until(b"% ")
         os.write(self.ours, b"~l\n")
         self.assertIn(b"    1  a{b}\r\ntaken back:\r\n    2  a^Ib\r\n% ", self.until(b"a^Ib\r\n% "))
+        os.write(self.ours, b"~.\n")
+        self.assertEqual(self.console.wait(LONG), 0)
+
+
+class Passwords(Terminals):
+    """A person who logs in: what isn't echoed isn't shown on the host's terminal either, nor listed."""
+
+    def image(self):
+        return EightLines.IMAGE
+
+    def test_the_end_of_a_file_on_a_line(self):
+        self.until(b"login: ")
+        os.write(self.ours, b"dennis\n")
+        self.until(b"Password:")
+        while termios.tcgetattr(self.ours)[3] & termios.ECHO:
+            time.sleep(0.01)
+        os.write(self.ours, b"nb\n")
+        self.assertNotIn(b"nb", self.until(b"% "))
+        os.write(self.ours, b"~l\n")
+        self.assertIn(b"    1  dennis\r\n    2  (not shown)\r\n", self.until(b"(not shown)\r\n"))
+        os.write(self.ours, b"echo hello\n")
+        self.assertIn(b"echo hello", self.until(b"\nhello\r\r\n"))
+
+    def test_echo_and_prompt(self):
+        """Who meets a login is told how to leave it."""
+        self.assertIn(b"console: ~? tells what the console does itself, and ~. ends it\r\n", self.until(b"login: "))
         os.write(self.ours, b"~.\n")
         self.assertEqual(self.console.wait(LONG), 0)
 

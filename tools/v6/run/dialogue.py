@@ -15,6 +15,8 @@ FIRST_TICKS = 36000  # ten minutes: what is tried first to find when the next sl
 PAUSES = 100  # how often in a line time is given to those who sleep
 TYPE_BYTES = 290  # a longer line is typed byte by byte
 RETURN, END_OF_FILE, INTERRUPT, QUIT = 0o15, 0o4, 0o177, 0o34
+HIDDEN = b"; not shown as it is typed, since the terminal doesn't echo it"
+PROBE = [b"byte 170", b"run 100"]  # a key that is tried, with slots in which it is echoed
 PASSES = b"; time passes until the next sleeper wakes"
 MANY = 1024  # lines that are tried in one run
 LINES = 8  # of a terminal, as run8 has them
@@ -140,6 +142,8 @@ def is_start(step):
 
 def shown(step):
     """What was typed, for people to read."""
+    if HIDDEN in step:
+        return "(not shown)"
     text, passing = b"", False
     for line in step:
         if line.startswith(b"type"):
@@ -211,6 +215,11 @@ class Dialogue:
 
     def state(self):
         return found_of(self.played, self.lines())
+
+    def echoes(self, lines):
+        """Whether a key is shown that these lines type now, which are tried. It counts as shown where they can't be played."""
+        found = self.machine.play([*self.lines(), *lines])
+        return found.status != 0 or found.terms() != self.played.terms()
 
     def play(self, lines):
         """Plays lines, or tells why they can't be played."""
@@ -306,4 +315,5 @@ class Refused(DialogueError):
 
 def reason(machine, played, lines):
     """Why a run isn't done, with the line of the script that the program names."""
-    return named(with_line(played.said, b"".join(line + b"\n" for line in lines)), {}, machine.core)
+    files = dict(zip(("image", "second"), (disk.named for disk in machine.images)))
+    return named(with_line(played.said, b"".join(line + b"\n" for line in lines)), files, machine.core)
