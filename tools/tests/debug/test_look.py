@@ -174,6 +174,9 @@ class Shown(unittest.TestCase):
         self.assertEqual(looker.lines_of("words sub 2"), ["000010 sub            010046 005000" + 44 * " " + "&..."])
         self.assertEqual(len(looker.lines_of("words 65520 100")), 1)  # up to the last address
         self.assertEqual(looker.lines_of("words sp+2 1")[0][:28], "177760                000004")
+        for place in ("sp-2", "sp-02", "177776(sp)", "sp+0177776", "0177754"):
+            self.assertEqual(looker.lines_of(f"words {place} 2")[0].split()[:3], ["177754", "000000", "000005"], place)
+        self.assertEqual(looker.lines_of("words sub-010 1")[0].split()[:2], ["000000", "start"])
         self.assertEqual(looker.lines_of("words 072 4")[0].split(), ["000072", "000000", "000000", "000000", "--", "......"])
 
     def test_names_of_the_host(self):
@@ -336,6 +339,7 @@ class Moves(unittest.TestCase):
         self.looker = looker_of(run)
         self.assertEqual([self.at("slot 1", "until call getpid"), self.at("until call"), self.at("since call fork")], [499, 699, 299])
         self.assertIn("call       fork() comes next", self.looker.lines_of("process 1"))
+        self.assertEqual([self.at("until call 20"), self.at("since call 2")], [499, 299])  # getpid, fork
         with self.assertRaisesRegex(LookError, "call open: not found behind slot 299"):
             self.looker.lines_of("until call open")
 
@@ -374,7 +378,9 @@ class Moves(unittest.TestCase):
                 ("words 0 9999", "9999: words is 4096 at most"), ("process 3", "process 3 isn't there in slot 200, and never in this run"),
                 ("until state x", "x: a state is one of the letters RrowWsSz"), ("until place top", "top: a place is in core or swap"),
                 ("until what", "what: it's state, place, call, pc, word, break or watch"), ("until pc 010 06", "06: it is before 010"),
-                ("code nosuch", "nosuch: /etc/init has no such name")):
+                ("code nosuch", "nosuch: /etc/init has no such name"), ("until call wirte", "wirte: no name of a call"),
+                ("until call 64", "64: a call is 63 at most"), ("words r5-x", "r5-x: /etc/init has no such name"),
+                ("words 8(r5)", "8.r5.: /etc/init has no such name")):
             with self.assertRaisesRegex(LookError if "has 1000" not in why else MomentError, why):
                 self.looker.lines_of(command)
             self.assertEqual(self.looker.moment.slots, 200, command)
@@ -590,12 +596,15 @@ class Commands(Case):
     def test_what_is_refused(self):
         image_, script = os.path.join(HI, "image"), os.path.join(HI, "script")
         bad, none = self.put("bad", b"run 5\nwalk\n"), self.path("none")
-        self.assertEqual(self.look(image_, "1200", bad), (1, "", "look.py: script: line 2: 'walk'\n"))
-        self.assertEqual(self.look(bad, "1200", script), (1, "", "look.py: image: bad super-block\n"))
+        self.assertEqual(self.look(image_, "1200", bad), (1, "", f"look.py: {bad}: line 2: 'walk': no line of a script\n"))
+        self.assertEqual(self.look(bad, "1200", script), (1, "", f"look.py: {bad}: bad super-block\n"))
         self.assertEqual(self.look(image_, "63", script), (1, "", "look.py: core size: 63 clicks, and 64 to 3968 are wanted\n"))
         self.assertEqual(self.look(image_, "1200", none), (1, "", f"look.py: {none}: No such file or directory\n"))
         zeros = 15 * (chr(92) + "000")
-        self.assertEqual(self.look(image_, "1200", "/dev/full"), (1, "", f"look.py: script: line 1: '{zeros}..'\n"))
+        self.assertEqual(self.look(image_, "1200", "/dev/full"), (1, "", f"look.py: /dev/full: line 1: '{zeros}..': more than 300 bytes\n"))
+        self.assertEqual(self.look(image_, "1200", "/proc/self/mem"), (1, "", "look.py: /proc/self/mem: Input/output error\n"))
+        log = self.put("log", b"boot 1200 7\nend\n")
+        self.assertEqual(self.look(image_, "1200", log), (1, "", f"look.py: {log}: line 1: 'boot 1200 7': a log begins so, and no script\n"))
         self.assertEqual(self.hi("--symbols", bad, "-c", "help")[::2], (0, f"look.py: {bad}: no program, so it has no names\n"))
         old = f"sh {self.put('old.sh', OLD)} {V6}"
         said = f"look.py: {old} has no command `memory`, which tells what core and the swap area hold\n"

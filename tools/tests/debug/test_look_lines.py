@@ -77,8 +77,8 @@ class Lines(Case):
         none = self.path("none")
         self.assertEqual(self.looked(PACK, ["--second", none], "ps", script=self.put("script", b"run 5\n"))[::2],
                          (1, f"look.py: {none}: No such file or directory\n"))
-        self.assertEqual(self.looked(PACK, ["--second", self.put("bad", bytes(2000)), "--replay"], "ps")[::2],
-                         (1, "look.py: second image: bad super-block\n"))
+        bad = self.put("bad", bytes(2000))
+        self.assertEqual(self.looked(PACK, ["--second", bad, "--replay"], "ps")[::2], (1, f"look.py: {bad}: bad super-block\n"))
         for looked, command, why in ((self.two, "term 1", "line 1: the machine has one line, 0"), (self.eight, "term 8", "8: a line is 7 at most"),
                                      (self.eight, "term 0 x", "x: no number, where that of rows is wanted")):
             self.assertEqual(looked(command)[2].splitlines()[-1], f"look.py: {why}")

@@ -345,8 +345,8 @@ class Traces(Case):
 
     def test_what_is_refused(self):
         image, bad = os.path.join(HI, "image"), self.put("bad", b"run 5\nwalk\n")
-        self.assertEqual(self.trace("--v6", V6, image, "1200", bad), (1, "", "trace.py: script: line 2: 'walk'\n"))
-        self.assertEqual(self.trace("--v6", V6, bad, "1200", os.path.join(HI, "script")), (1, "", "trace.py: image: bad super-block\n"))
+        self.assertEqual(self.trace("--v6", V6, image, "1200", bad), (1, "", f"trace.py: {bad}: line 2: 'walk': no line of a script\n"))
+        self.assertEqual(self.trace("--v6", V6, bad, "1200", os.path.join(HI, "script")), (1, "", f"trace.py: {bad}: bad super-block\n"))
         self.assertEqual(self.trace("--v6", V6, image, "63", os.path.join(HI, "script")), (1, "", "trace.py: core size: 63 clicks, and 64 to 3968 are wanted\n"))
         none = self.path("none")
         self.assertEqual(self.trace(none, "1200", none), (1, "", f"trace.py: {none}: No such file or directory\n"))

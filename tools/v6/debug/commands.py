@@ -1,12 +1,15 @@
 """The commands of look.py: docs/tools/look.md."""
 import re
 
+from v6.debug.calls import NAMES
 from v6.debug.search import Event, Search, State
 from v6.debug.walk import Sought
 from v6.log.processes import FORMS
 from v6.run.moments import FURTHER, NO_MEMORY
 
 NUMBER = re.compile("[0-9]+")
+LESS = re.compile("(.+)(-)([0-9]+)")
+INDEXED = re.compile(r"([0-7]{1,6})\((r[0-5]|sp|pc)\)")  # as `code` shows it
 LETTERS = "RrowWsSz"
 REGISTERS = {**{f"r{n}": n for n in range(6)}, "sp": 6, "pc": 7}
 BY_MEMORY = ("call", "pc", "word", "break", "watch")  # what only core tells of
@@ -35,7 +38,8 @@ break [PLACE]            a break at an instruction, or all of them; unbreak [PLA
 watch PLACE              shows a word at each moment from now on; unwatch: none any more
 help, quit (or q)
 of N, at the end of a command, is process N. A number with a 0 before it is octal. A PLACE is an address,
-a register, a name of the program, a line of its source (it.c:12), or one of them + a number."""
+a register, a name of the program, a line of its source (it.c:12), or one of them + or - a number; or, as
+code shows it, an octal number and a register: 177766(r5)."""
 
 
 class LookError(Exception):
@@ -121,7 +125,7 @@ class Looker:
 
     def address(self, text):
         """An address, of a place."""
-        first, plus, more = text.partition("+")
+        first, sign, more = parted(text)
         number, process = self.memory_of()
         if NUMBER.fullmatch(first):
             at = self.number_of(first, "an address", 65535)
@@ -133,7 +137,8 @@ class Looker:
             if at is None:
                 whose = f"{program.path} has no such name" if program else f"process {number} has no program with names"
                 raise LookError(f"{first}: {whose}{self.others(first)}")
-        return at + (self.number_of(more, "bytes", 65535) if plus else 0) & 0xFFFF
+        more = self.number_of(more, "bytes", 65535) if sign else 0
+        return (at - more if sign == "-" else at + more) & 0xFFFF
 
     def others(self, name):
         """Which programs of the disk have a name that the one which was looked at hasn't."""
@@ -364,7 +369,12 @@ class Looker:
         return search.state(State(self.any(), holds))
 
     def where_call(self, search, name=""):
-        return search.call(name if not NUMBER.fullmatch(name) else f"call {name}", self.number)
+        if NUMBER.fullmatch(name):
+            number = self.number_of(name, "a call", 63)
+            name = NAMES.get(number, f"call {number}")
+        elif name and name not in NAMES.values():
+            raise LookError(f"{name}: no name of a call")
+        return search.call(name, self.number)
 
     def where_pc(self, search, first, last=None):
         number = self.chosen()
@@ -438,6 +448,15 @@ class Looker:
     def do_unwatch(self):
         self.watched = []
         return []
+
+
+def parted(place):
+    """A place without what is added to it or taken from it, the sign, and that number."""
+    indexed = INDEXED.fullmatch(place)
+    if indexed:
+        return indexed[2], "+", "0" + indexed[1]
+    less = LESS.fullmatch(place)
+    return less.groups() if less else place.partition("+")
 
 
 def pc_of(moment, number):
