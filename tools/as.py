@@ -15,6 +15,7 @@ from v6.host.program import add_version
 from v6.pdp11 import disassembler
 from v6.pdp11.assembler import Assembler
 
+MOST_ERRORS = 20  # that are told: a file that is no source has one on each line
 KINDS = {1: "absolute", 2: "text", 3: "data", 4: "bss"}
 
 
@@ -64,8 +65,11 @@ def assemble_one(options, out, names):
     traced = tuple(names) if options.lines else ()
     data = assembler.assemble(sources, options.shared, options.symbols or options.lines, traced)
     if data is None:
-        for error in assembler.errors:
+        for error in assembler.errors[:MOST_ERRORS]:
             print(f"as.py: {error}", file=sys.stderr)
+        left = len(assembler.errors) - MOST_ERRORS
+        if left > 0:
+            print(f"as.py: and {left} more", file=sys.stderr)
         return 1
     put_out(out, data, 0o755)
     if options.listing:

@@ -5,7 +5,7 @@ cd "$(dirname "$0")/../.."
 here=examples/c
 
 run() {
-    echo "\$ $*"
+    echo "% $*"
     program=$1
     shift
     tools/try.py --file $here/text $here/bin/"$program" "$@"

@@ -30,14 +30,8 @@ if [ -z "$archive" ]; then
     archive=$work/pcc_$version.orig.tar.gz
     apt-get source --download-only --tar-only "pcc=$version-1" || true
     [ -f "$archive" ] || {
-        cat >&2 <<END
-build.sh: the package hasn't come. apt needs a source of source packages; these two lines, as root, give it one of Debian 12:
-
-    echo 'deb-src http://deb.debian.org/debian bookworm main' >/etc/apt/sources.list.d/v6-cc.list
-    apt-get update
-
-Or -a names its file, pcc_$version.orig.tar.gz.
-END
+        echo "build.sh: the source package pcc, $version-1 of Debian 12, hasn't come: apt needs a source of source packages" \
+            "(deb-src), or -a names its file, pcc_$version.orig.tar.gz" >&2
         exit 1
     }
     check

@@ -321,6 +321,15 @@ class Command(Case):
         text = self.call(as_main, "-l", "-s", "-o", self.path("out"), source)[1]
         self.assertTrue(text.endswith("\n    7 000007  absolute          x\n    0 000000  text      global  a\n"), text)
 
+    def test_what_is_no_source(self):
+        """The first errors are told, and how many there are more."""
+        for count, said in (20, ""), (21, "as.py: and 1 more\n"), (350, "as.py: and 330 more\n"):
+            name = self.put("it.s", b"a page, and no source\n" * count)
+            status, out, error = self.call(as_main, "-o", self.path("it"), name)
+            lines = error.removesuffix(said).splitlines()
+            self.assertEqual((status, out, [line.split(":")[2] for line in lines]), (1, "", [str(line) for line in range(1, 21)]))
+            self.assertTrue(error.endswith(said))
+
     def test_faults_leave_the_program(self):
         out = self.put("out", b"before")
         bad = self.put("bad.s", b"\tmov\tr0\n\tnop\n\tjmp\tr1\n")

@@ -11,6 +11,7 @@ from v6.page.lesson import commands
 from tests.pages import Runs
 
 from v6.debug import symbols
+from v6.pdp11 import compiler
 
 cc, disk_main, try_main = tool("cc"), tool("disk").main, tool("try").main
 EXAMPLE = os.path.join(TOP, "examples", "c")
@@ -90,19 +91,31 @@ class WithoutCompiler(Program):
         return {**os.environ, "PATH": self.path("some")}
 
     def test_no_archive(self):
-        """Where apt has no such package, the lines to copy are told, and no sum of a file that isn't there."""
+        """Where apt has no such package, a line names it and the option, and no host; and no sum is told of a file that isn't there."""
         path = self.tools("make", "patch", "cc", "c++", "bison", "flex", "xz")
         self.put("some/apt-get", b"#!/bin/sh\necho 'E: You must put some deb-src URIs in your sources.list' >&2\nexit 100\n")
         os.chmod(self.path("some/apt-get"), 0o755)
-        for script, told in (("build.sh", "\n    echo 'deb-src http://deb.debian.org/debian bookworm main' >/etc/apt/sources.list.d/v6-cc"
-                                          ".list\n    apt-get update\n"), ("build-gcc.sh", "build-gcc.sh: the package hasn't come: ")):
+        for script, told in (("build.sh", "build.sh: the source package pcc, 1.2.0~DEVEL+20220331-1 of Debian 12, hasn't come: apt needs a source "
+                                          "of source packages (deb-src), or -a names its file, pcc_1.2.0~DEVEL+20220331.orig.tar.gz\n"),
+                             ("build-gcc.sh", "build-gcc.sh: the package hasn't come: ")):
             script = os.path.join(TOOLS, "c", script)
             done = subprocess.run([script, self.path("made")], capture_output=True, text=True, env=path)
             self.assertEqual((done.returncode, done.stdout), (1, ""))
             self.assertIn(told, done.stderr)
+            self.assertNotIn("://", done.stderr)
             done = subprocess.run([script, "-a", self.path("none"), self.path("made")], capture_output=True, text=True)
             self.assertEqual((done.returncode, done.stdout), (1, ""))
             self.assertEqual(done.stderr, f"{os.path.basename(script)}: {self.path('none')}: No such file\n")
+
+    def test_assignments_of_the_sixth_edition(self):
+        """They are refused before anything is compiled, and what only looks so isn't."""
+        for old in ("=+", "=-", "=*", "=/", "=%", "=&", "=|", "=^", "=<<", "=>>"):
+            source = self.put("old.c", f"int t; /* t =+ 1 */\nchar *s = \"=+ 1\";\nint main(void) {{ t {old} 4; return t; }}\n".encode())
+            wanted = f"cc.py: {source}, line 3: {old} is of the Sixth Edition's C; here it is {old[1:]}=\n"
+            self.assertEqual(self.call(cc.main, "--compiler", self.path("none"), "-o", self.path("out"), source), (1, "", wanted))
+        good = "t=-1; t=*p; p=&t; t =-1; t=++t; t=--t; t += -1; if (t ==-1 && t<= *p || t>=& t) t=/* x */2; t <<= 1; t -= '=';"
+        source = self.put("new.c", good.encode())
+        self.assertIsNone(compiler.check_assignments(source))
 
     def test_what_building_needs(self):
         """All that is missing is told at once, before anything is fetched."""
@@ -227,7 +240,7 @@ class Examples(Program):
         done = subprocess.run([os.path.join(EXAMPLE, "run.sh")], capture_output=True, text=True)
         page = read(os.path.join(EXAMPLE, "README.md")).decode()
         self.assertEqual((done.returncode, done.stderr), (0, ""))
-        self.assertIn(f"```\n{done.stdout}```\n", page)
+        self.assertIn(f"```\n$ examples/c/run.sh\n{done.stdout}```\n", page)
         for name in ("forth", "grep", "sort", "tell", "wc", "words"):
             self.assertRegex(page, rf"\| `{name}.*\| {os.path.getsize(os.path.join(EXAMPLE, 'bin', name)):,} \|\n")
 

@@ -16,6 +16,8 @@ LINES = re.compile(r"^/~[0-9]+$", re.M)
 FLOATS = re.compile(r"^\.globl\s+fltused$|\bjsr\tpc,___\w*[sd]f\w*$", re.M)
 UNKNOWN = re.compile(r"'(?:_(\w+)|([\w.~]+))' isn't defined$")
 TEXTS = re.compile(r"""//[^\n]*|/\*.*?\*/|"(?:\\.|[^"\\\n])*"|'(?:\\.|[^'\\\n])*'""", re.S)  # and comments
+# An assignment of the Sixth Edition's C. What =-, =* and =& are is told by a blank after them: `x = -1` may stand as `x=-1`.
+OLD = re.compile(r"(?<![=!<>+\-*/%&|^])=(<<|>>|\+(?!\+)|[%|^/]|[-*&](?=\s))")
 BETWEEN = "\n\t.data\n\t.even\n\t.text\n\t.even"  # after each source, that the next one begins in the text
 ROOM = re.compile(r"^(_[\w.]+):\s+\.=\.\+ (\d+)\n(?=\t\.(?:globl|even|text|data)\b|\.globl|[\w.]+:|\Z)", re.M)
 GCC_WORDS = ["-quiet", "-w", "-m40", "-munix-asm", "-O", "-std=gnu99", "-nostdinc", "-fno-builtin", "-fwrapv",
@@ -82,6 +84,15 @@ def check_bytes(path):
                                "writes a byte with eight")
 
 
+def check_assignments(path):
+    """Refuses an assignment of the Sixth Edition's C, which C99 would take for another one."""
+    source = TEXTS.sub(lambda found: re.sub(r"[^\n]", " ", found[0]), read_text(path))
+    found = OLD.search(source)
+    if found:
+        line = source.count("\n", 0, found.start()) + 1
+        raise CompileError(f"{path}, line {line}: ={found[1]} is of the Sixth Edition's C; here it is {found[1]}=")
+
+
 class Compiler:
     """A compiler in a folder, pcc or GCC, and words for its preprocessor."""
 
@@ -100,6 +111,7 @@ class Compiler:
     def assembly(self, path):
         """What the compiler makes of a file in C."""
         check_bytes(path)
+        check_assignments(path)
         if self.progress:
             self.progress.tell(os.path.basename(path))
         with tempfile.TemporaryDirectory() as folder:
