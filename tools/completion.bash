@@ -25,6 +25,7 @@ _v6() {
         case $word in -*) words='--disk --eight --help --log --marks --moments --output --replay --script --second --symbols --term --title --v6 --version -o' ;; esac ;;
     v6-as | as.py) case $word in -*) words='--disassemble --help --into --version --with -g -l -n -o -s' ;; esac ;;
     v6-cc | cc.py) case $word in -*) words='--compiler --gcc --help --version -D -I -S -g -n -o -s' ;; esac ;;
+    v6-lessonpages | lessonpages.py) case $word in -*) words='--help --moments --output --v6 --version -o' ;; esac ;;
     v6-run | run.py) case $word in -*) words='--core --disk --eight --help --log --replay --second --second-disk --term --v6 --version' ;; esac ;;
     v6-trace | trace.py) case $word in -*) words='--from --help --process --replay --to --v6 --version' ;; esac ;;
     v6-try | try.py) case $word in -*) words='--back --binary --core --disk --file --final --folder --help --slots --v6 --version --with -t' ;; esac ;;
@@ -32,7 +33,7 @@ _v6() {
         rows=$(dirname "${COMP_WORDS[0]}")/../crates/run_rows/data/rows
         case $word in
         -*) words='--data --from --help --page --quiet --slots --v6 --version -q' ;;
-        *) words=$(cd "$rows" 2>/dev/null && printf '%s\n' */*) ;;
+        *) words=$(cd -P "$rows" 2>/dev/null && printf '%s\n' */*) ;;
         esac ;;
     esac
     if [ -n "$words" ]; then
@@ -42,5 +43,5 @@ _v6() {
     fi
 }
 
-complete -o filenames -F _v6 v6 v6-as v6-cc v6-console v6-disk v6-log v6-look v6-page v6-run v6-trace v6-try as.py cc.py console.py disk.py \
-    log.py look.py page.py row.py run.py trace.py try.py
+complete -o filenames -F _v6 v6 v6-as v6-cc v6-console v6-disk v6-lessonpages v6-log v6-look v6-page v6-run v6-trace v6-try as.py cc.py console.py disk.py \
+    lessonpages.py log.py look.py page.py row.py run.py trace.py try.py

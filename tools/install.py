@@ -22,11 +22,11 @@ from v6.page.manual import PAGES, TOOLS, installed, installed_page, page
 
 LIB = "lib/v6"
 KNOWN = LIB + "/installed"  # the file that tells what was put
-AT_HOME = ("tools/completion.bash", "tools/install.py", "tools/lessonpages.py", "tools/manpages.py", "tools/row.py", "tools/v6/rows/", "tools/dev/",
+AT_HOME = ("tools/completion.bash", "tools/install.py", "tools/manpages.py", "tools/row.py", "tools/v6/rows/", "tools/dev/",
            "tools/tests/")  # what is for the repository alone, or put elsewhere
 DOCS = ("docs/lions", "docs/manual", "docs/tools")
 COMPLETION = "share/bash-completion/completions"
-UNFIT = re.compile(r"[\s\"'\\`$]")  # what a prefix can't have, since commands and pages name it
+UNFIT = re.compile(r"[^\S ]|[\"'\\`$]")  # what a prefix can't have, since commands and pages name it
 WRAPPER = """#!/bin/sh
 exec python3 "$(dirname "$(realpath "$0")")/../{lib}/tools/{name}.py" "$@"
 """
@@ -187,7 +187,7 @@ def main(words):
     options = parser.parse_args(words)
     prefix = os.path.abspath(os.path.expanduser(options.prefix or "/"))
     if UNFIT.search(prefix):
-        parser.error(f"{prefix!r}: a name without quotes, blanks and backslashes is wanted")
+        parser.error(f"{prefix!r}: a name without quotes, tabs and backslashes is wanted")
     root = os.path.abspath(options.destdir) + prefix if options.destdir else prefix
     does = {"install": install, "uninstall": uninstall}[options.command]
     return guarded("install.py", lambda: does(os.path.normpath(root), prefix))

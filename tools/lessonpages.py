@@ -18,10 +18,11 @@ from v6.page import command as page
 from v6.page import lesson as lessonhtml
 
 LIONS = os.path.join(TOP, "docs", "lions")
+COMMANDS = os.path.join(TOP, "..", "..", "bin")  # of tools that are installed
 TITLE = "Runs for Lions' book"
 RUN = re.compile(r"bin/v6 run (?P<image>\S+) (?P<core>\d+) (?P<script>\w\S*) ")
-PLAYED = re.compile(r"tools/run\.py (?P<image>\S+) (?P<script>\S+) --core (?P<core>\d+)")
-TYPED = re.compile(r"tools/console\.py (?P<image>\S+) ")
+PLAYED = re.compile(r"tools/run.py (?P<image>\S+) (?P<script>\S+) --core (?P<core>\d+)")
+TYPED = re.compile(r"tools/console.py (?P<image>\S+) ")
 SCRIPT, SECOND = (re.compile(rf" --{word} (\S+)") for word in ("script", "second"))  # of a command with which lines are typed
 OTHERS = "README", "answers"  # pages that are no lessons
 PICTURE = re.compile(r"!\[[^]]*\]\(((?:pictures/)?[a-z]+\.svg)\)")
@@ -63,7 +64,9 @@ class Folder:
         return os.path.join(self.name, name)
 
     def play(self, command):
-        done = subprocess.run(["sh", "-c", command], cwd=self.name, env={**os.environ, "V6": self.path("bin/v6")}, capture_output=True)
+        path = os.pathsep.join([self.path("bin"), COMMANDS, os.environ.get("PATH", "")])
+        done = subprocess.run(["sh", "-c", command], cwd=self.name, env={**os.environ, "V6": self.path("bin/v6"), "PATH": path},
+                              capture_output=True)
         if done.returncode not in range(128):
             raise LessonError(f"{command}: status {done.returncode}")
 

@@ -1,6 +1,7 @@
 """The folders of tools/v6: which of them stands on which; and the commands, each of which begins from anywhere."""
 import ast
 import os
+import shutil
 import subprocess
 import sys
 import unittest
@@ -19,6 +20,16 @@ BELOW = {  # the folders whose modules those of a folder may import
 }
 COMMANDS = ("as", "cc", "console", "disk", "install", "lessonpages", "log", "look", "manpages", "page", "row", "run", "trace", "try")
 MOST_FILES = 20  # of a folder
+
+
+class Gate(Case):
+    def test_without_the_kit(self):
+        """One line tells what is missing, and what runs without it."""
+        for name in ("bash", "dirname"):
+            os.symlink(shutil.which(name), self.path(name))
+        done = subprocess.run([os.path.join(os.path.dirname(TOOLS), ".ci", "run")], capture_output=True, text=True, env={"PATH": self.folder})
+        self.assertEqual((done.returncode, done.stdout, done.stderr.count("\n")), (127, "", 1))
+        self.assertRegex(done.stderr, r"^\.ci/run: rt isn't there, the command of the kit .* tools/tests/run\.py and tools/row\.py -q '\*'\n$")
 
 
 def imported(file):

@@ -1,4 +1,5 @@
 """What all tools have, and `make install`: what it puts where, and that it works from there."""
+import ast
 import hashlib
 import os
 import re
@@ -47,6 +48,19 @@ for name in sys.argv[2:]:
             os._exit(0)
     os.wait()
 """
+
+
+class Pythons(unittest.TestCase):
+    def test_an_old_one(self):
+        """Each command can be read by Python 3.6, and an old one is told in a line."""
+        for name in sorted(one for one in os.listdir(TOOLS) if one.endswith(".py")):
+            ast.parse(read(os.path.join(TOOLS, name)), feature_version=(3, 6))
+            for version in (3, 6, 15), (3, 8, 20):
+                code = (f"import runpy, sys; sys.version_info = {version}; sys.modules['dataclasses'] = None; sys.argv = ['{name}', '--help']; "
+                        f"runpy.run_path({os.path.join(TOOLS, name)!r}, run_name='__main__')")
+                done = subprocess.run([sys.executable, "-S", "-c", code], capture_output=True, text=True)
+                said = f"{name}: Python 3.9 or later is wanted, and this is 3.{version[1]}\n"
+                self.assertEqual((done.returncode, done.stdout, done.stderr), (1, "", said))
 
 
 class Starts(unittest.TestCase):
@@ -109,9 +123,21 @@ class Install(Maker):
         said = self.make("install", f"PREFIX={self.folder}", status=2).splitlines()
         self.assertEqual([line for line in said if not line.startswith("make")], [f"install.py: {name}: Not a directory"])
         self.assertEqual(self.below(), ["share"])
-        said = self.make("install", f"PREFIX={self.path('a b')}", status=2).splitlines()
-        self.assertIn(f"install.py: error: {self.path('a b')!r}: a name without quotes, blanks and backslashes is wanted", said)
+        unfit = self.path("a'b")
+        said = self.make("install", f"PREFIX={unfit}", status=2).splitlines()
+        self.assertIn(f"install.py: error: {unfit!r}: a name without quotes, tabs and backslashes is wanted", said)
 
+    def test_a_prefix_with_a_blank(self):
+        """Commands work from there, and the pages name places as a shell reads them."""
+        prefix = self.path("a b")
+        self.assertEqual(self.make("install", f"PREFIX={prefix}"), "")
+        done = subprocess.run([f"{prefix}/bin/v6-disk", "list", f"{prefix}/lib/v6/examples/hi/image"], capture_output=True, text=True)
+        self.assertEqual((done.returncode, done.stderr), (0, ""))
+        command = re.search("^cp .*my.image$", read(f"{prefix}/lib/v6/docs/tools/README.md").decode(), re.M)[0]
+        self.assertEqual(subprocess.run(["sh", "-c", command], cwd=self.folder).returncode, 0)
+        self.assertEqual(read(self.path("my.image")), read(os.path.join(TOP, "examples", "shell", "image")))
+        self.assertEqual(self.make("uninstall", f"PREFIX={prefix}"), "")
+        self.assertEqual(self.below(), ["my.image"])
 
 
 @unittest.skipUnless(shutil.which("make"), "make isn't there")
@@ -164,6 +190,12 @@ class Installed(Maker):
             *_, last = re.split(r"^\$ ", block, flags=re.M)
             command, _, shown = last.partition("\n")
             self.assertEqual("".join(self.user(command)), shown)
+
+    def test_pages_of_a_lesson(self):
+        """They are made of the lesson as it is installed."""
+        self.user("v6-lessonpages --moments 2 main")
+        self.assertEqual(sorted(os.listdir(self.path("mine/lessons"))),
+                         ["answers.html", "index.html", *(f"main-{run}.html" for run in (1, 2, 3)), "main.html", "main.svg"])
 
     def test_a_lesson_as_its_page_stands(self):
         for block in self.blocks("lions/main.md"):
@@ -283,14 +315,18 @@ class Completion(Case):
     @unittest.skipUnless(shutil.which("bash"), "bash isn't there")
     def test_completion_knows_all_options(self):
         """Those that the help of each tool, and of each command of disk.py and log.py, names."""
-        for name in ("as", "cc", "console", "look", "page", "row", "run", "trace", "try"):
+        for name in ("as", "cc", "console", "lessonpages", "look", "page", "row", "run", "trace", "try"):
             self.assertEqual(set(self.completed(f"{TOP}/tools/{name}.py x -", 2)), self.options(name), name)
         for name in ("disk", "log"):
             self.assertEqual(set(self.completed(f"{name}.py -", 1)), self.options(name))
             commands = self.completed(f"{name}.py ''", 1)
             self.assertEqual(commands, re.findall(r"^    (\w+)", self.call(tool(name).main, "--help")[1], re.M))
             self.assertEqual(set(self.completed(f"{name}.py x -", 2)), set().union(*(self.options(name, one) for one in commands)))
-        self.assertEqual(self.completed(f"{TOP}/tools/row.py swapping/a_pass"), ["swapping/a_pass_of_64_moves"])
+        os.symlink(os.path.join(TOP, "tools"), self.path("tools"))
+        for place in TOP, self.folder:  # also in a folder in which one plays
+            self.assertEqual(self.completed(f"{place}/tools/row.py swapping/a_pass"), ["swapping/a_pass_of_64_moves"])
+        done = subprocess.run(["tools/row.py", "-q", "swapping/a_pass_of_64_moves"], cwd=self.folder, capture_output=True)
+        self.assertEqual((done.returncode, done.stderr), (0, b""))
 
     @unittest.skipUnless(shutil.which("bash"), "bash isn't there")
     def test_completion_knows_all_commands(self):

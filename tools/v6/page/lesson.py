@@ -2,7 +2,7 @@
 import html
 import re
 
-from v6.page.manual import joined
+from v6.page.manual import HOME, joined
 
 BLOCK = re.compile(r"^```\n(\$ .*?)^```$", re.M | re.S)
 COMMENT = re.compile(r"[ \n]*<!--.*?-->", re.S)
@@ -47,10 +47,11 @@ def page(title, body):
 
 class Lesson:
     """A lesson that is told piece by piece. `runs` has the pages of each command that made some: (name, title) of each. `pages` has the
-    names of the lessons that are told, to which others may lead; links to other pages are their words."""
+    names of the lessons that are told, to which others may lead; links to other pages are their words. What is for the repository alone,
+    as how such pages are made, isn't told."""
 
     def __init__(self, text, runs, pages):
-        self.lines = joined(COMMENT.sub("", text).split("\n"))
+        self.lines = joined(COMMENT.sub("", HOME.sub("", text)).split("\n"))
         self.title = self.lines[0].lstrip("# ")
         self.runs, self.pages, self.commands = runs, pages, 0
         self.run, self.seen = None, set()  # the page of the last run, and the lines of its log that were shown

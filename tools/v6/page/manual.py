@@ -5,7 +5,7 @@ import re
 from v6.host.program import TOP
 
 BULLET = "\\(bu"
-PAGE_OF = {"cc": "c"}  # whose page hasn't its name
+PAGE_OF = {"cc": "c", "lessonpages": "page"}  # whose page hasn't its name
 
 
 def tools():
@@ -16,11 +16,12 @@ def tools():
 
 
 TOOLS = tools()
+ABOUT = {"lessonpages": "pages for a browser of the lessons for Lions' book"}  # what a tool is in a line whose page is another's
 PAGES = {  # by its name and section: the source, and what it is in a line; that of a tool is the head of its page
     ("v6", 1): ("manual/commands.md", "run, check and make disks of Sixth Edition UNIX"),
     ("v6script", 5): ("manual/scripts.md", "what comes to the machine of v6 from outside"),
     ("v6log", 5): ("manual/log.md", "what the kernel of v6 decides"),
-    **{(f"v6-{name}", 1): (f"tools/{PAGE_OF.get(name, name)}.md", None) for name in TOOLS},
+    **{(f"v6-{name}", 1): (f"tools/{PAGE_OF.get(name, name)}.md", ABOUT.get(name)) for name in TOOLS},
     ("v6shell", 7): ("tools/shell.md", "the shell on the disk of v6 and its commands"),
 }
 HOME = re.compile(r"[ \n]*<!--\s*in\s+the\s+repository\s*-->.*?<!-- -->", re.S)  # a part that is of the repository alone
@@ -28,11 +29,12 @@ LINK = re.compile(r"(!?)\[([^\]]*)\]\(([^)#]*)(#[^)]*)?\)")
 
 
 def installed(text, lib):
-    """A text with the names of the installed commands: v6-log is tools/log.py. `lib` is where their files are."""
+    """A text with the names of the installed commands: v6-log is tools/log.py. `lib` is where their files are; a shell reads it."""
     text = HOME.sub("", text)
     text = re.sub(r"(?<![\w/.$-])bin/v6\b", "v6", text)
     text = re.sub(rf"(?<![\w/.-])(?:tools/)?({'|'.join(TOOLS)})\.py\b", r"v6-\1", text)
-    return re.sub(r"(?<![\w/.$-])(examples|tools/c|docs/(?:lions|manual|tools))/", rf"{lib}/\1/", text)
+    place = lib.replace(" ", "\\ ")
+    return re.sub(r"(?<![\w/.$-])(examples|tools/c|docs/(?:lions|manual|tools))/", lambda found: f"{place}/{found[1]}/", text)
 
 
 def installed_page(text, name, names, lib):
