@@ -20,7 +20,7 @@ from v6.host.program import V6, ProgramError, add_version, call
 from v6.log.lions import OF_WORDS, told
 from v6.log.picture import Picture
 from v6.log.processes import MOST_BYTES, LogFault
-from v6.log.story import CUT, Story
+from v6.log.story import CUT, NOTHING, Story
 from v6.run.ends import programs_of
 from v6.run.script import ScriptError, read_script, slots_of, ticks_of
 
@@ -80,6 +80,8 @@ def ended(story, options):
 
 def draw(options):
     story = story_of(options, options.log)
+    if not story.lines:
+        raise ScriptError(f"{options.log}: {NOTHING}")
     picture = Picture(len(story.lines), story.width(), story.teller)
     slots = slots_of(read_script(options.script)) if options.script else None
     for number, line in enumerate(story.lines):

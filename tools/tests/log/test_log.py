@@ -560,6 +560,10 @@ class Log(Case):
         return (int(picture.get("height")), [(float(one.get("x")), float(one.get("y")), one.text) for one in picture.iter(SVG + "text")],
                 pieces)
 
+    def test_draw_nothing(self):
+        name = self.text("log", "")
+        self.assertEqual(self.log("draw", name), (1, "", f"log.py: {name}: the log is empty\n"))
+
     def test_a_map_is_as_high_as_core(self):
         """An image of 17 clicks is that part of the map of core, whatever is held; a large core has a higher map."""
         for core, high in ((100, 240), (1200, 300), (3968, 480)):
@@ -709,4 +713,4 @@ class Log(Case):
         self.assertEqual(self.log("show", self.path("none")), (1, "", f"log.py: {self.path('none')}: No such file or directory\n"))
         self.assertEqual(self.log("walk")[0], 2)
         name, bad = self.text("log", TEXTS), self.text("bad", "walk\n")
-        self.assertEqual(self.log("show", "--script", bad, name)[2], "log.py: script: line 1: 'walk'\n")
+        self.assertEqual(self.log("show", "--script", bad, name)[2], f"log.py: {bad}: line 1: 'walk': no line of a script\n")

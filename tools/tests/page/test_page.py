@@ -328,6 +328,7 @@ class Logs(Made):
         self.put("page.html", b"kept")
         self.refused("--log", log, "-o", log, why="would take the place")
         self.refused("--log", self.path("none"), "-o", out, why="none: No such file")
+        self.refused("--log", self.put("empty", b""), "-o", out, why="empty: the log is empty")
         self.refused("--log", self.put("bad", b"boot 100 7\ngo 7\n"), "-o", out, why="line 2: slot 7 is free there")
         self.refused("--log", log, "-o", self.path("no/folder"), why="No such file")
         for marks, why in ((b"10 behind the end\n", "line 1: it begins with '10'"), (b"; well\none\n", "line 2: it begins with 'one'")):

@@ -94,14 +94,24 @@ class Run(Case):
                 status, out, error = self.call(main, "--replay", *words)
                 self.assertEqual((status, bool(out), error), (0, True, ""))
 
+    def test_pages_that_teach_another_way(self):
+        """Where a page teaches `v6 run`, which empties the files that it is given, it leads to run.py."""
+        for name in ("README.md", "docs/lions/README.md", "docs/manual/commands.md"):
+            self.assertRegex(read(os.path.join(TOP, name)).decode(), r"empt(?:ies|ied)[^|]*tools/run\.md\)")
+
     def test_messages(self):
         """They name the file, the line of the script with its text, and the size of core; and what a disk that shows nothing hasn't."""
         image, script, none = self.image(), os.path.join(HI, "script"), self.path("none")
         for words, status, said in (((none, script), 2, f"{none}: No such file or directory"),
                                     ((image, none), 2, f"{none}: No such file or directory"),
                                     ((image, script, "--core", "63"), 4, "core size: 63 clicks, and 64 to 3968 are wanted"),
-                                    ((image, self.put("long", b"run 1\n" + 70 * b"\t")), 5, f"script: line 2: '{60 * chr(92)}".replace(
-                                        60 * chr(92), (15 * (chr(92) + "011"))) + "..'")):
+                                    ((image, self.put("tabs", b"run 1\n" + 70 * b"\t")), 5,
+                                     f"{self.path('tabs')}: line 2: '{15 * (chr(92) + '011')}..': a blank or a tab at its end"),
+                                    ((image, self.put("long", b"type " + 300 * b"a")), 5,
+                                     f"{self.path('long')}: line 1: 'type {55 * 'a'}..': more than 300 bytes"),
+                                    ((image, self.put("log", b"boot 64 0\nend\n")), 5,
+                                     f"{self.path('log')}: line 1: 'boot 64 0': a log begins so, and no script"),
+                                    ((self.path("log"), script), 6, f"{self.path('log')}: bad super-block")):
             self.assertEqual(self.run_it(*words), (status, "", f"run.py: {said}\n"))
         script, disk = self.put("script", b"run 3000\n"), self.put("disk", read(os.path.join(TOP, "examples", "shell", "image")))
         for path, said in (("/dev/tty8", "the disk has no /dev/tty8"), ("/etc/init", "the disk has no /etc/init")):
@@ -113,7 +123,7 @@ class Run(Case):
     def test_a_run_that_does_not_begin(self):
         term = self.put("term", b"before")
         bad = self.put("bad", b"walk\n")
-        self.assertEqual(self.run_it(self.image(), bad, "--term", term), (5, "", "run.py: script: line 1: 'walk'\n"))
+        self.assertEqual(self.run_it(self.image(), bad, "--term", term), (5, "", f"run.py: {bad}: line 1: 'walk': no line of a script\n"))
         self.assertEqual(read(term), b"before")
         absent = self.path("no") + "/term"
         self.assertEqual(self.run_it(self.image(), bad, "--term", absent),

@@ -78,8 +78,8 @@ class Run(Second):
         bad, long = self.put("bad", bytes(2000)), self.put("long", bytes(DISK_BYTES + 1))
         many = self.put("many", read(PACK)[:514] + (4873).to_bytes(2, "little") + read(PACK)[516:])
         for second, status, said in ((none, 2, f"{none}: No such file or directory"), (self.folder, 2, f"{self.folder}: Is a directory"),
-                                     (bad, 12, "second image: bad super-block"), (long, 12, "second image: too long"),
-                                     (many, 12, "second image: file system of 4873 blocks is too long")):
+                                     (bad, 12, f"{bad}: bad super-block"), (long, 12, f"{long}: too long"),
+                                     (many, 12, f"{many}: file system of 4873 blocks is too long")):
             found = self.run_it(self.image, script, "--second", second, "--second-disk", self.path("new"), "--disk", disk)
             self.assertEqual(found, (status, "", f"run.py: {said}\n"))
         self.assertEqual([os.path.exists(self.path(name)) for name in ("disk", "new")], [False, False])
@@ -202,7 +202,7 @@ class Console(Second):
         self.assertEqual((read(self.image), read(pack), os.path.exists(script)), (read(IMAGE), read(PACK), False))
         none, absent = self.path("none"), self.path("no/disk")
         for words, said in ((("--second", none), f"{none}: No such file or directory"),
-                            (("--second", self.put("bad", bytes(2000))), "second image: bad super-block"),
+                            (("--second", self.put("bad", bytes(2000))), f"{self.path('bad')}: bad super-block"),
                             (("--second", pack, "--second-disk", "/dev/full"), "/dev/full: not a file, and only a file is replaced"),
                             (("--second", pack, "--second-disk", absent), f"{absent}: No such file or directory")):
             self.assertEqual(self.session("ls\n", *words), (1, b"", f"\nconsole: {said}\n"))

@@ -63,8 +63,11 @@ def read_bytes(name, most=None):
     refused."""
     if name in ("-", b"-"):
         return sys.stdin.buffer.read(most or -1)
-    with open(name, "rb") as file:
-        data = file.read(most or MOST + 1)
+    try:
+        with open(name, "rb") as file:
+            data = file.read(most or MOST + 1)
+    except OSError as error:  # one of a read names no file
+        raise OSError(error.errno, error.strerror, name) from None
     if not most and len(data) > MOST:
         raise OSError(errno.EFBIG, f"more than {MOST} bytes", name)
     return data

@@ -9,6 +9,7 @@ import signal
 
 TOP = os.path.dirname(os.path.dirname(os.path.dirname(os.path.dirname(os.path.realpath(__file__)))))  # also where tools/ is a link
 CORE = 3968  # clicks: as much as a machine may have; 1200 are too few for a larger program
+FAULTS = {"image: ": "image", "second image: ": "second", "script: ": "script"}  # how the program tells the fault of a file
 V6 = os.environ.get("V6") or shlex.quote(os.path.join(TOP, "bin", "v6"))
 
 
@@ -97,7 +98,7 @@ def call(command, *words, data=None):
 
 
 def named(said, files, core):
-    """What the program says, with the name of the file at fault and why it can't be read, or with the size of core."""
+    """What the program says, with the name of the file at fault, and why it can't be read, or with the size of core."""
     for port, name in files.items():
         if said == f"read fault: {port}":
             try:
@@ -106,4 +107,7 @@ def named(said, files, core):
             except OSError as error:
                 return f"{name}: {error.strerror}"
             return f"{name}: {said}"
+    for begins, port in FAULTS.items():
+        if said.startswith(begins) and files.get(port):
+            return f"{files[port]}: {said.removeprefix(begins)}"
     return f"{said}: {core} clicks, and 64 to 3968 are wanted" if said == "core size" else said

@@ -3,6 +3,7 @@ from v6.log.processes import SLOTS, Table
 from v6.log.words import Teller
 
 CUT = "the log ends within a run: its last line is neither `end` nor `panic`"
+NOTHING = "the log is empty"
 OTHER = "the script isn't that of this run: it has {} ticks, and the log {}"
 
 

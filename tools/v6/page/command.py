@@ -65,13 +65,15 @@ def page_of_run(options):
 
 def page_of_log(options):
     """The page of a log alone, and whether the log is whole."""
-    from v6.log.story import CUT, lines_of
+    from v6.log.story import CUT, NOTHING, lines_of
     from v6.page.html import html_of_log
     from v6.page.run import account_of_log
     from v6.run.ends import programs_of
     from v6.run.script import read_script, slots_of, ticks_of
 
     log = lines_of(read_bytes(options.log))
+    if not log:
+        raise PageError(f"{options.log}: {NOTHING}")
     sizes = programs_of(read_bytes(options.disk)) if options.disk else {}
     script = read_script(options.script_of_log) if options.script_of_log else None
     ticks, slots = ((), None) if script is None else (ticks_of(script), slots_of(script))

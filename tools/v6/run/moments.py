@@ -47,7 +47,7 @@ class Script:
         for number, line in enumerate(lines_of(data), 1):
             found = COUNT.fullmatch(line)
             if not found and not OTHER.fullmatch(line):
-                raise fault(number, line)
+                raise fault(number, line, data)
             self.lines.append((line, int(found[2]) if found and found[1] == b"run" else None))
         self.slots, self.passed, self.places = 0, [], [0]  # how many slots have passed before each line, and where each ends
         for line, count in self.lines:
@@ -136,7 +136,8 @@ class Run:
         second = [*self.disks[1:], os.devnull] if self.second else []
         status, said = call(self.v6, word, self.disks[0], str(self.core), self.cut(script), term, log, os.devnull, *second)
         if not os.path.exists(log):
-            raise MomentError(named(with_line(said, script), {"image": self.image, "second": self.second}, self.core))
+            files = {"image": self.image, "second": self.second, "script": getattr(script, "name", None)}
+            raise MomentError(named(with_line(said, script), files, self.core))
         lines = read_bytes(log).decode("ascii", "replace").split("\n")[:-1]
         return lines[:-1] if lines and lines[-1] == "end" else lines, status, said
 

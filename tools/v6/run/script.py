@@ -5,7 +5,7 @@ import re
 
 from v6.host.files import read_bytes
 
-MOST = 1048576  # bytes of a script
+MOST, LONGEST = 1048576, 300  # bytes of a script, and of a line
 COUNT = re.compile(rb"(clock|run) ([0-9]{1,9})")
 # the first line of a script of the console
 HEADER = re.compile(rb"; console: image sha256 ([0-9a-f]{64}) core ([0-9]{1,9})(?:( lines)| second sha256 ([0-9a-f]{64}))?")
@@ -20,8 +20,25 @@ class ScriptError(Exception):
     """What is wrong with a script: the number of the line, and its text."""
 
 
-def fault(number, line):
-    return ScriptError(f"script: line {number}: {shown(line)}")
+class ScriptFile(bytes):
+    """The bytes of a script, with the name of its file."""
+
+    name = None
+
+
+def fault(number, line, data):
+    """What is wrong with a line of a script."""
+    name = getattr(data, "name", None) or "script"
+    return ScriptError(f"{name}: line {number}: {shown(line)}: {why(line)}")
+
+
+def why(line):
+    """Why a line can't be one of a script."""
+    if line.startswith(b"boot "):
+        return "a log begins so, and no script"
+    if len(line) > LONGEST:
+        return f"more than {LONGEST} bytes"
+    return "no line of a script" if line == line.rstrip(b" \t") else "a blank or a tab at its end"
 
 
 def shown(line):
@@ -33,12 +50,17 @@ def shown(line):
 def with_line(said, data):
     """What the program says, with the text of the line of the script that it names."""
     found, lines = FAULT.fullmatch(said), lines_of(data)
-    return f"{said}: {shown(lines[int(found[2]) - 1])}" if found and int(found[2]) <= len(lines) else said
+    if not found or int(found[2]) > len(lines):
+        return said
+    line = lines[int(found[2]) - 1]
+    return f"{said}: {shown(line)}" + f": {why(line)}" * found[1].endswith("script: line")
 
 
 def read_script(name):
     """The bytes of a script; of one that is too long, or has no end, one more than a script may have."""
-    return read_bytes(name, MOST + 1)
+    data = ScriptFile(read_bytes(name, MOST + 1))
+    data.name = name
+    return data
 
 
 def head_of(name):
@@ -46,8 +68,7 @@ def head_of(name):
     what isn't a file, as a pipe."""
     if not os.path.isfile(name):
         return None
-    with open(name, "rb") as file:
-        return HEADER.fullmatch(file.readline(200).rstrip(b"\n"))
+    return HEADER.fullmatch(read_bytes(name, 200).partition(b"\n")[0])
 
 
 def digest_of(name):
@@ -98,7 +119,7 @@ def ticks_of(data):
         elif line == b"tick":
             yield slots
         elif not OTHER.fullmatch(line):
-            raise fault(number, line)
+            raise fault(number, line, data)
 
 
 def slots_of(data):
