@@ -596,7 +596,7 @@ def run(options, folder):
     for name in filter(None, (options.disk, options.second_disk)):
         place_of(name)  # what can't be written is told before anything is typed
         disks[name] = read_bytes(name) if os.path.exists(name) else None
-    if keyboard.person:
+    if keyboard.person and not options.side:  # which clears the terminal
         tell(WELCOME + OVER_SSH * ("SSH_CONNECTION" in os.environ))
     try:
         check_header(options, machine, head)
