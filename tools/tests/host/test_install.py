@@ -195,7 +195,8 @@ class Installed(Maker):
         """They are made of the lesson as it is installed."""
         self.user("v6-lessonpages --moments 2 main")
         self.assertEqual(sorted(os.listdir(self.path("mine/lessons"))),
-                         ["answers.html", "index.html", *(f"main-{run}.html" for run in (1, 2, 3)), "main.html", "main.svg"])
+                         ["answers.html", "index.html", *(f"main-{run}.html" for run in (1, 2, 3)), "main.html", "pictures"])
+        self.assertEqual(os.listdir(self.path("mine/lessons/pictures")), ["main.svg"])
 
     def test_a_lesson_as_its_page_stands(self):
         for block in self.blocks("lions/main.md"):
