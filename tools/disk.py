@@ -15,7 +15,7 @@ import tempfile
 sys.path.insert(0, os.path.dirname(os.path.abspath(__file__)))
 from v6.disk.archives import FORMS, Member
 from v6.disk.faultplace import FaultPlace
-from v6.disk.repair import Repair, grow
+from v6.disk.repair import DOUBTFUL, Repair, grow
 from v6.disk.survey import Survey, behind_end, damaged, walk
 from v6.disk.tree import KINDS, MOST_TIME, PERMISSIONS, Item, above, apply_table, number, own, place_all, plain_name, row, scan
 from v6.disk.volume import BLOCK, BLOCKS, DIRECTORY, PACK, PLAIN, ROOT, SWAP, DiskError, Volume, check_name, components, plural, shown
@@ -24,6 +24,7 @@ from v6.host.files import STREAMS, guarded, place_of, put_out, read_bytes, repla
 from v6.host.program import V6, ProgramError, add_version, call
 from v6.host.progress import Progress
 
+NUMBERED = re.compile(rb"#([0-9]{1,5})(?![^/])")  # at the beginning of a path: an inode
 NO_SWAP = re.compile("file system of [0-9]+ blocks leaves no swap")
 MOST = PACK * BLOCK + 1  # what is read of a disk: one that is longer is too long
 
@@ -103,15 +104,19 @@ def save(options, volume, short=False):
 
 
 def path_of(text):
-    return b"/" + b"/".join(components(os.fsencode(text)))
+    """A path as it is told: from the root on with a slash before it, or from an inode on, `#12`, without."""
+    path = os.fsencode(text)
+    return b"/" * (not NUMBERED.match(path)) + b"/".join(components(path))
 
 
 def find(volume, path):
     """The inode under a path; `#12` is the inode 12, and what follows is below it."""
-    top, _, rest = path.lstrip(b"/").partition(b"/")
-    if not (top.startswith(b"#") and top[1:].isdigit() and volume.is_used(int(top[1:]))):
+    found = NUMBERED.match(path)
+    if not found:
         return volume.find(path)
-    return volume.find(rest, int(top[1:]))
+    if not volume.is_used(int(found[1])):
+        raise DiskError(f"{shown(found[0])}: no file has this inode")
+    return volume.find(path[found.end() :], int(found[1]))
 
 
 # list, cat and get
@@ -298,21 +303,21 @@ def put(options):
     volume = open_disk(options)
     time = time_of(options, volume)
     source = os.fsencode(options.source)
-    item, names = items_of(options, source) if options.form else scan(source), components(os.fsencode(options.path))
-    at = maybe(volume, names)
+    item, path = items_of(options, source) if options.form else scan(source), path_of(options.path)
+    at = maybe(volume, path)
     if item.below is None and at is not None and volume.inode(at).is_directory():
         if source == b"-":
             raise DiskError("-: a name on the disk is wanted for the standard input")
-        names.append(os.path.basename(source))
+        path = path_below(path, os.path.basename(source))
     if item.below is not None and at is not None and volume.inode(at).is_directory():
-        place_all(volume, at, b"/" + b"/".join(names), item, time)
+        place_all(volume, at, path, item, time)
     else:
-        parent, name, folder = parent_of(volume, names)
+        parent, name, folder = parent_of(volume, path)
         place_all(volume, parent, folder, Item(0, below={name: item}), time)
     if options.mode is not None:
         if item.below is not None:
             raise DiskError("--mode is for a file")
-        set_mode(volume, volume.find(b"/".join(names)), options.mode)
+        set_mode(volume, find(volume, path), options.mode)
     save(options, volume)
 
 
@@ -336,23 +341,31 @@ def time_of(options, volume):
     return volume.time if options.time is None else options.time
 
 
-def maybe(volume, names):
+def maybe(volume, path):
     """The inode under a path, or None."""
     try:
-        return volume.find(b"/".join(names))
+        return find(volume, path)
     except DiskError:
         return None
 
 
-def parent_of(volume, names):
+def path_below(folder, name):
+    """The path of a name in a directory."""
+    return folder.rstrip(b"/") + b"/" + name
+
+
+def parent_of(volume, path):
     """The directory of a path, the last name, and the directory's path."""
-    if not names:
+    if path == b"/":
         raise DiskError("the root is a directory")
-    folder = b"/" + b"/".join(names[:-1])
-    parent = volume.find(folder)
+    folder, slash, name = path.rpartition(b"/")
+    if not slash:
+        raise DiskError(f"{shown(path)}: an inode, where a name is wanted; /{shown(path)} is a name")
+    folder = folder or b"/"
+    parent = find(volume, folder)
     if not volume.inode(parent).is_directory():
         raise DiskError(f"{shown(folder)}: not a directory")
-    return parent, names[-1], folder
+    return parent, name, folder
 
 
 def set_mode(volume, at, mode):
@@ -382,8 +395,7 @@ def new(options):
 def make_directory(options):
     volume = open_disk(options)
     for path in options.paths:
-        names = components(os.fsencode(path))
-        parent, name, _ = parent_of(volume, names)
+        parent, name, _ = parent_of(volume, path_of(path))
         refuse_if_there(volume, parent, name, path)
         volume.make_directory(parent, name, 0o755, time_of(options, volume))
     save(options, volume)
@@ -397,9 +409,8 @@ def refuse_if_there(volume, parent, name, path):
 def remove(options):
     volume = open_disk(options)
     for path in options.paths:
-        names = components(os.fsencode(path))
-        parent, name, _ = parent_of(volume, names)
-        volume.find(b"/".join(names))
+        parent, name, _ = parent_of(volume, path_of(path))
+        find(volume, path_of(path))
         remove_entry(volume, parent, name, options.all, path, time_of(options, volume))
     save(options, volume)
 
@@ -423,32 +434,33 @@ def remove_entry(volume, parent, name, everything, path, time):
 
 def link(options):
     volume = open_disk(options)
-    old = volume.find(path_of(options.old))
+    old = find(volume, path_of(options.old))
     if volume.inode(old).is_directory():
         raise DiskError(f"{options.old}: a directory has one name")
     parent, name, _ = target_of(volume, options)
     refuse_if_there(volume, parent, name, options.new)
+    if NUMBERED.match(os.fsencode(options.old)) and old in Survey(options.image).nameless():
+        volume.link(old, -volume.inode(old).links)  # of names that it hasn't any more
     volume.enter(parent, name, old, time_of(options, volume))
     save(options, volume)
 
 
 def target_of(volume, options):
     """Where a new name goes: a path, or a directory, where the old name is kept."""
-    names = components(os.fsencode(options.new))
-    at = maybe(volume, names)
+    path, old = path_of(options.new), path_of(options.old)
+    at = maybe(volume, path)
     if at is not None and volume.inode(at).is_directory():
-        names.append(components(os.fsencode(options.old))[-1])
-    return parent_of(volume, names)
+        path = path_below(path, parent_of(volume, old)[1])
+    return parent_of(volume, path)
 
 
 def move(options):
     volume, time = open_disk(options), None
     time = time_of(options, volume)
-    names = components(os.fsencode(options.old))
-    from_parent, from_name, _ = parent_of(volume, names)
-    old = volume.find(b"/".join(names))
+    from_parent, from_name, _ = parent_of(volume, path_of(options.old))
+    old = find(volume, path_of(options.old))
     parent, name, folder = target_of(volume, options)
-    if from_name in (b".", b"..") or old in ancestors(volume, folder):
+    if from_name in (b".", b"..") or old in ancestors(volume, folder, parent):
         raise DiskError(f"{options.old}: a directory can't go below itself")
     there = volume.look(parent, name)
     if there == old:
@@ -468,22 +480,28 @@ def move(options):
     save(options, volume)
 
 
-def ancestors(volume, path):
-    names = components(path)
-    return [volume.find(b"/".join(names[:count])) for count in range(1, len(names) + 1)]
+def ancestors(volume, path, at):
+    """The directories of a path, and those that the entry .. names from its end on, where it begins at an inode."""
+    names, found = components(path), []
+    if not NUMBERED.match(path):
+        return [volume.find(b"/".join(names[:count])) for count in range(1, len(names) + 1)]
+    while at is not None and at not in found:
+        found.append(at)
+        at = volume.look(at, b"..")
+    return found
 
 
 def change_mode(options):
     volume = open_disk(options)
     for path in options.paths:
-        set_mode(volume, volume.find(path_of(path)), options.mode)
+        set_mode(volume, find(volume, path_of(path)), options.mode)
     save(options, volume)
 
 
 def change_owner(options):
     volume = open_disk(options)
     for path in options.paths:
-        at = volume.find(path_of(path))
+        at = find(volume, path_of(path))
         own(volume, at, Item(volume.inode(at).mode, owner=options.owner, group=options.group))
     save(options, volume)
 
@@ -538,6 +556,9 @@ def repair_disk(options):
         print(f"{options.disk}: lost: {text}")
     kept = sum(item is not None for item in repair.items.values())
     print(f"{options.new}: {kept} files and directories, {len(repair.lost)} lost")
+    if repair.is_doubtful():
+        print(f"disk.py: {options.disk}: {DOUBTFUL}", file=sys.stderr)
+    return int(repair.is_doubtful())
 
 
 # the command line

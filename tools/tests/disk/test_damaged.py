@@ -7,6 +7,7 @@ import subprocess
 from tests.common import TOP, V6, read, v6
 from tests.disk.disks import Disks
 
+from v6.disk.repair import DOUBTFUL
 from v6.disk.survey import Survey
 from v6.disk.volume import Volume
 
@@ -176,8 +177,17 @@ class Damaged(Hurt):
                 named = f"{bad}: v6 refuses it: {v6('check', bad)[1]}"
                 self.assertRegex(told.partition(named)[2], f"^{bad}: .* (at byte|from byte) ")
             status, _, error = self.disk("repair", "--replace", bad, good)
-            self.assertEqual((status, error), (0, ""), count)
+            self.assertIn((status, error), ((0, ""), (1, f"disk.py: {bad}: {DOUBTFUL}\n")), count)
             self.told(good)
+
+    def test_what_is_no_disk(self):
+        """Bytes of which nothing tells that they are a disk: what is found is written, with a line that says so."""
+        bad, good = self.put("bad", b"\xa5" * 512 + b"\0" * 512 + self.random.randbytes(4000)), self.path("good")
+        status, out, error = self.disk("repair", bad, good)
+        self.assertEqual((status, error), (1, f"disk.py: {bad}: neither its super-block nor its root directory is whole: it may be no "
+                                              "disk of the Sixth Edition\n"))
+        self.assertIn("files and directories", out)
+        self.told(good)
 
 
 class Places(Hurt):

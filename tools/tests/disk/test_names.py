@@ -5,7 +5,7 @@ import subprocess
 import sys
 import time
 
-from tests.common import TOOLS, V6, read, v6
+from tests.common import TOOLS, V6, read, v6, write
 from tests.disk.disks import Disks, disk_main
 
 from v6.disk.survey import Survey
@@ -58,6 +58,35 @@ class Names(Disks):
         status, said = v6("check", image)
         self.assertEqual((status, self.done("check", image)), (0, ""))
         return said
+
+    def test_inodes_by_their_numbers(self):
+        """Each command takes #N for the file of inode N, and /#N for a name; a file that has lost its name gets one, and its links are
+        counted anew."""
+        image = self.new({"a": b"1" * 600, "d/x": b"2"}, "--blocks", "100")
+        a, d = (next(line.split()[0] for line in self.done("list", image).splitlines() if line.endswith(path)) for path in (" /a", " /d"))
+        data = bytearray(read(image))
+        at = data.index(int(a).to_bytes(2, "little") + b"a".ljust(14, b"\0"))
+        data[at : at + 2] = b"\0\0"
+        write(image, bytes(data))
+        self.done("ln", image, f"#{a}", "/found")
+        self.assertEqual(self.names(image), ["drwxr-xr-x 3 /", "drwxr-xr-x 2 /d", "-rw-r--r-- 1 /d/x", "-rw-r--r-- 1 /found"])
+        self.free(image)
+        self.done("ln", image, f"#{a}", "/d/again")
+        self.done("chmod", image, "600", f"#{a}")
+        self.done("chown", image, "3", "4", f"#{d}/x")
+        self.done("mkdir", image, f"#{d}/e", "/#7")
+        self.done("put", image, self.put("one", b"3"), f"#{d}")
+        self.done("mv", image, f"#{d}/x", f"#{d}/e/y")
+        self.done("rm", image, "/found", f"#{d}/one")
+        self.assertEqual(self.names(image), ["drwxr-xr-x 4 /", "drwxr-xr-x 2 /#7", "drwxr-xr-x 3 /d", "-rw------- 1 /d/again", "drwxr-xr-x 2 /d/e",
+                                             "-rw-r--r-- 1 /d/e/y"])
+        self.free(image)
+        wanted = f"#{a}: an inode, where a name is wanted; /#{a} is a name"
+        for words in ("rm", image, f"#{a}"), ("mv", image, f"#{a}", "/b"), ("mkdir", image, f"#{a}"), ("ln", image, f"#{a}", "/d"):
+            self.refused(wanted, *words)
+        self.refused("#99: no file has this inode", "ln", image, "#99", "/b")
+        self.refused("/d: a directory can't go below itself", "mv", image, "/d", f"#{d}/e/z")
+        self.assertEqual(self.done("cat", image, f"#{a}"), "1" * 600)
 
     def test_names(self):
         image = self.new({"a/x": b"12", "a/y": b"3", "b": b"4" * 5000}, "--blocks", "100")

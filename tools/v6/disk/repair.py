@@ -7,6 +7,7 @@ from v6.disk.volume import BLOCK, BLOCKS, LARGE, SWAP, DiskError, Volume, check_
 
 LOST = b"lost"  # the directory that gets what has no name
 MOST_INODES = 65535
+DOUBTFUL = "neither its super-block nor its root directory is whole: it may be no disk of the Sixth Edition"
 
 
 # more room
@@ -138,6 +139,10 @@ class Repair:
             (lost if lost.below is not None else self.root).below[name] = item
             if item.below is not None:
                 self.fill(item, number, b"#" + name)
+
+    def is_doubtful(self):
+        """Whether nothing tells that these are the bytes of a disk at all."""
+        return self.survey.is_bad and (self.items.get(ROOT) is None or ROOT in self.survey.hurt)
 
     def image(self, most=SWAP):
         """The bytes of the good disk, which has so many blocks at most."""

@@ -108,7 +108,8 @@ class Survey:
         if self.refused:
             self.lines.append(f"the image has more than {PACK * BLOCK} bytes")
         (spares,) = struct.unpack("<H", self.volume.block(1)[206:208])
-        if not isize or isize + 2 > fsize or count > GROUP or spares > GROUP:
+        self.is_bad = not isize or isize + 2 > fsize or count > GROUP or spares > GROUP
+        if self.is_bad:
             self.lines.append(f"bad super-block: {isize} blocks of inodes, a file system of {fsize}, {count} numbers of free "
                               f"blocks and {spares} of inodes")
         elif fsize > SWAP:
