@@ -761,7 +761,7 @@ class Passwords(Terminals):
         os.write(self.ours, b"nb\n")
         self.assertNotIn(b"nb", self.until(b"% "))
         os.write(self.ours, b"~l\n")
-        self.assertIn(b"    1  dennis\r\n    2  (not shown)\r\n", self.until(b"(not shown)\r\n"))
+        self.assertIn(b"    1  dennis\r\n    2  (not shown)\r\n", self.until(b"(not shown)\r\n% "))
         os.write(self.ours, b"echo hello\n")
         self.assertIn(b"echo hello", self.until(b"\nhello\r\r\n"))
 
