@@ -163,7 +163,7 @@ class Wants(Disks):
         self.told(image, "1 program and 1 device; 2 with a line", f"/a  {row}", device)
         self.told(image, "2 programs and 0 devices; 2 with a line", f"/b  {row}", f"/a  {row}", paths=["b", "/a"])
         self.told(image, "1 program and 1 device; 2 with a line", device, f"/c/a  {row}", paths=["c"])
-        self.told(image, "1 program and 0 devices; 1 with a line", f"/#2  {row}", paths=["#2"])
+        self.told(image, "1 program and 0 devices; 1 with a line", f"#2  {row}", paths=["#2"])
         self.refused("/no: no such file on the disk", "wants", image, "/a", "/no")
         self.assertEqual(self.disk("wants")[0], 2)
 
