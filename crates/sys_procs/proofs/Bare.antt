@@ -15,7 +15,8 @@ use Rattle.sys_procs.specs.Process.{Process, process_by, process_in}
 use Rattle.sys_procs.specs.World.{processes_in, change}
 use Rattle.sys_procs.specs.Agree.{Agrees, Lives, kind_of_member, kind_of_stat, kind_by}
 use Rattle.sys_procs.specs.ExecFile.{bared}
-use Rattle.sys_procs.specs.Handed.{IsAlive, IsBare, handed, process_here}
+use Rattle.sys_procs.specs.Handed.{IsAlive, handed, process_here}
+use Rattle.sys_procs.specs.inside.Handed.{IsBare}
 use Rattle.sys_procs.proofs.Alive.{IsHere, is_here}
 use Rattle.sys_procs.proofs.Slots.{one_changed}
 use Rattle.sys_procs.proofs.PlacingRows.{bared_row, row_low, text_row}

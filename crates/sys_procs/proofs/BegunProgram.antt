@@ -24,11 +24,13 @@ use Rattle.sys_procs.specs.Process.{Process}
 use Rattle.sys_procs.specs.World.{World, process_of, change, let_go, texts_in}
 use Rattle.sys_procs.specs.Comes.{Comes}
 use Rattle.sys_procs.specs.Tests.{node_in, node_at}
-use Rattle.sys_procs.specs.ExecFile.{AreSized, data_clicks, reads_text, begins_anew, executes}
+use Rattle.sys_procs.specs.ExecFile.{data_clicks, reads_text, begins_anew, executes}
+use Rattle.sys_procs.specs.inside.Tested.{AreSized}
 use Rattle.sys_procs.specs.inside.Begun.{takes, takes_image, new_entry, taken_by, sized, fills, begins_in, row_in, area_in}
 use Rattle.sys_procs.specs.inside.Parts.{IsUnread}
 use Rattle.sys_procs.specs.Agree.{ended_by}
-use Rattle.sys_procs.specs.Handed.{IsBare, board, came, handed, process_here}
+use Rattle.sys_procs.specs.Handed.{board, came, handed, process_here}
+use Rattle.sys_procs.specs.inside.Handed.{IsBare}
 use Rattle.sys_procs.specs.Done.{HasDone, HasLeft, HasEnded}
 use Rattle.sys_procs.proofs.Alive.{put_here}
 use Rattle.sys_procs.proofs.Slots.{fifty_processes}

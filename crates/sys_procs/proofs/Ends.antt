@@ -41,7 +41,8 @@ use Rattle.sys_procs.specs.TextTable.{Text, text_of as text_at}
 use Rattle.sys_procs.specs.Exit.{adopted}
 use Rattle.sys_procs.specs.Exit as exit
 use Rattle.sys_procs.specs.Texts.{xfree, goes, is_sticky, remaining, without_text}
-use Rattle.sys_procs.specs.Comes.{Comes, nothing}
+use Rattle.sys_procs.specs.Comes.{Comes}
+use Rattle.sys_procs.specs.inside.Begun.{nothing}
 use Rattle.sys_procs.specs.Agree.{kind_of_member, Agrees, Agree, board_of}
 use Rattle.sys_procs.specs.Handed.{IsAlive, AreProcs, handed, board, came, process_here}
 use Rattle.sys_procs.proofs.Slots.{process_in_slot, fifty_processes, are_processes, one_changed, own, own_alive, own_row, members_are}

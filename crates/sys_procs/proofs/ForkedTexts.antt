@@ -22,7 +22,7 @@ use Rattle.swap_sched.specs.Match.{text_place}
 use Rattle.swap_sched.proofs.Texts.{one_more, text_at_map, set_twice}
 use Rattle.sys_procs.specs.Texts as texts
 use Rattle.sys_procs.specs.World.{text_in}
-use Rattle.sys_procs.specs.Seats.{with_image_row}
+use Rattle.sys_procs.specs.inside.Seats.{with_image_row}
 use Rattle.sys_procs.proofs.MovedTexts.{more_at, is_core, has_loaded}
 use Rattle.sys_procs.proofs.GrownTexts.{more_of, texts_at, stands_at}
 

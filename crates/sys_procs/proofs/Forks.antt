@@ -33,7 +33,7 @@ use Rattle.sys_procs.specs.Process.{Process, no_process, process_by, process_in,
 use Rattle.sys_procs.specs.World.{World, process_of, with_process, change, processes_in}
 use Rattle.sys_procs.specs.Texts.{joined_by_child}
 use Rattle.sys_procs.specs.Fork.{copied, past_word, next_pid, with_child, fork_into, fork_one}
-use Rattle.sys_procs.specs.Seats.{with_image_row}
+use Rattle.sys_procs.specs.inside.Seats.{with_image_row}
 use Rattle.sys_procs.specs.Agree.{Free, Lives, kind_of_member, kind_of_keeping, Agrees}
 use Rattle.sys_procs.specs.Handed.{AreProcs, IsAlive, handed, board, process_here}
 use Rattle.sys_procs.proofs.SameKept.{SameKept}

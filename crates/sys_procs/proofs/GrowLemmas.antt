@@ -22,7 +22,7 @@ use Rattle.sys_procs.specs.declared.procs.Procs.{Procs}
 use Rattle.sys_procs.specs.Break.{sized, expands}
 use Rattle.sys_procs.specs.Process.{Process, process_by}
 use Rattle.sys_procs.specs.World.{World, clock_of, processes_in, text_in, texts_in, change}
-use Rattle.sys_procs.specs.Seats.{with_place}
+use Rattle.sys_procs.specs.inside.Seats.{with_place}
 use Rattle.sys_procs.specs.Handed.{IsAlive, handed, board, came, process_here}
 use Rattle.sys_procs.proofs.Alive.{IsHere, is_here}
 use Rattle.sys_procs.proofs.Places.{same_placed}

@@ -22,7 +22,7 @@ use Rattle.image_keep.specs.Kept as kept
 use Rattle.swap_sched.specs.Match.{text_place}
 use Rattle.swap_sched.proofs.Texts.{one_more}
 use Rattle.sys_procs.specs.World.{text_in, processes_in}
-use Rattle.sys_procs.specs.Seats.{with_place}
+use Rattle.sys_procs.specs.inside.Seats.{with_place}
 use Rattle.sys_procs.proofs.MovedTexts.{fewer_if, more_at, is_core, moved_texts_board}
 
 -- What is kept of the texts then.

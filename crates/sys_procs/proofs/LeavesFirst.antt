@@ -10,7 +10,8 @@ use Rattle.fs_nodes.specs.FileSystem.{FileSystem}
 use Rattle.sys_procs.specs.declared.procs.Procs.{Procs}
 use Rattle.sys_procs.specs.World.{World}
 use Rattle.sys_procs.specs.Texts.{xfree}
-use Rattle.sys_procs.specs.Comes.{Comes, nothing}
+use Rattle.sys_procs.specs.Comes.{Comes}
+use Rattle.sys_procs.specs.inside.Begun.{nothing}
 use Rattle.sys_procs.specs.Agree.{ended_by}
 use Rattle.sys_procs.specs.Handed as parts
 use Rattle.sys_procs.specs.Done.{HasLeft, HasEnded}

@@ -37,7 +37,8 @@ use Rattle.sys_procs.specs.TextTable as texts_of
 use Rattle.sys_procs.specs.Texts.{goes, without_text, leaves_text, xfree}
 use Rattle.sys_procs.specs.Texts as world_texts
 use Rattle.sys_procs.specs.World.{World, text_in, texts_in, processes_in, change, let_go}
-use Rattle.sys_procs.specs.Comes.{logs, nothing}
+use Rattle.sys_procs.specs.Comes.{logs}
+use Rattle.sys_procs.specs.inside.Begun.{nothing}
 use Rattle.sys_procs.specs.Tests.{node_in}
 use Rattle.sys_procs.specs.Done.{HasLeft}
 use Rattle.sys_procs.specs.Agree.{Agrees}

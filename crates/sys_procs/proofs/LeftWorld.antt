@@ -27,9 +27,10 @@ use Rattle.sys_procs.specs.TextTable.{Text, no_text, is_text_of}
 use Rattle.sys_procs.specs.Texts.{goes, is_sticky, remaining, without_text, leaves_text, xfree}
 use Rattle.sys_procs.specs.World.{World, process_of, change, with_inodes, text_in}
 use Rattle.sys_procs.specs.Tests.{no_node, node_in}
-use Rattle.sys_procs.specs.Comes.{Comes, nothing, logs}
-use Rattle.sys_procs.specs.ExecFile.{AreSized, bared, bare_board, begins_anew, loads}
-use Rattle.sys_procs.specs.inside.Begun.{leaves, area_in}
+use Rattle.sys_procs.specs.Comes.{Comes, logs}
+use Rattle.sys_procs.specs.inside.Begun.{nothing, bare_board, leaves, area_in}
+use Rattle.sys_procs.specs.ExecFile.{bared, begins_anew, loads}
+use Rattle.sys_procs.specs.inside.Tested.{AreSized}
 use Rattle.sys_procs.specs.Handed.{IsAlive, board, handed}
 use Rattle.sys_procs.specs.Done.{HasDone, HasLeft}
 use Rattle.sys_procs.proofs.Alive.{put_here, is_here}

@@ -19,10 +19,10 @@ use Rattle.sys_procs.specs.TextTable.{text_of, with_text, text_bytes, entry_of}
 use Rattle.sys_procs.specs.Texts.{xalloc, xalloc_by}
 use Rattle.sys_procs.specs.World.{World, process_of, with_process, change}
 use Rattle.sys_procs.specs.Tests.{node_at}
-use Rattle.sys_procs.specs.Comes.{Comes, nothing, does, fails}
+use Rattle.sys_procs.specs.Comes.{Comes, does, fails}
+use Rattle.sys_procs.specs.inside.Begun.{nothing, takes, takes_image, new_if, new_entry, sized, filled, fills, row_in, area_in}
 use Rattle.sys_procs.specs.Stack.{first_stack}
 use Rattle.sys_procs.specs.ExecFile.{Tested, tests, done_by, loads, exec_file, data_clicks, image_clicks, data_in, data_read, text_read, with_moved, reads_text, begun_area, begins, begins_anew, executes}
-use Rattle.sys_procs.specs.inside.Begun.{takes, takes_image, new_if, new_entry, sized, filled, fills, row_in, area_in}
 use Rattle.sys_procs.proofs.Alive.{put_here}
 use Rattle.sys_procs.proofs.Following.{both}
 use Rattle.sys_procs.proofs.KeptOwner.{SameOwner}

@@ -33,9 +33,10 @@ use Rattle.sys_procs.specs.TextTable.{Text, is_text_of, entry_of, marks_of}
 use Rattle.sys_procs.specs.Texts.{free_entry, with_entry, makes_text, xalloc_by}
 use Rattle.sys_procs.specs.Texts as texts_of
 use Rattle.sys_procs.specs.World.{World, text_in, texts_in}
-use Rattle.sys_procs.specs.Comes.{Comes, nothing}
-use Rattle.sys_procs.specs.inside.Begun.{takes, new_if, new_entry, taken_by}
-use Rattle.sys_procs.specs.Handed.{IsBare, board, came, handed, process_here}
+use Rattle.sys_procs.specs.Comes.{Comes}
+use Rattle.sys_procs.specs.inside.Begun.{nothing, takes, new_if, new_entry, taken_by}
+use Rattle.sys_procs.specs.Handed.{board, came, handed, process_here}
+use Rattle.sys_procs.specs.inside.Handed.{IsBare}
 use Rattle.sys_procs.specs.Done.{HasLeft}
 use Rattle.sys_procs.proofs.SameKept.{SameKept, same_images, same_handed, same_board}
 use Rattle.sys_procs.proofs.Dones.{left_logged}

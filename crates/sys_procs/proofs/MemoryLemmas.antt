@@ -17,7 +17,8 @@ use Rattle.sys_procs.specs.Process.{Process, image_of}
 use Rattle.sys_procs.specs.TextTable.{no_text, text_bytes}
 use Rattle.sys_procs.specs.World.{processes_in, text_in, texts_in, with_process}
 use Rattle.sys_procs.specs.Agree.{Agrees, board_of}
-use Rattle.sys_procs.specs.Handed.{board, handed, process_here, memory_here, IsAlive}
+use Rattle.sys_procs.specs.Handed.{board, handed, process_here, IsAlive}
+use Rattle.sys_procs.specs.inside.Handed.{memory_here}
 use Rattle.sys_procs.proofs.SameKept.{SameKept, same_handed, same_alive}
 use Rattle.sys_procs.proofs.Slots.{image_changed}
 use Rattle.sys_procs.proofs.Agreement.{agree_but}

@@ -32,10 +32,11 @@ use Rattle.swap_sched.specs.Match.{text_place}
 use Rattle.sys_procs.specs.declared.procs.Procs.{Procs}
 use Rattle.sys_procs.specs.Process.{no_process, process_by, process_in}
 use Rattle.sys_procs.specs.World.{World, Clock, text_in, processes_in, change}
-use Rattle.sys_procs.specs.Seats.{placed_row, with_place}
+use Rattle.sys_procs.specs.inside.Seats.{placed_row, with_place}
 use Rattle.sys_procs.specs.Agree.{Agrees, Agree, Lives, kind_of_member, kind_of_stat}
 use Rattle.sys_procs.specs.inside.Begun.{sized, takes_image}
-use Rattle.sys_procs.specs.Handed.{IsAlive, IsBare, board, came, handed, process_here}
+use Rattle.sys_procs.specs.Handed.{IsAlive, board, came, handed, process_here}
+use Rattle.sys_procs.specs.inside.Handed.{IsBare}
 use Rattle.sys_procs.specs.Done.{HasEnded}
 use Rattle.sys_procs.proofs.Dones.{ended_logged}
 use Rattle.sys_procs.proofs.MovedTexts.{more_at, same_texts, entered_texts_board}

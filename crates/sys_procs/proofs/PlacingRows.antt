@@ -20,7 +20,7 @@ use Rattle.sys_procs.specs.declared.procs.Procs.{Procs}
 use Rattle.sys_procs.specs.Process.{process_by, process_in}
 use Rattle.sys_procs.specs.World.{clock_of, processes_in}
 use Rattle.sys_procs.specs.Agree.{Agree}
-use Rattle.sys_procs.specs.Seats.{with_image_row, placed_row, with_place}
+use Rattle.sys_procs.specs.inside.Seats.{with_image_row, placed_row, with_place}
 use Rattle.sys_procs.specs.Handed.{IsAlive}
 use Rattle.sys_procs.proofs.Agreement.{agree_like, runout_like}
 use Rattle.sys_procs.proofs.Alive.{IsHere, is_here}

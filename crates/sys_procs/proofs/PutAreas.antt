@@ -7,7 +7,8 @@ use Rattle.image_keep.specs.State.{ImagesState}
 use Rattle.sys_procs.specs.declared.procs.Procs.{Procs}
 use Rattle.sys_procs.specs.Process.{Process, no_process}
 use Rattle.sys_procs.specs.World.{processes_in}
-use Rattle.sys_procs.specs.Handed.{handed, process_here, IsAlive, HasArea}
+use Rattle.sys_procs.specs.Handed.{handed, process_here, IsAlive}
+use Rattle.sys_procs.specs.inside.Handed.{HasArea}
 use Rattle.sys_procs.proofs.SameKept.{SameKept, same_handed, same_board, same_here, same_alive}
 use Rattle.sys_procs.proofs.Slots.{fifty_processes}
 use Rattle.sys_procs.proofs.Alive.{area_here, put_here, SameSizes, area_put, area_state, area_board, area_alive}

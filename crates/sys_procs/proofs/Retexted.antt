@@ -15,7 +15,8 @@ use Rattle.sys_procs.specs.Process.{Process, no_process, process_in}
 use Rattle.sys_procs.specs.World.{text_in, processes_in}
 use Rattle.sys_procs.specs.Texts.{with_entry}
 use Rattle.sys_procs.specs.Agree.{Agrees, Lives, kind_of_member, kind_of_stat}
-use Rattle.sys_procs.specs.Handed.{IsBare, handed, process_here}
+use Rattle.sys_procs.specs.Handed.{handed, process_here}
+use Rattle.sys_procs.specs.inside.Handed.{IsBare}
 use Rattle.sys_procs.proofs.Slots.{one_changed, own_is}
 
 abbrev pub with_its_text : ℕ → TableRow → TableRow

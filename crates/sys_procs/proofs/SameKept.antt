@@ -13,7 +13,8 @@ use Rattle.sys_procs.specs.declared.procs.Procs.{Procs}
 use Rattle.sys_procs.specs.Process.{no_process}
 use Rattle.sys_procs.specs.World.{processes_in, world_in}
 use Rattle.sys_procs.specs.Agree.{Agree, AgreeBare, board_of}
-use Rattle.sys_procs.specs.Handed.{AreProcs, IsAlive, IsBare, handed, board, process_here}
+use Rattle.sys_procs.specs.Handed.{AreProcs, IsAlive, handed, board, process_here}
+use Rattle.sys_procs.specs.inside.Handed.{IsBare}
 
 pub record SameKept (q p : Procs) : Type 0 where
   pub rows : q.rows ≡ p.rows

@@ -16,7 +16,7 @@ use Rattle.image_keep.specs.Kept.{Held, Alive, Kept, Shared, keeping, with_keepi
 use Rattle.image_keep.proofs.Frames.{keeping_other}
 use Rattle.sys_procs.specs.declared.procs.Procs.{Procs}
 use Rattle.sys_procs.specs.World.{clock_of}
-use Rattle.sys_procs.specs.Seats.{placed_row, with_place}
+use Rattle.sys_procs.specs.inside.Seats.{placed_row, with_place}
 use Rattle.sys_procs.specs.Agree.{Agrees, Agree}
 use Rattle.sys_procs.specs.Handed.{IsAlive, board}
 use Rattle.swap_sched.specs.Match.{text_place}

@@ -15,11 +15,12 @@ use Rattle.sys_procs.specs.Process.{Process, no_process, process_in}
 use Rattle.sys_procs.specs.TextTable.{Text, no_text, is_text_of, entry_of}
 use Rattle.sys_procs.specs.Texts.{free_entry, joined, with_user, with_entry, xalloc_by}
 use Rattle.sys_procs.specs.World.{World, process_of, texts_in}
-use Rattle.sys_procs.specs.Comes.{Comes, nothing}
-use Rattle.sys_procs.specs.ExecFile.{AreSized}
-use Rattle.sys_procs.specs.inside.Begun.{takes, new_if, new_entry, taken_by}
+use Rattle.sys_procs.specs.Comes.{Comes}
+use Rattle.sys_procs.specs.inside.Begun.{nothing, takes, new_if, new_entry, taken_by}
+use Rattle.sys_procs.specs.inside.Tested.{AreSized}
 use Rattle.sys_procs.specs.Agree.{Lives, kind_of_member}
-use Rattle.sys_procs.specs.Handed.{IsBare, process_here}
+use Rattle.sys_procs.specs.Handed.{process_here}
+use Rattle.sys_procs.specs.inside.Handed.{IsBare}
 use Rattle.sys_procs.proofs.Alive.{put_here}
 use Rattle.sys_procs.proofs.Slots.{own_is}
 use Rattle.sys_procs.proofs.MemoryLemmas.{bytes_at}

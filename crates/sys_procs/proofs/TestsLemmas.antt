@@ -30,8 +30,10 @@ use Rattle.sys_procs.specs.TextTable.{Text, text_of, is_text_of, entry_of}
 use Rattle.sys_procs.specs.World.{World, text_in, texts_in, with_inodes, let_go}
 use Rattle.sys_procs.specs.Stack.{arguments, stack_clicks}
 use Rattle.sys_procs.specs.Tests.{must, user_of, no_node, node_in}
-use Rattle.sys_procs.specs.Handed.{handed, process_here, memory_here}
-use Rattle.sys_procs.specs.ExecFile.{Tested, check, with_moved, clicks, entry_clicks, text_clicks_by, text_clicks_in, data_clicks, AreSized}
+use Rattle.sys_procs.specs.Handed.{handed, process_here}
+use Rattle.sys_procs.specs.inside.Handed.{memory_here}
+use Rattle.sys_procs.specs.ExecFile.{Tested, check, with_moved, clicks, entry_clicks, text_clicks_by, text_clicks_in, data_clicks}
+use Rattle.sys_procs.specs.inside.Tested.{AreSized}
 use Rattle.sys_procs.specs.ExecFile.{answer_to, is_magic, or_no_memory, is_busy, header_read}
 use Rattle.sys_procs.specs.ExecFile.{tests_header, tests_file, tests}
 use Rattle.sys_procs.proofs.MemoryLemmas.{bytes_at}

@@ -53,7 +53,3 @@ logs e rest = does (Show (Log e)) rest
 -- lines, and then the rest
 abbrev pub shows : List Item → Comes → Comes
 shows items rest = record rest { effects = map Show items ++ rest.effects }
-
--- no effect, and an answer that nobody asks for
-abbrev pub nothing : World → Comes
-nothing w = gives_two w 0 0

@@ -1,5 +1,5 @@
 -- exec(II) of the UNIX Programmer's Manual; Lions' Commentary, `exec` in `sys1.c`.
-use Rattle.std.specs.Prelude.{◌≡◌, ◌<◌, ◌≤◌, ℕ, ◌+◌, ◌*◌, ◌/◌, ◌%◌, ◌==◌, ◌&&◌, min, nat_lt, Bool, true, false, not, if◌then◌else◌, List, [], ◌∷◌, length, map, replicate, slice_index, slice_index_or, Option, Some, None, is_none, Result, Ok, Err, bit_and}
+use Rattle.std.specs.Prelude.{ℕ, ◌+◌, ◌*◌, ◌/◌, ◌%◌, ◌==◌, ◌&&◌, min, nat_lt, Bool, true, false, not, if◌then◌else◌, List, [], ◌∷◌, length, map, replicate, slice_index, Option, is_none, Result, Ok, Err, bit_and}
 use Rattle.std.specs.Option.{unwrap_or, option_map}
 use Rattle.v6_base.specs.Image.{Image, nseg}
 use Rattle.v6_base.specs.declared.entry.Entry.TheVariants.{Bare}
@@ -26,8 +26,6 @@ use Rattle.seg_regs.specs.Sizes.{is_refused}
 use Rattle.u_area.specs.declared.area.UArea.{UArea}
 use Rattle.image_keep.specs.Area.{no_area}
 use Rattle.image_keep.specs.Running.{with_state}
-use Rattle.pick_rules.specs.Board.{Board}
-use Rattle.pick_rules.specs.Apply.{applied}
 use Rattle.pick_rules.specs.Effects as effect
 use Rattle.sys_procs.specs.declared.program.Program.{Program}
 use Rattle.sys_procs.specs.Process.{Process, image_of}
@@ -130,10 +128,6 @@ tests mounts w s name list =
 -- the clicks of its image
 abbrev pub image_clicks : Plan → ℕ
 image_clicks plan = 16 + data_clicks plan + stack_clicks
-
--- the log's board when the old image has been given back
-abbrev pub bare_board : Board → ℕ → Board
-bare_board b s = applied b (Bare s)
 
 -- The old program goes, and the new one comes.
 
@@ -247,15 +241,3 @@ done_by w s (Err e) = fails w e
 -- 11, exec: a name, which the mount table tells where to cross, and a list of arguments
 unfoldable pub exec_file : MountTable → World → ℕ → ℕ → ℕ → Comes
 exec_file mounts w s name list = let t : Tested = tests mounts w s name list in done_by t.world s t.answer
-
--- All texts of an inode have so many clicks.
-abbrev pub AreSized : List (Option Text) → ℕ → ℕ → Type 0
-AreSized texts ino clicks =
-    (k : ℕ) (text : Text) → slice_index_or texts k None ≡ Some text → text.ino ≡ ino → length text.bytes ≡ 64 * clicks
-
--- What is so of a program that the tests have let through.
-pub record IsTested (w : World) (program : Program) : Type 0 where
-  pub referenced : 0 < slice_index w.inodes.references program.ino
-  pub sizes : is_refused program.text_clicks (data_clicks program.plan) stack_clicks w.limit ≡ false
-  pub init : program.plan.init ≤ 131070
-  pub shared : 0 < program.text_clicks → AreSized w.texts program.ino program.text_clicks

@@ -6,11 +6,9 @@ use Rattle.pick_rules.specs.Logged.{Logged, logged}
 use Rattle.fs_nodes.specs.FileSystem.{FileSystem}
 use Rattle.fs_tree.specs.Finding.{inodes_of}
 use Rattle.sys_procs.specs.declared.procs.Procs.{Procs}
-use Rattle.image_keep.specs.Kept.{HasImage, with_area}
-use Rattle.u_area.specs.declared.area.UArea.{UArea}
-use Rattle.v6_base.specs.Image.{Image}
-use Rattle.sys_procs.specs.Process.{Process, no_process, image_of}
-use Rattle.sys_procs.specs.World.{World, processes_in, texts_in, world_in, with_process}
+use Rattle.image_keep.specs.Kept.{HasImage}
+use Rattle.sys_procs.specs.Process.{Process, no_process}
+use Rattle.sys_procs.specs.World.{World, processes_in, world_in}
 use Rattle.sys_procs.specs.Comes.{Comes}
 use Rattle.sys_procs.specs.Agree.{board_of, Agree, AgreeBare, AreMarks, IsCalling}
 
@@ -42,29 +40,9 @@ came p c = logged (board p) c.effects
 abbrev pub process_here : Procs → ℕ → Process
 process_here p s = unwrap_or (slice_index_or (processes_in p.rows.slots p.images.kept) s None) no_process
 
-abbrev pub memory_here : Procs → ℕ → Image
-memory_here p s = image_of (texts_in p.images.kept) (process_here p s)
-
 -- a process that has an image
 pub record IsAlive (p : Procs) (s : ℕ) : Type 0 where
   pub agree : AreProcs p
   pub above : 0 < s
   pub below : s < 50
   pub image : HasImage p.images.kept s
-
--- a process between its old image and its new one
-pub record IsBare (p : Procs) (s : ℕ) : Type 0 where
-  pub agree : AreBare p s
-  pub above : 0 < s
-  pub below : s < 50
-
--- A process has this u area, for the image that it has, and all else is as it was.
-pub record HasArea (p q : Procs) (s : ℕ) (u : UArea) : Type 0 where
-  pub state : (fs : FileSystem) → handed q fs ≡ with_process (handed p fs) s (record (process_here p s) { u = u })
-  pub here : process_here q s ≡ record (process_here p s) { u = u }
-  pub images : q.images.kept ≡ with_area p.images.kept s u
-  pub rows : q.rows ≡ p.rows
-  pub table : q.table ≡ p.table
-  pub switches : q.switches ≡ p.switches
-  pub board : board q ≡ board p
-  pub alive : IsAlive q s

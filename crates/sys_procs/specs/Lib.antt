@@ -13,7 +13,6 @@ pub mod Resume
 pub mod Agree
 pub mod Handed
 pub mod Done
-pub mod Seats
 pub mod Tests
 pub mod Stack
 pub mod ExecFile

@@ -3,3 +3,6 @@ pub mod Sender
 pub mod Packed
 pub mod Begun
 pub mod Parts
+pub mod Handed
+pub mod Tested
+pub mod Seats

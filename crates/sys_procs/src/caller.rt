@@ -5,7 +5,8 @@ ghost use Rattle.sig_core.specs.Signals.{due};
 ghost use Rattle.fs_nodes.specs.FileSystem.{FileSystem};
 ghost use Rattle.u_area.specs.Fields.{with_register, with_call, with_ids, with_handler, with_no_times, with_child_times, with_end};
 ghost use Rattle.sys_procs.specs.World.{with_process};
-ghost use Rattle.sys_procs.specs.Handed.{handed, board, process_here, IsAlive, HasArea};
+ghost use Rattle.sys_procs.specs.Handed.{handed, board, process_here, IsAlive};
+ghost use Rattle.sys_procs.specs.inside.Handed.{HasArea};
 
 use crate::procs::Procs;
 use proc_tab::Row;

@@ -11,10 +11,12 @@ ghost use Rattle.sys_procs.specs.TextTable.{is_text_of, marks_of};
 ghost use Rattle.sys_procs.specs.World.{texts_in, with_process};
 ghost use Rattle.sys_procs.specs.Tests.{node_in};
 ghost use Rattle.sys_procs.specs.Stack.{first_stack};
-ghost use Rattle.sys_procs.specs.ExecFile.{exec_file, loads, begins_anew, data_clicks, cleared_image, data_in, with_text_read, reads_text, text_room, kept_handler, begun_area, IsTested};
+ghost use Rattle.sys_procs.specs.ExecFile.{exec_file, loads, begins_anew, data_clicks, cleared_image, data_in, with_text_read, reads_text, text_room, kept_handler, begun_area};
+ghost use Rattle.sys_procs.specs.inside.Tested.{IsTested};
 ghost use Rattle.sys_procs.specs.inside.Begun.{fills, begins_in, user_in, group_in, row_in, area_in};
 ghost use Rattle.sys_procs.specs.inside.Parts.{part_in, with_part, IsUnread, KeepsOthers};
-ghost use Rattle.sys_procs.specs.Handed.{AreProcs, AreBare, Calls, IsAlive, IsBare, IsMarked, board, handed, process_here, memory_here};
+ghost use Rattle.sys_procs.specs.Handed.{AreProcs, AreBare, Calls, IsAlive, IsMarked, board, handed, process_here};
+ghost use Rattle.sys_procs.specs.inside.Handed.{IsBare, memory_here};
 ghost use Rattle.sys_procs.specs.Done.{HasDone};
 
 use crate::placing::{STACK, leave_place, place_image};

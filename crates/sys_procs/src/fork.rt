@@ -8,7 +8,7 @@ ghost use Rattle.proc_tab.specs.Pids.{forked};
 ghost use Rattle.sys_procs.specs.Process.{register, with_register};
 ghost use Rattle.sys_procs.specs.World.{change};
 ghost use Rattle.sys_procs.specs.Fork.{past_word, fork_into, fork_one};
-ghost use Rattle.sys_procs.specs.Seats.{with_image_row};
+ghost use Rattle.sys_procs.specs.inside.Seats.{with_image_row};
 ghost use Rattle.sys_procs.specs.Handed.{AreProcs, Calls, IsAlive, board, handed, process_here};
 ghost use Rattle.sys_procs.specs.Done.{HasDone};
 

@@ -8,7 +8,7 @@ ghost use Rattle.seg_regs.specs.Sizes.{is_refused};
 ghost use Rattle.sys_procs.specs.Break.{expands, clicks_up_to, grown_stack, break_at, grow};
 ghost use Rattle.sys_procs.specs.Handed.{AreProcs, Calls, IsAlive, handed, process_here};
 ghost use Rattle.sys_procs.specs.Done.{HasDone, HasEnded, HasGrown};
-ghost use Rattle.sys_procs.specs.Seats.{with_place};
+ghost use Rattle.sys_procs.specs.inside.Seats.{with_place};
 
 use crate::placing::{AREA, put_place};
 use crate::procs::Procs;

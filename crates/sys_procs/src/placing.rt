@@ -12,10 +12,11 @@ ghost use Rattle.image_keep.specs.Places as images_of;
 ghost use Rattle.image_keep.specs.Places.{made_image};
 ghost use Rattle.seg_regs.specs.Sizes.{is_refused};
 ghost use Rattle.sys_procs.specs.World.{change};
-ghost use Rattle.sys_procs.specs.Seats.{with_place};
-ghost use Rattle.sys_procs.specs.ExecFile.{bare_board, bared};
-ghost use Rattle.sys_procs.specs.inside.Begun.{takes_image};
-ghost use Rattle.sys_procs.specs.Handed.{IsAlive, IsBare, board, handed};
+ghost use Rattle.sys_procs.specs.inside.Seats.{with_place};
+ghost use Rattle.sys_procs.specs.ExecFile.{bared};
+ghost use Rattle.sys_procs.specs.inside.Begun.{bare_board, takes_image};
+ghost use Rattle.sys_procs.specs.Handed.{IsAlive, board, handed};
+ghost use Rattle.sys_procs.specs.inside.Handed.{IsBare};
 ghost use Rattle.sys_procs.specs.Done.{HasEnded};
 
 use crate::procs::Procs;

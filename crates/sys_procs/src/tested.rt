@@ -15,11 +15,13 @@ ghost use Rattle.seg_regs.specs.Sizes.{is_refused};
 ghost use Rattle.fs_tree.specs.Mounting.{AreMounts};
 ghost use Rattle.sys_procs.specs.Stack.{arguments, stack_clicks};
 ghost use Rattle.sys_procs.specs.Tests.{must, user_of, node_in};
-ghost use Rattle.sys_procs.specs.Handed.{Calls, IsAlive, handed, process_here, memory_here};
+ghost use Rattle.sys_procs.specs.Handed.{Calls, IsAlive, handed, process_here};
+ghost use Rattle.sys_procs.specs.inside.Handed.{memory_here};
 ghost use Rattle.sys_procs.specs.ExecFile.{clicks, text_clicks_by, text_clicks_in, entry_clicks, data_clicks, answer_to, is_magic, or_no_memory};
 ghost use Rattle.sys_procs.specs.World.{texts_in};
 ghost use Rattle.image_keep.specs.Growth.{most_clicks};
-ghost use Rattle.sys_procs.specs.ExecFile.{is_busy_in, with_moved, header_read, tests_header, tests_file, tests, AreSized, IsTested};
+ghost use Rattle.sys_procs.specs.ExecFile.{is_busy_in, with_moved, header_read, tests_header, tests_file, tests};
+ghost use Rattle.sys_procs.specs.inside.Tested.{AreSized, IsTested};
 
 use crate::arguments::{Arguments, read_arguments};
 use crate::placing::STACK;

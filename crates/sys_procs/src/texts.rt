@@ -9,10 +9,10 @@ ghost use Rattle.sys_procs.specs.Tests.{node_in};
 ghost use Rattle.sys_procs.specs.TextTable.{is_text_of};
 ghost use Rattle.sys_procs.specs.Texts.{free_entry, xfree, xalloc_by};
 ghost use Rattle.sys_procs.specs.World.{texts_in};
-ghost use Rattle.sys_procs.specs.Comes.{nothing};
-ghost use Rattle.sys_procs.specs.inside.Begun.{leaves, takes, new_entry, taken_by};
+ghost use Rattle.sys_procs.specs.inside.Begun.{nothing, leaves, takes, new_entry, taken_by};
 ghost use Rattle.sys_procs.specs.inside.Parts.{IsUnread};
-ghost use Rattle.sys_procs.specs.Handed.{IsAlive, IsBare, IsMarked, came, handed};
+ghost use Rattle.sys_procs.specs.Handed.{IsAlive, IsMarked, came, handed};
+ghost use Rattle.sys_procs.specs.inside.Handed.{IsBare};
 ghost use Rattle.sys_procs.specs.Done.{HasLeft};
 
 use crate::procs::Procs;

@@ -5,7 +5,8 @@ ghost use Rattle.v6_base.specs.Copy.{store_bytes};
 ghost use Rattle.fs_nodes.specs.FileSystem.{FileSystem, SameRest};
 ghost use Rattle.pick_rules.specs.Apply.{applied};
 ghost use Rattle.sys_procs.specs.World.{change};
-ghost use Rattle.sys_procs.specs.Handed.{Calls, AreProcs, IsAlive, handed, board, memory_here};
+ghost use Rattle.sys_procs.specs.Handed.{Calls, AreProcs, IsAlive, handed, board};
+ghost use Rattle.sys_procs.specs.inside.Handed.{memory_here};
 ghost use Rattle.sys_procs.specs.Times.{time_now, set_time, sleep_until, sleep_for, sleeping_until, tout_with, with_time, stored, times_to};
 ghost use Rattle.sys_procs.specs.Done.{HasDone};
 

@@ -2,6 +2,7 @@
 -- `xfree` in `text.c`.
 use Rattle.std.specs.Prelude.{ℕ, ◌+◌, ◌==◌, ◌&&◌, not, if◌then◌else◌, bit_and, List, Option, Some, None, Result, Ok, Err}
 use Rattle.v6_base.specs.Image.{Image}
+use Rattle.v6_base.specs.declared.entry.Entry.TheVariants.{Bare}
 use Rattle.v6_base.specs.declared.entry.PanicKind.{PanicKind}
 use Rattle.fs_codec.specs.Store.{Node}
 use Rattle.fs_codec.specs.declared.modes.TheConstants.{ISUID, ISGID}
@@ -10,6 +11,8 @@ use Rattle.image_keep.specs.Area.{made_area}
 use Rattle.image_keep.specs.Places.{cleared}
 use Rattle.u_area.specs.declared.area.UArea.{UArea}
 use Rattle.proc_tab.specs.declared.row.Row.{Row}
+use Rattle.pick_rules.specs.Apply.{applied}
+use Rattle.pick_rules.specs.Board.{Board}
 use Rattle.pick_rules.specs.Effects as effect
 use Rattle.pick_rules.specs.Logged.{Stop}
 use Rattle.sys_procs.specs.declared.program.Program.{Program}
@@ -17,9 +20,17 @@ use Rattle.sys_procs.specs.Process.{Process}
 use Rattle.sys_procs.specs.TextTable.{Text, entry_of}
 use Rattle.sys_procs.specs.Texts.{free_entry, xfree, xalloc}
 use Rattle.sys_procs.specs.World.{World, process_of, change, let_go}
-use Rattle.sys_procs.specs.Comes.{Comes, does, nothing}
+use Rattle.sys_procs.specs.Comes.{Comes, does, gives_two}
 use Rattle.sys_procs.specs.Stack.{first_stack}
 use Rattle.sys_procs.specs.ExecFile.{with_moved, data_read, begun_area}
+
+-- no effect, and an answer that nobody asks for
+abbrev pub nothing : World → Comes
+nothing w = gives_two w 0 0
+
+-- the log's board when the old image has been given back
+abbrev pub bare_board : Board → ℕ → Board
+bare_board b s = applied b (Bare s)
 
 -- A process leaves its text, if it has one.
 abbrev pub leaves : World → ℕ → Comes

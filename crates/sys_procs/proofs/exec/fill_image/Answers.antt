@@ -13,7 +13,8 @@ use Rattle.sys_procs.specs.Process.{Process}
 use Rattle.sys_procs.specs.World.{with_process}
 use Rattle.sys_procs.specs.Stack.{first_stack}
 use Rattle.sys_procs.specs.ExecFile.{cleared_image, data_read}
-use Rattle.sys_procs.specs.Handed.{IsAlive, handed, process_here, memory_here}
+use Rattle.sys_procs.specs.Handed.{IsAlive, handed, process_here}
+use Rattle.sys_procs.specs.inside.Handed.{memory_here}
 use Rattle.sys_procs.proofs.MemoryLemmas.{image_here, loan_state, loan_board, loan_alive}
 use Rattle.sys_procs.proofs.exec.fill_image.Goals as goal
 

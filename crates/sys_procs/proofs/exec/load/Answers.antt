@@ -16,8 +16,9 @@ use Rattle.sys_procs.specs.Process.{Process}
 use Rattle.sys_procs.specs.TextTable.{is_text_of}
 use Rattle.sys_procs.specs.World.{World, process_of, change, texts_in}
 use Rattle.sys_procs.specs.Tests.{node_in}
-use Rattle.sys_procs.specs.ExecFile.{IsTested, data_clicks, bared, bare_board, begins_anew, loads}
-use Rattle.sys_procs.specs.inside.Begun.{leaves, row_in, area_in}
+use Rattle.sys_procs.specs.ExecFile.{data_clicks, bared, begins_anew, loads}
+use Rattle.sys_procs.specs.inside.Tested.{IsTested}
+use Rattle.sys_procs.specs.inside.Begun.{bare_board, leaves, row_in, area_in}
 use Rattle.sys_procs.specs.Handed.{IsAlive, board, handed, process_here}
 use Rattle.sys_procs.specs.Done.{HasDone, HasLeft}
 use Rattle.sys_procs.proofs.Alive.{put_here}

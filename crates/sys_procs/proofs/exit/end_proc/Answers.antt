@@ -5,7 +5,7 @@ use Rattle.sys_procs.specs.declared.procs.Procs.{Procs}
 use Rattle.sys_procs.specs.World.{World, process_of}
 use Rattle.sys_procs.specs.Exit.{leaves, dies}
 use Rattle.sys_procs.specs.Texts.{xfree}
-use Rattle.sys_procs.specs.Comes.{nothing}
+use Rattle.sys_procs.specs.inside.Begun.{nothing}
 use Rattle.sys_procs.specs.Handed.{handed}
 use Rattle.sys_procs.specs.Done.{HasLeft}
 use Rattle.sys_procs.proofs.Alive.{calls_alive}

@@ -4,7 +4,7 @@ use Rattle.pick_rules.specs.Table.{row_at, IsTable}
 use Rattle.image_keep.specs.Kept.{Kept, IsKept, shared, image_of, text_bytes}
 use Rattle.image_keep.specs.Places.{made_image}
 use Rattle.sys_procs.specs.declared.procs.Procs.{Procs}
-use Rattle.sys_procs.specs.Handed.{IsBare}
+use Rattle.sys_procs.specs.inside.Handed.{IsBare}
 use Rattle.sys_procs.proofs.SameKept.{SameKept, same_alive}
 use Rattle.sys_procs.proofs.PlacingLemmas.{now, it_is, has_placed, unplaced, made_now, time_stays, out_stays, is_alive}
 use Rattle.sys_procs.proofs.placing.place_image.Given as given

@@ -1,7 +1,7 @@
 use Rattle.std.proofs.Common.{◌∙◌, Some, sym, ap, subst}
 use Rattle.text_tab.specs.declared.row.TextRow.{TextRow}
 use Rattle.sys_procs.specs.World.{texts_in}
-use Rattle.sys_procs.specs.ExecFile.{AreSized}
+use Rattle.sys_procs.specs.inside.Tested.{AreSized}
 use Rattle.sys_procs.proofs.TestsLemmas.{found_clicks, no_clicks, all_sized, none_sized}
 use Rattle.sys_procs.proofs.tested.entry_clicks.Goals as goal
 

@@ -5,7 +5,8 @@ use Rattle.image_keep.specs.State.{ImagesState}
 use Rattle.image_keep.specs.Kept as kept
 use Rattle.fs_tree.specs.Name.{name_at}
 use Rattle.fs_tree.specs.Finding.{Finding, inodes_of, find_in}
-use Rattle.sys_procs.specs.Handed.{IsAlive, process_here, memory_here}
+use Rattle.sys_procs.specs.Handed.{IsAlive, process_here}
+use Rattle.sys_procs.specs.inside.Handed.{memory_here}
 use Rattle.sys_procs.proofs.Alive.{calls_alive, area_here}
 use Rattle.sys_procs.proofs.MemoryLemmas.{image_here}
 use Rattle.sys_procs.proofs.tested.find_program.Goals as goal

@@ -13,7 +13,8 @@ use Rattle.sys_procs.specs.TextTable.{Text}
 use Rattle.sys_procs.specs.World.{texts_in}
 use Rattle.sys_procs.specs.Tests.{must}
 use Rattle.sys_procs.specs.Stack.{stack_clicks}
-use Rattle.sys_procs.specs.ExecFile.{AreSized, text_clicks_by, data_clicks, is_magic, entry_clicks, is_busy_in, or_no_memory}
+use Rattle.sys_procs.specs.ExecFile.{text_clicks_by, data_clicks, is_magic, entry_clicks, is_busy_in, or_no_memory}
+use Rattle.sys_procs.specs.inside.Tested.{AreSized}
 use Rattle.sys_procs.proofs.TestsLemmas.{sized_by, none_refuses, unfit, no_entry}
 use Rattle.sys_procs.proofs.tested.judge_header.Goals as goal
 

@@ -3,7 +3,8 @@ use Rattle.image_keep.specs.Growth.{most_clicks}
 use Rattle.fs_tree.specs.Finding.{Inodes}
 use Rattle.sys_procs.specs.World.{World, texts_in}
 use Rattle.sys_procs.specs.Handed.{handed}
-use Rattle.sys_procs.specs.ExecFile.{Tested, AreSized}
+use Rattle.sys_procs.specs.ExecFile.{Tested}
+use Rattle.sys_procs.specs.inside.Tested.{AreSized}
 use Rattle.sys_procs.proofs.TestsLemmas.{header_tested}
 use Rattle.sys_procs.proofs.tested.test_header.Goals as goal
 

@@ -2,7 +2,7 @@ use Rattle.std.proofs.Common.{◌∙◌, Some, set, refl, sym, ap}
 use Rattle.image_keep.specs.Kept.{Kept}
 use Rattle.fs_nodes.specs.FileSystem.{FileSystem}
 use Rattle.sys_procs.specs.declared.procs.Procs.{Procs}
-use Rattle.sys_procs.specs.Comes.{nothing}
+use Rattle.sys_procs.specs.inside.Begun.{nothing}
 use Rattle.sys_procs.specs.Texts.{with_entry, xalloc_by}
 use Rattle.sys_procs.specs.TextTable.{marks_of}
 use Rattle.sys_procs.specs.World.{texts_in}

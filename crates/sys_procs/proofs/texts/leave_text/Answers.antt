@@ -4,7 +4,7 @@ use Rattle.pick_rules.specs.Table.{row_at}
 use Rattle.sys_procs.specs.declared.procs.Procs.{Procs}
 use Rattle.sys_procs.specs.Process.{Process}
 use Rattle.sys_procs.specs.Texts.{xfree}
-use Rattle.sys_procs.specs.Comes.{nothing}
+use Rattle.sys_procs.specs.inside.Begun.{nothing}
 use Rattle.sys_procs.specs.Handed.{IsAlive, handed, process_here}
 use Rattle.sys_procs.specs.Done.{HasLeft}
 use Rattle.sys_procs.proofs.Alive.{is_here}

@@ -6,7 +6,7 @@ use Rattle.image_keep.specs.Places.{swap_fit, blocks}
 use Rattle.sys_procs.specs.declared.procs.Procs.{Procs}
 use Rattle.sys_procs.specs.TextTable.{marks_of}
 use Rattle.sys_procs.specs.World.{texts_in}
-use Rattle.sys_procs.specs.Handed.{IsBare}
+use Rattle.sys_procs.specs.inside.Handed.{IsBare}
 use Rattle.sys_procs.proofs.SameKept.{SameKept, same_bare}
 use Rattle.sys_procs.proofs.MadeText.{IsMade, Refused, unmarked, made_in, entry_free, left_refused, images_made, now, it_is, text_now, user_now, goes_on, left_made, bare_made, marks_made}
 use Rattle.sys_procs.proofs.texts.make_text.Given as given

@@ -7,7 +7,8 @@ use Rattle.image_keep.specs.Lent.{Lent, left_of}
 use Rattle.fs_nodes.specs.FileSystem.{FileSystem}
 use Rattle.sys_procs.specs.declared.procs.Procs.{Procs}
 use Rattle.sys_procs.specs.Times.{stored}
-use Rattle.sys_procs.specs.Handed.{handed, memory_here}
+use Rattle.sys_procs.specs.Handed.{handed}
+use Rattle.sys_procs.specs.inside.Handed.{memory_here}
 use Rattle.sys_procs.proofs.SameKept.{same_images, same_handed}
 use Rattle.sys_procs.proofs.MemoryLemmas.{image_here, loan_state, loan_board, loan_alive, loan_same}
 use Rattle.sys_procs.proofs.times.put_bytes.Goals as goal

@@ -5,7 +5,8 @@ use Rattle.fs_nodes.specs.FileSystem.{FileSystem}
 use Rattle.u_area.specs.declared.area.UArea.{UArea}
 use Rattle.u_area.specs.Area.{fetched}
 use Rattle.sys_procs.specs.declared.procs.Procs.{Procs}
-use Rattle.sys_procs.specs.Handed.{handed, memory_here}
+use Rattle.sys_procs.specs.Handed.{handed}
+use Rattle.sys_procs.specs.inside.Handed.{memory_here}
 use Rattle.sys_procs.proofs.Alive.{calls_alive}
 use Rattle.sys_procs.proofs.Dones.{done_as}
 use Rattle.sys_procs.proofs.TimesTo.{times_row, times_none, times_some}
