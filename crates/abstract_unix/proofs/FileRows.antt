@@ -1,5 +1,5 @@
 -- One walk over the rows of the calls on files.
-use Rattle.std.proofs.Common.{◌≡◌, ◌≤◌, ℕ, Bool, true, false, List, slice_index, refl}
+use Rattle.std.proofs.Common.{◌≡◌, ◌≤◌, ℕ, Bool, true, false, List, slice_index, refl, inl}
 use Rattle.std.specs.List.{All}
 use Rattle.lines_eight.specs.Lines.{HasRoom}
 use Rattle.sys_files.specs.Handed.{Handed}
@@ -51,7 +51,7 @@ walk_row k file.Stty h a now few moves both own p = walk_stty k h (slice_index a
 walk_row k file.Gtty h a now few moves both own p = walk_gtty k h (slice_index a 0) p
 walk_row k file.Sync h a now few moves both own p = walk_sync k h now (both refl) p
 walk_row k file.Dup h a now few moves both own p = walk_dup k h (moves refl) p
-walk_row k file.Pipe h a now few moves both own p = walk_pipe k h now (both refl) (moves refl) p
+walk_row k file.Pipe h a now few moves both own p = walk_pipe k h now (inl (both refl)) (moves refl) p
 
 -- What a call on files does is confined, where its second argument is a word and no more bytes wait on a line than there is room for.
 pub row_confined : (call : FileCall) (h : Handed) (slot : ℕ) (args : List ℕ) (now : ℕ) → slice_index args 1 ≤ 65535 → All HasRoom h.lines

@@ -1,6 +1,6 @@
 -- A run begins with a tidy Unix.
 use Rattle.std.proofs.Common.{◌≡◌, ◌∙◌, ◌≤◌, ◌+◌, ◌*◌, ◌==◌, ◌||◌, ℕ, zero, suc, not, nat_lt, Bool, true, false, List, [], ◌∷◌, length, map, filter, get_or, replicate, Option, Some, None, is_some, option_map, slice_index, refl, sym, ap, subst, arith}
-use Rattle.std.proofs.lemmas.Bool.{ltb-false}
+use Rattle.std.proofs.lemmas.Bool.{eqb-false, ltb-false}
 use Rattle.std.proofs.lemmas.List.{length-replicate}
 use Rattle.std.proofs.lemmas.List.Elements.{All-from_get_or}
 use Rattle.std.proofs.lemmas.List.Sums.{sum_by-le}
@@ -64,6 +64,34 @@ few_nodes image none =
     let whole = two (disk_fault SWAP_START (disk_of image)) [] outer.1 in
     let few = disk_few (disk_of image) whole.0 in
     omega (arith, few)
+
+-- and it has one at least
+a_first : (a b c d : Bool) → (((a || b) || c) || d) ≡ false → a ≡ false
+a_first true b c d e = absurd (cc e)
+a_first false b c d e = refl
+
+some_inodes : (s : SuperBlock) → super_fault SWAP_START s ≡ None → 1 ≤ s.i_size
+some_inodes s none =
+    let parts = two (when (is_bad_super s) BadSuper) (when (nat_lt SWAP_START s.f_size) (NoSwap s.f_size) ∷ []) none in
+    let some = eqb-false s.i_size 0 (a_first (s.i_size == 0) (nat_lt s.f_size (s.i_size + 2))
+    (nat_lt LIST_SIZE s.nfree) (nat_lt LIST_SIZE s.ninode) (not_when (is_bad_super s) BadSuper parts.0)) in
+    omega (arith, some)
+
+disk_some : (disk : Disk) → disk_fault SWAP_START disk ≡ None → 1 ≤ (head disk).i_size
+unfolding disk_fault
+disk_some disk none =
+    some_inodes (head disk) (five (super_fault SWAP_START (head disk)) (free_walk disk).fault
+    (first_some (map (inode_fault disk) (inode_numbers disk)))
+    (option_map BlockTwice (least (filter (is_twice (all_blocks disk)) (all_blocks disk))))
+    (when (not (is_directory (inode disk 1).mode)) NoRoot) none).0
+
+pub some_nodes : (image : List ℕ) → image_fault image ≡ None → 1 ≤ (store_of (disk_of image)).count
+unfolding image_fault fault_within store_of
+some_nodes image none =
+    let outer = two (when (nat_lt DISK_BYTES (length image)) TooLong) (disk_fault SWAP_START (disk_of image) ∷ []) none in
+    let whole = two (disk_fault SWAP_START (disk_of image)) [] outer.1 in
+    let some = disk_some (disk_of image) whole.0 in
+    omega (arith, some)
 
 -- So there are on two disks, where there are no more than there are keys.
 last_of : (a b : Bool) → (a || b) ≡ false → b ≡ false

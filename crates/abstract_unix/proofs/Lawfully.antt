@@ -59,9 +59,9 @@ event_fine (Pace count) u seen tidy h = paced_fine u seen count tidy.eight h
 event_fine (Hangup l) u seen tidy h = hangup_fine u seen l tidy.eight h.paused
 
 -- a run as far as it has come: its lines fit, and where it goes on its Unix is tidy
-record FineCourse (c : Course) : Type 0 where
-  fine : Fine nothing_seen c.items c.system c.ending
-  tidy : c.ending ≡ AtEnd → IsTidy c.system.unix
+pub record FineCourse (c : Course) : Type 0 where
+  pub fine : Fine nothing_seen c.items c.system c.ending
+  pub tidy : c.ending ≡ AtEnd → IsTidy c.system.unix
 
 further : (c : Course) (t : Turn) → FitAll nothing_seen (entries_of c.items) → FineTurn (seen_items nothing_seen c.items) t
     → (t.ending ≡ AtEnd → IsTidy t.next.unix) → FineCourse (goes_on_by c t)
@@ -74,7 +74,7 @@ further c t f g tidy = record {
   tidy = tidy;
 }
 
-event_goes : (c : Course) (e : Event) → FineCourse c → FineCourse (after_event c e)
+pub event_goes : (c : Course) (e : Event) → FineCourse c → FineCourse (after_event c e)
 event_goes c e f = by c.ending refl
   where
     now : Seen
@@ -152,7 +152,7 @@ module _ (store : Stores) (core lines : ℕ) (low : 64 ≤ core) (high : core �
       (settles_fine u booted_seen (record { items = Log (line.Sleep 0 pswp RunOut) ∷ []; board = applied (first_board core store.root.stamp) (line.Sleep 0 pswp RunOut); stop = None })
       (((omega arith, (omega (arith, ints), omega (arith, ints)), tt), refl), tt) refl first_paused refl)
 
-  started_fine : IsTime store.root.stamp → key_count store ≤ 65535 → lines ≤ 8 → FineCourse (started (system_with store core lines))
+  pub started_fine : IsTime store.root.stamp → key_count store ≤ 65535 → lines ≤ 8 → FineCourse (started (system_with store core lines))
   unfolding FitAll applied
   started_fine time few some = record {
     fine = record { fit = (((omega (arith, high), time), (low, high)), start_fine.fit); stands = start_fine.stands; over = start_fine.over };
@@ -187,13 +187,13 @@ byte_in bytes i are = elim (cases_lt i (length bytes)) [
   | inr past ↦ omega (arith, get_or_past {X = ℕ} bytes i 0 past)
 ]
 
-stamp_in_range : (image : List ℕ) → AreBytes image → IsTime (store_of (disk_of image)).stamp
+pub stamp_in_range : (image : List ℕ) → AreBytes image → IsTime (store_of (disk_of image)).stamp
 unfolding store_of disk_of bytes_from
 stamp_in_range image are =
     omega (arith, byte_in image 924 are, byte_in image 925 are, byte_in image 926 are, byte_in image 927 are)
 
 -- the system that images boot
-fine_images : (image : List ℕ) (second : Option (List ℕ)) (core lines : ℕ) (m : System) → boots image second core lines ≡ Some m
+pub fine_images : (image : List ℕ) (second : Option (List ℕ)) (core lines : ℕ) (m : System) → boots image second core lines ≡ Some m
     → (image_fault image ≡ None) × (is_second_bad image second ≡ false)
 fine_images image second core lines m e = by (image_fault image) (is_second_bad image second) e
   where
@@ -203,7 +203,7 @@ fine_images image second core lines m e = by (image_fault image) (is_second_bad 
     by None true f = absurd (cc f)
     by (Some fault) bad f = absurd (cc f)
 
-boots_is : (image : List ℕ) (second : Option (List ℕ)) (core lines : ℕ) (m : System) → boots image second core lines ≡ Some m
+pub boots_is : (image : List ℕ) (second : Option (List ℕ)) (core lines : ℕ) (m : System) → boots image second core lines ≡ Some m
     → system_of image second core lines ≡ m
 boots_is image second core lines m e = by (is_some (image_fault image) || is_second_bad image second) e
   where

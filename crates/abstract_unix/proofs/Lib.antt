@@ -34,7 +34,12 @@ pub mod PendingRows
 pub mod OtherRows
 pub mod OtherProcs
 pub mod OtherCalls
+pub mod RootEvents
 pub mod RootNames
+pub mod RootRuns
+pub mod RootTurns
+pub mod RootWalks
+pub mod RootWorlds
 pub mod GoingOnLemmas
 pub mod WaitingRows
 pub mod GoingOnSteps

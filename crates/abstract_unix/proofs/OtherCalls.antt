@@ -38,6 +38,7 @@ use Rattle.abstract_unix.proofs.ProcessRows.{resume_plain}
 use Rattle.abstract_unix.proofs.OtherRows.{row_leaves_other, resume_leaves_other}
 use Rattle.abstract_unix.proofs.OtherProcs.{plain_inodes, end_far, process_leaves_other}
 use Rattle.abstract_unix.proofs.RootNames.{file_stays, process_stays, core_stays}
+use Rattle.abstract_unix.proofs.RootRuns.{runs_stay}
 
 files_on : (h : Handed) (slot now : ℕ) → IsSound h → GoesOn h → LeavesOther h (resumes h slot now)
 files_on h slot now sound goes =
@@ -90,6 +91,7 @@ calls_leave_other = record {
   files_stay = file_stays;
   processes_stay = process_stays;
   core_stays = core_stays;
+  runs_stay = runs_stay;
 }
 
 -- What a call has done leaves the other disk alone, since its row does.

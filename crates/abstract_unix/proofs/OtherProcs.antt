@@ -62,11 +62,11 @@ module _ (s : ℕ) where
   plain_inodes v c (dated w time d range rest) = plain_inodes _ d rest
   plain_inodes v c (buries w d e grave rest) = plain_inodes (without_process w d) e rest
 
-  kill_inodes : (v : World) (n : ℕ) → (kill_to v s n).state.inodes ≡ v.inodes
+  pub kill_inodes : (v : World) (n : ℕ) → (kill_to v s n).state.inodes ≡ v.inodes
   unfolding kill_to
   kill_inodes v n = inodes_when (length (meant_in (is_reached s (process_of v s)) v.processes) == 0) _ _ v.inodes refl refl
 
-  break_inodes : (v : World) (at : ℕ) → (break_at v s at).state.inodes ≡ v.inodes
+  pub break_inodes : (v : World) (at : ℕ) → (break_at v s at).state.inodes ≡ v.inodes
   unfolding break_at
   break_inodes v at = inodes_when _ _ _ v.inodes refl refl
 
@@ -82,9 +82,9 @@ module _ {X : Type 0} (pick : Stores → X) (dev : ℕ)
     abbrev On : ℕ → Type 0
     On key = IsOn dev base.inodes.store key
 
-    record IsFar (v : World) : Type 0 where
-      same : pick v.inodes.store ≡ pick base.inodes.store
-      counts : counts v.inodes.store ≡ counts base.inodes.store
+    pub record IsFar (v : World) : Type 0 where
+      pub same : pick v.inodes.store ≡ pick base.inodes.store
+      pub counts : counts v.inodes.store ≡ counts base.inodes.store
 
     far_key : (v w : World) (key : ℕ) → On key → counts w.inodes.store ≡ counts v.inodes.store
         → OnItsDisk v.inodes.store w.inodes.store key → IsFar v → IsFar w
@@ -109,10 +109,10 @@ module _ {X : Type 0} (pick : Stores → X) (dev : ℕ)
         (put_there v.inodes.store ino (slice_index v.inodes.references ino) (node_numbered v.inodes.store ino)) k
 
     -- the tests of exec
-    record HasTested (t : exec.Tested) : Type 0 where
-      far : IsFar t.world
-      texts : t.world.texts ≡ base.texts
-      program : (p : Program) → t.answer ≡ Ok p → On p.ino
+    pub record HasTested (t : exec.Tested) : Type 0 where
+      pub far : IsFar t.world
+      pub texts : t.world.texts ≡ base.texts
+      pub program : (p : Program) → t.answer ≡ Ok p → On p.ino
 
     check_far : {A : Type 0} (now : World) (r : Result A Errno) (next : A → exec.Tested) → IsFar now → now.texts ≡ base.texts
         → ((a : A) → HasTested (next a)) → HasTested (exec.check now r next)
@@ -144,7 +144,7 @@ module _ {X : Type 0} (pick : Stores → X) (dev : ℕ)
         check_far out (arguments (image_of now.texts q) list) _ left texts (λ args.
         header_far (exec.with_moved now ino head) ino args head here (moved_far now ino head here k) texts)))
 
-    tests_far : (mounts : MountTable) (name list : ℕ) → All On (exec_named mounts base s name) → HasTested (exec.tests mounts base s name list)
+    pub tests_far : (mounts : MountTable) (name list : ℕ) → All On (exec_named mounts base s name) → HasTested (exec.tests mounts base s name list)
     tests_far mounts name list = by found.answer
       where
         p : Process
@@ -232,7 +232,7 @@ module _ {X : Type 0} (pick : Stores → X) (dev : ℕ)
         by (Some entry) is =
             bare_far (leaves_text v s entry (is_sticky v entry)) program here (left_far v entry (is_sticky v entry) (text entry is) k)
 
-    exec_far : (mounts : MountTable) (name list : ℕ) → All On (exec_named mounts base s name)
+    pub exec_far : (mounts : MountTable) (name list : ℕ) → All On (exec_named mounts base s name)
         → ((k : ℕ) → (process_of base s).text ≡ Some k → On (text_of base.texts k).ino) → IsFar (exec.exec_file mounts base s name list).state
     unfolding exec.exec_file
     exec_far mounts name list named text = by t.answer tested.program
@@ -256,10 +256,10 @@ module _ {X : Type 0} (pick : Stores → X) (dev : ℕ)
         by (Err e) here = tested.far
 
     -- the end of a process
-    pub end_far : (status : ℕ) → On (process_of base s).u.dir → ((k : ℕ) → (process_of base s).text ≡ Some k → On (text_of base.texts k).ino)
-        → pick (end_proc base s status).state.inodes.store ≡ pick base.inodes.store
+    pub ended_far : (status : ℕ) → On (process_of base s).u.dir → ((k : ℕ) → (process_of base s).text ≡ Some k → On (text_of base.texts k).ino)
+        → IsFar (end_proc base s status).state
     unfolding end_proc
-    end_far status here text = (by (process_of base s).text refl).same
+    ended_far status here text = by (process_of base s).text refl
       where
         dir : ℕ
         dir = (process_of base s).u.dir
@@ -278,6 +278,10 @@ module _ {X : Type 0} (pick : Stores → X) (dev : ℕ)
             let gone : IsFar (leaves_text left s entry (is_sticky left entry)) =
             left_far left entry (is_sticky left entry) (text entry is) still in
             record { same = gone.same; counts = gone.counts }
+
+    pub end_far : (status : ℕ) → On (process_of base s).u.dir → ((k : ℕ) → (process_of base s).text ≡ Some k → On (text_of base.texts k).ino)
+        → pick (end_proc base s status).state.inodes.store ≡ pick base.inodes.store
+    end_far status here text = (ended_far status here text).same
 
 -- each row
 row_far : {X : Type 0} (pick : Stores → X) (dev : ℕ)

@@ -42,7 +42,7 @@ module _ {X : Type 0} (pick : Stores → X) (dev : ℕ)
         (leaves keeps.named).same
 
 -- the calls on files but these two
-of_one : (call : FileCall) → call ≢ file.Sync → call ≢ file.Pipe → is_of_both call ≡ false
+pub of_one : (call : FileCall) → call ≢ file.Sync → call ≢ file.Pipe → is_of_both call ≡ false
 of_one file.Sync other pipe = absurd (other refl)
 of_one file.Pipe sync other = absurd (other refl)
 of_one call sync pipe = refl

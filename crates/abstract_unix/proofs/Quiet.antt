@@ -258,11 +258,11 @@ calm_walks old s = record {
     numbers = other_inodes h (new_in h.inodes (disk_of h dir) mode user now).inodes
         (new_counts h.inodes (disk_of h dir) mode user now) p.numbers;
   };
-  opened = λ h ino kind fd entry plain number free moves p. record {
+  opened = λ h ino kind fd entry plain number free here moves p. record {
     same = same_call_in p;
     numbers = record { count = p.numbers.count; pipes = pipes_opened h.files h.pipes entry ino kind plain p.numbers.pipes; eight = p.numbers.eight };
   };
-  ends = λ h ino fd entry next_fd next_entry above within number free next_number next_free moves p. record {
+  ends = λ h ino fd entry next_fd next_entry above within number free next_number next_free here moves p. record {
     same = same_call_in p;
     numbers = record {
       count = p.numbers.count;
@@ -307,7 +307,7 @@ calm_walks old s = record {
     };
   };
   covered = λ h covered p. record { same = p.same; numbers = record { count = p.numbers.count; pipes = p.numbers.pipes; eight = p.numbers.eight } };
-  enters = λ h dir moves p. record { same = same_call_in p; numbers = record { count = p.numbers.count; pipes = p.numbers.pipes; eight = p.numbers.eight } };
+  enters = λ h dir here moves p. record { same = same_call_in p; numbers = record { count = p.numbers.count; pipes = p.numbers.pipes; eight = p.numbers.eight } };
   terminal = λ h tty p. record { same = p.same; numbers = record { count = p.numbers.count; pipes = p.numbers.pipes; eight = p.numbers.eight } };
   signalled = λ h p. record { same = p.same; numbers = record { count = p.numbers.count; pipes = p.numbers.pipes; eight = p.numbers.eight } };
   stored = λ h m same p. record { same = p.same; numbers = record { count = p.numbers.count; pipes = p.numbers.pipes; eight = p.numbers.eight } };

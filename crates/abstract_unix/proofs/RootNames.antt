@@ -1,6 +1,6 @@
 -- While nothing is covered, all that a call names is on the root's disk, where its process stands there; so the second disk's store
 -- stays.
-use Rattle.std.proofs.Common.{◌≡◌, ◌≢◌, ◌≤◌, ◌+◌, ◌-◌, ◌/◌, ◌%◌, ◌==◌, ◌&&◌, ℕ, Bool, true, false, not, cond, nat_lt, nat_le, List, [], ◌∷◌, length, take, get_or, slice_index, is_some, IsSome, is_none, Option, Some, None, Result, Ok, Err, refl, sym, ap, ◌∙◌, subst, arith}
+use Rattle.std.proofs.Common.{◌≡◌, ◌≢◌, ◌≤◌, ◌+◌, ◌-◌, ◌/◌, ◌%◌, ◌==◌, ◌&&◌, ◌||◌, ℕ, Bool, true, false, not, cond, nat_lt, nat_le, List, [], ◌∷◌, length, take, get_or, slice_index, is_some, IsSome, is_none, Option, Some, None, Result, Ok, Err, refl, sym, ap, ◌∙◌, subst, arith}
 use Rattle.std.specs.List.{All}
 use Rattle.std.proofs.lemmas.Bool.{leb-true, ltb-false, le-leb, le-ltb}
 use Rattle.std.proofs.lemmas.List.Elements.{All-nil, All-cons}
@@ -12,7 +12,7 @@ use Rattle.v6_base.specs.declared.entry.PanicKind.{PanicKind}
 use Rattle.v6_base.specs.declared.errno.Errno.{Errno}
 use Rattle.v6_base.specs.declared.errno.Errno.TheVariants.{EINTR, EPERM, EBADF, EACCES, EFAULT, EEXIST, ENOTDIR, EISDIR, ENFILE, EMFILE, ENXIO, ESPIPE, EMLINK, EXDEV, EBUSY, EINVAL}
 use Rattle.u_area.specs.Area.{area_bytes}
-use Rattle.u_area.specs.declared.layout.TheConstants.{AREA_SIZE}
+use Rattle.u_area.specs.declared.layout.TheConstants.{AREA_SIZE, LINE_READ, LINE_WRITE, PIPE_READ}
 use Rattle.fs_codec.specs.Modes.{is_device, is_directory}
 use Rattle.fs_laws.specs.Numbers.{Draw, draw}
 use Rattle.fs_laws.specs.Pieces.{Moving}
@@ -50,7 +50,7 @@ use Rattle.sys_files.specs.Descriptors.{open_entry}
 use Rattle.sys_files.specs.Making.{new_numbered, new_in, entry_written, writes_entry, enters_new, makes_node, opens_for_writing, with_no_blocks, opens_again, makes_file, creat_file, is_super_user, makes_any, mknod_at, may_link, is_covered, enters_again, links_to, link_file, empties, removes, found_to_remove, names_directory, unlink_file, with_links, with_device}
 use Rattle.sys_files.specs.Modes.{terminal_line, of_terminal, words_at, sets_modes}
 use Rattle.sys_files.specs.Mounting.{disk_named, can_cover, with_covered, covers, mounts_disk, mounts_found, mount_on, is_held, uncovers, unmounts, unmounts_named, umount_off}
-use Rattle.sys_files.specs.Moving.{with_moved, gives_count, read_of, with_read, line_read, with_line_read, write_of, waits_for_room, takes_line, reads_line, reads_by, reads_from, read_file_of, writes_line, writes_by, writes_to, write_file_of}
+use Rattle.sys_files.specs.Moving.{with_moved, gives_count, read_of, with_read, line_read, with_line_read, write_of, waits_for_room, takes_line, reads_line, reads_by, reads_from, read_file_of, without_pending, line_kept, goes_on_line, goes_on_pipe, goes_on, resumes, writes_line, writes_by, writes_to, write_file_of}
 use Rattle.sys_files.specs.Names.{enters_directory, chdir_to, is_owner, changes_mode, sync_all}
 use Rattle.sys_files.specs.Opening.{last_failure, open_tests, can_open, opens, opens_named}
 use Rattle.sys_files.specs.Piping.{reading_end, with_end, opens_ends, pipe_new, pipe_at, pipe_read, with_pipe_read, pipe_write, with_pipe_write, ends_read, reads_pipe, ends_write, writes_pipe}
@@ -322,6 +322,40 @@ module _ (n : ℕ) (one : 1 ≤ n) where
       (to_none (with_moved h entry (write_of h entry at count now)) (line_of h (node_at h (file_of h entry).ino))
       (is_device (node_at h (file_of h entry).ino).mode) entry at count (write_of h entry at count now))))
 
+  -- a call that goes on after a sleep names nothing either
+  pub resume_named : (h : Handed) (slot now : ℕ) → Named (resumes h slot now)
+  resume_named h slot now = due_none rest (goes_on h slot now)
+      (if_so ((h.u.pending == LINE_READ) || (h.u.pending == LINE_WRITE)) (goes_on_line rest h.u.pending call)
+      (goes_on_pipe rest slot h.u.pending call now)
+      (if_so (h.u.pending == LINE_READ) (reads_line rest l entry at count) (writes_line rest l entry at count done)
+      (line_none rest l entry at count) (shown_none rest l entry at count done))
+      (if_so (h.u.pending == PIPE_READ) (reads_pipe rest entry at count now) (writes_pipe rest slot entry at count done now)
+      (pipe_none (with_pipe_read rest (pipe_read rest entry at count now)) (pipe_at rest entry).ino entry at count
+      (pipe_read rest entry at count now).answer)
+      (end_none (with_pipe_write rest (pipe_write rest entry at count done now)) slot (pipe_at rest entry).ino entry at count
+      (pipe_write rest entry at count done now).answer)))
+    where
+      rest : Handed
+      rest = without_pending h
+
+      call : List ℕ
+      call = h.u.call
+
+      entry : ℕ
+      entry = slice_index call 0
+
+      at : ℕ
+      at = slice_index call 1
+
+      count : ℕ
+      count = slice_index call 2
+
+      done : ℕ
+      done = slice_index call 3
+
+      l : ℕ
+      l = line_kept rest entry
+
   terminal_none : (h : Handed) (does : ℕ → Did) → ((l : ℕ) → Named (does l)) → Named (of_terminal h does)
   terminal_none h does goes =
       tests h (open_entry h (r0 h)) _ (λ entry. tests h (terminal_line h (node_at h (file_of h entry).ino)) does goes)
@@ -417,6 +451,24 @@ module _ (n : ℕ) (one : 1 ≤ n) where
       tests rest (must EBUSY (not (device == 0) && not (is_held rest))) _ (λ free.
       uncovers_none rest rest.mounts.covered at.none)))))
 
+  -- the ends of a pipe
+  ends_none : (h : Handed) (ino : ℕ) → Named (opens_ends h ino)
+  ends_none h ino =
+      tests h (need EMFILE (free_number h.u.files)) _ (λ fd.
+      tests h (need ENFILE (free_entry h.files)) _ (λ entry.
+      let first : Handed = with_end h ino reading_end fd entry in
+      tests h (need EMFILE (free_number first.u.files)) _ (λ next_fd.
+      tests h (need ENFILE (free_entry first.files)) _ (λ next_entry. none))))
+
+  pub pipe_named : (h : Handed) (now : ℕ) → IsThere h → Named (pipe_new h now)
+  pipe_named h now at =
+      let nobody : User = record { uid = 0; gid = 0 } in
+      let found : Finding ℕ = new_in h.inodes 0 IALLOC nobody now in
+      let l : Handed = with_inodes h found.inodes in
+      more 1 (then_named h found (λ m ino. until_end ino (opens_ends m ino))).named one
+      (checked l found.answer (λ ino. until_end ino (opens_ends l ino)) (λ ino is.
+      more ino (opens_ends l ino).named (new_on h.inodes IALLOC nobody now ino at.count is) (ends_none l ino)))
+
   -- the file `core`
   parts_none : (h : Handed) (now ino : ℕ) → Named (writes_parts now h ino)
   parts_none h now ino =
@@ -507,13 +559,13 @@ keys_low s keys low = λ i d within.
 keys_one : (s : Stores) (keys : List ℕ) → s.second ≡ None → All (λ key. device_of s key ≡ 0) keys
 keys_one s keys none = λ i d within. ap (λ (o : Option Store). cond {A = ℕ} (is_some o && nat_lt s.root.count (get_or keys i d)) 1 0) none
 
-key_zero : (s : Stores) (key : ℕ) → key ≤ s.root.count → device_of s key ≡ 0
+pub key_zero : (s : Stores) (key : ℕ) → key ≤ s.root.count → device_of s key ≡ 0
 key_zero s key low =
     ap (λ b. cond {A = ℕ} (is_some s.second && b) 1 0) (le-ltb s.root.count key low)
     ∙ ap (λ b. cond {A = ℕ} b 1 0) (no_second (is_some s.second))
 
 -- The calls that name the roots: sync writes no super-block that hasn't changed, and a pipe is on the root's disk.
-sync_stays : (h : Handed) (now : ℕ) → OfSecond (λ (x : Store). x.mark ≡ false) h.inodes.store.second
+pub sync_stays : (h : Handed) (now : ℕ) → OfSecond (λ (x : Store). x.mark ≡ false) h.inodes.store.second
     → (sync_all h now).state.inodes.store.second ≡ h.inodes.store.second
 sync_stays h now = by h.inodes.store.second
   where
@@ -568,25 +620,42 @@ pipe_stays h now first some = by found.answer refl
         (lets_go_there d.state ino).second (key_zero d.state.inodes.store ino (omega (arith, low, count)))
         ∙ ap (λ (s : Stores). s.second) same ∙ made_same
 
+-- All that a row names is on the root's disk then.
+module _ (h : Handed) (first : h.mounts.first ≡ h.inodes.store.root.count) (some : 1 ≤ h.inodes.store.root.count)
+    (none : h.mounts.covered ≡ None) (dir : device_of h.inodes.store h.u.dir ≡ 0)
+  where
+    its_on : (keys : List ℕ) → (IsThere h.inodes.store.root.count some h → All (λ key. key ≤ h.inodes.store.root.count) keys)
+        → All (λ key. device_of h.inodes.store key ≡ 0) keys
+    its_on keys low = by h.inodes.store.second refl
+      where
+        by : (o : Option Store) → h.inodes.store.second ≡ o → All (λ key. device_of h.inodes.store key ≡ 0) keys
+        by None is = keys_one h.inodes.store keys is
+        by (Some x) is =
+            keys_low h.inodes.store keys
+            (low (record { first = first; count = refl; none = none; dir = key_low h.inodes.store h.u.dir (ap is_some is) dir }))
+
+    pub row_on : (call : FileCall) (slot : ℕ) (args : List ℕ) (now : ℕ) → call ≢ file.Sync → call ≢ file.Pipe
+        → All (λ key. device_of h.inodes.store key ≡ 0) (file_row call h slot args now).named
+    row_on call slot args now sync pipe = its_on (file_row call h slot args now).named
+        (λ there. row_named h.inodes.store.root.count some call h slot args now sync pipe there)
+
+    pub pipe_on : (now : ℕ) → All (λ key. device_of h.inodes.store key ≡ 0) (pipe_new h now).named
+    pipe_on now = its_on (pipe_new h now).named (λ there. pipe_named h.inodes.store.root.count some h now there)
+
+    pub core_on : (now : ℕ) → All (λ key. device_of h.inodes.store key ≡ 0) (core_file h now).named
+    core_on now = its_on (core_file h now).named (λ there. core_named h.inodes.store.root.count some h now there)
+
+    pub resume_on : (slot now : ℕ) → All (λ key. device_of h.inodes.store key ≡ 0) (resumes h slot now).named
+    resume_on slot now = its_on (resumes h slot now).named (λ there. resume_named h.inodes.store.root.count some h slot now)
+
 others : (call : FileCall) (h : Handed) (slot : ℕ) (args : List ℕ) (now : ℕ) → IsSound h → call ≢ file.Sync → call ≢ file.Pipe
     → StandsOnRoot h → (file_row call h slot args now).state.inodes.store.second ≡ h.inodes.store.second
 others call h slot args now sound sync pipe on =
     (row_leaves_other call h slot args now sound sync pipe).second (record {
-      named = by h.inodes.store.second refl;
+      named = row_on h sound.mounts.first on.some on.none on.keeps.dir call slot args now sync pipe;
       files = on.keeps.files;
       dir = on.keeps.dir;
     })
-  where
-    by : (o : Option Store) → h.inodes.store.second ≡ o → All (λ key. device_of h.inodes.store key ≡ 0) (file_row call h slot args now).named
-    by None is = keys_one h.inodes.store (file_row call h slot args now).named is
-    by (Some x) is =
-        keys_low h.inodes.store (file_row call h slot args now).named
-        (row_named h.inodes.store.root.count on.some call h slot args now sync pipe (record {
-          first = sound.mounts.first;
-          count = refl;
-          none = on.none;
-          dir = key_low h.inodes.store h.u.dir (ap is_some is) on.keeps.dir;
-        }))
 
 pub file_stays : (call : FileCall) (h : Handed) (slot : ℕ) (args : List ℕ) (now : ℕ) → IsSound h → StandsOnRoot h
     → (file_row call h slot args now).state.inodes.store.second ≡ h.inodes.store.second
@@ -597,23 +666,17 @@ file_stays call h slot args now sound on =
 
 pub core_stays : (h : Handed) (now : ℕ) → IsSound h → StandsOnRoot h → (core_file h now).state.inodes.store.second ≡ h.inodes.store.second
 core_stays h now sound on =
-    (core_leaves_other h now sound).second (record { named = by h.inodes.store.second refl; files = on.keeps.files; dir = on.keeps.dir })
-  where
-    by : (o : Option Store) → h.inodes.store.second ≡ o → All (λ key. device_of h.inodes.store key ≡ 0) (core_file h now).named
-    by None is = keys_one h.inodes.store (core_file h now).named is
-    by (Some x) is =
-        keys_low h.inodes.store (core_file h now).named
-        (core_named h.inodes.store.root.count on.some h now (record {
-          first = sound.mounts.first;
-          count = refl;
-          none = on.none;
-          dir = key_low h.inodes.store h.u.dir (ap is_some is) on.keeps.dir;
-        }))
+    (core_leaves_other h now sound).second (record {
+      named = core_on h sound.mounts.first on.some on.none on.keeps.dir now;
+      files = on.keeps.files;
+      dir = on.keeps.dir;
+    })
 
-pub process_stays : (call : ProcessCall) (mounts : MountTable) (w : World) (s : ℕ) (args : List ℕ) → AreMounts mounts w.inodes.store
-    → RunsOnRoot mounts w s → (process_row call mounts w s args).state.inodes.store.second ≡ w.inodes.store.second
-process_stays call mounts w s args are on =
-    (process_leaves_other call mounts w s args).second (record { named = named call; text = on.keeps.text })
+-- and so is the program that exec names
+pub exec_on : (mounts : MountTable) (w : World) (s name : ℕ) → mounts.first ≡ w.inodes.store.root.count → 1 ≤ w.inodes.store.root.count
+    → mounts.covered ≡ None → device_of w.inodes.store (process_of w s).u.dir ≡ 0
+    → All (λ key. device_of w.inodes.store key ≡ 0) (exec_named mounts w s name)
+exec_on mounts w s name first one none dir = by w.inodes.store.second refl
   where
     exec : (r : Result ℕ Errno) → ((ino : ℕ) → r ≡ Ok ino → ino ≤ w.inodes.store.root.count) → All (λ key. key ≤ w.inodes.store.root.count) (named_by r)
     exec (Ok ino) low = All-cons (λ key. key ≤ w.inodes.store.root.count) ino [] (low ino refl) (All-nil (λ key. key ≤ w.inodes.store.root.count))
@@ -623,23 +686,27 @@ process_stays call mounts w s args are on =
     p = process_of w s
 
     starts_at : (bytes : List ℕ) → IsSome w.inodes.store.second → StartsOnRoot w.inodes.store mounts p.u.dir bytes
-    starts_at bytes some = record { none = on.none; root = by (is_rooted bytes) } where
+    starts_at bytes some = record { none = none; root = by (is_rooted bytes) } where
       by : (b : Bool) → cond {A = ℕ} b 1 p.u.dir ≤ w.inodes.store.root.count
-      by true = on.some
-      by false = key_low w.inodes.store p.u.dir some on.dir
+      by true = one
+      by false = key_low w.inodes.store p.u.dir some dir
 
-    by : (name : ℕ) (o : Option Store) → w.inodes.store.second ≡ o
-        → All (λ key. device_of w.inodes.store key ≡ 0) (exec_named mounts w s name)
-    by name None is = keys_one w.inodes.store (exec_named mounts w s name) is
-    by name (Some x) is =
+    by : (o : Option Store) → w.inodes.store.second ≡ o → All (λ key. device_of w.inodes.store key ≡ 0) (exec_named mounts w s name)
+    by None is = keys_one w.inodes.store (exec_named mounts w s name) is
+    by (Some x) is =
         let bytes : List ℕ = name_at (image_of w.texts p) name in
         keys_low w.inodes.store (exec_named mounts w s name)
         (exec (find_in w.inodes mounts (its_user p) p.u.dir bytes).answer (λ ino found.
-        (found_alone w.inodes.store mounts are.first (its_user p) p.u.dir bytes (starts_at bytes (ap is_some is))).within ino
+        (found_alone w.inodes.store mounts first (its_user p) p.u.dir bytes (starts_at bytes (ap is_some is))).within ino
         (sought_found w.inodes _ ino found)))
 
+pub process_stays : (call : ProcessCall) (mounts : MountTable) (w : World) (s : ℕ) (args : List ℕ) → AreMounts mounts w.inodes.store
+    → RunsOnRoot mounts w s → (process_row call mounts w s args).state.inodes.store.second ≡ w.inodes.store.second
+process_stays call mounts w s args are on =
+    (process_leaves_other call mounts w s args).second (record { named = named call; text = on.keeps.text })
+  where
     named : (call : ProcessCall) → All (λ key. device_of w.inodes.store key ≡ 0) (process_named call mounts w s args)
-    named process.Exec = by (slice_index args 0) w.inodes.store.second refl
+    named process.Exec = exec_on mounts w s (slice_index args 0) are.first on.some on.none on.dir
     named call = All-nil (λ key. device_of w.inodes.store key ≡ 0)
 
 -- the same of what it has done, where it answers

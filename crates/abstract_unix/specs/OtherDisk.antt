@@ -1,5 +1,6 @@
 -- What calls leave of two disks: a call changes nothing of the one that all it has to do with isn't on.
-use Rattle.std.specs.Prelude.{◌≡◌, ◌≢◌, ◌≤◌, ℕ, true, false, List, [], ◌∷◌, Some, None, slice_index}
+use Rattle.std.specs.Prelude.{◌≡◌, ◌≢◌, ◌≤◌, ℕ, true, false, List, [], ◌∷◌, ◌++◌, Option, Some, None, slice_index}
+use Rattle.v6_base.specs.Image.{AreBytes}
 use Rattle.v6_base.specs.declared.answer.Answer.TheVariants.{Ret}
 use Rattle.fs_codec.specs.Store.{Store}
 use Rattle.fs_nodes.specs.Disks.{OfSecond}
@@ -25,6 +26,8 @@ use Rattle.abstract_unix.specs.declared.calls.FileCall.{FileCall}
 use Rattle.abstract_unix.specs.declared.calls.FileCall.TheVariants as file
 use Rattle.abstract_unix.specs.declared.calls.ProcessCall.{ProcessCall}
 use Rattle.abstract_unix.specs.Calls.{file_row, process_row, process_named}
+use Rattle.abstract_unix.specs.declared.ends.Ends.TheVariants.{AtEnd}
+use Rattle.abstract_unix.specs.Runs.{Event, Course, stores_of, finished, run_of, runs}
 
 -- A process goes on with a call on an open file of its own, an end of a pipe where the call is on a pipe.
 pub record GoesOn (h : Handed) : Type 0 where
@@ -54,12 +57,18 @@ pub record RunsOnRoot (mounts : MountTable) (w : World) (s : ℕ) : Type 0 where
   pub dir : device_of w.inodes.store (process_of w s).u.dir ≡ 0
   pub keeps : its.KeepsTo w s 0 []
 
+-- Nothing is ever mounted: after no part of the events, from the run's start on, is a directory covered.
+abbrev pub IsNeverMounted : List ℕ → Option (List ℕ) → ℕ → ℕ → List Event → Type 0
+IsNeverMounted image second core lines events =
+    (part rest : List Event) → part ++ rest ≡ events → (run_of image second core lines part).system.unix.covered ≡ None
+
 -- Where all nodes that a call names, all open files of its process and its directory are of one disk, the other disk's store is what
 -- it was: its files, its room, its lists of free blocks and inodes, its time. So it is of each call on files, but for sync, which
 -- writes both disks, and pipe, which makes a node on the root's; of each call on processes where the program that it names and the
 -- text of the process are of one disk; and of both when they go on after a sleep. The file `core` is written without a call. A
 -- process that ends closes its files, and leaves its directory and its text. While nothing is covered, what a process names that
--- stands on the root's disk is on that disk, and so the second disk's store stays.
+-- stands on the root's disk is on that disk, and so the second disk's store stays. Where nothing is ever mounted in a run on two disks
+-- that comes to its script's end, the second disk's store is at the end, when all that has changed is on the disk, that of its image.
 pub record CallsLeaveOther : Type 0 where
   pub files : (call : FileCall) (h : Handed) (slot : ℕ) (args : List ℕ) (now : ℕ) → IsSound h → call ≢ file.Sync → call ≢ file.Pipe
       → LeavesOther h (file_row call h slot args now)
@@ -76,3 +85,7 @@ pub record CallsLeaveOther : Type 0 where
   pub processes_stay : (call : ProcessCall) (mounts : MountTable) (w : World) (s : ℕ) (args : List ℕ) → AreMounts mounts w.inodes.store
       → RunsOnRoot mounts w s → (process_row call mounts w s args).state.inodes.store.second ≡ w.inodes.store.second
   pub core_stays : (h : Handed) (now : ℕ) → IsSound h → StandsOnRoot h → (core_file h now).state.inodes.store.second ≡ h.inodes.store.second
+  pub runs_stay : (image : List ℕ) (second : Option (List ℕ)) (core lines : ℕ) (events : List Event) (c : Course)
+      → AreBytes image → 64 ≤ core → core ≤ 3968 → lines ≤ 8 → runs image second core lines events ≡ Some c
+      → IsNeverMounted image second core lines events → c.ending ≡ AtEnd
+      → (finished c.system).unix.store.second ≡ (stores_of image second).second

@@ -42,7 +42,7 @@ module _ {P : Handed → Type 0} {Q : Did → Type 0} {Few Known Line Here : ℕ
     new : (h : Handed) (dir offset : ℕ) (name : List ℕ) → Here dir → P h → Q (writes_new now h dir offset name)
     new h dir offset name here p = walk_node k h dir offset name 0o666 now (writes_parts now) here p parts
 
-    walk_core : (h : Handed) → P h → Q (core_file h now)
+    pub walk_core : (h : Handed) → P h → Q (core_file h now)
     unfolding core_file
     walk_core h p = by (h.u.uid == h.u.ruid)
       where

@@ -217,9 +217,9 @@ counted_walks old slot = record {
   showing = λ l line bytes count d long few p. p;
   inodes = λ h inodes same touches p. p;
   made = λ h dir mode user now here p. p;
-  opened = λ h ino kind fd entry plain number free moves p. counted_opened old.files old.u.files h.files h.u.files p
+  opened = λ h ino kind fd entry plain number free here moves p. counted_opened old.files old.u.files h.files h.u.files p
       (opened ino kind) fd entry refl number free;
-  ends = λ h ino fd entry next_fd next_entry above within number free next_number next_free moves p.
+  ends = λ h ino fd entry next_fd next_entry above within number free next_number next_free here moves p.
       counted_opened old.files old.u.files (slice_set h.files entry (Some (opened ino reading_end)))
       (slice_set h.u.files fd (entry + 1))
       (counted_opened old.files old.u.files h.files h.u.files p (opened ino reading_end) fd entry refl number free)
@@ -234,7 +234,7 @@ counted_walks old slot = record {
   numbered = λ h l other there p. tt;
   typewriter = λ h l t kept p. p;
   covered = λ h covered p. p;
-  enters = λ h dir moves p. p;
+  enters = λ h dir here moves p. p;
   terminal = λ h tty p. p;
   signalled = λ h p. p;
   stored = λ h m same p. p;

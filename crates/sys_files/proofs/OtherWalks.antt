@@ -84,8 +84,8 @@ module _ {X : Type 0} (pick : Stores → X) (dev : ℕ) (base : Stores)
       made = λ h dir mode user now here p. changed_apart h (new_in h.inodes (disk_of h dir) mode user now).inodes dir here
           (new_counts h.inodes (disk_of h dir) mode user now)
           (new_there h.inodes h.mounts dir mode user now (p.first ∙ sym (ap (λ (c : Disks ℕ). c.root) p.counts))) p;
-      opened = λ h ino kind fd entry plain number free moves p. p;
-      ends = λ h ino fd entry next_fd next_entry above within number free next_number next_free moves p. p;
+      opened = λ h ino kind fd entry plain number free here moves p. p;
+      ends = λ h ino fd entry next_fd next_entry above within number free next_number next_free here moves p. p;
       given = λ h fd free named number moves p. p;
       offset = λ h entry offset p. p;
       dropped = λ h fd named moves p. p;
@@ -95,7 +95,7 @@ module _ {X : Type 0} (pick : Stores → X) (dev : ℕ) (base : Stores)
       numbered = λ h l other there p. tt;
       typewriter = λ h l t kept p. p;
       covered = λ h covered p. p;
-      enters = λ h dir moves p. p;
+      enters = λ h dir here moves p. p;
       terminal = λ h tty p. p;
       signalled = λ h p. p;
       stored = λ h m same p. p;

@@ -180,8 +180,8 @@ confined_walks old slot = record {
   showing = λ l line bytes count d long few c. record { fits = fits_shown slot l line bytes (omega (arith, long, few)); steady = c.steady };
   inodes = λ h inodes same touches s. record { row = s.row; area = s.area; image = s.image; marks = s.marks; room = s.room };
   made = λ h dir mode user now here s. record { row = s.row; area = s.area; image = s.image; marks = s.marks; room = s.room };
-  opened = λ h ino kind fd entry plain number free moves s. steady_moved old h _ (slice_set h.u.files fd (entry + 1)) h.u.dir s;
-  ends = λ h ino fd entry next_fd next_entry above within number free next_number next_free moves s. record {
+  opened = λ h ino kind fd entry plain number free here moves s. steady_moved old h _ (slice_set h.u.files fd (entry + 1)) h.u.dir s;
+  ends = λ h ino fd entry next_fd next_entry above within number free next_number next_free here moves s. record {
     row = s.row;
     area = area_changed old.u h.u (slice_set (slice_set h.u.files fd (entry + 1)) next_fd (next_entry + 1)) h.u.dir
         h.u.pending h.u.call s.area;
@@ -205,7 +205,7 @@ confined_walks old slot = record {
     room = All-set HasRoom h.lines l t (kept (room_any h.lines l s.room)) s.room;
   };
   covered = λ h covered s. record { row = s.row; area = s.area; image = s.image; marks = s.marks; room = s.room };
-  enters = λ h dir moves s. steady_moved old h h.files h.u.files dir s;
+  enters = λ h dir here moves s. steady_moved old h h.files h.u.files dir s;
   terminal = λ h tty s. record {
     row = record { pid = s.row.pid; ppid = s.row.ppid; uid = s.row.uid };
     area = s.area;

@@ -147,12 +147,13 @@ pub record Walks (P : Handed → Type 0) (Q : Did → Type 0) (Few Known Line He
       → P (with_inodes h (new_in h.inodes (disk_of h dir) mode user now).inodes)
   pub opened : (h : Handed) (ino : ℕ) (kind : FileKind) (fd entry : ℕ) → kind.pipe ≡ false → free_number h.u.files ≡ Some fd
       → free_entry h.files ≡ Some entry
-      → Moves → P h → P (record h { files = slice_set h.files entry (Some (files.opened ino kind)); u = with_number h.u fd (entry + 1) })
+      → Here ino → Moves → P h
+      → P (record h { files = slice_set h.files entry (Some (files.opened ino kind)); u = with_number h.u fd (entry + 1) })
   pub ends : (h : Handed) (ino fd entry next_fd next_entry : ℕ) → 1 ≤ ino → ino ≤ key_count h.inodes.store
       → free_number h.u.files ≡ Some fd → free_entry h.files ≡ Some entry
       → free_number (with_end h ino reading_end fd entry).u.files ≡ Some next_fd
       → free_entry (with_end h ino reading_end fd entry).files ≡ Some next_entry
-      → Moves → P h → P (with_ends h ino fd entry next_fd next_entry)
+      → Here ino → Moves → P h → P (with_ends h ino fd entry next_fd next_entry)
   pub given : (h : Handed) (fd free : ℕ) → 0 < slice_index h.u.files fd → free_number h.u.files ≡ Some free → Moves → P h
       → P (record h {
         files = with_change h.files (entry_of h.u.files fd) (with_more 1);
@@ -167,7 +168,7 @@ pub record Walks (P : Handed → Type 0) (Q : Did → Type 0) (Few Known Line He
   pub numbered : (h : Handed) (l : ℕ) → l ≢ 0 → l < length h.lines → P h → Line l
   pub typewriter : (h : Handed) (l : ℕ) (t : Terminal) → (HasRoom (line_at h l) → HasRoom t) → P h → P (with_line h l t)
   pub covered : (h : Handed) (covered : Option ℕ) → P h → P (with_covered h covered)
-  pub enters : (h : Handed) (dir : ℕ) → Moves → P h → P (record h { u = record h.u { dir = dir } })
+  pub enters : (h : Handed) (dir : ℕ) → Here dir → Moves → P h → P (record h { u = record h.u { dir = dir } })
   pub terminal : (h : Handed) (tty : ℕ) → P h → P (record h { row = record h.row { tty = tty } })
   pub signalled : (h : Handed) → P h → P (record h { row = posted h.row SIGPIPE })
   pub stored : (h : Handed) (m : Image) → SameLengths h.image m → P h → P (record h { image = m })

@@ -147,9 +147,8 @@ module _ {P : Handed → Type 0} {Q : Did → Type 0} {Few Known Line Here : ℕ
 
     -- An inode is opened.
     opened : (h : Handed) (ino : ℕ) (kind : FileKind) (fd entry : ℕ) → kind.pipe ≡ false → free_number h.u.files ≡ Some fd
-        → free_entry h.files ≡ Some entry
-        → Moves → P h → P (with_opened h ino kind fd entry)
-    opened h ino kind fd entry plain number free moves p = by (line_of h (node_at h ino))
+        → free_entry h.files ≡ Some entry → Here ino → Moves → P h → P (with_opened h ino kind fd entry)
+    opened h ino kind fd entry plain number free here moves p = by (line_of h (node_at h ino))
       where
         next : Handed
         next = with_opened h ino kind fd entry
@@ -161,7 +160,7 @@ module _ {P : Handed → Type 0} {Q : Did → Type 0} {Few Known Line Here : ℕ
               u = with_number now.u fd (entry + 1);
             })
         entered now number free p =
-            k.opened (with_inodes now (with_reference now.inodes ino)) ino kind fd entry plain number free moves
+            k.opened (with_inodes now (with_reference now.inodes ino)) ino kind fd entry plain number free here moves
             (k.inodes now (with_reference now.inodes ino) refl (nothing refl) p)
 
         lined : ℕ → Handed
@@ -178,14 +177,14 @@ module _ {P : Handed → Type 0} {Q : Did → Type 0} {Few Known Line Here : ℕ
         by None = entered h number free p
         by (Some l) = taken l (h.row.tty == 0)
 
-    walk_opens : (h : Handed) (ino : ℕ) (kind : FileKind) → kind.pipe ≡ false → Moves → P h → Q (opens h ino kind)
-    walk_opens h ino kind plain moves p =
+    walk_opens : (h : Handed) (ino : ℕ) (kind : FileKind) → kind.pipe ≡ false → Here ino → Moves → P h → Q (opens h ino kind)
+    walk_opens h ino kind plain here moves p =
         checks_so h (need EMFILE (free_number h.u.files)) _ p (λ fd number.
         checks_so h (need ENFILE (free_entry h.files)) _ p (λ entry free.
         checks h (must ENXIO (can_open h (node_at h ino))) _ p (λ can.
         k.done (with_opened h ino kind fd entry) fd (r1 h)
         (opened h ino kind fd entry plain (need_some EMFILE (free_number h.u.files) fd number)
-        (need_some ENFILE (free_entry h.files) entry free) moves p))))
+        (need_some ENFILE (free_entry h.files) entry free) here moves p))))
 
     -- Bytes are read, and written.
     after_moved : {Memory : Type 0} (h : Handed) (entry : ℕ) (m : Moving Memory) → Here (file_of h entry).ino → P h
@@ -554,7 +553,7 @@ module _ {P : Handed → Type 0} {Q : Did → Type 0} {Few Known Line Here : ℕ
     walk_open h name mode moves p =
         walk_finds h name (λ l ino. opens_named l ino mode) p (λ l ino here q.
         checks l (last_failure (open_tests l.marks ino (node_at l ino) (user_of l.u) mode)) _ q
-        (λ passed. walk_opens l ino _ refl moves q))
+        (λ passed. walk_opens l ino _ refl here moves q))
 
     -- 6, close
     pub walk_close : (h : Handed) → Owns Here h → Moves → P h → Q (close_file h)
@@ -569,14 +568,14 @@ module _ {P : Handed → Type 0} {Q : Did → Type 0} {Few Known Line Here : ℕ
     again h ino now here moves p =
         checks h (access h.marks ino (node_at h ino) (user_of h.u) Write) _ p (λ may.
         checks h (must EISDIR (not (is_directory (node_at h ino).mode))) _ p (λ file.
-        walk_opens (with_no_blocks h ino now) ino _ refl moves (k.inodes h (with_no_blocks h ino now).inodes
+        walk_opens (with_no_blocks h ino now) ino _ refl here moves (k.inodes h (with_no_blocks h ino now).inodes
         (truncated_counts h.inodes ino now) (own_key ino here (truncated_there h.inodes ino now)) p)))
 
     pub walk_creat : (h : Handed) (name mode now : ℕ) → Moves → P h → Q (creat_file h name mode now)
     walk_creat h name mode now moves p =
         walk_makes h name (opens_again now) (makes_file mode now) p (λ l ino here q. again l ino now here moves q)
         (λ l dir offset bytes here q.
-        walk_node l dir offset bytes _ now opens_for_writing here q (λ m ino own r. walk_opens m ino _ refl moves r))
+        walk_node l dir offset bytes _ now opens_for_writing here q (λ m ino own r. walk_opens m ino _ refl own moves r))
 
     -- 9, link
     linked : (h : Handed) (ino links now : ℕ) → Here ino → P h → Q (is_done (with_links h ino links now))
@@ -633,7 +632,7 @@ module _ {P : Handed → Type 0} {Q : Did → Type 0} {Few Known Line Here : ℕ
         checks l (permission (node_at l ino) (user_of l.u) Execute) _ q (λ may.
         k.done (with_directory l ino) (r0 l) (r1 l)
         (k.inodes _ (with_directory l ino).inodes (put_back_counts (with_reference l.inodes ino) l.u.dir)
-        (own_key l.u.dir own.dir (lets_go_there (entered_at l ino) l.u.dir)) (k.enters l ino moves q))))))
+        (own_key l.u.dir own.dir (lets_go_there (entered_at l ino) l.u.dir)) (k.enters l ino here moves q))))))
 
     -- 14, mknod
     pub walk_mknod : (h : Handed) (name mode device now : ℕ) → P h → Q (mknod_at h name mode device now)
@@ -741,8 +740,8 @@ module _ {P : Handed → Type 0} {Q : Did → Type 0} {Few Known Line Here : ℕ
         (k.done _ fd (r1 h) (k.given h (r0 h) fd named.0 (need_some EMFILE (free_number h.u.files) fd number) moves p))))
 
     -- 42, pipe
-    opens_pipe : (h : Handed) (ino : ℕ) → 1 ≤ ino → ino ≤ key_count h.inodes.store → Moves → P h → Q (opens_ends h ino)
-    opens_pipe h ino above within moves p =
+    opens_pipe : (h : Handed) (ino : ℕ) → 1 ≤ ino → ino ≤ key_count h.inodes.store → Here ino → Moves → P h → Q (opens_ends h ino)
+    opens_pipe h ino above within here moves p =
         checks_so h (need EMFILE (free_number h.u.files)) _ p (λ fd number.
         checks_so h (need ENFILE (free_entry h.files)) _ p (λ entry free.
         let first : Handed = with_end h ino reading_end fd entry in
@@ -751,14 +750,15 @@ module _ {P : Handed → Type 0} {Q : Did → Type 0} {Few Known Line Here : ℕ
         k.done _ fd next_fd (k.ends h ino fd entry next_fd next_entry above within
         (need_some EMFILE (free_number h.u.files) fd number) (need_some ENFILE (free_entry h.files) entry free)
         (need_some EMFILE (free_number first.u.files) next_fd next_number)
-        (need_some ENFILE (free_entry first.files) next_entry next_free) moves p)))))
+        (need_some ENFILE (free_entry first.files) next_entry next_free) here moves p)))))
 
-    pub walk_pipe : (h : Handed) (now : ℕ) → Both → Moves → P h → Q (pipe_new h now)
-    walk_pipe h now both moves p =
+    pub walk_pipe : (h : Handed) (now : ℕ)
+        → Touches Here Both h.inodes.store (new_in h.inodes 0 IALLOC (record { uid = 0; gid = 0 }) now).inodes.store → Moves → P h → Q (pipe_new h now)
+    walk_pipe h now touches moves p =
         let found : Finding ℕ = new_in h.inodes 0 IALLOC (record { uid = 0; gid = 0 }) now in
         let same : counts found.inodes.store ≡ counts h.inodes.store =
         new_counts h.inodes 0 IALLOC (record { uid = 0; gid = 0 }) now in
-        let there : P (with_inodes h found.inodes) = k.inodes h found.inodes same (inl both) p in
+        let there : P (with_inodes h found.inodes) = k.inodes h found.inodes same touches p in
         let made : Handed → ℕ → Did = λ l ino. until_end ino (opens_ends l ino) in
         k.named 1 (then_named h found made) (λ root.
         checks_so (with_inodes h found.inodes) found.answer _ there (λ ino is.
@@ -766,7 +766,7 @@ module _ {P : Handed → Type 0} {Q : Did → Type 0} {Few Known Line Here : ℕ
         k.lets_go ino (opens_ends (with_inodes h found.inodes) ino) (λ here.
         opens_pipe (with_inodes h found.inodes) ino within.0
         (subst (λ n. ino ≤ n) (keys_counted h.inodes.store found.inodes.store (sym same)) within.1)
-        moves there)))
+        here moves there)))
 
     -- A call in which a process slept goes on: its file is there, and in a pipe an end.
     pub walk_resume : (h : Handed) (now : ℕ) → CanResume Few h → Owns Here h → P (without_pending h) → Q (resumes h slot now)
