@@ -1,5 +1,5 @@
 -- While nothing is covered a search that starts on the root's disk stays there, and comes to what it comes to over that disk alone.
-use Rattle.std.proofs.Common.{◌≡◌, ◌≤◌, ◌-◌, ◌*◌, ◌&&◌, ◌||◌, ℕ, nat_le, nat_lt, Bool, true, false, not, cond, List, [], ◌∷◌, Option, Some, None, is_some, Result, Ok, Err, refl, sym, ap, ◌∙◌, subst, arith}
+use Rattle.std.proofs.Common.{◌≡◌, ◌≤◌, ◌-◌, ◌*◌, ◌&&◌, ◌||◌, ℕ, nat_le, Bool, true, false, not, cond, List, [], ◌∷◌, Option, Some, None, is_some, Result, Ok, Err, refl, sym, ap, ◌∙◌, subst}
 use Rattle.std.proofs.lemmas.Bool.{leb-true, le-leb, le-ltb}
 use Rattle.v6_base.specs.Access.{then_do}
 use Rattle.v6_base.specs.declared.errno.Errno.{Errno}
@@ -20,7 +20,7 @@ use Rattle.fs_tree.specs.declared.made.Made.{Made}
 use Rattle.fs_tree.specs.declared.made.Made.TheVariants as made
 use Rattle.fs_tree.specs.Alone.{alone, table_alone, StartsOnRoot}
 use Rattle.fs_tree.specs.Directory.{looked}
-use Rattle.fs_tree.specs.Finding.{Inodes, Finding, can_refer, with_reference, refused, referring, finding, find_in, named_by_made, making, make_in, put_back, referring_both, removing, remove_in}
+use Rattle.fs_tree.specs.Finding.{Inodes, Finding, can_refer, with_reference, refused, referring, finding, find_in, named_by_made, making, make_in, put_back, removing, remove_in}
 use Rattle.fs_tree.specs.Mounting.{AreMounts}
 use Rattle.fs_tree.specs.Name.{is_whole, components, start_of}
 use Rattle.fs_tree.specs.Path.{with_node_of, used_number, used_key, entry_number, reached, looked_in, in_directory, is_last, walk, way, found, write_access, found_or_room, to_make, entry_to_remove, to_remove}

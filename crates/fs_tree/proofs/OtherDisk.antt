@@ -1,5 +1,5 @@
 -- A reference that goes, and a search for an entry that goes, leave the store of the other disk alone.
-use Rattle.std.proofs.Common.{◌≡◌, ◌==◌, ℕ, Bool, true, false, not, cond, slice_index, Option, Some, None, Result, Ok, Err, MatchResult, refl, sym, ap, subst}
+use Rattle.std.proofs.Common.{◌≡◌, ◌==◌, ℕ, Bool, true, false, not, cond, slice_index, Option, Some, None, Result, Ok, Err, MatchResult, sym, ap, subst}
 use Rattle.v6_base.specs.declared.errno.Errno.{Errno}
 use Rattle.v6_base.specs.declared.errno.Errno.TheVariants.{ENFILE}
 use Rattle.fs_codec.specs.Store.{Node}

@@ -1,9 +1,8 @@
 -- An image that gets other sizes, and one whose text goes: the bytes that are written, by the one that was there.
-use Rattle.std.proofs.Common.{◌≡◌, ◌∙◌, ℕ, ◌+◌, ◌*◌, List, ◌++◌, sym, ap}
+use Rattle.std.proofs.Common.{◌≡◌, ◌∙◌, ℕ, ◌*◌, List, sym, ap}
 use Rattle.v6_base.specs.declared.entry.Place.{Place}
 use Rattle.v6_base.specs.Image.{Image}
-use Rattle.v6_base.specs.Sizes.{cut_back, cut_front}
-use Rattle.core_mem.specs.Bytes.{part, over}
+use Rattle.core_mem.specs.Bytes.{over}
 use Rattle.u_area.specs.declared.area.UArea.{UArea}
 use Rattle.u_area.specs.Area.{area_bytes}
 use Rattle.image_keep.specs.declared.row.State.TheVariants as state

@@ -1,16 +1,15 @@
 -- Bytes of a memory that are written into a file, in one write or in two.
-use Rattle.std.proofs.Common.{◌≡◌, ◌⊎◌, ◌+◌, ◌-◌, ◌%◌, ◌≤◌, ◌==◌, ◌||◌, ℕ, Bool, true, false, not, List, min, Option, Some, None, IsSome, unwrap_or, Result, Ok, Err, inl, inr, refl, sym, ap, ◌∙◌, subst, arith}
-use Rattle.std.proofs.lemmas.Bool.{cases_lt, cases_eq, eq-eqb, ne_eqb}
-use Rattle.std.proofs.lemmas.List.{set-set}
+use Rattle.std.proofs.Common.{◌≡◌, ◌⊎◌, ◌+◌, ◌-◌, ◌%◌, ℕ, List, min, Option, Some, None, IsSome, unwrap_or, Result, Ok, Err, inl, inr, refl, sym, ap, ◌∙◌, subst, arith}
+use Rattle.std.proofs.lemmas.Bool.{cases_lt}
 use Rattle.v6_base.specs.Image.{Image}
 use Rattle.v6_base.specs.Copy.{load_bytes}
 use Rattle.v6_base.specs.declared.errno.Errno.{Errno}
 use Rattle.v6_base.proofs.Copies.{load_wraps}
-use Rattle.fs_codec.specs.Store.{Node, Store}
+use Rattle.fs_codec.specs.Store.{Node}
 use Rattle.fs_laws.specs.Pieces.{Moving, write_file}
-use Rattle.fs_laws.specs.Numbers as numbers
-use Rattle.fs_nodes.specs.Keys.{Stores, store_at, number_of, node_numbered, room_at, with_store_at, with_node}
-use Rattle.fs_nodes.proofs.KeyLaws.{stands, put_twice, node_set, room_set}
+use Rattle.fs_nodes.specs.Keys.{Stores, node_numbered, room_at, with_node}
+use Rattle.fs_nodes.proofs.KeyLaws.{node_set, room_set}
+use Rattle.fs_nodes.proofs.SetTwice.{node_twice}
 use Rattle.fs_nodes.specs.Copy.{get_from, get_kernel}
 use Rattle.fs_nodes.specs.FileSystem.{FileSystem}
 use Rattle.fs_tree.specs.Entries.{written, answer_to, WritesEntry}
@@ -29,40 +28,6 @@ node_there store ino some = by (node_numbered store ino) some
     by : (o : Option Node) → IsSome o → o ≡ Some (unwrap_or o no_node)
     by (Some node) some = refl
     by None some = absurd (cc)
-
--- Where the number of free blocks falls twice, it differs in the end if it ever did.
-mark_twice : (mark : Bool) (r s t : ℕ) → s ≤ r → t ≤ s → (mark || not (s == r)) || not (t == s) ≡ mark || not (t == r)
-mark_twice mark r s t less least = by mark (cases_eq s r) (cases_eq t s)
-  where
-    by : (mark : Bool) → (s ≡ r) ⊎ (s ≡ r → ⊥) → (t ≡ s) ⊎ (t ≡ s → ⊥)
-        → (mark || not (s == r)) || not (t == s) ≡ mark || not (t == r)
-    by true a b = refl
-    by false (inl same) b = ap (λ x. not (x == r) || not (t == x)) same ∙ ap (λ b. not b || not (t == r)) (eq-eqb r r refl)
-    by false (inr other) (inl same) = ap (λ b. not b || not (t == s)) (ne_eqb s r other)
-        ∙ sym (ap not (ne_eqb t r (λ e. other (omega (arith, e, same)))))
-    by false (inr other) (inr different) =
-        ap (λ b. not b || not (t == s)) (ne_eqb s r other)
-        ∙ sym (ap not (ne_eqb t r (λ e. other (omega (arith, e, less, least)))))
-
--- A node is set twice, and the free blocks do not become more.
-store_twice : (store : Store) (i : ℕ) (a b : Node) (r s : ℕ) → r ≤ store.room → s ≤ r
-    → numbers.with_node (numbers.with_node store i a r) i b s ≡ numbers.with_node store i b s
-store_twice store i a b r s less least =
-    ap (λ nodes. record (numbers.with_node (numbers.with_node store i a r) i b s) { nodes = nodes })
-    (set-set store.nodes i (Some a) (Some b))
-    ∙ ap (λ mark. record (numbers.with_node store i b s) { mark = mark }) (mark_twice store.mark store.room r s less least)
-
-node_twice : (store : Stores) (ino : ℕ) (a b : Node) (r s : ℕ) → r ≤ room_at store ino → s ≤ r
-    → with_node (with_node store ino a r) ino b s ≡ with_node store ino b s
-unfolding with_node room_at
-node_twice store ino a b r s less least =
-    let own : Store = store_at store ino in
-    let i : ℕ = number_of store ino in
-    let x : Store = numbers.with_node own i a r in
-    let at = stands store.root store.second ino x refl in
-    (λ j. with_store_at (with_store_at store ino x) ino (numbers.with_node (at.store j) (at.number j) b s))
-    ∙ put_twice store.root store.second ino x (numbers.with_node x i b s) refl
-    ∙ ap (λ (y : Store). with_store_at store ino y) (store_twice own i a b r s less least)
 
 -- what one write leaves that is alike to another
 alike_leaves : (store : Stores) (ino : ℕ) (m x : Moving (Unit {0})) (last : Stores) (r : Result (Unit {0}) Errno) → Alike m x

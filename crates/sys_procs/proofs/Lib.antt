@@ -52,6 +52,5 @@ pub mod Signalled
 pub mod SentAll
 pub mod SignalCalls
 pub mod PartedReads
-pub mod SetTwice
 pub mod TextParts
 pub mod ReadParts

@@ -22,7 +22,7 @@ use Rattle.sys_procs.specs.inside.Parts.{part_in, with_part}
 use Rattle.sys_procs.proofs.KeptOwner.{node_put}
 use Rattle.sys_procs.proofs.LoadData.{node_there}
 use Rattle.sys_procs.proofs.PartedReads.{Parted, part, part_fewer, parted}
-use Rattle.sys_procs.proofs.SetTwice.{node_twice, own_node}
+use Rattle.fs_nodes.proofs.SetTwice.{node_twice, own_node}
 
 -- Bytes are put into a list, and others behind them.
 patched_twice : (at n : ℕ) (xs ys b : List ℕ) → length xs ≡ n → at ≤ length b
