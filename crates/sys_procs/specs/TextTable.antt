@@ -1,5 +1,5 @@
 -- The table of the texts that processes share: `text.h` in Lions' Commentary.
-use Rattle.std.specs.Prelude.{ℕ, ◌==◌, Bool, false, List, [], map, position, slice_index_or, slice_set, Option, Some, None}
+use Rattle.std.specs.Prelude.{ℕ, ◌==◌, Bool, false, List, [], map, replicate, position, slice_index_or, slice_set, Option, Some, None}
 use Rattle.std.specs.List.{list_any, range_with_len}
 use Rattle.std.specs.Option.{unwrap_or}
 use Rattle.fs_tree.specs.declared.marks.TheConstants.{INODE_NUMBERS}
@@ -8,6 +8,10 @@ pub record Text : Type 0 where
   pub ino : ℕ
   pub bytes : List ℕ
   pub users : ℕ
+
+-- no text is shared
+unfoldable pub no_texts : List (Option Text)
+no_texts = replicate 40 None
 
 -- what stands for a text where an entry is free
 abbrev pub no_text : Text
