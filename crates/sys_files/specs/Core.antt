@@ -29,14 +29,15 @@ writes_parts now h ino =
     writes_entry h ino AREA_SIZE h.image.data now (λ h.
     writes_entry h ino d h.image.stack now is_done))
 
--- A file that is there is used where it is plain and the user may write it; it gives its blocks back first.
+-- A file that is there is used where it is plain and the user may write it; it gives its blocks back first. Any other stays as it
+-- is, and nothing is written.
 abbrev pub writes_over : ℕ → Handed → ℕ → Did
 writes_over now h ino =
     check h (must EACCES (is_plain (node_at h ino).mode)) (λ plain.
     check h (access h.marks ino (node_at h ino) (user_of h.u) Write) (λ may.
     writes_parts now (with_no_blocks h ino now) ino))
 
--- Else one is made, which all may read and write.
+-- Where there is none, one is made, which all may read and write.
 abbrev pub writes_new : ℕ → Handed → ℕ → ℕ → List ℕ → Did
 writes_new now h dir offset name = makes_node h dir offset name 0o666 now (writes_parts now)
 

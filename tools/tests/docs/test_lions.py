@@ -53,3 +53,22 @@ class Links(unittest.TestCase):
         for page in PAGES:
             self.assertEqual(len(QUESTION.findall(self.page(page + ".md"))), 2, page)
             self.assertIn(f"]({page}.md)", first)
+
+
+class Names(unittest.TestCase):
+    """The names of the book: each file that a row names is there, and has what the row names after it."""
+
+    def test_rows(self):
+        crates, seen = os.path.join(TOP, "crates"), 0
+        rows = read(os.path.join(TOP, "docs", "lions-names.md")).decode().splitlines()
+        for cell in (cell for row in rows if row.startswith("| ") for cell in row.split(" | ")[1:]):
+            source = ""
+            for name in re.findall(r"`([\w/]+)`", cell):
+                crate, _, file = name.partition("/")
+                if file:
+                    definitions = file.startswith("specs/")
+                    source = read(os.path.join(crates, crate, f"{file}.antt" if definitions else f"src/{file}.rt")).decode()
+                elif not os.path.isdir(os.path.join(crates, name)):
+                    self.assertRegex(source, rf"\b(?:fn|struct|enum|trait|record|pub) {name}\b", cell)
+                    seen += 1
+        self.assertGreater(seen, 200)
