@@ -29,8 +29,8 @@ writes_parts now h ino =
     writes_entry h ino AREA_SIZE h.image.data now (λ h.
     writes_entry h ino d h.image.stack now is_done))
 
--- A file that is there is used where it is plain and the user may write it; it gives its blocks back first. Any other stays as it
--- is, and nothing is written.
+-- A file that is there is used where it is plain and the user may write it; it gives its blocks back first. Into any other
+-- nothing is written.
 abbrev pub writes_over : ℕ → Handed → ℕ → Did
 writes_over now h ino =
     check h (must EACCES (is_plain (node_at h ino).mode)) (λ plain.
