@@ -24,7 +24,7 @@ from v6.run.dialogue import (END_OF_FILE, HIDDEN, INTERRUPT, LINES, MANY, OVER, 
                              DialogueError, Machine, Refused, keys, line_of, shown)
 from v6.run.ends import Processes, programs_of_all
 from v6.run.screen import without_echo
-from v6.run.script import HEADER, head_of
+from v6.run.script import ELSEWHERE, HEADER, ScriptError, check_lines, head_of
 from dataclasses import dataclass  # after v6, which tells a Python that hasn't it
 
 HELP = """~.      ends, and so does the end of a file that is read in the place of the keyboard
@@ -47,6 +47,7 @@ ENDS = signal.SIGTERM, signal.SIGHUP
 FULL = errno.ENOSPC, errno.EDQUOT  # why a host has no room
 WELCOME = "~? tells what the console does itself, and ~. ends it"
 OVER_SSH = "; over ssh type ~~. for it, since ~. ends ssh"
+REPLAYED = "--replay plays this one"
 LINE = re.compile(r"^(script: (?:too many slots at )?line )([0-9]+)")  # of a script that has a head, which a file needn't have
 CONTROL = re.compile(rb"\^([?-~])")  # a control character, as it is typed in ~k
 TWO_FILES = (("script", "disk"), ("script", "image"), ("script", "second"), ("script", "second_disk"), ("disk", "second"),
@@ -272,6 +273,9 @@ class Console:
         return [b"line %d" % self.line, *lines]
 
     def add(self, line):
+        for one in line.lines:
+            if ELSEWHERE.fullmatch(one):
+                self.one_of_eight(int(one[-1:]))
         is_typed = any(one.startswith((b"type", b"byte")) for one in line.lines)
         try:
             found = self.dialogue.add([HIDDEN] * line.is_hidden + (self.typed(line.lines) if is_typed else line.lines))
@@ -559,18 +563,19 @@ class Script:
 
 
 def check_header(options, machine, found):
-    """A script goes on only over the disk and the core that it was typed at."""
-    if not found or options.replay or found[0] == machine.header:
+    """A script goes on only over the disk and the core that it was typed at, unless --replay says otherwise; and in no case where the
+    machine hasn't its lines or its second disk, since it would be another run."""
+    if not found or found[0] == machine.header:
         return
     mine = HEADER.fullmatch(machine.header)
-    what = (f"at another disk than {options.image}" if mine[1] != found[1] else
-            "with another size of core" if mine[2] != found[2] else
-            "at one line of the terminal" if mine[3] and not found[4] else
-            "at eight lines of the terminal" if found[3] else
-            "beside a second disk, which --second names" if found[4] and not mine[4] else
-            f"beside another second disk than {options.second}" if found[4] else "without a second disk")
-    raise ConsoleError(f"{options.script} was typed {what}: another --script begins a new dialogue, and --replay plays this "
-                       "one")
+    what, way = (("at eight lines of the terminal", "without --second it goes on") if found[3] and not mine[3] else
+                 ("beside a second disk", "--second IMAGE2 goes on with it") if found[4] and not mine[4] else
+                 (f"at another disk than {options.image}", REPLAYED) if mine[1] != found[1] else
+                 ("with another size of core", REPLAYED) if mine[2] != found[2] else
+                 ("at one line of the terminal", REPLAYED) if mine[3] and not found[3] else
+                 (f"beside another second disk than {options.second}" if found[4] else "without a second disk", REPLAYED))
+    if way != REPLAYED or not options.replay:
+        raise ConsoleError(f"{options.script} was typed {what}: another --script begins a new dialogue, and {way}")
 
 
 def run(options, folder):
@@ -600,6 +605,8 @@ def run(options, folder):
         tell(WELCOME + OVER_SSH * ("SSH_CONNECTION" in os.environ))
     try:
         check_header(options, machine, head)
+        if not eight and script.known is not None:
+            check_lines(options.script, script.known, "--lines gives eight")
         found = console.dialogue.begin(old)
         if machine.eight and line_of(old):
             console.line = line_of(old)
@@ -609,6 +616,9 @@ def run(options, folder):
         why = why_silent(read_bytes(machine.images[0].copy), console.dialogue.played.log) if silent else None
         if why:
             tell(why)
+    except ScriptError as error:
+        tell(error)
+        return 1
     except DialogueError as error:
         said = str(error) if head else LINE.sub(lambda line: f"{line[1]}{int(line[2]) - 1}", str(error), count=1)
         tell(f"{options.script}: {said.removeprefix('script: ')}" if said.startswith("script: ") else said)

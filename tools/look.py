@@ -20,7 +20,7 @@ from v6.log.processes import LogFault
 from v6.run.ends import programs_of_all
 from v6.run.history import History
 from v6.run.moments import NO_MEMORY, MomentError, Run
-from v6.run.script import ScriptError, add_replay, check_head, read_script
+from v6.run.script import ScriptError, add_replay, check_script, read_script
 
 KNOWN = (LookError, MomentError, ProgramError, LogFault)
 LAST = ("end", "panic")
@@ -41,8 +41,7 @@ def compare(run, name):
 
 
 def looker_of(options, folder):
-    if not options.replay:
-        check_head(options.script, options.image, options.core, options.eight, options.second)
+    check_script(options.script, options.image, options.core, options.eight, options.second, options.replay)
     run = Run(options.v6, options.image, options.core, read_script(options.script), folder, options.eight, options.second)
     if options.log:
         compare(run, options.log)

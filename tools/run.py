@@ -15,7 +15,7 @@ sys.path.insert(0, os.path.dirname(os.path.abspath(__file__)))
 from v6.disk.silent import why_silent
 from v6.host.files import STREAMS, guarded, place_of, put_out, read_bytes, same_file
 from v6.host.program import CORE, V6, ProgramError, add_version, call, named
-from v6.run.script import ScriptError, add_replay, check_head, head_of, with_line
+from v6.run.script import ScriptError, add_replay, check_script, head_of, with_line
 
 OUTPUTS = ("term", "log", "disk")
 SECOND = "second disk"  # what `v6 run2` writes beside these
@@ -73,8 +73,7 @@ def run(options):
     if core is None:
         head = head_of(options.script)
         core = int(head[2]) if head else CORE
-    if not options.replay:
-        check_head(options.script, options.image, core, options.eight, options.second)
+    check_script(options.script, options.image, core, options.eight, options.second, options.replay)
     for name in outputs.values():
         if name not in STREAMS:
             place_of(name)

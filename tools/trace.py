@@ -15,14 +15,16 @@ from v6.host.files import folder_of_runs, guarded
 from v6.host.program import CORE, V6, ProgramError, add_version
 from v6.log.processes import LogFault
 from v6.run.moments import MomentError, Run
-from v6.run.script import ScriptError, add_replay, check_head, read_script
+from v6.run.script import ScriptError, add_replay, check_script, read_script
+
+# for a script of a machine of which memory tells nothing, by which calls are known
+OTHER_WAYS = "look.py --eight shows what its log tells", "look.py --second IMAGE2 shows what its log tells"
 
 
 def trace(options):
     image = options.image
     with folder_of_runs() as folder:
-        if not options.replay:
-            check_head(options.script, image, options.core)
+        check_script(options.script, image, options.core, replay=options.replay, ways=OTHER_WAYS)
         run = Run(options.v6, image, options.core, read_script(options.script), folder)
         shown = 0
         for _, said in Tracer(run, options).follow():

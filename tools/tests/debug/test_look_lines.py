@@ -73,7 +73,7 @@ class Lines(Case):
         self.assertEqual((status, said.splitlines()[-1]),
                          (2, "look.py: error: --eight and --second: a machine has eight lines, or a second disk"))
         self.assertEqual(self.looked(PACK, [], "ps")[::2],
-                         (1, f"look.py: {os.path.join(PACK, 'script')} was typed beside a second disk: --replay plays it all the same\n"))
+                         (1, f"look.py: {os.path.join(PACK, 'script')} was typed beside a second disk: --second IMAGE2 plays it so\n"))
         none = self.path("none")
         self.assertEqual(self.looked(PACK, ["--second", none], "ps", script=self.put("script", b"run 5\n"))[::2],
                          (1, f"look.py: {none}: No such file or directory\n"))

@@ -108,6 +108,6 @@ class Lines(Case):
             status, _, said = self.call(page_main, *words)
             self.assertEqual((status, said.splitlines()[-1]), (2, f"page.py: error: {why}"))
         for words, why in (((image, "3968", script, "--second", pack, "-o", pack), f"{pack}: the page would take the place of what it is made of"),
-                           ((image, "3968", script, "-o", out), f"{script} was typed beside a second disk: --replay plays it all the same")):
+                           ((image, "3968", script, "-o", out), f"{script} was typed beside a second disk: --second IMAGE2 plays it so")):
             self.assertEqual(self.call(page_main, "--v6", V6, "--moments", "2", *words)[::2], (1, f"page.py: {why}\n"))
         self.assertFalse(os.path.exists(out))

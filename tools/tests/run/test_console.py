@@ -671,7 +671,7 @@ class EightLines(Case):
         self.assertEqual(v6("check", final)[0], 0)
         run = tool("run").main
         status, said = self.call(run, "--v6", V6, self.IMAGE, script, "--term", term)[::2]
-        self.assertEqual((status, said), (3, f"run.py: {script} was typed at eight lines: --replay plays it all the same\n"))
+        self.assertEqual((status, said), (3, f"run.py: {script} was typed at eight lines: --eight plays it so\n"))
         self.assertEqual(self.call(run, "--v6", V6, "--eight", self.IMAGE, script, "--term", term), (0, "", ""))
         self.assertEqual(read(term + ".1"), shown)
         one = self.path("one")
@@ -679,6 +679,17 @@ class EightLines(Case):
         self.assertEqual(self.session("", "--lines", "--script", one)[2], (
             f"\nconsole: {one} was typed at one line of the terminal: another --script begins a new dialogue, and --replay plays "
             "this one\n"))
+
+    def test_a_script_of_other_lines(self):
+        """One without a first line of the console's is refused too where it names a line that isn't there, and so is a line that is put
+        into the script: what is typed at it would be lost."""
+        script = self.put("script", b"run 1000\nline 1\ntype guest\nrun 1000\n")
+        for more in ((), ("--replay",)):
+            self.assertEqual(self.session("ls\n", "--script", script, *more),
+                             (1, b"", f"\nconsole: {script}: line 2: 'line 1': this run has line 0 alone: --lines gives eight\n"))
+        self.assertEqual(self.session("who\n", "--script", script, "--lines")[0], 0)
+        status, _, said = self.session("~:line 1\n~:hangup 7\n~:line 0\n")
+        self.assertEqual((status, said), (1, "".join(f"\nconsole: there is no line {line}: --lines gives eight, 0 to 7\n" for line in (1, 7))))
 
     def test_waits(self):
         """A line gets slots enough where programs wait for the disk, and bytes go out one by one."""

@@ -94,6 +94,25 @@ class Run(Case):
                 status, out, error = self.call(main, "--replay", *words)
                 self.assertEqual((status, bool(out), error), (0, True, ""))
 
+    def test_a_script_of_eight_lines(self):
+        """At one line it would be another run: what is typed at the others would be lost, and no word of it. So no tool plays it, also not
+        with --replay, and each says what to do."""
+        image, digest = self.image(), hashlib.sha256(read(os.path.join(HI, "image"))).hexdigest()
+        typed = self.put("typed", f"; console: image sha256 {digest} core 1200 lines\nrun 100\n".encode())
+        other = self.put("other", b"line 0\nhangup 0\nrun 100\ntype line 1\nline 7\ntype a\nhangup 1\nrun 5\n")
+        gone = self.put("gone", b"hangup 1\r\nrun 100\n")
+        page = ("-o", self.path("page.html"))
+        for script, begins in ((typed, f"{typed} was typed at eight lines"), (other, f"{other}: line 5: 'line 7': this run has line 0 alone"),
+                               (gone, f"{gone}: line 1: 'hangup 1': this run has line 0 alone")):
+            for more in ((), ("--replay",)):
+                self.assertEqual(self.run_it(image, script, "--core", "1200", *more), (3, "", f"run.py: {begins}: --eight plays it so\n"))
+                for name, words, way in (("look", ("-c", "ps"), "--eight plays it so"), ("page", page, "--eight plays it so"),
+                                         ("trace", (), "look.py --eight shows what its log tells")):
+                    found = self.call(tool(name).main, "--v6", V6, image, "1200", script, *words, *more)
+                    self.assertEqual(found, (1, "", f"{name}.py: {begins}: {way}\n"))
+            self.assertEqual(self.run_it(image, script, "--core", "1200", "--eight", "--term", self.path("term")), (0, "", ""))
+        self.assertEqual(self.run_it(image, self.put("zero", b"line 0\nhangup 0\nrun 100\n"))[0], 0)
+
     def test_pages_that_teach_another_way(self):
         """Where a page teaches `v6 run`, which empties the files that it is given, it leads to run.py."""
         for name in ("README.md", "docs/lions/README.md", "docs/manual/commands.md"):

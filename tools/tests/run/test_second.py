@@ -100,15 +100,18 @@ class Run(Second):
         self.assertEqual(self.run_it(self.image, script, "--second", self.pack)[::2], (0, ""))
         shutil.copy(self.pack, self.path("copy"))
         self.assertEqual(self.run_it(self.image, script, "--second", self.path("copy"))[0], 0)
-        for words, what in (((), "beside a second disk"), (("--second", other), f"beside another second disk than {other}")):
-            said = f"{script} was typed {what}: --replay plays it all the same\n"
-            self.assertEqual(self.run_it(self.image, script, *words), (3, "", f"run.py: {said}"))
-            self.assertEqual(self.run_it(self.image, script, *words, "--replay")[::2], (0, ""))
+        said, words = f"run.py: {script} was typed beside another second disk than {other}: --replay plays it all the same\n", ("--second", other)
+        self.assertEqual(self.run_it(self.image, script, *words), (3, "", said))
+        self.assertEqual(self.run_it(self.image, script, *words, "--replay")[::2], (0, ""))
+        said = f"{script} was typed beside a second disk: --second IMAGE2"
+        for more in ((), ("--replay",)):  # without its disk it would be another run
+            self.assertEqual(self.run_it(self.image, script, *more), (3, "", f"run.py: {said} plays it so\n"))
         none = self.path("none")
         self.assertEqual(self.run_it(self.image, script, "--second", none), (2, "", f"run.py: {none}: No such file or directory\n"))
         for name, more in (("look", ("-c", "log 1")), ("trace", ()), ("page", ("-o", self.path("page")))):
-            status, _, error = self.call(tool(name).main, "--v6", V6, self.image, "3968", script, *more)
-            self.assertEqual((status, error), (1, f"{name}.py: {script} was typed beside a second disk: --replay plays it all the same\n"))
+            way = f"{script} was typed beside a second disk: look.py --second IMAGE2 shows what its log tells" if name == "trace" else f"{said} plays it so"
+            for more in (more, (*more, "--replay")):
+                self.assertEqual(self.call(tool(name).main, "--v6", V6, self.image, "3968", script, *more), (1, "", f"{name}.py: {way}\n"))
 
 
 class Console(Second):
@@ -148,11 +151,13 @@ class Console(Second):
         self.session(MOUNT, "--second", self.pack, "--script", script)
         before = read(script)
         self.assertEqual(before.decode().splitlines()[0] + "\n", self.head())
-        refused = "another --script begins a new dialogue, and --replay plays this one\n"
-        for words, what in (((), "beside a second disk, which --second names"), (("--lines",), "beside a second disk, which --second names"),
-                            (("--second", other), f"beside another second disk than {other}")):
+        refused, replay = "another --script begins a new dialogue, and ", "--replay plays this one"
+        for words, what, way in (((), "beside a second disk", "--second IMAGE2 goes on with it"),
+                                 (("--replay",), "beside a second disk", "--second IMAGE2 goes on with it"),
+                                 (("--lines",), "beside a second disk", "--second IMAGE2 goes on with it"),
+                                 (("--second", other), f"beside another second disk than {other}", replay)):
             self.assertEqual(self.session("ls\n", "--script", script, *words),
-                             (1, b"", f"\nconsole: {script} was typed {what}: {refused}"))
+                             (1, b"", f"\nconsole: {script} was typed {what}: {refused}{way}\n"))
         self.assertEqual(read(script), before)
         self.assertEqual(self.session("ls /usr/bin\n", "--script", script, "--second", self.pack)[1].split(b"# ")[-2], b"ls /usr/bin\r\nfactor\r\n")
         status, _, said = self.session("", "--script", script, "--second", other, "--replay")
@@ -160,9 +165,11 @@ class Console(Second):
         one, eight = self.path("one"), self.path("eight")
         self.session("ls\n", "--script", one)
         self.session("ls\n", "--script", eight, "--lines")
-        for name, what in ((one, "without a second disk"), (eight, "at eight lines of the terminal")):
-            self.assertEqual(self.session("", "--script", name, "--second", self.pack)[2],
-                             f"\nconsole: {name} was typed {what}: {refused}")
+        for name, what, way, more in ((one, "without a second disk", replay, ()),
+                                      (eight, "at eight lines of the terminal", "without --second it goes on", ()),
+                                      (eight, "at eight lines of the terminal", "without --second it goes on", ("--replay",))):
+            self.assertEqual(self.session("", "--script", name, "--second", self.pack, *more)[2],
+                             f"\nconsole: {name} was typed {what}: {refused}{way}\n")
 
     def test_a_pack_that_changes_meanwhile(self):
         """Each line is played on what was read of it; what another program has put in its place isn't written over."""

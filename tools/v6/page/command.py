@@ -37,11 +37,10 @@ def page_of_run(options):
     from v6.page.html import WITHOUT, html_of_run
     from v6.page.run import Recorded, account_of_lines, account_of_run
     from v6.run.ends import programs_of_all
-    from v6.run.script import check_head, read_script, ticks_of
+    from v6.run.script import check_script, read_script, ticks_of
     from v6.debug.symbols import Programs
 
-    if not options.replay:
-        check_head(options.script, options.image, options.core, options.eight, options.second)
+    check_script(options.script, options.image, options.core, options.eight, options.second, options.replay)
     with folder_of_runs() as folder:
         script = read_script(options.script)
         run = Recorded(options.v6, options.image, options.core, script, folder, options.eight, options.second)

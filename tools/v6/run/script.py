@@ -13,6 +13,9 @@ OTHER = re.compile(rb"tick|type(?: [\x20-\x7e]*)?|byte [0-3][0-7]{2}|switch [01]
                    rb"(?:line|hangup) [0-7]|(?:;.*)?", re.DOTALL)
 
 
+ELSEWHERE = re.compile(rb"(?:line|hangup) [1-7]")  # what a machine of one line of a terminal hasn't
+HAS_OPTIONS = "--eight plays it so", "--second IMAGE2 plays it so"  # of a tool that has both machines
+
 FAULT = re.compile(r"(script: line|script: too many slots at line) ([0-9]+)")  # as the program tells one
 
 
@@ -76,19 +79,40 @@ def digest_of(name):
     return hashlib.sha256(read_bytes(name)).hexdigest().encode() if os.path.isfile(name) else None
 
 
-def check_head(name, image, core, eight=False, second=None):
-    """Refuses a script of the console that was typed at another disk or core, at eight lines where there is one, or beside a second
-    disk where there is another one, or none."""
-    found = head_of(name)
-    if not found or not os.path.isfile(image):
+def check_script(name, image, core, eight=False, second=None, replay=False, ways=HAS_OPTIONS):
+    """Refuses a script that is of another machine: one of the console that was typed at eight lines where there is one, or beside a second
+    disk where there is none, and any that names a line which isn't there. `ways` say how it can be played. A script that was typed at
+    other disks, or with another core, is played where `replay` says so."""
+    if not os.path.isfile(name) or not os.path.isfile(image):
         return
+    found = head_of(name)
+    if found and found[3] and not eight:
+        raise ScriptError(f"{name} was typed at eight lines: {ways[0]}")
+    if found and found[4] and not second:
+        raise ScriptError(f"{name} was typed beside a second disk: {ways[1]}")
+    if not eight:
+        check_lines(name, read_script(name), ways[0])
+    if found and not replay:
+        check_head(found, name, image, core, second)
+
+
+def check_head(found, name, image, core, second):
+    """Refuses a script of the console that was typed at another disk or core, or beside another second disk."""
     what = (f"at another disk than {image}" if digest_of(image) != found[1] else
             "with another size of core" if int(found[2]) != core else
-            "at eight lines" if found[3] and not eight else
-            "beside a second disk" if found[4] and not second else
             f"beside another second disk than {second}" if found[4] and digest_of(second) not in (None, found[4]) else None)
     if what:
         raise ScriptError(f"{name} was typed {what}: --replay plays it all the same")
+
+
+def check_lines(name, data, way):
+    """Refuses a script that names another line of the terminal than the one of a machine that has one: what it types there would be lost
+    without a word."""
+    if len(data) > MOST:
+        return  # which is the fault that the program tells
+    for number, line in enumerate(lines_of(data), 1):
+        if ELSEWHERE.fullmatch(line):
+            raise ScriptError(f"{name}: line {number}: {shown(line)}: this run has line 0 alone: {way}")
 
 
 def add_replay(parser):
