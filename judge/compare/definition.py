@@ -2,8 +2,8 @@
 
 The definitions are read, and each becomes a function of Python: equations with patterns, records, lists, options, numbers. A
 proposition becomes a truth value: an equality is whether two values are equal, a product is `and`, a sum is `or`, and a number
-that is said to be there is looked for among the fifty slots. What the definitions use of std is written here, and `same_chan`,
-which is a derive's. A definition that this can't read, as one with an implication, may not be asked for. `first_fault` gives
+that is said to be there is looked for among the fifty entries. What the definitions use of std is written here, and
+`same_chan`, which is a derive's. A definition that this can't read, as one with an implication, may not be asked for. `first_fault` gives
 the number of the first line of a log that the definition `Fits` refuses.
 """
 import functools
@@ -89,7 +89,7 @@ class Reader:
         return left
 
     def existence(self):
-        """A slot is there with which the rest holds."""
+        """An entry is there with which the rest holds."""
         self.take("(")
         name = self.take()
         self.take(":")

@@ -9,8 +9,8 @@
 COMMAND is a built v6. It runs COUNT random programs, by turns those of judge/compare/processes.py with the words `small execs`, `full`,
 `small`, `signals` and `pipes`, and of each kind of judge/fuzz/main.py that runs a disk, under `run`, `run8` or `run2`; seeds from
 FIRST on (0 where it isn't given). Each log must be lawful. Then it is spoiled in seven ways, always the same for a seed:
-a line is left out, comes twice or changes places with the next; a number is one more or less; a slot is another; a word is
-another line's; a choice is made from slot 0 on. Three judges name the first line that is at fault: `COMMAND audit`, the
+a line is left out, comes twice or changes places with the next; a number is one more or less; an entry is another; a word is
+another line's; a choice is made from entry 0 on. Three judges name the first line that is at fault: `COMMAND audit`, the
 auditor of the reference, and the definition in crates/pick_rules/specs as it stands, which judge/compare/definition.py evaluates. It
 can't come before the line that was spoiled. `quick` leaves the definition out, which takes most of the time. `often` does too,
 and spoils each log four times in each way; the reference goes on there from what it had kept before the spoiled line, and
@@ -136,8 +136,8 @@ def other_word(rng, lines):
 
 @functools.lru_cache(maxsize=1)
 def choices_from_slot_0(lines):
-    """The choices that would be others, were they made from slot 0 on and not from the slot behind the last one: their lines,
-    and the slots."""
+    """The choices that would be others, were they made from entry 0 on and not from the entry behind the last one: their lines,
+    and the entries."""
     from abstract_unix import audit, logtext
     auditor, found = audit.Auditor(), []
     for at, line in enumerate(lines):

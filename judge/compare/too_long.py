@@ -27,7 +27,7 @@ from judge import TOP
 LIMIT = 1 << 40  # bytes of the longest log that isn't too long
 NEAR, PIECE, MOST_LINE = 4096, 4096, 80  # PIECE is what is read of a file at once
 LAWFUL, READ_FAULT, UNLAWFUL, BAD, TOO_LONG = 0, 2, 9, 10, 13
-BEGINS = (b"boot 1200 0", b"sleep 0 -100 runout", b"go 1")  # slot 1 runs then, so that `idle` doesn't fit
+BEGINS = (b"boot 1200 0", b"sleep 0 -100 runout", b"go 1")  # entry 1 runs then, so that `idle` doesn't fit
 KEYS, RUNIN, IDLE, END = b"wake keys", b"wake runin", b"idle", b"end"
 LINES = {*BEGINS, KEYS, RUNIN, IDLE, END}  # what is a line of a log, of all that stands in these
 HEAD = b"".join(line + b"\n" for line in BEGINS)

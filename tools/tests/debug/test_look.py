@@ -94,7 +94,7 @@ class Shown(unittest.TestCase):
     def test_a_process(self):
         shown = self.looker().lines_of("process 1")
         self.assertEqual(shown[:9], [
-            "process 1 in slot 1, a child of process 0", "state      R: runs", "image      37 clicks, in core from click 1 on; no text",
+            "process 1 in entry 1, a child of process 0", "state      R: runs", "image      37 clicks, in core from click 1 on; no text",
             "program    /etc/init", 'arguments  "/bin/x"',
             "registers  r0 000000  r1 000000  r2 000000  r3 000000  r4 000000  r5 000000",
             "           sp 177756  pc 000014  codes -z--", "code", "  000000 start          004767 000004         jsr     pc,sub"])
@@ -282,7 +282,7 @@ class Moves(unittest.TestCase):
     def test_steps(self):
         self.assertEqual(self.looker.lines_of("slot 100"), [
             "slot 100 of 10000000, second 1, line 9 of 15: process 1 (/etc/init) runs",
-            "      8  fork 1 2 at 38          process 1 makes process 2 in slot 2, at click 38",
+            "      8  fork 1 2 at 38          process 1 makes process 2 in entry 2, at click 38",
             "      9  trap 1                  process 1 has left the kernel"])
         self.assertEqual(self.at("step"), 101)
         self.assertEqual(self.at("back 3"), 98)
@@ -401,7 +401,7 @@ class Moves(unittest.TestCase):
             looker.lines_of("line 8")
 
     def test_a_spoiled_log(self):
-        with self.assertRaisesRegex(LogFault, "line 8: slot 7 is free there"):
+        with self.assertRaisesRegex(LogFault, "line 8: entry 7 is free there"):
             looker_of(ByHand(900, (*START, (5, "trap 7")), self.held)).lines_of("slot 6")
 
 
@@ -466,7 +466,7 @@ class Within(unittest.TestCase):
         self.assertEqual(self.looker.lines_of("words 040 1 of 1")[1].split()[-2], "000007")
         shown = self.looker.lines_of("process 1")
         self.assertEqual((shown[0], shown[3]), (said, "image      37 clicks, in the swap area from block 4007 on; no text"))
-        self.assertEqual(self.looker.lines_of("process")[1], "process 3 in slot 3, a child of process 1")
+        self.assertEqual(self.looker.lines_of("process")[1], "process 3 in entry 3, a child of process 1")
         self.assertEqual(self.looker.lines_of("code 0 1 of 1")[0], said)
         self.assertEqual(self.looker.lines_of("watch 040")[0], said)
         for line in ("line 81", "slot 5"):
@@ -490,7 +490,7 @@ class Within(unittest.TestCase):
 
 
 class Times(unittest.TestCase):
-    """For how many seconds each slot has been where it is: docs/manual/clock.md, and docs/manual/swapper.md."""
+    """For how many seconds each entry has been where it is: docs/manual/clock.md, and docs/manual/swapper.md."""
 
     def times(self, *lines):
         table = Table()
@@ -499,7 +499,7 @@ class Times(unittest.TestCase):
         return [table.rows[slot].time for slot in sorted(table.rows)]
 
     def test_each_second(self):
-        """The sixtieth tick ends a second, and the time of each slot grows, up to 127; also that of a slot that has ended."""
+        """The sixtieth tick ends a second, and the time of each entry grows, up to 127; also that of an entry that has ended."""
         second = ["tick u"] * 60
         self.assertEqual(self.times(*second[1:]), [0, 0])
         self.assertEqual(self.times(*second, *second[1:]), [1, 1])

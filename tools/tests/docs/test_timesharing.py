@@ -65,7 +65,7 @@ class Timesharing(Case):
             self.assertIn(f"`{line}`", rows)
 
     def test_picture(self):
-        """The page's commands draw the evening: a lane for each slot that is ever taken, and an axis of all slots of the script."""
+        """The page's commands draw the evening: a lane for each entry that is ever taken, and an axis of all slots of the script."""
         commands = read(os.path.join(EXAMPLE, "README.md")).decode().split("```\n")[3]
         for name, place in (("bin/v6", V6), ("examples/timesharing", EXAMPLE), ("tools/log.py", os.path.join(TOOLS, "log.py"))):
             self.assertIn(name, commands)
@@ -73,7 +73,7 @@ class Timesharing(Case):
         done = subprocess.run(["sh", "-ec", commands], cwd=self.folder, capture_output=True)
         self.assertEqual((done.returncode, done.stdout, done.stderr), (0, b"", b""))
         drawn = read(self.path("evening.svg")).decode()
-        self.assertEqual([f">slot {slot}: " in drawn for slot in (0, 7, 8)], [True, True, False])
+        self.assertEqual([f">entry {slot}: " in drawn for slot in (0, 7, 8)], [True, True, False])
         self.assertIn(">432000</text>", drawn)
 
     def test_build(self):

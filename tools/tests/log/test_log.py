@@ -73,7 +73,7 @@ TOLD = """line  012
    8  Rr.  process 1 comes into core at click 1, text 0 first
    9  sr.  the swapper waits until somebody out of core can run, at priority -100
   10  sR.  process 1 runs
-  11  rRo  process 1 makes process 2 in slot 2, in the swap area at block 4003
+  11  rRo  process 1 makes process 2 in entry 2, in the swap area at block 4003
   12  rwo  process 1 waits for bytes in the pipe of inode 9, at priority 1
   13  Rwo  the swapper runs
   14  RWo  process 1 goes out of core, to block 4007; text 0 leaves core
@@ -213,7 +213,7 @@ class Log(Case):
     def test_spoiled(self):
         none = ((line, f"no line of a log: {line!r}") for line in ("go 01", "walk 1", "go  1", "nice 1 -0", ""))
         for line, why in (("go 60", "S is 0 to 49: go 60"), *none,
-                          ("trap 7", "slot 7 is free there"), ("fork 1 1 at 9", "slot 1 isn't free there"),
+                          ("trap 7", "entry 7 is free there"), ("fork 1 1 at 9", "entry 1 isn't free there"),
                           ("share 1 3", "text 3 isn't in use there"), ("boot 64 0", "`boot` is the first line, and no other is")):
             self.refused(f"boot 64 0\nsleep 0 -100 runout\n{line}\nend\n", f"line 3: {why}")
         self.refused("go 1\nend\n", "line 1: `boot` is the first line, and no other is")
@@ -275,12 +275,12 @@ class Log(Case):
         self.assertEqual(self.audited(bare + "image 1 037 at 1\n"), (1, [
             "log: line 5 is no log line", *before, ">        5  'image 1 037 at 1'", "no line of a log: 'image 1 037 at 1'."]))
         self.assertEqual(self.audited(bare + "trap 1\n")[1][4:], [
-            ">        5  trap 1", "slot 1 has given back its image. Nothing fits then but `text`, `share`, `image` of S and `panic`,",
+            ">        5  trap 1", "entry 1 has given back its image. Nothing fits then but `text`, `share`, `image` of S and `panic`,",
             "until its `image`."])
 
     def test_audit_tells_the_rule(self):
         begins = "boot 1200 0\nsleep 0 -100 runout\n"
-        choice = ["the least priority of those that can run is 0, that of slot 1."]
+        choice = ["the least priority of those that can run is 0, that of entry 1."]
         for text, wanted in (("go 1\n", ["the first line is `boot`, with 64 to 3968 clicks."]),
                              ("boot 63 0\n", ["the first line is `boot`, with 64 to 3968 clicks.", "63 is less than 64."]),
                              ("boot 3969 0\n", ["the first line is `boot`, with 64 to 3968 clicks.", "3969 is more than 3968."]),
@@ -310,7 +310,7 @@ class Log(Case):
 
     def test_audit_tells_the_line(self):
         """Each line is worked by hand: of first fit, of the table, and of who runs."""
-        slot, entry, fit = "the lowest free slot is 2, and ", "the lowest free entry is 0, and ", "first fit for {} is `{}`".format
+        slot, text, fit = "the lowest free entry is 2, and ", "the lowest free text is 0, and ", "first fit for {} is `{}`".format
         nobody, to_sleep = "nobody who is in core can run", "sleep 1 40 wait.1, "
         self.assert_told((
             ("fork 1 2 at 1", "fork 1 2 at 18", slot + fit("17 clicks", "at 18")),
@@ -320,50 +320,50 @@ class Log(Case):
             ("size 1 16 at 18", "size 1 16 keep", "the size before is 17"),
             ("size 1 17 at 18", "size 1 17 keep", "the size before is 17"),
             ("size 1 1190 at 1", "size 1 1190 swap 4000", fit("1190 clicks", "swap 4000")),
-            ("bare 1, text 1 0 9 swap 4001", "text 1 0 9 swap 4000", entry + fit("2 blocks", "swap 4000")),
-            ("bare 1, text 1 1 8 swap 4000", "text 1 0 8 swap 4000", entry + fit("1 block", "swap 4000")),
+            ("bare 1, text 1 0 9 swap 4001", "text 1 0 9 swap 4000", text + fit("2 blocks", "swap 4000")),
+            ("bare 1, text 1 1 8 swap 4000", "text 1 0 8 swap 4000", text + fit("1 block", "swap 4000")),
             ("bare 1, text 1 0 20 swap 4000, image 1 30 at 1", "image 1 30 swap 4003",
              "its text isn't in core, and " + fit("30 clicks", "swap 4003")),
             ("exit 1 swap 4001", "exit 1 swap 4000", "this is the lowest free block"),
-            ("tick k", "tick u", "somebody other than slot 0 runs, and is in no call"),
+            ("tick k", "tick u", "somebody other than entry 0 runs, and is in no call"),
             (to_sleep + "tick u", "tick i", "nobody runs"),
-            (to_sleep + "wake wait.1, go 1, tick u", "tick k", "one runs that is in a call, or slot 0 does"),
+            (to_sleep + "wake wait.1, go 1, tick u", "tick k", "one runs that is in a call, or entry 0 does"),
             (to_sleep + "end", "idle", nobody), (to_sleep + "idle, go 1", "idle", nobody)))
 
     def test_audit_tells_of_a_text(self):
         """An image whose text is in core may stand there; and who leaves a text leaves its own."""
-        fit, slot = "first fit for 30 clicks is `{}`".format, "the lowest free slot is 2, and "
+        fit, slot = "first fit for 30 clicks is `{}`".format, "the lowest free entry is 2, and "
         self.assert_told((
-            ("drop 1 1 sticky", "drop 1 0 sticky", "slot 1 has text 0"),
+            ("drop 1 1 sticky", "drop 1 0 sticky", "entry 1 has text 0"),
             ("fork 1 2 at 50", "fork 1 2 at 51", slot + fit("at 51")),
             ("drop 1 0 sticky, bare 1, share 1 0, image 1 30 at 1", "image 1 30 swap 4003",
              "its text isn't in core, and " + fit("swap 4003")),
             ("fork 1 2 at 51, drop 1 0 plain, bare 1, share 1 0, image 1 30 at 1", "image 1 30 at 21", fit("at 21")),
             ("drop 1 0 sticky, bare 1, text 1 0 1 swap 4003", "text 1 1 1 swap 4003",
-             "the lowest free entry is 1, and first fit for 1 block is `swap 4003`"),
+             "the lowest free text is 1, and first fit for 1 block is `swap 4003`"),
         ), TEXTS[: TEXTS.index("fork")].replace("boot 64", "boot 1200"))
 
     def test_audit_tells_a_panic(self):
         """Three images of 2048 clicks have all of the swap area but 104 blocks, and a fourth has all of core."""
         nowhere = "first fit for 2048 clicks is nowhere"
         to_go_out = "trap 1, go 0, sleep 0 -100 runin, go 1, sleep 1 40 wait.1, go 0, "
-        swapper = ("slot 2 has been out of core for longest, 0 seconds (1), and there is no room for 2048 clicks (2); slot 1 is the "
+        swapper = ("entry 2 has been out of core for longest, 0 seconds (1), and there is no room for 2048 clicks (2); entry 1 is the "
                    "lowest in core that waits so that a signal wakes it (3); but there are nowhere 256 blocks free for it")
         self.assert_told((
-            ("fork 1 5 swap 4768", "panic swap", "the lowest free slot is 5, and " + nowhere),
+            ("fork 1 5 swap 4768", "panic swap", "the lowest free entry is 5, and " + nowhere),
             ("bare 1, text 1 0 2048 swap 4768", "panic swap",
-             "the lowest free entry is 0, and first fit for 256 blocks is nowhere"),
+             "the lowest free text is 0, and first fit for 256 blocks is nowhere"),
             ("bare 1, text 1 0 1 swap 4768, image 1 2048 at 1", "panic swap", "its text isn't in core, and " + nowhere),
             ("size 1 832 keep, fork 1 5 at 833, fork 1 6 swap 4768, exit 1 swap 4871", "panic zombie", "no block is free"),
             (to_go_out + "out 1 4768", "panic swap", swapper), (to_go_out + "panic zombie", "panic swap", swapper),
         ), FULL)
-        for lines, part in (("size 1 2049 swap 4768", "2049 is more than 2048."), ("image 1 2048 at 1", "Slot 1 has a place."),
-                            ("text 1 0 2048 swap 4768", "Slot 1 has a place."), ("panic zombie", "Block 4768 is free."),
+        for lines, part in (("size 1 2049 swap 4768", "2049 is more than 2048."), ("image 1 2048 at 1", "Entry 1 has a place."),
+                            ("text 1 0 2048 swap 4768", "Entry 1 has a place."), ("panic zombie", "Block 4768 is free."),
                             ("panic text", "Entry 0 is free."), ("bare 1, image 1 2049 at 1", "2049 is more than 2048."),
                             ("bare 1, text 1 0 2049 swap 4768", "2049 is more than 2048."),
-                            ("bare 1, text 1 0 8 swap 4768, image 1 824 swap 4769, exit 1 swap 4000", "Slot 1 has text 0.")):
+                            ("bare 1, text 1 0 8 swap 4768, image 1 824 swap 4769, exit 1 swap 4000", "Entry 1 has text 0.")):
             self.assertEqual(self.told_line(lines.split(", "), FULL), part, lines)  # nothing of the kind is due
-        self.assertEqual(self.told_line(["fork 2 5 swap 4768"], FULL), "Slot 1 runs there.")
+        self.assertEqual(self.told_line(["fork 2 5 swap 4768"], FULL), "Entry 1 runs there.")
 
     def test_audit_tells_the_panic_of_texts(self):
         """Forty texts of a block each, which stay."""
@@ -376,8 +376,8 @@ class Log(Case):
             self.assertEqual(self.told_line(lines.split(", "), *begins), part and part + ".", lines)
 
     def test_audit_tells_the_part(self):
-        """Where the rules give no line: which part of the rule doesn't hold. Slot 1 runs, with 17 clicks, of 1200 in core."""
-        place, forks = "Slot 1 has a place", "fork 1 2 at 18, "
+        """Where the rules give no line: which part of the rule doesn't hold. Entry 1 runs, with 17 clicks, of 1200 in core."""
+        place, forks = "Entry 1 has a place", "fork 1 2 at 18, "
         self.assert_parts((
             ("size 1 8 keep", "8 is less than 16"), ("size 1 3000 at 18", "3000 is more than 2048"),
             ("size 1 1201 swap 4000", "1201 is more than core, which has 1200 clicks"),
@@ -386,10 +386,10 @@ class Log(Case):
             ("bare 1, text 1 0 1201 swap 4000", "1201 is more than core, which has 1200 clicks"),
             ("image 1 30 at 18", place), ("image 1 8 at 18", place), ("text 1 0 9 swap 4000", place), ("share 1 0", place),
             ("bare 1, share 1 3", "Text 3 isn't in use"),
-            ("drop 1 0 plain", "Slot 1 has no text"), ("signal 2 1", "Slot 2 is empty"), ("reap 2", "Slot 2 is empty"),
-            ("reap 1", "The process in slot 1 hasn't ended"), (forks + "reap 2", "The process in slot 2 hasn't ended"),
-            (forks + "sleep 1 40 wait.1, go 2, exit 2 swap 4000, wake wait.1, go 1, reap 2, signal 2 1", "Slot 2 is empty"),
-            ("signal 0 1", "S is 0, and slot 0 is the swapper's"), ("reap 0", "The process in slot 0 hasn't ended"),
+            ("drop 1 0 plain", "Entry 1 has no text"), ("signal 2 1", "Entry 2 is empty"), ("reap 2", "Entry 2 is empty"),
+            ("reap 1", "The process in entry 1 hasn't ended"), (forks + "reap 2", "The process in entry 2 hasn't ended"),
+            (forks + "sleep 1 40 wait.1, go 2, exit 2 swap 4000, wake wait.1, go 1, reap 2, signal 2 1", "Entry 2 is empty"),
+            ("signal 0 1", "S is 0, and entry 0 is the swapper's"), ("reap 0", "The process in entry 0 hasn't ended"),
             ("panic zombie", "Block 4000 is free"), ("panic text", "Entry 0 is free"),
             ("panic swap", "There is a piece of 150 free blocks, from block 4000 on"),
             ("bare 1, panic swap", "There is a piece of 150 free blocks, from block 4000 on")))
@@ -397,34 +397,34 @@ class Log(Case):
                           "boot 3968 0\nsleep 0 -100 runout\ngo 1\n")
 
     def test_audit_tells_the_part_of_a_text(self):
-        """Slot 1 runs with text 0, of 20 clicks in block 4000, and an image of 30 behind it in core."""
+        """Entry 1 runs with text 0, of 20 clicks in block 4000, and an image of 30 behind it in core."""
         self.assert_parts((
-            ("bare 1", "Slot 1 has text 0"), ("exit 1 swap 4003", "Slot 1 has text 0"), ("share 1 0", "Slot 1 has a place"),
+            ("bare 1", "Entry 1 has text 0"), ("exit 1 swap 4003", "Entry 1 has text 0"), ("share 1 0", "Entry 1 has a place"),
             ("drop 1 0 plain, bare 1, share 1 0", "Text 0 isn't in use"),
-            ("drop 1 0 sticky, bare 1, share 1 0, share 1 0", "Slot 1 has text 0"),
-            ("drop 1 0 sticky, bare 1, share 1 0, text 1 1 9 swap 4003", "Slot 1 has text 0"),
+            ("drop 1 0 sticky, bare 1, share 1 0, share 1 0", "Entry 1 has text 0"),
+            ("drop 1 0 sticky, bare 1, share 1 0, text 1 1 9 swap 4003", "Entry 1 has text 0"),
             ("drop 1 0 sticky, panic text", "Entry 1 is free"), ("panic zombie", "Block 4003 is free"),
-            ("drop 1 0 sticky, drop 1 0 sticky", "Slot 1 has no text"),
+            ("drop 1 0 sticky, drop 1 0 sticky", "Entry 1 has no text"),
         ), TEXTS[: TEXTS.index("fork")].replace("boot 64", "boot 1200"))
 
     def test_audit_tells_the_part_of_a_sleep(self):
-        """The priorities are those of the page's table; slot 0 alone sleeps for two of the channels."""
-        of_wait, of_disk = (f"Of the channels {kind}.S slot 1 may sleep for {kind}.1 alone" for kind in ("wait", "disk"))
+        """The priorities are those of the page's table; entry 0 alone sleeps for two of the channels."""
+        of_wait, of_disk = (f"Of the channels {kind}.S entry 1 may sleep for {kind}.1 alone" for kind in ("wait", "disk"))
         self.assert_parts([(f"sleep 1 {wrong} {channel}", f"The priority of {channel} is {right}") for channel, right, wrong in (
             ("wait.1", 40, 41), ("read.9", 1, -1), ("write.9", 1, 10), ("keys", 10, 20), ("keys.3", 10, 9), ("show", 20, 10),
             ("show.7", 20, -20), ("tout", 90, 10), ("disk.1", -50, 50))])
         self.assert_parts((("sleep 1 40 wait.2", of_wait), ("sleep 1 41 wait.2", of_wait), ("sleep 1 -50 disk.0", of_disk),
-                           ("sleep 1 -100 runin", "Slot 0 alone sleeps for runin"),
-                           ("sleep 1 -100 runout", "Slot 0 alone sleeps for runout")))
+                           ("sleep 1 -100 runin", "Entry 0 alone sleeps for runin"),
+                           ("sleep 1 -100 runout", "Entry 0 alone sleeps for runout")))
 
     def test_audit_tells_that_no_slot_is_free(self):
-        """Slots 2 to 49 are of children with 17 clicks each, one behind the other; then slot 0 runs, which makes no call."""
+        """Entries 2 to 49 are of children with 17 clicks each, one behind the other; then entry 0 runs, which makes no call."""
         forks = "".join(f"fork 1 {slot} at {1 + 17 * (slot - 1)}, " for slot in range(2, 50))
-        self.assert_parts(((forks + "fork 1 2 at 834", "No slot is free"),))
+        self.assert_parts(((forks + "fork 1 2 at 834", "No entry is free"),))
         to_slot_0 = "size 1 1200 swap 4000, trap 1, go 0, "
         for line in ("trap 0", "nice 0 1", "size 0 16 keep", "fork 0 2 at 18", "drop 0 0 plain", "bare 0", "text 0 0 1 swap 4150",
                      "share 0 0", "image 0 16 at 18", "exit 0 swap 4150"):
-            self.assert_parts(((to_slot_0 + line, "S is 0, and slot 0 is the swapper's"),))
+            self.assert_parts(((to_slot_0 + line, "S is 0, and entry 0 is the swapper's"),))
 
     def test_audit_tells_who_runs(self):
         """Where that is another than the line wants."""
@@ -433,18 +433,18 @@ class Log(Case):
                             ("out 1 4000", 1), ("in 1 18", 1), ("sleep 0 -100 runin", 1), ("trap 0", 1), (waits + "trap 1", None),
                             (waits + "time 1", None), (waits + "reap 1", None), (waits + "panic swap", None), (fills + "time 1", 0),
                             (fills + "reap 1", 0), (fills + "nice 1 1", 0), (fills + "bare 1", 0)):
-            said = "Nobody runs there." if runs is None else f"Slot {runs} runs there."
+            said = "Nobody runs there." if runs is None else f"Entry {runs} runs there."
             self.assertEqual(self.told_line(lines.split(", ")), said, lines)
 
     def test_audit_tells_that_there_is_no_choice(self):
-        """Slot 1 runs, and no new choice is asked for; it is in a call, up to its `trap`; slot 0 runs, which gives up for none."""
+        """Entry 1 runs, and no new choice is asked for; it is in a call, up to its `trap`; entry 0 runs, which gives up for none."""
         begins = "boot 1200 3\nsleep 0 -100 runout\ngo 1\n"
         in_a_call = ["fork 1 2 at 18", "sleep 1 40 wait.1", "go 2", "sleep 2 10 keys", "wake wait.1", "go 1", "wake keys"]
         second = [*["tick u"] * 59, "size 1 1200 swap 4000", "trap 1", "go 0", "tick k"]  # every fourth asks for a choice
         for lines in (["go 1"], ["idle"], ["fork 1 2 at 18", "go 2"], [*in_a_call, "go 2"], [*second, "go 0"], [*second, "idle"]):
             self.assertEqual(self.told_line(lines, begins), "There is no choice there.", lines)
         self.assert_told(((", ".join([*in_a_call, "trap 1, go 1"]), "go 2",
-                           "the least priority of those that can run is 10, that of slot 2"),), begins)
+                           "the least priority of those that can run is 10, that of entry 2"),), begins)
 
     def test_audit_tells_only_what_is_lawful(self):
         """Where the tool's rules and the program's differ, the tool's aren't told."""
@@ -665,13 +665,13 @@ class Log(Case):
             self.assertIn("@media print { svg { width: 100%; height: auto; max-height: 100vh } }", shown)
 
     def test_a_lane_s_name(self):
-        """It has as many of the processes that were in the slot as there is room for, and always one."""
+        """It has as many of the processes that were in the entry as there is room for, and always one."""
         forks = "".join(f"fork 1 2 at {at}\nexit 2 swap 4000\nreap 2\n" for at in range(40, 80))
         name = self.text("log", "boot 1200 0\nsleep 0 -100 runout\ngo 1\n" + forks + "end\n")
         status, shown, _ = self.log("draw", name)
         self.assertEqual(status, 0)
-        self.assertIn(">slot 2: process 2, 3, 4 ..<", shown)
-        self.assertIn(">slot 1: process 1<", shown)
+        self.assertIn(">entry 2: process 2, 3, 4 ..<", shown)
+        self.assertIn(">entry 1: process 1<", shown)
 
     def test_a_label_is_in_its_piece(self):
         """The number of a holder stands within the piece that it names."""

@@ -11,7 +11,7 @@ from v6.log.processes import Place, Row
 from v6.rows import file as rowfile
 
 log_main = tool("log").main
-# Worked by hand. Slot 1 was chosen at 100, the priority of a program. It forks, and its child can run at 0.
+# Worked by hand. Entry 1 was chosen at 100, the priority of a program. It forks, and its child can run at 0.
 FORKED = """boot 100 0
 sleep 0 -100 runout
 go 1
@@ -71,7 +71,7 @@ class Rules(unittest.TestCase):
         self.assertEqual(table.priority[1], 127)
 
     def test_the_page_s_table(self):
-        """Slot 3 was chosen last, and these can run, at 100 but slot 7: docs/manual/clock.md."""
+        """Entry 3 was chosen last, and these can run, at 100 but entry 7: docs/manual/clock.md."""
         for slots, wanted in (((1, 3, 5), 5), ((1, 3), 1), ((3,), 3), ((1, 5, 7), 7), ((), None)):
             table = Ruled()
             table.chosen, table.rows = 3, {slot: Row(slot, 1, 37, Place("at", 1)) for slot in slots}
@@ -86,14 +86,14 @@ class Quiz(Case):
         return status, shown.splitlines(), error
 
     def test_answers(self):
-        """The first `go` with two that can run is line 10: slot 2 is at 0, slot 1 at 100."""
-        why = "By the rules: the least priority of those that can run is 0, that of slot 2."
+        """The first `go` with two that can run is line 10: entry 2 is at 0, entry 1 at 100."""
+        why = "By the rules: the least priority of those that can run is 0, that of entry 2."
         for answer, verdict in (("2", "Right:"), ("go 2", "Right:"), ("1", "No:"), ("nobody", "No:"), ("", "It is")):
             status, shown, error = self.asked(FORKED, answer.encode() + b"\n")
             self.assertEqual((status, error), (0, ""))
             self.assertIn(f"{verdict} `go 2`, process 2 runs. {why}", " ".join(shown))
             self.assertEqual(shown[-1], f"{int(verdict == 'Right:')} of 1 right")
-        self.assertIn("line 10 of 13, second 1; slot 1 was chosen last", shown)
+        self.assertIn("line 10 of 13, second 1; entry 1 was chosen last", shown)
         self.assertIn("r    2     2   0    0   37    - at 38      -", shown)
         self.assertIn("free clicks of core: 75 to 100", shown)
         self.assertNotIn("process 2 runs", " ".join(shown[: shown.index("Who runs next? ")]))  # it was hidden
@@ -102,7 +102,7 @@ class Quiz(Case):
         for answer in (b"who", b"in 2", b"002", b"\xff\xfe", "\u0662".encode(), b"9" * 5000):
             status, shown, error = self.asked(FORKED, answer + b"\n2\n")
             self.assertEqual((status, error, shown[-1]), (0, "", "1 of 1 right"))
-            self.assertEqual(sum(line.startswith("an answer is a slot's number, or `nobody`; ") for line in shown), 1)
+            self.assertEqual(sum(line.startswith("an answer is an entry's number, or `nobody`; ") for line in shown), 1)
 
     def test_where_answers_end(self):
         for answers in (b"", b"q\n2\n"):
@@ -116,7 +116,7 @@ class Quiz(Case):
         status, shown, error = self.asked(FORKED.replace("go 2", "go 1"), b"2\n")
         self.assertEqual((status, shown), (1, ["no choice was asked for"]))
         self.assertEqual(error, "log.py: line 10: it is 'go 1', and by the rules 'go 2': the least priority of those that can run "
-                                "is 0, that of slot 2\n")
+                                "is 0, that of entry 2\n")
 
     def test_page(self):
         """The page's questions about the example crowd, which a run answers."""

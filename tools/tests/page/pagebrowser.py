@@ -62,7 +62,7 @@ class Browsed(Made):
         return [*self.lines("process"), "code", *self.lines("code"), "stack", *self.lines("stack"), "u area", *self.lines("area")]
 
     def choose(self, slot):
-        """Chooses the process in this slot of the table to be shown whole; with nothing, who runs."""
+        """Chooses the process in this entry of the table to be shown whole; with nothing, who runs."""
         self.value(f"document.getElementById('chosen').value = '{slot}'; page.show()")
 
     def forwards_and_back(self, first, count):

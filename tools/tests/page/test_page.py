@@ -192,7 +192,7 @@ class Runs(Made):
         found = self.compare(words, 6)
         within = next(line for line in range(1, found.head["lines"]) if OUT.match(found.words(line)))
         self.assertEqual(found.slot(within), found.slot(within + 1))
-        self.assertIn("slot 2 is the lowest in core that waits so that a signal wakes it", found.at(within)["rule"][0])
+        self.assertIn("entry 2 is the lowest in core that waits so that a signal wakes it", found.at(within)["rule"][0])
         last = found.at(found.head["lines"])
         for slot, call in enumerate(("wait()", "read(.., 056, 100)", "sleep()"), 1):
             self.assertIn(f"call       {call} has begun, and isn't done", last[f"process {slot}"])
@@ -210,22 +210,22 @@ class Runs(Made):
     def test_rules(self):
         """Why each process went out and came in is what docs/lions/sched.md works out."""
         found, _ = self.made(*self.crowd(2500), "--moments", "2")
-        for line, words in {82: ("rules 3 and 5", "slot 3 has been out of core for longest, 1 second (1)", "slot 1 is the lowest in core that waits"),
-                            273: ("slot 4 has been out of core for longest, 3 seconds (1)", "no room for 37 clicks (2)",
-                                  "slot 2 has been there for longest, 4 seconds (5)"),
+        for line, words in {82: ("rules 3 and 5", "entry 3 has been out of core for longest, 1 second (1)", "entry 1 is the lowest in core that waits"),
+                            273: ("entry 4 has been out of core for longest, 3 seconds (1)", "no room for 37 clicks (2)",
+                                  "entry 2 has been there for longest, 4 seconds (5)"),
                             274: ("there is room for 37 clicks at click 38 (2)",), 13: ("less than three seconds are too few",),
-                            2: ("nobody who can run is out of core",), 276: ("from the slot after the one that was chosen last",)}.items():
+                            2: ("nobody who can run is out of core",), 276: ("from the entry after the one that was chosen last",)}.items():
             for one in words:
                 self.assertIn(one, found.at(line)["rule"][0], line)
         self.assertTrue(found.at(273)["book"][0].startswith("sched (1940) of slp.c; here swap_sched"))
 
     def test_rules_name_processes(self):
-        """A rule speaks of slots; where the process in one has another number, this stands beside it."""
+        """A rule speaks of entries; where the process in one has another number, this stands beside it."""
         log = b"boot 60 7\nsleep 0 -100 runout\ngo 1\nfork 1 2 at 18\nexit 2 swap 4000\nreap 2\nfork 1 2 swap 4000\nsleep 1 40 wait.1\ngo 0\nin 2 18\n"
         self.call(page.main, "--log", self.put("log", log), "-o", self.path("page.html"))
         found = Read(read(self.path("page.html")))
-        self.assertIn("Here: slot 2 (process 3) has been out of core for longest, 0 seconds (1)", found.at(10)["rule"][0])
-        self.assertIn("is -100, that of slot 0.", found.at(9)["rule"][0])
+        self.assertIn("Here: entry 2 (process 3) has been out of core for longest, 0 seconds (1)", found.at(10)["rule"][0])
+        self.assertIn("is -100, that of entry 0.", found.at(9)["rule"][0])
 
     def test_few_moments(self):
         """Where fewer moments are looked at than have lines, the page says so; what it shows of each is right."""
@@ -329,7 +329,7 @@ class Logs(Made):
         self.refused("--log", log, "-o", log, why="would take the place")
         self.refused("--log", self.path("none"), "-o", out, why="none: No such file")
         self.refused("--log", self.put("empty", b""), "-o", out, why="empty: the log is empty")
-        self.refused("--log", self.put("bad", b"boot 100 7\ngo 7\n"), "-o", out, why="line 2: slot 7 is free there")
+        self.refused("--log", self.put("bad", b"boot 100 7\ngo 7\n"), "-o", out, why="line 2: entry 7 is free there")
         self.refused("--log", log, "-o", self.path("no/folder"), why="No such file")
         for marks, why in ((b"10 behind the end\n", "line 1: it begins with '10'"), (b"; well\none\n", "line 2: it begins with 'one'")):
             self.refused("--log", log, "--marks", self.put("marks", marks), "-o", out, why=why)

@@ -311,7 +311,7 @@ class Opened(Browsed):
         self.made(*self.crowd(2500), "--moments", "2")
         self.open()
         made = next(line for line, text in enumerate(self.raw(), 1) if text.startswith("fork 1 2 "))
-        for line, slot, wanted, why in ((287, 2, 273, "slot 2 has been there for longest, 4 seconds (5)"), (287, 1, 82, "waits so that a signal"),
+        for line, slot, wanted, why in ((287, 2, 273, "entry 2 has been there for longest, 4 seconds (5)"), (287, 1, 82, "waits so that a signal"),
                                         (287, 4, 274, "there is room for 37 clicks at click 38 (2)"), (100, 2, made, "A child gets the lowest")):
             self.go(line)
             self.choose(slot)

@@ -12,7 +12,7 @@ from tests.common import TOP, V6, Case, read, v6
 
 LAWFUL, READ_FAULT, WRITE_FAULT, UNLAWFUL, BAD = 0, 2, 3, 9, 10
 LIMIT = 2**40  # bytes of the longest log that isn't too long
-BEGINS = b"boot 1200 0\nsleep 0 -100 runout\ngo 1\n"  # slot 1 can run, so that `idle` doesn't fit
+BEGINS = b"boot 1200 0\nsleep 0 -100 runout\ngo 1\n"  # entry 1 can run, so that `idle` doesn't fit
 ENDED = b"boot 64 0\nsleep 0 -100 runout\ngo 1\nexit 1 swap 4000\nidle\nend"
 # of each number of a line: a value in its range, the least and the most
 NUMBERS = {"S": (1, 0, 49), "K": (3, 0, 39), "C": (1, 0, 65535), "N": (37, 0, 65535), "B": (4000, 4000, 4871),

@@ -35,7 +35,7 @@ class Event:
 
 
 class State(Event):
-    """A line after which `holds`, of the table and of the row's slot, is true, and was not before it."""
+    """A line after which `holds`, of the table and of the row's entry, is true, and was not before it."""
 
     def __init__(self, number, holds):
         super().__init__(None, number)
@@ -130,7 +130,7 @@ class Search:
         return 0 <= slots <= self.history.last and (slots > self.moment.slots if self.forwards else slots < self.moment.slots)
 
     def stands(self, place, name, number):
-        """Whether at a moment the process in a slot stands at such a call."""
+        """Whether at a moment the process in an entry stands at such a call."""
         moment = self.history.moment(place[0])
         row = moment.table.rows.get(place[1])
         process = moment.process(row.number) if row else None

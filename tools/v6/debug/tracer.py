@@ -17,7 +17,7 @@ SLOTS_A_TURN = 20_000  # of a run that is gone through slot by slot; of one with
 
 @dataclass
 class Turn:
-    """A turn in the kernel of the process in a slot of the table: its line, when it came, and the table before and after."""
+    """A turn in the kernel of the process in an entry of the table: its line, when it came, and the table before and after."""
 
     line: int
     words: list
@@ -49,7 +49,7 @@ def channel(name, own):
     """What a process waits for, in words."""
     kind, _, number = name.partition(".")
     if kind == "wait":
-        return "for a child" if number == own else f"for a child in slot {number}"
+        return "for a child" if number == own else f"for a child in entry {number}"
     if kind in CHANNELS:
         return CHANNELS[kind] + (f" of line {number}" if number else "")
     return "for the disk" if kind == "disk" else f"for {'bytes' if kind == 'read' else 'room'} in the pipe of inode {number}"
@@ -67,7 +67,7 @@ class Tracer:
     def __init__(self, run, options):
         self.run, self.options = run, options
         self.table, self.taken = Table(), 0
-        self.names, self.waiting = {}, {}  # by slots of the table: programs, and calls that have begun
+        self.names, self.waiting = {}, {}  # by entries of the table: programs, and calls that have begun
         self.width = len(str(run.script.slots))
 
     def turns(self):
@@ -96,7 +96,7 @@ class Tracer:
         return turn.line < self.options.last and (turn.is_shown or is_exec)
 
     def row(self, slot, count):
-        """The row of a slot and its text after so many lines of the log."""
+        """The row of an entry and its text after so many lines of the log."""
         while self.taken < count:
             self.table.take(self.run.lines[self.taken])
             self.taken += 1

@@ -13,7 +13,7 @@ DEPTH, MOST_ARGUMENTS = 16, 256  # words of a stack that are shown, and words of
 TOP = 512  # bytes at the top of a stack in which ps(I) looks for arguments
 STATES = {"R": "runs", "r": "can run", "o": "could run, and is out of core", "z": "has ended, and its parent hasn't waited for it"}
 FILES, SIGNALS = 15, 20
-HEAD = "S SLOT   PID  PPID UID PRI PLACE      TIME SIZE TEXT WAITS     COMMAND"
+HEAD = "S ENTRY  PID  PPID UID PRI PLACE      TIME SIZE TEXT WAITS     COMMAND"
 ROW = "{} {:4} {:5} {:5} {:>3} {:>3} {:10} {:4} {:>4} {:>4} {:9} {}"
 JSR, JSR_MASK, LONG = 0o004000, 0o177000, (0o27, 0o37, 0o60, 0o70)
 NO_IMAGE = "it has no image at this moment"
@@ -124,7 +124,7 @@ class Views:
         """A process whole."""
         slot = moment.slot_of(number)
         row, process = moment.table.rows[slot], moment.process(number)
-        out = [f"process {number} in slot {slot}, a child of process {row.parent}" if number else "the swapper, in slot 0",
+        out = [f"process {number} in entry {slot}, a child of process {row.parent}" if number else "the swapper, in entry 0",
                f"state      {self.state(moment, slot)}"]
         if process is None and slot and row.place and not moment.history.run.has_memory:
             where = "in core from click" if row.place.where == "at" else "in the swap area from block"
@@ -300,7 +300,7 @@ def long(data, at):
 
 
 def cells(table, slot, user, command):
-    """What HEAD names, of the process in a slot; its user and its command are memory's to tell."""
+    """What HEAD names, of the process in an entry; its user and its command are memory's to tell."""
     row = table.rows[slot]
     priority = "-" if row.state == "dead" else table.priority[slot]
     return [table.letter(slot), slot, row.number, row.parent, user, priority, place_of(row), row.time, row.size if slot else "-",

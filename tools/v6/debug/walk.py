@@ -51,7 +51,7 @@ class Before:
 
 @dataclass
 class Met:
-    """A turn in the kernel of the process in a slot of the table: the slot of the run, its number, and its first line of the log."""
+    """A turn in the kernel of the process in an entry of the table: the slot of the run, its number, and its first line of the log."""
 
     slot: int
     at: int
@@ -95,7 +95,7 @@ class Walk:
     # who there is
 
     def slot(self):
-        """The slot of the table of the process that is looked for."""
+        """The entry of the table of the process that is looked for."""
         return next((slot for slot, row in self.table.rows.items() if row.number == self.sought.number), None)
 
     def state(self):
@@ -210,7 +210,7 @@ class Walk:
             self.take()
 
     def turn(self, slot):
-        """What the kernel does in the next slot, for the process in a slot of the table, or as the swapper."""
+        """What the kernel does in the next slot, for the process in an entry of the table, or as the swapper."""
         first, row, old = self.line, self.table.rows[slot], self.steppers.get(slot)
         if self.sought is None and slot:
             self.met = Met(slot, self.at + 1, row.number, first, before_call(old))

@@ -22,7 +22,7 @@ def seconds(count):
 
 def several(slots):
     *most, last = [str(slot) for slot in slots]
-    return f"slots {', '.join(most)} and {last}" if most else f"slot {last}"
+    return f"entries {', '.join(most)} and {last}" if most else f"entry {last}"
 
 
 class Ruled(Table):
@@ -77,7 +77,7 @@ class Ruled(Table):
     # the choice of who runs
 
     def ready(self):
-        """The slots that can run and are in core, from the one after that which was chosen last on."""
+        """The entries that can run and are in core, from the one after that which was chosen last on."""
         after = [(self.chosen + 1 + number) % SLOTS for number in range(SLOTS)]
         rows = [(slot, self.rows[slot]) for slot in after if slot in self.rows]
         return [slot for slot, row in rows if row.state == "ready" and row.is_loaded()]
@@ -91,7 +91,7 @@ class Ruled(Table):
         best = [slot for slot in ready if self.priority[slot] == least]
         why = f"the least priority of those that can run is {least}, that of {several(sorted(best))}"
         if len(best) > 1:
-            why += f"; slot {self.chosen} was chosen last, and from the next slot on slot {best[0]} comes first in the round"
+            why += f"; entry {self.chosen} was chosen last, and from the next one on entry {best[0]} comes first in the round"
         return f"go {best[0]}", why
 
     # the swapper
@@ -100,14 +100,14 @@ class Ruled(Table):
         return [(place.start, units) for place, units, _ in self.holders() if place.where == where]
 
     def longest(self, slots):
-        """The slot that has been for longest where it is, the lowest of equals; None of none."""
+        """The entry that has been for longest where it is, the lowest of equals; None of none."""
         return max(sorted(slots), key=lambda slot: self.rows[slot].time, default=None)
 
     def wanting(self):
         return [slot for slot, row in self.rows.items() if slot and row.state == "ready" and not row.is_loaded()]
 
     def goes_out(self, slot, why):
-        """The line with which a slot goes out, and why; where no block is left for its image, that of the panic."""
+        """The line with which an entry goes out, and why; where no block is left for its image, that of the panic."""
         count = blocks(self.rows[slot].size)
         block = first_fit(self.taken("swap"), SWAP_FIRST, SWAP_LAST, count)
         if block is None:
@@ -122,7 +122,7 @@ class Ruled(Table):
         row = self.rows[slot]
         text = None if row.text is None else self.texts[row.text]
         size = row.size + (text.clicks if text and not text.loaded else 0)
-        why = f"slot {slot} has been out of core for longest, {seconds(row.time)} (1)"
+        why = f"entry {slot} has been out of core for longest, {seconds(row.time)} (1)"
         at = first_fit(self.taken("at"), CORE_FIRST, self.core, size)
         if at is not None:
             return f"in {slot} {at}", f"{why}, and there is room for {size} clicks at click {at} (2)"
@@ -134,7 +134,7 @@ class Ruled(Table):
         inside = {slot: row for slot, row in self.rows.items() if slot and row.place and row.place.where == "at"}
         easy = [slot for slot, row in inside.items() if row.state == "asleep" and row.priority >= 0]
         if easy:
-            return self.goes_out(min(easy), f"slot {min(easy)} is the lowest in core that waits so that a signal wakes it (3)")
+            return self.goes_out(min(easy), f"entry {min(easy)} is the lowest in core that waits so that a signal wakes it (3)")
         sleeps, nobody = "sleep 0 -100 runin", "nobody in core waits so that a signal wakes it (3)"
         if time < OUT_LONG_ENOUGH:
             return sleeps, f"{nobody}, and less than three seconds are too few: it sleeps (4)"
@@ -142,7 +142,7 @@ class Ruled(Table):
         if oldest is None or self.rows[oldest].time < IN_LONG_ENOUGH:
             return sleeps, f"{nobody}, three seconds are enough (4), and nobody has been there for two: it sleeps (5)"
         stayed = seconds(self.rows[oldest].time)
-        why = f"{nobody}, three seconds are enough (4), and slot {oldest} has been there for longest, {stayed} (5)"
+        why = f"{nobody}, three seconds are enough (4), and entry {oldest} has been there for longest, {stayed} (5)"
         return self.goes_out(oldest, why)
 
     def foretold(self, entry):

@@ -62,7 +62,7 @@ class Columns:
 
 
 class Lane:
-    """A slot's states: the letter of most lines of each column."""
+    """An entry's states: the letter of most lines of each column."""
 
     def __init__(self, columns):
         self.columns, self.letter, self.since = columns, ".", 0
@@ -86,7 +86,7 @@ class Lane:
             self.shares[column] = {self.letter: 1}
 
     def pieces(self):
-        """(first column, column past the last, letter), without those in which the slot is free."""
+        """(first column, column past the last, letter), without those in which the entry is free."""
         letters = [max(shares, key=shares.get) if shares else "." for shares in self.shares]
         return pieces_of(letters, ".")
 
@@ -106,7 +106,7 @@ class Picture:
         self.columns = Columns(lines)
         self.lanes = [Lane(self.columns) for _ in range(width)]
         self.holders = []  # of each column that is done: what is held at its end
-        self.names = [[] for _ in range(width)]  # the numbers of the processes that a slot has had
+        self.names = [[] for _ in range(width)]  # the numbers of the processes that an entry has had
         self.passed = {}  # column -> how many slots of the run had passed, where a tick tells it
         self.teller, self.line = teller, 0
         self.heights = CORE_HEIGHT, SWAP_HEIGHT  # of the maps
@@ -166,11 +166,11 @@ class Picture:
         return out
 
     def named(self, slot):
-        """The name of a lane: its slot, and the first of the processes in it, as many as have room."""
+        """The name of a lane: its entry, and the first of the processes in it, as many as have room."""
         if not slot:
-            return "slot 0: the swapper"
+            return "entry 0: the swapper"
         numbers, count = self.names[slot], len(self.names[slot])
-        first = f"slot {slot}: process "
+        first = f"entry {slot}: process "
         while count > 1 and len(first + ", ".join(map(str, numbers[:count]))) + 3 * (count < len(numbers)) > NAMED:
             count -= 1
         return first + ", ".join(map(str, numbers[:count])) + " .." * (count < len(numbers))

@@ -134,7 +134,7 @@ class Table:
         self.running, self.last, self.core, self.time = None, 1, 0, 0
         self.ticks = 0  # of all that came
         self.lines, self.number, self.over = 0, 0, False
-        self.touched = set()  # the slots whose letter the last line may have changed
+        self.touched = set()  # the entries whose letter the last line may have changed
 
     def read(self, text):
         """The word and the numbers of the next line, by their letters."""
@@ -162,7 +162,7 @@ class Table:
 
     def row(self, slot):
         if slot not in self.rows:
-            raise LogFault(self.number, f"slot {slot} is free there")
+            raise LogFault(self.number, f"entry {slot} is free there")
         return self.rows[slot]
 
     def text(self, place):
@@ -278,7 +278,7 @@ class Table:
     def take_fork(self, entry):
         parent = self.row(entry["S"])
         if entry["T"] in self.rows:
-            raise LogFault(self.number, f"slot {entry['T']} isn't free there")
+            raise LogFault(self.number, f"entry {entry['T']} isn't free there")
         self.last = self.next_number()
         child = Row(self.last, parent.number, parent.size, text=parent.text, program=parent.program)
         self.rows[entry["T"]] = child
@@ -289,7 +289,7 @@ class Table:
     def take_drop(self, entry):
         row, text = self.row(entry["S"]), self.text(entry["K"])
         if row.text != entry["K"]:
-            raise LogFault(self.number, f"slot {entry['S']} doesn't have text {entry['K']} there")
+            raise LogFault(self.number, f"entry {entry['S']} doesn't have text {entry['K']} there")
         text.users -= 1
         text.loaded -= row.place is not None and row.place.where == "at"
         row.text = None
@@ -341,7 +341,7 @@ class Table:
         del self.rows[entry["S"]]
 
     def letter(self, slot):
-        """The state of a slot, as a letter: see docs/tools/log.md."""
+        """The state of an entry, as a letter: see docs/tools/log.md."""
         row = self.rows.get(slot)
         if row is None:
             return "."

@@ -9,7 +9,7 @@ from v6.log.processes import CORE_FIRST, LogFault
 BEFORE = 4  # lines that are told before a question
 WIDTH = 100
 WHO, WHAT = "Who runs next? ", "What does the swapper do? "
-ANSWERS = {WHO: "a slot's number, or `nobody`", WHAT: "`in` or `out` with a slot's number, or `sleep`"}
+ANSWERS = {WHO: "an entry's number, or `nobody`", WHAT: "`in` or `out` with an entry's number, or `sleep`"}
 MORE = "; an empty line shows the answer, `q` ends"
 
 
@@ -54,7 +54,7 @@ def meant(text, question):
 
 
 def of_line(line):
-    """What of a line an answer has to give: its word, and its slot, where the move or the choice is of one."""
+    """What of a line an answer has to give: its word, and its entry, where the move or the choice is of one."""
     word, *rest = line.split(" ")
     return word if word in ("idle", "sleep") else f"{word} {rest[0]}"
 
@@ -93,9 +93,9 @@ class Quiz:
     def show(self, number):
         for line in self.told[-BEFORE:]:
             print(line)
-        last = f"slot {self.table.chosen} was chosen last"
+        last = f"entry {self.table.chosen} was chosen last"
         print(f"line {number} of {len(self.story.lines)}, second {self.table.second()}; {last}")
-        print("S SLOT   PID PRI TIME SIZE TEXT PLACE      WAITS")
+        print("S ENTRY  PID PRI TIME SIZE TEXT PLACE      WAITS")
         for slot, row in sorted(self.table.rows.items()):
             place = f"{row.place.where} {row.place.start}" if row.place else "-"
             text = "-" if row.text is None else row.text

@@ -8,17 +8,17 @@ BARED = "Nothing fits then but `text`, `share`, `image` of S and `panic`, until 
 OF_BARE = "text", "share", "image", "panic"
 LEAST_CLICKS, MOST_CLICKS = 16, 2048  # of an image
 LEAST_CORE, MOST_CORE = 64, 3968  # clicks
-OWN = ("trap", "nice", "size", "fork", "drop", "bare", "text", "share", "image", "exit", "signal")  # never of slot 0
+OWN = ("trap", "nice", "size", "fork", "drop", "bare", "text", "share", "image", "exit", "signal")  # never of entry 0
 PRIORITIES = {"read": 1, "write": 1, "keys": 10, "show": 20, "wait": 40, "tout": 90, "disk": -50}  # by what is slept for
 CHOICE = ("there is a choice: nobody runs; or the image of the one that runs isn't in core; or `runrun` is set, and the one "
-          "that runs isn't slot 0 and is in no call. S is then the first of the least priority among those that can run and "
-          "are in core, round from the slot after `last`; `idle` stands where there is none")
-SWAPPER = ("slot 0 runs, and this is the move that the rules of the swapper make; B begins the lowest free piece that is large "
-           "enough for the image")
-MODES = (("tick u", "somebody other than slot 0 runs, and is in no call"),
-         ("tick k", "one runs that is in a call, or slot 0 does"), ("tick i", "nobody runs"))
-PANICS = ("somebody other than slot 0 runs, and for `swap` the swap area has no piece for 2048 clicks, or for all of core "
-          "where that is less; for `zombie` it has no free block; for `text` no entry is free. Where slot 0 runs, `swap` "
+          "that runs isn't entry 0 and is in no call. S is then the first of the least priority among those that can run and "
+          "are in core, round from the entry after `last`; `idle` stands where there is none")
+SWAPPER = ("entry 0 runs, and this is the move that the rules of the swapper make; B begins the lowest free piece that is "
+           "large enough for the image")
+MODES = (("tick u", "somebody other than entry 0 runs, and is in no call"),
+         ("tick k", "one runs that is in a call, or entry 0 does"), ("tick i", "nobody runs"))
+PANICS = ("somebody other than entry 0 runs, and for `swap` the swap area has no piece for 2048 clicks, or for all of core "
+          "where that is less; for `zombie` it has no free block; for `text` no text is free. Where entry 0 runs, `swap` "
           "alone: by the rules of the swapper an image goes out, and there is no piece for it")
 IMAGE = "N is 16 at least, and 2048 and core at most"
 RULES = {  # by the first word: the forms of the lines, and where they fit
@@ -27,21 +27,22 @@ RULES = {  # by the first word: the forms of the lines, and where they fit
     "tick": ("`tick u`, `tick k`, `tick i`", "in this order: " + "; ".join(mode for _, mode in MODES)),
     "sleep": ("`sleep S P W`", "S runs, and P is the priority of W: 1 of `read.I` and `write.I`, 10 of `keys` and `keys.L`, 20 "
               "of `show` and `show.L`, 40 of `wait.S` with S itself, 90 of `tout`, -50 of `disk.S` with S itself, and no other "
-              "W. Of slot 0: it runs, P is -100, and the rules of the swapper let it wait for W"),
-    "wake": ("`wake W`", "always"), "signal": ("`signal S X`", "S isn't 0, and the slot is in use, also by one that has ended"),
-    "time": ("`time TIME`", "somebody other than slot 0 runs"),
+              "W. Of entry 0: it runs, P is -100, and the rules of the swapper let it wait for W"),
+    "wake": ("`wake W`", "always"),
+    "signal": ("`signal S X`", "S isn't 0, and the entry is in use, also by one that has ended"),
+    "time": ("`time TIME`", "somebody other than entry 0 runs"),
     "size": ("`size S N ..`", f"S runs; {IMAGE}; `keep` stands exactly where N is no more than the size before, and else the "
              "place is that of first fit for N clicks"),
-    "fork": ("`fork S T ..`", "S runs, T is the lowest free slot, and the place is that of first fit for the size of S"),
+    "fork": ("`fork S T ..`", "S runs, T is the lowest free entry, and the place is that of first fit for the size of S"),
     "drop": ("`drop S K ..`", "S runs and has text K"),
     "bare": ("`bare S`", f"S runs and has a place and no text. {BARED}"),
-    "text": ("`text S K N swap B`", "S runs and has neither place nor text; K is the lowest free entry; N is 1 at least, and "
+    "text": ("`text S K N swap B`", "S runs and has neither place nor text; K is the lowest free text; N is 1 at least, and "
              "2048 and core at most; and B begins the lowest piece of (N + 7) / 8 free blocks"),
     "share": ("`share S K`", "S runs and has neither place nor text; K is in use, also without a user"),
     "image": ("`image S N ..`", f"S runs and has no place; {IMAGE}; and the place is that of first fit for N clicks"),
     "in": ("`in S C`, `out S B`", SWAPPER), "out": ("`in S C`, `out S B`", SWAPPER),
     "exit": ("`exit S swap B`", "S runs and has no text, and B is the lowest free block"),
-    "reap": ("`reap S`", "somebody other than slot 0 runs, and the process in slot S has ended"),
+    "reap": ("`reap S`", "somebody other than entry 0 runs, and the process in entry S has ended"),
     "panic": ("`panic ..`", PANICS),
     "end": ("`end`", "there is no choice; or the line before is `idle`"),
 }
@@ -99,7 +100,7 @@ class Wanted:
         if child is None:
             return None
         line, why = self.image(f"fork {self.slot} {child}", self.row.size)
-        return line, f"the lowest free slot is {child}, and {why}"
+        return line, f"the lowest free entry is {child}, and {why}"
 
     def line_of_text(self):
         clicks = self.entry["N"]
@@ -108,7 +109,7 @@ class Wanted:
         text, block = next((text for text in range(TEXTS) if text not in self.table.texts), None), self.block(clicks)
         if text is None:
             return "panic text", "all forty texts are in use"
-        why = f"the lowest free entry is {text}, and first fit for {counted(blocks(clicks))} is "
+        why = f"the lowest free text is {text}, and first fit for {counted(blocks(clicks))} is "
         if block is None:
             return "panic swap", f"{why}nowhere"
         return f"text {self.slot} {text} {clicks} swap {block}", f"{why}`swap {block}`"
@@ -123,7 +124,7 @@ class Wanted:
 
     def line_of_drop(self):
         text = self.row.text
-        return None if text is None else (f"drop {self.slot} {text} {self.entry['kind']}", f"slot {self.slot} has text {text}")
+        return None if text is None else (f"drop {self.slot} {text} {self.entry['kind']}", f"entry {self.slot} has text {text}")
 
 
 class Broken:
@@ -137,7 +138,7 @@ class Broken:
     def part(self):
         word = self.entry["word"]
         if self.slot == 0 and word in OWN:
-            return "S is 0, and slot 0 is the swapper's"
+            return "S is 0, and entry 0 is the swapper's"
         found = getattr(self, "part_of_" + word, None)
         return found() if found else None
 
@@ -150,10 +151,10 @@ class Broken:
         return f"{clicks} is more than core, which has {core} clicks" if clicks > core else None
 
     def with_place(self):
-        return None if self.row.place is None else f"Slot {self.slot} has a place"
+        return None if self.row.place is None else f"Entry {self.slot} has a place"
 
     def with_text(self):
-        return None if self.row.text is None else f"Slot {self.slot} has text {self.row.text}"
+        return None if self.row.text is None else f"Entry {self.slot} has text {self.row.text}"
 
     part_of_size, part_of_bare, part_of_exit = clicks, with_text, with_text
 
@@ -168,18 +169,18 @@ class Broken:
         return self.with_place() or self.with_text() or (None if is_there else f"Text {self.entry['K']} isn't in use")
 
     def part_of_drop(self):
-        return f"Slot {self.slot} has no text" if self.row.text is None else None
+        return f"Entry {self.slot} has no text" if self.row.text is None else None
 
     def part_of_fork(self):
-        return "No slot is free" if len(self.table.rows) == SLOTS else None
+        return "No entry is free" if len(self.table.rows) == SLOTS else None
 
     def part_of_signal(self):
-        return None if self.row else f"Slot {self.slot} is empty"
+        return None if self.row else f"Entry {self.slot} is empty"
 
     def part_of_reap(self):
         if not self.row:
-            return f"Slot {self.slot} is empty"
-        return None if self.row.state == "dead" else f"The process in slot {self.slot} hasn't ended"
+            return f"Entry {self.slot} is empty"
+        return None if self.row.state == "dead" else f"The process in entry {self.slot} hasn't ended"
 
     def part_of_sleep(self):
         channel = self.entry["W"]
@@ -187,9 +188,9 @@ class Broken:
         if self.slot == 0:
             return None  # then it is the swapper's, for which the rules give a line
         if kind not in PRIORITIES:
-            return f"Slot 0 alone sleeps for {channel}"
+            return f"Entry 0 alone sleeps for {channel}"
         if kind in ("wait", "disk") and int(number) != self.slot:
-            return f"Of the channels {kind}.S slot {self.slot} may sleep for {kind}.{self.slot} alone"
+            return f"Of the channels {kind}.S entry {self.slot} may sleep for {kind}.{self.slot} alone"
         return None if self.entry["P"] == PRIORITIES[kind] else f"The priority of {channel} is {PRIORITIES[kind]}"
 
     def part_of_panic(self):
@@ -219,7 +220,7 @@ def right_line(table, entry, is_lawful):
     if entry["word"] in CHOICES and table.entry["word"] != "idle" and is_lawful("end"):  # behind `idle` it fits beside a choice
         return ["There is no choice there"]
     if not runs_as_wanted(table.running, entry):
-        return ["Nobody runs there" if table.running is None else f"Slot {table.running} runs there"]
+        return ["Nobody runs there" if table.running is None else f"Entry {table.running} runs there"]
     return list(filter(None, [Broken(table, entry).part()]))
 
 
@@ -260,7 +261,7 @@ def unlawful(table, line, is_lawful):
     if table.lines < len(BEGINS) or word == "boot":
         return begins(table, line)
     if bared(table) and word not in OF_BARE:
-        return [f"slot {table.running} has given back its image. {BARED}"]
+        return [f"entry {table.running} has given back its image. {BARED}"]
     forms, rule = RULES[word]
     return [f"{forms}: {rule}", *right_line(table, entry_of(line, table.lines + 1), is_lawful)]
 

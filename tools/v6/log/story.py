@@ -22,7 +22,7 @@ class Story:
         self.ticks, self.timed = 0, 0  # of the lines so far, and those of them that the script has too
 
     def width(self):
-        """How many slots are shown: those up to the highest that a fork names."""
+        """How many entries are shown: those up to the highest that a fork names."""
         forks = [line.split(" ") for line in self.lines if line.startswith("fork ")]
         named = [int(words[2]) for words in forks if len(words) > 2 and words[2].isdecimal()]
         return min(max(named, default=1) + 1, SLOTS)

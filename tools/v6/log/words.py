@@ -37,10 +37,10 @@ class Teller:
             return CHANNELS[kind] + (f" of line {number}" if number else "")
         if kind == "wait":
             row = self.table.rows.get(int(number))
-            return f"for a child of {self.who(int(number))}" if row else f"for a child in slot {number}"
+            return f"for a child of {self.who(int(number))}" if row else f"for a child in entry {number}"
         if kind == "disk":
             row = self.table.rows.get(int(number))
-            return f"for the disk, as {self.who(int(number))} does" if row else f"for the disk, in slot {number}"
+            return f"for the disk, as {self.who(int(number))} does" if row else f"for the disk, in entry {number}"
         return f"for {'bytes' if kind == 'read' else 'room'} in the pipe of inode {number}"
 
     def place(self, entry):
@@ -93,7 +93,7 @@ class Teller:
         return "" if text is None else f"; text {text} leaves core"
 
     def tell_fork(self, entry):
-        return (f"{self.who(entry['S'])} makes process {self.table.next_number()} in slot {entry['T']}, "
+        return (f"{self.who(entry['S'])} makes process {self.table.next_number()} in entry {entry['T']}, "
                 f"{self.place(entry)}")
 
     def tell_drop(self, entry):

@@ -160,7 +160,7 @@ class Run {
     return this.raws.has(text);
   }
 
-  /** The last line, up to one, that gave the image of the process in a slot the place that it has then; or 0. */
+  /** The last line, up to one, that gave the image of the process in an entry of the table the place that it has then; or 0. */
   placed(slot, line) {
     const moves = new RegExp(`^((in|out|image|exit) ${slot} |fork [0-9]+ ${slot} |size ${slot} [0-9]+ [as]${slot === 1 ? "|boot " : ""})`);
     const has = this.texts.map((text) => moves.test(text));
@@ -403,7 +403,7 @@ class Page {
 
   /** The processes that may be chosen to be shown whole. */
   offer(rows) {
-    const wanted = [["", "who runs, or process 1"], ...rows.map(([slot, found]) => [String(slot), `process ${found[NUMBER]}, in slot ${slot}`])];
+    const wanted = [["", "who runs, or process 1"], ...rows.map(([slot, found]) => [String(slot), `process ${found[NUMBER]}, in entry ${slot}`])];
     const was = $("chosen").value;
     const same = [...$("chosen").options].map((one) => one.value + one.textContent).join() === wanted.map((one) => one.join("")).join();
     if (same) return;
@@ -416,13 +416,13 @@ class Page {
     $("chosen").value = wanted.some(([value]) => value === was) ? was : "";
   }
 
-  /** Shows the process in a slot whole from here on. */
+  /** Shows the process in an entry of the table whole from here on. */
   choose(slot) {
     $("chosen").value = slot;
     this.show();
   }
 
-  /** The slot of the table of the process that is shown whole. */
+  /** The entry of the table of the process that is shown whole. */
   chosenSlot() {
     const chosen = $("chosen").value;
     if (chosen !== "") return Number(chosen);

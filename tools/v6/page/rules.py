@@ -9,9 +9,9 @@ from v6.log import lions
 RULES = {
     "boot": ("The first line of each log: the machine begins, and process 1 is made by hand.",
              [("main", "unix_core: Kernel::boot"), ("newproc", "proc_tab: new_slot")]),
-    "go": ("A choice: of those that can run and are in core the first of the least priority, looked for from the slot after the one that "
+    "go": ("A choice: of those that can run and are in core the first of the least priority, looked for from the entry after the one that "
            "was chosen last.", [("swtch", "pick_rules: Table::pick")]),
-    "idle": ("A choice: no slot can run and is in core, so nobody does.", [("swtch", "pick_rules: Table::pick")]),
+    "idle": ("A choice: no entry can run and is in core, so nobody does.", [("swtch", "pick_rules: Table::pick")]),
     "trap": ("A call or a fault of the program has ended: the priority of the process is set anew, to 100 + nice + cpu / 16, "
              "and 127 at most.", [("trap", "unix_core: Kernel::turn"), ("setpri", "pick_rules: setpri")]),
     "tick": ("The clock ticks: whoever runs is counted 1 more tick. With each sixtieth tick a second ends: times grow, use falls by 10, "
@@ -26,7 +26,7 @@ RULES = {
     "time": ("The call stime.", [("stime", "sys_procs: set_time")]),
     "size": ("An image grows, and takes a new place by first fit: in core where there is room, else in the swap area; or it becomes "
              "smaller, and stays.", [("expand", "image_keep: resize"), ("malloc", "map_fit: take")]),
-    "fork": ("A child gets the lowest free slot, the next number that is free, and a copy of the image: by first fit in core where there "
+    "fork": ("A child gets the lowest free entry, the next number that is free, and a copy of the image: by first fit in core where there "
              "is room, else in the swap area.",
              [("newproc", "proc_tab: new_slot"), ("malloc", "map_fit: take")]),
     "drop": ("A process leaves its text. With its last user a text goes, but a sticky one stays in the swap area.",
@@ -38,13 +38,13 @@ RULES = {
     "share": ("The program's text is there already: it has one user more.", [("xalloc", "sys_procs/texts: take_text")]),
     "image": ("exec takes an image for the new program, by first fit in core, else in the swap area.",
               [("exec", "sys_procs: exec_file"), ("malloc", "map_fit: take")]),
-    "in": ("The swapper, rule 1: of those that can run and are out of core the one that has been out for longest, the lowest slot of "
+    "in": ("The swapper, rule 1: of those that can run and are out of core the one that has been out for longest, the lowest entry of "
            "equals. Rule 2: it comes in where there is room by first fit.",
            [("sched", "swap_sched: pass"), ("malloc", "map_fit: take")]),
     "out": ("The swapper, rules 3 and 5: where there is no room, somebody goes out, to the first place in the swap area where it fits.", [("xswap", "image_keep: swap_out")]),
     "exit": ("A process ends: its files are closed, its image is given back, and one block keeps its status and times until its parent "
              "waits. Its children become those of process 1.", [("exit", "unix_core/process: exit")]),
-    "reap": ("The parent's wait finds a child that has ended: slot and block are free again.",
+    "reap": ("The parent's wait finds a child that has ended: entry and block are free again.",
              [("wait", "sys_procs: wait_child")]),
     "panic": ("There is no room that the kernel can't do without, and it stops.", [("panic", "abstract_unix: Turned::Panic")]),
     "end": ("The script has no more slots.", []),
@@ -54,7 +54,7 @@ SWAPPER = {  # of the swapper's own sleeps
     "runin": ("The swapper, rules 4 and 5: there is no room, nobody in core waits, and either who wants to come in has been out for less "
               "than three seconds, or who would go out has been in for less than two.", [("sched", "swap_sched: pass")]),
 }
-SLOT = re.compile(r"\bslot (\d+)")
+ENTRY = re.compile(r"\bentry (\d+)")
 
 
 def rule_of(entry, table, text):
@@ -64,11 +64,11 @@ def rule_of(entry, table, text):
     if word == "out":
         procedures = [("sched", "swap_sched: pass"), *procedures]
     line, why = table.foretold(entry) or (None, "")
-    return f"{rule} Here: {SLOT.sub(lambda found: numbered(found, table), why)}." if line == text else rule, procedures
+    return f"{rule} Here: {ENTRY.sub(lambda found: numbered(found, table), why)}." if line == text else rule, procedures
 
 
 def numbered(found, table):
-    """A slot that is named, and the number of its process, where that is another."""
+    """An entry that is named, and the number of its process, where that is another."""
     slot = int(found[1])
     return found[0] if slot not in table.rows or table.rows[slot].number == slot else f"{found[0]} (process {table.rows[slot].number})"
 

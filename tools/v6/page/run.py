@@ -286,7 +286,7 @@ class Account:
         return f"{self.who(row.number)} runs" if row.number else "the swapper runs"
 
     def row(self, slot):
-        """The cells of a slot, as ps has them."""
+        """The cells of an entry, as ps has them."""
         number = self.table.rows[slot].number
         memory = self.memory
         user = memory.users.get(number, "-") if memory else "-"

@@ -38,7 +38,7 @@ class Moment:
         return self.history.memory(self.slots)
 
     def slot_of(self, number):
-        """The slot of the table in which the process of this number is, or None."""
+        """The entry of the table in which the process of this number is, or None."""
         return next((slot for slot, row in self.table.rows.items() if row.number == number), None)
 
     def process(self, number):
@@ -132,7 +132,7 @@ class History:
         return self.outside
 
     def signalled(self, lines):
-        """The slots of the table in which a signal may wait after so many lines of the log: it was sent to who is there still."""
+        """The entries of the table in which a signal may wait after so many lines of the log: it was sent to who is there still."""
         if self.sent is None:
             told = ((number, line.split(" ")) for number, line in enumerate(self.run.lines))
             self.sent = [(number, words[0], int(words[1 if words[0] == "signal" else 2])) for number, words in told
