@@ -1,4 +1,4 @@
-/ Numbers that are no calls here. Behind each stand four instructions: what the number takes as arguments isn't done.
+/ Numbers that are no calls here. After each stand four instructions: what the number takes as arguments isn't done.
 	sys	open; tty; 2
 	sys	signal; 12.; caught
 	clr	r5
