@@ -148,6 +148,7 @@ fn close_line<T: Trace>(f: &mut Files, file: OpenFile, trace: &mut T)
 }
 
 /// Wakes those who wait for a pipe of which an end is closed, also where the end stays open: writers, and then readers.
+#[tactic(auto, using(v6_base::proofs::Took::took_nothing))]
 fn rouse_pipe<T: Trace>(f: &mut Files, file: OpenFile, trace: &mut T)
     requires there { file.kind.pipe ≡ true → place_of f.old.pipes file.ino < length f.old.pipes }
     ensures state { (u : UArea) (row : Row) (image : Image)

@@ -183,6 +183,7 @@ fn wait_in_pipe(u: &mut UArea, row: &Row, chan: Chan, pending: u8, transfer: Tra
 }
 
 /// Whoever waits for room in a pipe is woken, where a read has cleared the mark.
+#[tactic(auto, using(v6_base::proofs::Took::took_nothing))]
 fn wake_writers<T: Trace>(old: Pipe, new: Pipe, trace: &mut T)
     ensures items { Took (T.taken trace.old) (woken_by_read old new) (T.taken trace.new) }
     ensures frame { T.leads_to trace.old trace.new }
@@ -193,6 +194,7 @@ fn wake_writers<T: Trace>(old: Pipe, new: Pipe, trace: &mut T)
 }
 
 /// Whoever waits for bytes of a pipe is woken, where a write has cleared the mark.
+#[tactic(auto, using(v6_base::proofs::Took::took_nothing))]
 fn wake_readers<T: Trace>(old: Pipe, new: Pipe, trace: &mut T)
     ensures items { Took (T.taken trace.old) (woken_by_write old new) (T.taken trace.new) }
     ensures frame { T.leads_to trace.old trace.new }
@@ -287,6 +289,7 @@ fn break_pipe<T: Trace>(row: &mut Row, slot: Slot, trace: &mut T) -> Answer
 }
 
 /// Ends a write of a pipe, or lets the process wait for room. R0 takes the whole count, also after a sleep.
+#[tactic(auto, using(v6_base::proofs::Took::took_nothing))]
 fn end_write<T: Trace>(
     u: &mut UArea,
     row: &mut Row,

@@ -44,6 +44,7 @@ pub fn signal_slot(table: &mut Table, s: Slot)
 
 /// Sends a signal to the process in a slot, also to one that has ended. What is no signal does nothing. Lions' Commentary,
 /// `psignal` in `sig.c`.
+#[tactic(auto, using(v6_base::proofs::Took::took_nothing))]
 pub fn send_signal<T: Trace>(p: &mut Procs, s: Slot, sig: u16, trace: &mut T)
     requires agree { AreProcs p.old }
     requires used { IsUsed p.old.rows s }
@@ -69,6 +70,7 @@ pub fn send_signal<T: Trace>(p: &mut Procs, s: Slot, sig: u16, trace: &mut T)
 }
 
 /// Sends a signal to the process in a slot, where it is meant.
+#[tactic(auto, using(v6_base::proofs::Took::took_nothing))]
 fn send_where<T: Trace>(p: &mut Procs, s: Slot, sig: u16, means: bool, trace: &mut T)
     requires agree { AreProcs p.old }
     requires used { means ≡ true → IsUsed p.old.rows s }

@@ -508,6 +508,7 @@ impl Machine {
     }
 
     /// Delivers the signal that is due to the process that runs, where a tick is as a trap.
+    #[tactic(auto, using(v6_base::proofs::Took::took_nothing))]
     fn deliver<T: Trace>(&mut self, as_trap: bool, trace: &mut T) -> Ending
         requires good { IsGood self.old.world }
         requires user { as_trap ≡ true → is_user_mode (mode_of (system_at self.old.world)) ≡ true }

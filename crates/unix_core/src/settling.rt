@@ -30,6 +30,7 @@ fn trap(table: &mut Table, s: Slot)
 }
 
 /// Ends a turn of a slot.
+#[tactic(auto, using(v6_base::proofs::Took::took_nothing))]
 #[inline(always)]
 pub(crate) fn end_turn<T: Trace>(table: &mut Table, s: Slot, ending: Ending, trace: &mut T)
     requires table { IsTable table.old }
@@ -54,6 +55,7 @@ pub(crate) fn end_turn<T: Trace>(table: &mut Table, s: Slot, ending: Ending, tra
 }
 
 /// Wakes those who sleep for a channel, where that is called for.
+#[tactic(auto, using(v6_base::proofs::Took::took_nothing))]
 pub(crate) fn wake<T: Trace>(table: &mut Table, called: bool, chan: Chan, trace: &mut T)
     requires { IsTable table.old }
     ensures board { (k : Kept) → board_of table.new k ≡ (logged {W = Unix} (board_of table.old k) (wakes called chan)).board }

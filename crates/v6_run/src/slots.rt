@@ -291,6 +291,7 @@ fn run_script<T: TellsCut>(kernel: &mut Kernel, events: &[Event], trace: &mut T)
 }
 
 /// The last line of the log of a run that ends so.
+#[tactic(auto, using(v6_base::proofs::Took::took_nothing))]
 fn last_line<T: Trace>(ends: Ends, trace: &mut T)
     ensures shown { Took (T.taken trace.old) (last_line ends) (T.taken trace.new) }
     ensures frame { T.leads_to trace.old trace.new }
