@@ -626,7 +626,7 @@ class Log(Case):
             "   5  sR                  the script has ended"])
         shell, names = os.path.join(TOP, "examples", "shell"), [self.path(name) for name in ("term", "log", "final")]
         self.assertEqual(v6("run", os.path.join(shell, "image"), "1200", os.path.join(shell, "script"), *names)[0], 0)
-        shown = self.log("show", "--book", "--disk", os.path.join(shell, "image"), "--from", "26", "--to", "35", names[1])[1]
+        shown = self.log("show", "--book", "--disk", os.path.join(shell, "image"), "--from", "26", "--to", "29", names[1])[1]
         self.assertIn("\n\n" + shown + "```\n", read(os.path.join(TOP, "docs", "tools", "log.md")).decode())
 
     def test_page_of_seconds(self):
