@@ -1,5 +1,5 @@
 -- What stays while a byte, or a line of the log, goes out.
-use Rattle.std.proofs.Common.{◌≡◌, ◌<◌, ℕ, Bool, true, false, Some, None, IfSome, MatchOption, Result, Ok, Err, is_err, OnOk, OnErr, MatchResult, take, refl, sym, ◌∙◌, ap, subst, length, nat_le, cond, List, [], ◌∷◌, ◌++◌}
+use Rattle.std.proofs.Common.{◌≡◌, ◌<◌, ℕ, Bool, true, false, Some, None, IfSome, MatchOption, Result, Ok, Err, is_err, OnOk, OnErr, MatchResult, take, refl, sym, ◌∙◌, ap, subst, cond, List, [], ◌∷◌, ◌++◌}
 use Rattle.std.specs.Prelude.{◌==◌}
 use Rattle.std.proofs.lemmas.List.{append-nil}
 use Rattle.v6_port.specs.declared.host.Failed.{Failed}
@@ -10,10 +10,9 @@ use Rattle.v6_port.specs.Causes.{Calm, FaultAt}
 use Rattle.v6_port.proofs.CauseLemmas.{same_is, calm_still}
 use Rattle.v6_run.specs.declared.ports.Kept.{Kept}
 use Rattle.v6_run.specs.declared.ports.Kept.TheVariants as kept
-use Rattle.v6_run.specs.declared.ports.TheConstants.{SCREEN_ROOM}
 use Rattle.v6_run.specs.Opened.{line_port}
 use Rattle.v6_run.specs.Outputs.{is_shown}
-use Rattle.v6_run.specs.Ports.{failed_port, is_silent, is_counted, counted, screened, Extends, Grows, Goes}
+use Rattle.v6_run.specs.Ports.{failed_port, is_silent, is_counted, counted, counted_on, Extends, Grows, Goes}
 use Rattle.v6_run.specs.PortLaws.{grows_not, Goes-same}
 use Rattle.v6_run.proofs.CauseLemmas.{by_test, only_within}
 use Rattle.v6_run.proofs.LinePorts.{line_shown}
@@ -46,29 +45,25 @@ goes_written lines q a b before after shown loud only was_open is_open more caus
 }
 
 -- nothing is written, and a byte may be counted
-goes_counting : (lines : ℕ) (o : Outside) (byte : ℕ) (k : Kept) → is_silent k ≡ true → Goes lines o k o (counted k byte)
-goes_counting lines o byte kept.Nothing silent = cc
-goes_counting lines o byte (kept.Byte line other) silent = Goes-same lines o (kept.Byte line other)
-goes_counting lines o byte (kept.Line rest) silent = Goes-same lines o (kept.Line rest)
-goes_counting lines o byte kept.Unwanted silent = Goes-same lines o kept.Unwanted
-goes_counting lines o byte (kept.Screen bytes) silent = by (nat_le SCREEN_ROOM (length bytes.items))
-  where
-    by : (full : Bool) → Goes lines o (kept.Screen bytes) o (cond full (kept.Screen bytes) (kept.Screen (record { items = bytes.items ++ byte ∷ [] })))
-    by true = Goes-same lines o (kept.Screen bytes)
-    by false = record {
-      only = record { fixed = refl; others = λ q other. refl };
-      grows = λ p. grows_not (Tells o) (o.port (Out p));
-      cause = λ _. calm_still o;
-      named = λ _. tt;
-      stopped = λ _. (refl, refl, refl);
-      counted = refl;
-    }
+goes_counting : (lines : ℕ) (o : Outside) (k : Kept) → is_silent k ≡ true → Goes lines o k o (counted k)
+goes_counting lines o kept.Nothing silent = cc
+goes_counting lines o (kept.Byte line other) silent = Goes-same lines o (kept.Byte line other)
+goes_counting lines o (kept.Line rest) silent = Goes-same lines o (kept.Line rest)
+goes_counting lines o kept.Unwanted silent = Goes-same lines o kept.Unwanted
+goes_counting lines o (kept.Count n) silent = record {
+  only = record { fixed = refl; others = λ q other. refl };
+  grows = λ p. grows_not (Tells o) (o.port (Out p));
+  cause = λ _. calm_still o;
+  named = λ _. tt;
+  stopped = λ _. (refl, refl, refl);
+  counted = refl;
+}
 
-pub goes_silently : (lines : ℕ) (o : Outside) (line byte : ℕ) (k : Kept) → is_silent k ≡ true → Goes lines o k o (screened k line byte)
-goes_silently lines o line byte k silent = by (line == 0)
+pub goes_silently : (lines : ℕ) (o : Outside) (line : ℕ) (k : Kept) → is_silent k ≡ true → Goes lines o k o (counted_on line k)
+goes_silently lines o line k silent = by (line == 0)
   where
-    by : (b : Bool) → Goes lines o k o (cond b (counted k byte) k)
-    by true = goes_counting lines o byte k silent
+    by : (b : Bool) → Goes lines o k o (cond b (counted k) k)
+    by true = goes_counting lines o k silent
     by false = Goes-same lines o k
 
 -- what isn't silent hasn't failed
@@ -77,7 +72,7 @@ unfailed kept.Nothing loud = refl
 unfailed (kept.Byte line byte) loud = cc
 unfailed (kept.Line rest) loud = cc
 unfailed kept.Unwanted loud = refl
-unfailed (kept.Screen bytes) loud = refl
+unfailed (kept.Count n) loud = refl
 
 calm_cause : (k : Kept) (a b : Outside) → is_silent k ≡ false → Calm a b → MatchOption (failed_port k) (Calm a b) (λ p. FaultAt (Out p) true a b)
 calm_cause k a b loud calm = subst (λ o. MatchOption o (Calm a b) (λ p. FaultAt (Out p) true a b)) (sym (unfailed k loud)) calm

@@ -1,5 +1,5 @@
 -- One byte, or one line of the log, more in the trace over a host.
-use Rattle.std.proofs.Common.{◌≡◌, ◌≢◌, ◌<◌, ◌≤◌, ℕ, Bool, true, false, ◌&&◌, is_some, List, [], ◌∷◌, ◌++◌, length, nat_le, refl, sym, ◌∙◌, ap, subst, append_assoc, take, drop, Result, Ok, Err, is_err, OnOk, OnErr, eqb, eqb-true, cond, arith}
+use Rattle.std.proofs.Common.{◌≡◌, ◌≢◌, ◌<◌, ◌≤◌, ℕ, Bool, true, false, ◌&&◌, is_some, List, [], ◌∷◌, ◌++◌, ◌+◌, length, refl, sym, ◌∙◌, ap, subst, append_assoc, take, drop, Result, Ok, Err, is_err, OnOk, OnErr, eqb, eqb-true, cond, arith}
 use Rattle.std.specs.Prelude.{nat_lt}
 use Rattle.std.proofs.lemmas.Bool.{ne_eqb, eq-eqb, eqb-false, ltb-true}
 use Rattle.std.proofs.lemmas.List.{append-nil, take-append-drop}
@@ -14,9 +14,9 @@ use Rattle.v6_port.specs.declared.host.OutPort.TheVariants as out_port
 use Rattle.v6_port.specs.Outside.{Out, same, PortState, Environment, Outside, Tells, OnlyAt}
 use Rattle.v6_run.specs.declared.ports.Kept.{Kept}
 use Rattle.v6_run.specs.declared.ports.Kept.TheVariants as kept
-use Rattle.v6_run.specs.declared.ports.TheConstants.{SCREEN_ROOM}
+use Rattle.v6_run.specs.declared.ports.TheConstants.{MOST}
 use Rattle.v6_run.specs.Opened.{line_port}
-use Rattle.v6_run.specs.Ports.{line_state, log_of, failed_port, is_silent, is_wanted, is_counted, kept_byte, kept_text, of_line_0, taken_of, shown_on, taken_by, counted, screened}
+use Rattle.v6_run.specs.Ports.{line_state, log_of, failed_port, is_silent, is_wanted, is_counted, kept_byte, kept_text, taken_of, shown_to, taken_by, counted, counted_on}
 use Rattle.v6_run.proofs.LinePorts.{lines_apart, log_apart, line_apart, both_told, one_told}
 
 pub no_byte : (k : Kept) → is_some (failed_port k) ≡ false → (l : ℕ) → kept_byte k l ≡ []
@@ -24,14 +24,14 @@ no_byte kept.Nothing goes l = refl
 no_byte (kept.Byte line byte) goes l = cc
 no_byte (kept.Line rest) goes l = refl
 no_byte kept.Unwanted goes l = refl
-no_byte (kept.Screen bytes) goes l = refl
+no_byte (kept.Count n) goes l = refl
 
 pub no_text : (k : Kept) → is_some (failed_port k) ≡ false → kept_text k ≡ []
 no_text kept.Nothing goes = refl
 no_text (kept.Byte line byte) goes = refl
 no_text (kept.Line rest) goes = cc
 no_text kept.Unwanted goes = refl
-no_text (kept.Screen bytes) goes = refl
+no_text (kept.Count n) goes = refl
 
 -- what isn't silent has kept nothing yet, and is wanted
 pub none_failed : (k : Kept) → is_silent k ≡ false → is_some (failed_port k) ≡ false
@@ -39,14 +39,14 @@ none_failed kept.Nothing goes = refl
 none_failed (kept.Byte line byte) goes = cc
 none_failed (kept.Line rest) goes = cc
 none_failed kept.Unwanted goes = cc
-none_failed (kept.Screen bytes) goes = cc
+none_failed (kept.Count n) goes = cc
 
 pub wanted : (k : Kept) → is_silent k ≡ false → is_wanted k ≡ true
 wanted kept.Nothing goes = refl
 wanted (kept.Byte line byte) goes = cc
 wanted (kept.Line rest) goes = cc
 wanted kept.Unwanted goes = cc
-wanted (kept.Screen bytes) goes = cc
+wanted (kept.Count n) goes = cc
 
 -- and is written, not counted
 pub uncounted : (lines : ℕ) (o : Outside) (k : Kept) → is_counted k ≡ false → taken_by lines o k ≡ taken_of lines o k
@@ -54,14 +54,14 @@ uncounted lines o kept.Nothing is = refl
 uncounted lines o (kept.Byte line byte) is = refl
 uncounted lines o (kept.Line rest) is = refl
 uncounted lines o kept.Unwanted is = refl
-uncounted lines o (kept.Screen bytes) is = cc
+uncounted lines o (kept.Count n) is = cc
 
 pub loud_written : (k : Kept) → is_silent k ≡ false → is_counted k ≡ false
 loud_written kept.Nothing goes = refl
 loud_written (kept.Byte line byte) goes = cc
 loud_written (kept.Line rest) goes = cc
 loud_written kept.Unwanted goes = cc
-loud_written (kept.Screen bytes) goes = cc
+loud_written (kept.Count n) goes = cc
 
 module _ (lines : ℕ) (old new : Outside) (before after : Kept) (item : Item) (loud : is_silent before ≡ false) (plain : is_counted after ≡ false) where
   took_by : Took (taken_of lines old before) (item ∷ []) (taken_of lines new after) → Took (taken_by lines old before) (item ∷ []) (taken_by lines new after)
@@ -85,6 +85,8 @@ module _ (lines : ℕ) (old new : Outside) (before after : Kept) (item : Item) (
   holds_item = record {
     tells_bytes = λ l. ap (λ b. nat_lt l lines && b) still_told;
     bytes = λ l told. bytes (both_told (is_wanted before) old.fixed.tells (both_told (nat_lt l lines) (is_wanted before && old.fixed.tells) told)) l;
+    tells_count = λ l. refl;
+    count = λ l told. absurd (let no_count : false ≡ true = told in cc);
     tells_entries = refl;
     entries = λ told. absurd (let no_entries : false ≡ true = told in cc);
     tells_text = still_told;
@@ -100,6 +102,8 @@ module _ (lines : ℕ) (o : Outside) (item : Item) where
   holds_unwanted = record {
     tells_bytes = λ l. refl;
     bytes = λ l told. absurd (let untold : false ≡ true = both_told (nat_lt l lines) false told in cc);
+    tells_count = λ l. refl;
+    count = λ l told. absurd (let untold : false ≡ true = told in cc);
     tells_entries = refl;
     entries = λ told. absurd (let untold : false ≡ true = told in cc);
     tells_text = refl;
@@ -109,42 +113,24 @@ module _ (lines : ℕ) (o : Outside) (item : Item) where
   took_unwanted : Took (taken_of lines o kept.Unwanted) (item ∷ []) (taken_of lines o kept.Unwanted)
   took_unwanted = took_whole (taken_of lines o kept.Unwanted) (taken_of lines o kept.Unwanted) (item ∷ []) refl holds_unwanted
 
--- one byte more on line 0 is none on another
-on_line : (line byte : ℕ) (old new : List ℕ) → new ≡ old ++ byte ∷ [] → of_line_0 new line ≡ of_line_0 old line ++ line_bytes line (trace.Byte 0 byte ∷ [])
-on_line line byte old new is = elim (eqb 0 line) as (λ b. (cond b new []) ≡ (cond b old []) ++ (cond b (byte ∷ []) [])) [
-  | true ↦ is
-  | false ↦ refl
-]
-
--- A trace that counts takes a line of the log, and tells nothing of it.
-holds_uncounted : (bytes : List ℕ) (entry : Entry) → HoldsMore (shown_on bytes) (trace.Log entry ∷ []) (shown_on bytes)
-holds_uncounted bytes entry = record {
+-- A trace that counts takes so many bytes more of the console, and tells nothing else.
+holds_count : (n m : ℕ) (item : Item) → m ≡ n + length (line_bytes 0 (item ∷ [])) → HoldsMore (shown_to n) (item ∷ []) (shown_to m)
+holds_count n m item more = record {
   tells_bytes = λ line. refl;
-  bytes = λ line told. sym (append-nil (of_line_0 bytes line));
+  bytes = λ line told. absurd (let untold : false ≡ true = told in cc);
+  tells_count = λ line. refl;
+  count = λ line told. subst (λ l. m ≡ n + length (line_bytes l (item ∷ []))) (sym (eqb-true line 0 told)) more;
   tells_entries = refl;
   entries = λ told. absurd (let untold : false ≡ true = told in cc);
   tells_text = refl;
   text = λ told. absurd (let untold : false ≡ true = told in cc);
 }
 
--- and it takes a byte of the console, where there is room
-holds_counted : (bytes : List ℕ) (byte : ℕ) → HoldsMore (shown_on bytes) (trace.Byte 0 byte ∷ []) (shown_on (bytes ++ byte ∷ []))
-holds_counted bytes byte = record {
-  tells_bytes = λ line. refl;
-  bytes = λ line told. on_line line byte bytes (bytes ++ byte ∷ []) refl;
-  tells_entries = refl;
-  entries = λ told. absurd (let untold : false ≡ true = told in cc);
-  tells_text = refl;
-  text = λ told. absurd (let untold : false ≡ true = told in cc);
-}
+holds_uncounted : (n : ℕ) (entry : Entry) → HoldsMore (shown_to n) (trace.Log entry ∷ []) (shown_to n)
+holds_uncounted n entry = holds_count n n (trace.Log entry) (omega arith)
 
--- without room it takes nothing
-counted_by_room : (bytes : List ℕ) (item : Item) (new : trace.Taken) → HoldsMore (shown_on bytes) (item ∷ []) new
-    → nat_le SCREEN_ROOM (length bytes) ≡ false → Took (shown_on bytes) (item ∷ []) new
-counted_by_room bytes item new holds room = took_whole (shown_on bytes) new (item ∷ []) room holds
-
-full_takes_none : (bytes : List ℕ) (item : Item) → nat_le SCREEN_ROOM (length bytes) ≡ true → Took (shown_on bytes) (item ∷ []) (shown_on bytes)
-full_takes_none bytes item full = took_refused (shown_on bytes) (item ∷ []) full
+holds_counted : (n byte : ℕ) → HoldsMore (shown_to n) (trace.Byte 0 byte ∷ []) (shown_to (n + 1))
+holds_counted n byte = holds_count n (n + 1) (trace.Byte 0 byte) refl
 
 -- What tells nothing of an item takes it, or is cut.
 took_untold : (t : trace.Taken) (item : Item) → HoldsMore t (item ∷ []) t → Took t (item ∷ []) t
@@ -161,47 +147,50 @@ module _ (lines : ℕ) (o : Outside) (entry : Entry) where
   line_silently (kept.Byte line byte) silent = took_refused (taken_of lines o (kept.Byte line byte)) (trace.Log entry ∷ []) refl
   line_silently (kept.Line rest) silent = took_refused (taken_of lines o (kept.Line rest)) (trace.Log entry ∷ []) refl
   line_silently kept.Unwanted silent = took_unwanted lines o (trace.Log entry)
-  line_silently (kept.Screen bytes) silent = took_untold (shown_on bytes.items) (trace.Log entry) (holds_uncounted bytes.items entry)
+  line_silently (kept.Count n) silent = took_untold (shown_to n) (trace.Log entry) (holds_uncounted n entry)
 
   pub line_appended : (k : Kept) → is_silent k ≡ true → Appends (taken_by lines o k) (trace.Log entry) (taken_by lines o k)
   line_appended kept.Nothing silent = cc
   line_appended (kept.Byte line byte) silent = λ uncut. absurd (let never : true ≡ false = uncut in cc)
   line_appended (kept.Line rest) silent = λ uncut. absurd (let never : true ≡ false = uncut in cc)
   line_appended kept.Unwanted silent = λ uncut. holds_unwanted lines o (trace.Log entry)
-  line_appended (kept.Screen bytes) silent = λ uncut. holds_uncounted bytes.items entry
+  line_appended (kept.Count n) silent = λ uncut. holds_uncounted n entry
 
 -- A byte of the console, where nothing is written.
 module _ (lines : ℕ) (o : Outside) (byte : ℕ) where
-  took_on : (bytes : List ℕ) (full : Bool) → nat_le SCREEN_ROOM (length bytes) ≡ full
-      → Took (shown_on bytes) (trace.Byte 0 byte ∷ []) (taken_by lines o (cond full (kept.Screen (record { items = bytes })) (kept.Screen (record { items = bytes ++ byte ∷ [] }))))
-  took_on bytes true is = full_takes_none bytes (trace.Byte 0 byte) is
-  took_on bytes false is = counted_by_room bytes (trace.Byte 0 byte) (shown_on (bytes ++ byte ∷ [])) (holds_counted bytes byte) is
+  took_on : (n : ℕ) (full : Bool) → eqb n MOST ≡ full → Took (shown_to n) (trace.Byte 0 byte ∷ []) (shown_to (cond full n (n + 1)))
+  took_on n true is = took_refused (shown_to n) (trace.Byte 0 byte ∷ []) is
+  took_on n false is = took_whole (shown_to n) (shown_to (n + 1)) (trace.Byte 0 byte ∷ []) is (holds_counted n byte)
 
-  appended_on : (bytes : List ℕ) (full : Bool) → nat_le SCREEN_ROOM (length bytes) ≡ full
-      → Appends (shown_on bytes) (trace.Byte 0 byte) (taken_by lines o (cond full (kept.Screen (record { items = bytes })) (kept.Screen (record { items = bytes ++ byte ∷ [] }))))
-  appended_on bytes true is = λ uncut. absurd (let never : true ≡ false = sym is ∙ uncut in cc)
-  appended_on bytes false is = λ uncut. holds_counted bytes byte
+  appended_on : (n : ℕ) (full : Bool) → eqb n MOST ≡ full → Appends (shown_to n) (trace.Byte 0 byte) (shown_to (cond full n (n + 1)))
+  appended_on n true is = λ uncut. absurd (let never : true ≡ false = sym is ∙ uncut in cc)
+  appended_on n false is = λ uncut. holds_counted n byte
 
-  pub byte_silently : (k : Kept) → is_silent k ≡ true → Took (taken_by lines o k) (trace.Byte 0 byte ∷ []) (taken_by lines o (counted k byte))
+  pub byte_silently : (k : Kept) → is_silent k ≡ true → Took (taken_by lines o k) (trace.Byte 0 byte ∷ []) (taken_by lines o (counted k))
   byte_silently kept.Nothing silent = cc
   byte_silently (kept.Byte line other) silent = took_refused (taken_of lines o (kept.Byte line other)) (trace.Byte 0 byte ∷ []) refl
   byte_silently (kept.Line rest) silent = took_refused (taken_of lines o (kept.Line rest)) (trace.Byte 0 byte ∷ []) refl
   byte_silently kept.Unwanted silent = took_unwanted lines o (trace.Byte 0 byte)
-  byte_silently (kept.Screen bytes) silent = took_on bytes.items _ refl
+  byte_silently (kept.Count n) silent = took_on n _ refl
 
-  pub byte_appended : (k : Kept) → is_silent k ≡ true → Appends (taken_by lines o k) (trace.Byte 0 byte) (taken_by lines o (counted k byte))
+  pub byte_appended : (k : Kept) → is_silent k ≡ true → Appends (taken_by lines o k) (trace.Byte 0 byte) (taken_by lines o (counted k))
   byte_appended kept.Nothing silent = cc
   byte_appended (kept.Byte line other) silent = λ uncut. absurd (let never : true ≡ false = uncut in cc)
   byte_appended (kept.Line rest) silent = λ uncut. absurd (let never : true ≡ false = uncut in cc)
   byte_appended kept.Unwanted silent = λ uncut. holds_unwanted lines o (trace.Byte 0 byte)
-  byte_appended (kept.Screen bytes) silent = appended_on bytes.items _ refl
+  byte_appended (kept.Count n) silent = appended_on n _ refl
 
 -- A byte on a line of which nothing is told.
 module _ (line byte : ℕ) where
-  holds_elsewhere : (t : trace.Taken) → ((l : ℕ) → t.tells_bytes l ≡ true → line ≢ l) → HoldsMore t (trace.Byte line byte ∷ []) t
-  holds_elsewhere t other = record {
+  none_more : (n : ℕ) → n + 0 ≡ n
+  none_more n = omega arith
+
+  holds_elsewhere : (t : trace.Taken) → ((l : ℕ) → t.tells_bytes l ≡ true → line ≢ l) → ((l : ℕ) → t.tells_count l ≡ true → line ≢ l) → HoldsMore t (trace.Byte line byte ∷ []) t
+  holds_elsewhere t other no_count = record {
     tells_bytes = λ l. refl;
     bytes = λ l told. sym (ap (λ b. t.bytes l ++ cond b (byte ∷ []) []) (ne_eqb line l (other l told)) ∙ append-nil (t.bytes l));
+    tells_count = λ l. refl;
+    count = λ l told. sym (ap (λ b. t.count l + length (cond b (byte ∷ []) [])) (ne_eqb line l (no_count l told)) ∙ none_more (t.count l));
     tells_entries = refl;
     entries = λ told. sym (append-nil t.entries);
     tells_text = refl;
@@ -210,37 +199,37 @@ module _ (line byte : ℕ) where
 
   -- line 0 alone is counted
   module _ (lines : ℕ) (o : Outside) (other : line ≢ 0) where
-    uncounted_byte : (bytes : List ℕ) → HoldsMore (shown_on bytes) (trace.Byte line byte ∷ []) (shown_on bytes)
-    uncounted_byte bytes = holds_elsewhere (shown_on bytes) (λ l told is. other (is ∙ sym (eqb-true 0 l told)))
+    uncounted_byte : (n : ℕ) → HoldsMore (shown_to n) (trace.Byte line byte ∷ []) (shown_to n)
+    uncounted_byte n = holds_elsewhere (shown_to n) (λ l told. absurd (let untold : false ≡ true = told in cc)) (λ l told is. other (is ∙ eqb-true l 0 told))
 
     pub other_silently : (k : Kept) → is_silent k ≡ true → Took (taken_by lines o k) (trace.Byte line byte ∷ []) (taken_by lines o k)
     other_silently kept.Nothing silent = cc
     other_silently (kept.Byte l b) silent = took_refused (taken_of lines o (kept.Byte l b)) (trace.Byte line byte ∷ []) refl
     other_silently (kept.Line rest) silent = took_refused (taken_of lines o (kept.Line rest)) (trace.Byte line byte ∷ []) refl
     other_silently kept.Unwanted silent = took_unwanted lines o (trace.Byte line byte)
-    other_silently (kept.Screen bytes) silent = took_untold (shown_on bytes.items) (trace.Byte line byte) (uncounted_byte bytes.items)
+    other_silently (kept.Count n) silent = took_untold (shown_to n) (trace.Byte line byte) (uncounted_byte n)
 
     pub other_appended : (k : Kept) → is_silent k ≡ true → Appends (taken_by lines o k) (trace.Byte line byte) (taken_by lines o k)
     other_appended kept.Nothing silent = cc
     other_appended (kept.Byte l b) silent = λ uncut. absurd (let never : true ≡ false = uncut in cc)
     other_appended (kept.Line rest) silent = λ uncut. absurd (let never : true ≡ false = uncut in cc)
     other_appended kept.Unwanted silent = λ uncut. holds_unwanted lines o (trace.Byte line byte)
-    other_appended (kept.Screen bytes) silent = λ uncut. uncounted_byte bytes.items
+    other_appended (kept.Count n) silent = λ uncut. uncounted_byte n
 
   -- a byte of any line
   module _ (lines : ℕ) (o : Outside) (k : Kept) (silent : is_silent k ≡ true) where
-    pub kept_silently : Took (taken_by lines o k) (trace.Byte line byte ∷ []) (taken_by lines o (screened k line byte))
+    pub kept_silently : Took (taken_by lines o k) (trace.Byte line byte ∷ []) (taken_by lines o (counted_on line k))
     kept_silently = by (eqb line 0) refl
       where
-        by : (b : Bool) → eqb line 0 ≡ b → Took (taken_by lines o k) (trace.Byte line byte ∷ []) (taken_by lines o (cond b (counted k byte) k))
-        by true is = subst (λ l. Took (taken_by lines o k) (trace.Byte l byte ∷ []) (taken_by lines o (counted k byte))) (sym (eqb-true line 0 is)) (byte_silently lines o byte k silent)
+        by : (b : Bool) → eqb line 0 ≡ b → Took (taken_by lines o k) (trace.Byte line byte ∷ []) (taken_by lines o (cond b (counted k) k))
+        by true is = subst (λ l. Took (taken_by lines o k) (trace.Byte l byte ∷ []) (taken_by lines o (counted k))) (sym (eqb-true line 0 is)) (byte_silently lines o byte k silent)
         by false is = other_silently lines o (eqb-false line 0 is) k silent
 
-    pub kept_quietly : Appends (taken_by lines o k) (trace.Byte line byte) (taken_by lines o (screened k line byte))
+    pub kept_quietly : Appends (taken_by lines o k) (trace.Byte line byte) (taken_by lines o (counted_on line k))
     kept_quietly = by (eqb line 0) refl
       where
-        by : (b : Bool) → eqb line 0 ≡ b → Appends (taken_by lines o k) (trace.Byte line byte) (taken_by lines o (cond b (counted k byte) k))
-        by true is = subst (λ l. Appends (taken_by lines o k) (trace.Byte l byte) (taken_by lines o (counted k byte))) (sym (eqb-true line 0 is)) (byte_appended lines o byte k silent)
+        by : (b : Bool) → eqb line 0 ≡ b → Appends (taken_by lines o k) (trace.Byte line byte) (taken_by lines o (cond b (counted k) k))
+        by true is = subst (λ l. Appends (taken_by lines o k) (trace.Byte l byte) (taken_by lines o (counted k))) (sym (eqb-true line 0 is)) (byte_appended lines o byte k silent)
         by false is = other_appended lines o (eqb-false line 0 is) k silent
 
   -- and no more than so many lines are written
@@ -248,6 +237,7 @@ module _ (line byte : ℕ) where
     beyond : HoldsMore (taken_of lines o k) (trace.Byte line byte ∷ []) (taken_of lines o k)
     beyond = holds_elsewhere (taken_of lines o k) (λ l told is.
         let below : l < lines = ltb-true l lines (one_told (nat_lt l lines) (is_wanted k && o.fixed.tells) told) in omega (arith, past, below, is))
+        (λ l told. absurd (let no_count : false ≡ true = told in cc))
 
     pub beyond_took : Took (taken_by lines o k) (trace.Byte line byte ∷ []) (taken_by lines o k)
     beyond_took = took_by lines o o k k (trace.Byte line byte) loud (loud_written k loud) (took_untold (taken_of lines o k) (trace.Byte line byte) beyond)

@@ -1,5 +1,5 @@
 -- What a host's terminal lines and log have got of what a run shows.
-use Rattle.std.proofs.Common.{◌≡◌, ◌<◌, ℕ, Bool, true, false, ◌&&◌, ◌||◌, cond, is_some, Some, None, IfSome, MatchOption, List, [], ◌++◌, refl, sym, ◌∙◌, ap, subst, append_assoc, arith, lit<}
+use Rattle.std.proofs.Common.{◌≡◌, ◌<◌, ℕ, Bool, true, false, ◌&&◌, ◌||◌, cond, is_some, Some, None, IfSome, MatchOption, List, [], ◌++◌, ◌+◌, length, refl, sym, ◌∙◌, ap, subst, append_assoc, arith, lit<}
 use Rattle.std.specs.Prelude.{nat_lt}
 use Rattle.std.proofs.lemmas.Bool.{lt-ltb}
 use Rattle.std.proofs.lemmas.List.{append-nil, append_cancel_left}
@@ -14,8 +14,8 @@ use Rattle.v6_run.specs.Fronts.{HoldsFront}
 use Rattle.v6_run.specs.Opened.{line_port}
 use Rattle.v6_run.specs.Outputs.{is_line, is_shown}
 use Rattle.v6_run.specs.declared.ports.Kept.{Kept}
-use Rattle.v6_run.specs.declared.ports.Kept.TheVariants.{Nothing, Unwanted}
-use Rattle.v6_run.specs.Ports.{line_state, log_of, failed_port, is_silent, kept_byte, kept_text, taken_of, taken_by, is_counted, Extends, Goes, HasShown, HasShownFronts}
+use Rattle.v6_run.specs.declared.ports.Kept.TheVariants.{Nothing, Byte, Line, Unwanted, Count}
+use Rattle.v6_run.specs.Ports.{line_state, log_of, failed_port, is_silent, kept_byte, kept_text, taken_of, shown_to, taken_by, is_counted, HasCounted, Extends, Goes, HasShown, HasShownFronts}
 use Rattle.v6_run.proofs.FrontLemmas.{front_of_nothing}
 use Rattle.v6_run.proofs.LinePorts.{other_port, is_low, is_high}
 use Rattle.v6_run.proofs.PortLemmas.{no_byte, no_text, uncounted}
@@ -108,6 +108,28 @@ pub never_cut : (start_lines end_lines : ℕ) (start new : Outside) (start_kept 
 never_cut start_lines end_lines start new start_kept kept items is took goes =
     let none = ap is_some ((goes.stopped (ap is_silent is)).2 ∙ ap failed_port is) in
     ap (λ (t : Taken). t.cut) (uncounted end_lines new kept (goes.counted ∙ ap is_counted is)) ∙ none
+
+-- A trace that has counted, and no more than that, isn't cut, and has counted all.
+pub uncut_counted : (lines : ℕ) (o : Outside) (kept : Kept) (count : ℕ) → HasCounted kept count → (taken_by lines o kept).cut ≡ false
+uncut_counted lines o Nothing count counted = absurd counted
+uncut_counted lines o (Byte line byte) count counted = absurd counted
+uncut_counted lines o (Line rest) count counted = absurd counted
+uncut_counted lines o Unwanted count counted = absurd counted
+uncut_counted lines o (Count n) count counted = counted.1
+
+pub all_counted : (start_lines end_lines : ℕ) (start new : Outside) (start_kept kept : Kept) (items : List Item) (count : ℕ) → start_kept ≡ Count 0
+    → Took (taken_by start_lines start start_kept) items (taken_by end_lines new kept) → HasCounted kept count → count ≡ length (line_bytes 0 items)
+all_counted start_lines end_lines start new start_kept Nothing items count is took counted = absurd counted
+all_counted start_lines end_lines start new start_kept (Byte line byte) items count is took counted = absurd counted
+all_counted start_lines end_lines start new start_kept (Line rest) items count is took counted = absurd counted
+all_counted start_lines end_lines start new start_kept Unwanted items count is took counted = absurd counted
+all_counted start_lines end_lines start new start_kept (Count n) items count is took counted =
+    let from : Took (shown_to 0) items (shown_to n) = subst (λ k. Took (taken_by start_lines start k) items (shown_to n)) is took in
+    let all : items ≡ from.part = from.split ∙ ap (λ l. from.part ++ l) (from.whole counted.1) ∙ append-nil from.part in
+    let sum : n ≡ 0 + length (line_bytes 0 from.part) = from.holds.count 0 refl in
+    let same : length (line_bytes 0 items) ≡ length (line_bytes 0 from.part) = ap (λ l. length (line_bytes 0 l)) all in
+    let is_n : count ≡ n = counted.0 in
+    omega (arith, sum, same, is_n)
 
 -- What stays, where the trace began as one over the host at hand.
 module _ (lines start_lines : ℕ) (old start new : Outside) (start_kept kept : Kept) (lines_are : start_lines ≡ lines) (same_start : start ≡ old) (fresh : start_kept ≡ Nothing)

@@ -51,7 +51,7 @@ silent_failed kept.Nothing port is = absurd (cc is)
 silent_failed (kept.Byte line byte) port is = refl
 silent_failed (kept.Line rest) port is = refl
 silent_failed kept.Unwanted port is = refl
-silent_failed (kept.Screen bytes) port is = refl
+silent_failed (kept.Count n) port is = refl
 
 -- a fault comes after calm, or else nothing changes after it
 module _ (lines : ℕ) (a b c : Outside) (b_kept c_kept : Kept) (second : Goes lines b b_kept c c_kept)

@@ -1,6 +1,6 @@
 -- The ports of a host as a trace of what a run shows: the bytes of each terminal line go to its port, and the lines of the log
 -- to Log.
-use Rattle.std.specs.Prelude.{◌≡◌, ℕ, Bool, true, false, ◌&&◌, Option, Some, None, is_some, IfSome, MatchOption, List, [], ◌∷◌, ◌++◌, length, ◌==◌, nat_le, nat_lt, if◌then◌else◌}
+use Rattle.std.specs.Prelude.{◌≡◌, ℕ, Bool, true, false, ◌&&◌, Option, Some, None, is_some, IfSome, MatchOption, List, [], ◌∷◌, ◌++◌, ◌+◌, ◌==◌, nat_lt, if◌then◌else◌}
 use Rattle.v6_base.specs.Trace.{Taken, Item}
 use Rattle.v6_port.specs.declared.host.OutPort.{OutPort}
 use Rattle.v6_port.specs.declared.host.OutPort.TheVariants as out_port
@@ -8,7 +8,7 @@ use Rattle.v6_port.specs.Outside.{Out, PortState, Outside, Tells, OnlyAt}
 use Rattle.v6_port.specs.Causes.{Calm, FaultAt}
 use Rattle.v6_run.specs.declared.ports.Kept.{Kept}
 use Rattle.v6_run.specs.declared.ports.Kept.TheVariants as kept
-use Rattle.v6_run.specs.declared.ports.TheConstants.{SCREEN_ROOM}
+use Rattle.v6_run.specs.declared.ports.TheConstants.{MOST}
 use Rattle.v6_run.specs.Fronts.{HoldsFront}
 use Rattle.v6_run.specs.Opened.{line_port}
 use Rattle.v6_run.specs.Outputs.{is_shown, shown_text}
@@ -32,7 +32,7 @@ failed_port kept.Nothing = None
 failed_port (kept.Byte line byte) = Some (line_port line)
 failed_port (kept.Line rest) = Some out_port.Log
 failed_port kept.Unwanted = None
-failed_port (kept.Screen bytes) = None
+failed_port (kept.Count n) = None
 
 -- the byte that could not be written, on its line
 abbrev pub kept_byte : Kept → ℕ → List ℕ
@@ -44,32 +44,24 @@ abbrev pub kept_text : Kept → List ℕ
 kept_text (kept.Line rest) = rest.items
 kept_text _ = []
 
--- these bytes are those of line 0
-abbrev pub of_line_0 : List ℕ → ℕ → List ℕ
-of_line_0 bytes line = if 0 == line then bytes else []
-
--- bytes are told of line 0 alone, where they are told
-abbrev pub tells_line_0 : Bool → ℕ → Bool
-tells_line_0 tells line = tells && (0 == line)
-
 -- nothing is written any more, or nothing is to be written
 abbrev pub is_silent : Kept → Bool
 is_silent kept.Nothing = false
 is_silent (kept.Byte line byte) = true
 is_silent (kept.Line rest) = true
 is_silent kept.Unwanted = true
-is_silent (kept.Screen bytes) = true
+is_silent (kept.Count n) = true
 
 abbrev pub is_wanted : Kept → Bool
 is_wanted kept.Nothing = true
 is_wanted (kept.Byte line byte) = true
 is_wanted (kept.Line rest) = true
 is_wanted kept.Unwanted = false
-is_wanted (kept.Screen bytes) = false
+is_wanted (kept.Count n) = false
 
 -- the bytes of the terminal are counted
 abbrev pub is_counted : Kept → Bool
-is_counted (kept.Screen bytes) = true
+is_counted (kept.Count n) = true
 is_counted _ = false
 
 -- What has been taken are the bytes of each of so many lines, those written to its port, and the text of the log, what was
@@ -80,18 +72,22 @@ taken_of lines o k = record {
   cut = is_some (failed_port k);
   tells_bytes = λ l. nat_lt l lines && (is_wanted k && o.fixed.tells);
   bytes = λ l. (line_state o l).bytes ++ kept_byte k l;
+  tells_count = λ l. false;
+  count = λ l. 0;
   tells_entries = false;
   entries = [];
   tells_text = is_wanted k && o.fixed.tells;
   text = (log_of o).bytes ++ kept_text k;
 }
 
--- A trace that counts tells the bytes of line 0, and is cut where they have no more room.
-abbrev pub shown_on : List ℕ → Taken
-shown_on bytes = record {
-  cut = nat_le SCREEN_ROOM (length bytes);
-  tells_bytes = tells_line_0 true;
-  bytes = of_line_0 bytes;
+-- A trace that counts tells how many bytes went out on line 0, and is cut at the greatest number.
+abbrev pub shown_to : ℕ → Taken
+shown_to n = record {
+  cut = n == MOST;
+  tells_bytes = λ l. false;
+  bytes = λ l. [];
+  tells_count = λ l. l == 0;
+  count = λ l. n;
   tells_entries = false;
   entries = [];
   tells_text = false;
@@ -99,26 +95,27 @@ shown_on bytes = record {
 }
 
 abbrev pub taken_by : ℕ → Outside → Kept → Taken
-taken_by lines o (kept.Screen bytes) = shown_on bytes.items
+taken_by lines o (kept.Count n) = shown_to n
 taken_by lines o kept.Nothing = taken_of lines o kept.Nothing
 taken_by lines o (kept.Byte line byte) = taken_of lines o (kept.Byte line byte)
 taken_by lines o (kept.Line rest) = taken_of lines o (kept.Line rest)
 taken_by lines o kept.Unwanted = taken_of lines o kept.Unwanted
 
--- one byte more is counted, where there is room
-abbrev pub counted : Kept → ℕ → Kept
-counted (kept.Screen bytes) byte =
-    if nat_le SCREEN_ROOM (length bytes.items) then kept.Screen bytes
-    else kept.Screen (record { items = bytes.items ++ byte ∷ [] })
-counted k byte = k
+-- one byte more is counted, up to the greatest number
+abbrev pub one_more : ℕ → ℕ
+one_more n = if n == MOST then n else n + 1
+
+abbrev pub counted : Kept → Kept
+counted (kept.Count n) = kept.Count (one_more n)
+counted k = k
 
 -- those of the console alone are
-abbrev pub screened : Kept → ℕ → ℕ → Kept
-screened k line byte = if line == 0 then counted k byte else k
+abbrev pub counted_on : ℕ → Kept → Kept
+counted_on line k = if line == 0 then counted k else k
 
--- so many have been, and there was room for them all
+-- so many have been, and no more
 abbrev pub HasCounted : Kept → ℕ → Type 0
-HasCounted (kept.Screen bytes) count = (count ≡ length bytes.items) × (nat_le SCREEN_ROOM count ≡ false)
+HasCounted (kept.Count n) count = (count ≡ n) × ((n == MOST) ≡ false)
 HasCounted k count = ⊥
 
 pub record Extends (old new : List ℕ) : Type 0 where

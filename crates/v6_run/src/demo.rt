@@ -44,7 +44,7 @@ pub(crate) const DEMO_CORE: u32 = 100;
 pub(crate) struct Summary {
     pub(crate) number: u32,
     /// How many bytes the terminal was shown.
-    pub(crate) shown: u16,
+    pub(crate) shown: u64,
     /// What the disk holds at the end.
     pub(crate) tally: Tally,
 }
@@ -53,11 +53,12 @@ pub(crate) struct Summary {
 #[derive(Clone, Copy)]
 struct Played {
     ends: Ends,
-    shown: u16,
+    shown: u64,
 }
 
-/// Runs the kernel over the events of a script. Nothing that it shows is written. The answer is nothing where the bytes of the
-/// terminal had no room.
+/// Runs the kernel over the events of a script. Nothing that it shows is written. The answer is nothing only where the terminal
+/// was shown 2^64 - 1 bytes or more.
+#[tactic(auto, using(crate::proofs::ShownLemmas::uncut_counted, crate::proofs::ShownLemmas::all_counted))]
 fn play_counted<H: Host>(kernel: &mut Kernel, events: &[Event], host: &mut H) -> Option<Played>
     requires new { kernel.old.phase ≡ New }
     requires can { CanTake kernel.old.system events.now }

@@ -39,7 +39,7 @@ pub(crate) fn push_number(line: &mut Line, number: u32)
 }
 
 /// Appends a number of at most twenty digits.
-fn push_long(line: &mut Line, number: u64)
+pub(crate) fn push_long(line: &mut Line, number: u64)
     requires { array_string_len line.old ≤ 118 }
     ensures bytes { line.new.bytes ≡ line.old.bytes ++ decimal number }
     ensures len { array_string_len line.new ≤ array_string_len line.old + 20 }

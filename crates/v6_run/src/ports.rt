@@ -4,11 +4,10 @@ ghost use Rattle.v6_port.specs.Outside.{Out, IsOpen, IsThere, OnlyAt, Tells, sam
 ghost use Rattle.v6_port.specs.Causes.{Calm, FaultAt};
 ghost use Rattle.v6_port.specs.declared.host.OutPort.TheVariants.{Log};
 ghost use Rattle.v6_run.specs.Opened.{line_port};
-ghost use Rattle.v6_run.specs.Ports.{is_silent, failed_port, counted, screened, HasCounted};
+ghost use Rattle.v6_run.specs.Ports.{is_silent, failed_port, one_more, counted, counted_on, HasCounted};
 
 use crate::files::{write_byte, write_text};
 use crate::slots::TellsCut;
-use arrayvec::ArrayVec;
 use log_text::{Line, put_line};
 use v6_base::{Entry, LINES, Trace};
 use v6_port::{Failed, Host, OutPort};
@@ -25,8 +24,8 @@ pub(crate) fn line_port(line: u8) -> OutPort
     }
 }
 
-/// For how many bytes of the console there is room where they aren't written.
-const SCREEN_ROOM: usize = 4096;
+/// The greatest number of bytes that is counted.
+const MOST: u64 = u64::MAX;
 
 /// What was not written.
 #[derive(Drop)]
@@ -38,14 +37,14 @@ enum Kept {
     Line(Line),
     /// All of it: nobody wants what the run shows.
     Unwanted,
-    /// All bytes of the console: nobody wants more than to count them.
-    Screen(ArrayVec<u8, SCREEN_ROOM>),
+    /// All of it: nobody wants more than how many bytes the console is shown, which are so many.
+    Count(u64),
 }
 
 /// A trace over the ports of so many terminal lines and of the log. A byte on another line is dropped. A line of the log goes
 /// out as one piece. The trace is cut where a write fails, and keeps what was not written of that byte or line. A trace of
-/// which nothing is wanted writes nothing, and is never cut; one that counts writes nothing, and is cut where the bytes of
-/// the console have no more room. A run with each of them is the same code, so that the loop over slots stands once.
+/// which nothing is wanted writes nothing, and is never cut; one that counts writes nothing, and is cut at the greatest
+/// number. A run with each of them is the same code, so that the loop over slots stands once.
 #[derive(Drop)]
 pub(crate) struct Ports<'a, H: Host> {
     host: &'a mut H,
@@ -56,8 +55,7 @@ pub(crate) struct Ports<'a, H: Host> {
 }
 
 impl<'a, H: Host> Ports<'a, H> {
-    ghost use Rattle.std.specs.Prelude.{[]};
-    ghost use Rattle.v6_run.specs.declared.ports.Kept.TheVariants.{Nothing, Unwanted, Screen};
+    ghost use Rattle.v6_run.specs.declared.ports.Kept.TheVariants.{Nothing, Unwanted, Count};
 
     /// A trace over so many lines of which nothing is taken yet.
     pub(crate) fn new(host: &'a mut H, lines: u8) -> Self
@@ -92,12 +90,12 @@ impl<'a, H: Host> Ports<'a, H> {
     pub(crate) fn counting(host: &'a mut H) -> Self
         ensures same_reference { result.host.ghost_name ≡ host.entry.ghost_name }
         ensures outside { result.host.now ≡ host.old }
-        ensures kept { result.kept ≡ Screen (record { items = [] }) }
+        ensures kept { result.kept ≡ Count 0 }
     {
         Ports {
             host,
             lines: 0,
-            kept: Kept::Screen(ArrayVec::new()),
+            kept: Kept::Count(0),
         }
     }
 
@@ -107,7 +105,7 @@ impl<'a, H: Host> Ports<'a, H> {
     {
         match &self.kept {
             Kept::Nothing => false,
-            Kept::Byte(..) | Kept::Line(_) | Kept::Unwanted | Kept::Screen(_) => true,
+            Kept::Byte(..) | Kept::Line(_) | Kept::Unwanted | Kept::Count(_) => true,
         }
     }
 
@@ -116,39 +114,46 @@ impl<'a, H: Host> Ports<'a, H> {
         ensures { result ≡ failed_port self.now.kept }
     {
         match &self.kept {
-            Kept::Nothing | Kept::Unwanted | Kept::Screen(_) => None,
+            Kept::Nothing | Kept::Unwanted | Kept::Count(_) => None,
             Kept::Byte(line, _) => Some(line_port(*line)),
             Kept::Line(_) => Some(OutPort::Log),
         }
     }
 
-    /// How many bytes the console was shown, of a trace that counts them, where they had room.
-    pub(crate) fn count(&self) -> Option<u16>
+    /// How many bytes the console was shown, of a trace that counts them. At the greatest number more may have come.
+    pub(crate) fn count(&self) -> Option<u64>
         ensures { IfSome result (λ count. HasCounted self.now.kept count) }
     {
         match &self.kept {
-            Kept::Screen(bytes) if !bytes.is_full() => Some(bytes.len() as u16),
+            Kept::Count(count) if *count != MOST => Some(*count),
             _ => None,
         }
     }
 }
 
+/// One more, up to the greatest number.
+fn one_more(count: u64) -> u64
+    ensures { result ≡ one_more count }
+{
+    if count == MOST { count } else { count + 1 }
+}
+
 /// Counts a byte of the console, where such bytes are counted.
 #[inline(never)]
-fn count_byte(kept: &mut Kept, byte: u8)
-    ensures { kept.new ≡ counted kept.old byte }
+fn count_byte(kept: &mut Kept)
+    ensures { kept.new ≡ counted kept.old }
 {
-    if let Kept::Screen(bytes) = kept {
-        let _ = bytes.try_push(byte);
+    if let Kept::Count(count) = kept {
+        *count = one_more(*count);
     }
 }
 
 /// Takes a byte of a terminal line that isn't written. Those of the console alone are counted.
-fn keep(kept: &mut Kept, line: u8, byte: u8)
-    ensures { kept.new ≡ screened kept.old line byte }
+fn keep(kept: &mut Kept, line: u8)
+    ensures { kept.new ≡ counted_on line kept.old }
 {
     if line == 0 {
-        count_byte(kept, byte);
+        count_byte(kept);
     }
 }
 
@@ -273,7 +278,7 @@ impl<'a, H: Host> Trace for Ports<'a, H> {
 
     fn out_on(&mut self, line: u8, byte: u8) {
         if self.is_silent() {
-            keep(&mut self.kept, line, byte);
+            keep(&mut self.kept, line);
             return;
         }
         if line < self.lines {
@@ -287,7 +292,7 @@ impl<'a, H: Host> TellsCut for Ports<'a, H> {
         match &self.kept {
             Kept::Nothing | Kept::Unwanted => false,
             Kept::Byte(..) | Kept::Line(_) => true,
-            Kept::Screen(bytes) => bytes.is_full(),
+            Kept::Count(count) => *count == MOST,
         }
     }
 }

@@ -10,7 +10,7 @@ ghost use Rattle.v6_run.specs.Answers.{Reports};
 use crate::demo::Summary;
 use crate::error::CommandError;
 use crate::files::write_all;
-use crate::line::{Line, long_numbered, numbered, plain, push_number, twice_numbered};
+use crate::line::{Line, long_numbered, numbered, plain, push_long, push_number, twice_numbered};
 use crate::status::Status;
 use fs_check::{ImageFault, Tally};
 use script_text::ScriptFault;
@@ -167,7 +167,7 @@ fn demo_line(summary: Summary) -> Line
     line.push_str("demo ");
     push_number(&mut line, summary.number);
     line.push_str(": 60000 slots, ");
-    push_number(&mut line, u32::from(summary.shown));
+    push_long(&mut line, summary.shown);
     line.push_str(" shown, ");
     push_number(&mut line, u32::from(summary.tally.nodes));
     line.push_str(" nodes, ");

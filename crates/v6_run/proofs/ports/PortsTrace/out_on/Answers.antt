@@ -26,7 +26,7 @@ returns-then-is_silent-clause-frame g c =
     let lines = c.args.self.now.lines in
     let o = g.H.Host.outside c.args.self.now.host.now in
     let silent = sym c.is_silent.ensures ∙ c.if-is_silent.true in
-    (subst (λ k. Goes lines o c.args.self.now.kept o k) (sym c.keep.ensures) (goes_silently lines o c.args.line c.args.byte c.args.self.now.kept silent), refl, refl)
+    (subst (λ k. Goes lines o c.args.self.now.kept o k) (sym c.keep.ensures) (goes_silently lines o c.args.line c.args.self.now.kept silent), refl, refl)
 
 -- a byte of a line that has no port is dropped, and isn't told
 pub returns-else-line-self-clause-took : goal.returns-else-line-self-clause-took
