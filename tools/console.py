@@ -16,7 +16,8 @@ import sys
 import tempfile
 
 sys.path.insert(0, os.path.dirname(os.path.abspath(__file__)))
-from v6.disk.silent import why_silent
+from v6.disk.contents import contents
+from v6.disk.silent import never_runs, why_silent
 from v6.host.files import place_of, read_bytes, replace, same_file, told, uninterrupted
 from v6.host.program import CORE, TOP, V6, ProgramError, add_version
 from v6.run.columns import frame
@@ -175,6 +176,18 @@ class Keyboard:
             return Typed(keys(line + bytes([END_OF_FILE])), line, self.is_hidden and line != b"")
         line = line[:-1]
         return self.command(line[1:]) if line.startswith(b"~") else self.typed(line)
+
+    def answer(self, prompt):
+        """What a person types to a question of the console; nothing at the end of a file, an interrupt, or where the terminal has gone."""
+        self.prompt, self.hides = lambda: prompt, lambda: False
+        try:
+            if not self.editor:
+                sys.stdout.buffer.write(prompt)
+                sys.stdout.buffer.flush()
+            self.fill()
+        except (KeyboardInterrupt, OSError):
+            return ""
+        return os.fsdecode(self.waiting.pop(0).strip(b"\0 \t\r\n")) if self.waiting else ""
 
     def batch(self):
         """The lines of a script for what waits in a file: lines that are typed as they stand, one after the other."""
@@ -612,10 +625,8 @@ def run(options, folder):
             console.line = line_of(old)
             tell(f"line {console.line}")
         console.show(console.dialogue.played.terms())
-        silent = not any(console.dialogue.played.terms())
-        why = why_silent(read_bytes(machine.images[0].copy), console.dialogue.played.log) if silent else None
-        if why:
-            tell(why)
+        if not tell_silence(machine, console.dialogue.played):
+            return 1
     except ScriptError as error:
         tell(error)
         return 1
@@ -635,7 +646,33 @@ def run(options, folder):
         status = 128 + error.args[0]
         save()
     is_kept = put_disks(options, machine, console.dialogue.lines(), disks)
+    if options.second and not (options.second_disk or options.script):
+        keep_second(machine, console.dialogue.lines(), keyboard if keyboard.person and not status else None)
     return status or int(console.refused and not console.keyboard.person or script.moved or not is_kept)
+
+
+def tell_silence(machine, played):
+    """Says why nothing is shown, where the disk tells it. Gives whether anything can come of what is typed."""
+    why = None if any(played.terms()) else why_silent(read_bytes(machine.images[0].copy), played.log)
+    if why:
+        tell(why)
+    return not (why and never_runs(played.log))
+
+
+def keep_second(machine, lines, keyboard):
+    """Says that the second disk's files have changed, where they have, and that no file keeps them; a person may name one."""
+    image, left = machine.images[1], machine.disks(lines)[1]
+    if contents(left) == contents(read_bytes(image.copy)):
+        return
+    tell(f"what was changed on {image.named} isn't kept: --second-disk FILE keeps it, or --script FILE what was typed")
+    while keyboard and (name := keyboard.answer(b"a file to keep it in now, or a return for none: ")):
+        try:
+            if os.path.lexists(name) and not same_file(name, image.named):
+                raise FileExistsError(errno.EEXIST, "there already", name)
+            put_disk(name, image, left, None)
+            return
+        except OSError as error:
+            tell(told(error))
 
 
 def put_disks(options, machine, lines, before):

@@ -6,6 +6,7 @@ if __name__ == "__main__":
     signal.signal(signal.SIGINT, signal.SIG_DFL)  # an interrupt before main ends it without a word
 
 import argparse
+import contextlib
 import datetime
 import os
 import re
@@ -16,7 +17,7 @@ sys.path.insert(0, os.path.dirname(os.path.abspath(__file__)))
 from v6.disk.archives import FORMS, Member
 from v6.disk.faultplace import FaultPlace
 from v6.disk.repair import DOUBTFUL, Repair, grow
-from v6.disk.survey import Survey, behind_end, damaged, walk
+from v6.disk.survey import Survey, behind_end, damaged, unpacked_by, walk
 from v6.disk.tree import KINDS, MOST_TIME, PERMISSIONS, Item, above, apply_table, number, own, place_all, plain_name, row, scan
 from v6.disk.volume import BLOCK, BLOCKS, DIRECTORY, PACK, PLAIN, ROOT, SWAP, DiskError, Volume, check_name, components, plural, shown
 from v6.disk.wants import table
@@ -25,7 +26,9 @@ from v6.host.program import V6, ProgramError, add_version, call
 from v6.host.progress import Progress
 
 NUMBERED = re.compile(rb"#([0-9]{1,5})(?![^/])")  # at the beginning of a path: an inode
-NO_SWAP = re.compile("file system of [0-9]+ blocks leaves no swap")
+NO_SWAP = re.compile("(?:image: )?file system of ([0-9]+) blocks leaves no swap")
+TO_READ = ": `check` tells all faults, and --damaged reads what is there"
+BESIDE = "disk.py --pack is for disks that are mounted beside another"
 MOST = PACK * BLOCK + 1  # what is read of a disk: one that is longer is too long
 
 
@@ -51,11 +54,34 @@ def check(options, image, name):
     """Asks v6 for the disk's first fault."""
     status, said = fault_of(options, image)
     if status:
-        raise DiskError(f"{name}: {said}")
+        raise DiskError(f"{name}: {said}{way_on(options, said, image)}")
+
+
+def way_on(options, said, image):
+    """What to do about a fault of a disk that may be none, where that is told by its kind or by its first bytes."""
+    if is_whole_pack(options, said):
+        return f"; {BESIDE}"
+    command = unpacked_by(image)
+    return f": it is compressed, and {command} makes the disk of it" if command else ""
+
+
+def is_whole_pack(options, said):
+    """Whether a disk is refused for the one reason that it has no swap area, as a pack that is mounted needs none."""
+    found = NO_SWAP.fullmatch(said)
+    return bool(found) and not options.pack and int(found[1]) <= PACK
 
 
 def most_blocks(options):
     return PACK if options.pack else SWAP
+
+
+@contextlib.contextmanager
+def up_to(options, blocks):
+    """Names --pack where a disk can't have as many blocks without it."""
+    try:
+        yield
+    except DiskError as error:
+        raise DiskError(f"{error}; {BESIDE}") if SWAP < blocks <= PACK and not options.pack else error from None
 
 
 def open_disk(options):
@@ -69,8 +95,7 @@ def uncut(volume, name):
     """A volume whose image doesn't end before what its files hold: v6 takes what is behind the end for zeros."""
     found = behind_end(volume, [n for n in range(1, 16 * volume.isize + 1) if volume.is_used(n)])
     if found or volume.length // BLOCK < volume.isize + 2:
-        raise DiskError(f"{name}: it ends at byte {volume.length}, before what its files hold: `check` names them, and "
-                        "--damaged reads what is there")
+        raise DiskError(f"{name}: it ends at byte {volume.length}, before what its files hold{TO_READ}")
     return volume
 
 
@@ -80,15 +105,13 @@ def open_for_reading(options):
     image = read_bytes(options.disk, MOST)
     if options.damaged:
         return damaged(image)
-    try:
-        check(options, image, options.disk)
-    except DiskError as error:
-        volume = damaged(image)
-        if not str(error).endswith(f"file system of {volume.fsize} blocks leaves no swap") or volume.fsize > PACK:
-            raise
-        faults = Survey(image)
+    status, said = fault_of(options, image)
+    if status and not is_whole_pack(options, said):
+        raise DiskError(f"{options.disk}: {said}{way_on(options, said, image) or TO_READ}")
+    if status:
+        volume, faults = damaged(image), Survey(image)
         if faults.outside or faults.twice or len(faults.lines) > 1 or not volume.inode(ROOT).is_directory():
-            raise DiskError(f"{options.disk}: a pack with faults: `check` tells them, and --damaged reads it") from None
+            raise DiskError(f"{options.disk}: a pack with faults{TO_READ}")
         return volume
     return uncut(Volume(image), options.disk)
 
@@ -213,8 +236,10 @@ class Folder:
             absent.discard(path)
             self.put(number, path)
         if not self.table and (self.devices or self.others):
-            lost = f"{plural(self.devices, 'device')}, and modes, owners or times of {plural(self.others, 'file')}"
-            print(f"disk.py: {lost} are not in the folder: --table FILE keeps them", file=sys.stderr)
+            lost = [plural(self.devices, "device")] * bool(self.devices)
+            lost += [f"modes, owners or times of {plural(self.others, 'file')}"] * bool(self.others)
+            print(f"disk.py: {', and '.join(lost)} {'is' if lost == ['1 device'] else 'are'} not in the folder: remove it and take it again "
+                  "with --table FILE, which keeps that", file=sys.stderr)
 
     def put(self, number, path):
         inode = self.volume.inode(number)
@@ -382,7 +407,8 @@ def new(options):
     sizes = (apply_table(root, options.table) if options.table else None) or (4000, 960, 0)
     given = (options.blocks, options.inodes, options.time)
     blocks, inodes, time = (old if one is None else one for one, old in zip(given, sizes))
-    volume = Volume.empty(blocks, inodes, time, most_blocks(options))
+    with up_to(options, blocks):
+        volume = Volume.empty(blocks, inodes, time, most_blocks(options))
     own(volume, ROOT, root)
     place_all(volume, ROOT, b"/", root, time)
     volume.length = blocks * BLOCK
@@ -512,14 +538,19 @@ def change_owner(options):
 def grow_disk(options):
     volume = open_disk(options)
     blocks = options.blocks if options.blocks is not None else volume.fsize
-    grow(volume, blocks, -(-options.inodes // 16) if options.inodes is not None else volume.isize, most_blocks(options))
+    with up_to(options, blocks):
+        grow(volume, blocks, -(-options.inodes // 16) if options.inodes is not None else volume.isize, most_blocks(options))
     save(options, volume)
 
 
 def check_disk(options):
-    """Tells all faults, and where the one lies for which v6 refuses the disk; the status is 1 where there is any."""
+    """Tells all faults, and where the one lies for which v6 refuses the disk; the status is 1 where there is any. Of what seems to be no
+    disk it tells that alone."""
     image = read_bytes(options.disk, MOST)
     survey = Survey(image)
+    if survey.is_doubtful() and not options.damaged:
+        print(f"{options.disk}: {DOUBTFUL}{way_on(options, '', image) or '; with --damaged, check tells all faults'}")
+        return 1
     lines = [text for text in survey.report() if not (options.pack and NO_SWAP.fullmatch(text))]
     for text in lines:
         print(f"{options.disk}: {text}")
@@ -528,6 +559,8 @@ def check_disk(options):
         print(f"{options.disk}: v6 refuses it: {said}")
         for text in FaultPlace(survey).lines(said.removeprefix("second ").removeprefix("image: ")):
             print(f"{options.disk}: {text}")
+        if is_whole_pack(options, said):
+            print(f"{options.disk}: {BESIDE}")
     return int(bool(lines or status))
 
 
@@ -537,10 +570,11 @@ def wants(options):
     paths = [path_of(path) for path in options.paths or ["/"]]
     tops = [(find(volume, path), path) for path in paths]
     with Progress("disk.py") as progress:
-        lines, (programs, devices, told) = table(volume, tops, progress)
+        lines, (programs, devices, others, told) = table(volume, tops, progress)
     for text in lines:
         print(text)
-    print(f"{plural(programs, 'program')} and {plural(devices, 'device')}; {told} with a line")
+    counted = f"{plural(programs, 'program')} and {plural(devices, 'device')}" + f", and {plural(others, 'other file')}" * bool(others)
+    print(f"{counted}; {told} with a line")
     return int(bool(told))
 
 
@@ -556,9 +590,10 @@ def repair_disk(options):
         print(f"{options.disk}: lost: {text}")
     kept = sum(item is not None for item in repair.items.values())
     print(f"{options.new}: {kept} files and directories, {len(repair.lost)} lost")
-    if repair.is_doubtful():
+    is_doubtful = repair.survey.is_doubtful()
+    if is_doubtful:
         print(f"disk.py: {options.disk}: {DOUBTFUL}", file=sys.stderr)
-    return int(repair.is_doubtful())
+    return int(is_doubtful)
 
 
 # the command line
@@ -633,7 +668,7 @@ def options_of(words):
     owners.add_argument("group", type=byte)
     for one in (modes, owners):
         one.add_argument("paths", nargs="+")
-    add("check", check_disk, "tells all faults of a disk")
+    add("check", check_disk, "tells all faults of a disk", damaged=(bool, "also of what seems to be no disk at all"))
     wanting = add("wants", wants, "tells what programs want that isn't there", **DAMAGED)
     wanting.add_argument("paths", nargs="*", metavar="path", help="a program, or a directory with those below it (all of the disk)")
     add("repair", repair_disk, "makes a good disk of what is whole on a damaged one", "new", **REPLACE)

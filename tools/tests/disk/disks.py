@@ -5,6 +5,9 @@ import shutil
 from tests.common import V6, Case, tool, write
 
 disk_main = tool("disk").main
+TO_READ = ": `check` tells all faults, and --damaged reads what is there"
+BESIDE = "disk.py --pack is for disks that are mounted beside another"
+DOUBTFUL = "neither its super-block nor its root directory is whole: it may be no disk of the Sixth Edition"
 
 
 class Disks(Case):

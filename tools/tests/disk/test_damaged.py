@@ -5,9 +5,8 @@ import struct
 import subprocess
 
 from tests.common import TOP, V6, read, v6
-from tests.disk.disks import Disks
+from tests.disk.disks import BESIDE, DOUBTFUL, TO_READ, Disks
 
-from v6.disk.repair import DOUBTFUL
 from v6.disk.survey import Survey
 from v6.disk.volume import Volume
 
@@ -64,7 +63,7 @@ class Damaged(Hurt):
         self.assertEqual(v6("check", bad)[0], 0)
         self.told(bad, "the image ends at byte 3684, before what its files hold", "/b: block 7 behind that end",
                   "/c: block 8, 9 behind that end")
-        refused = f"{bad}: it ends at byte 3684, before what its files hold: `check` names them, and --damaged reads what is there"
+        refused = f"{bad}: it ends at byte 3684, before what its files hold{TO_READ}"
         self.refused(refused, "cat", bad, "/a")
         self.refused(refused, "put", bad, bad, "/d")
         self.assertEqual(self.done("cat", "--damaged", bad, "/a"), "a" * 1024)
@@ -150,10 +149,10 @@ class Damaged(Hurt):
         self.assertEqual(self.done("cat", pack, "/a"), "1" * 600)
         self.done("get", pack, "/", self.path("back"))
         self.assertEqual(len(self.done("list", pack).splitlines()), 2)
-        self.refused(f"{pack}: image: file system of 4872 blocks leaves no swap", "put", pack, pack, "/b")
+        self.refused(f"{pack}: image: file system of 4872 blocks leaves no swap; {BESIDE}", "put", pack, pack, "/b")
         self.told(pack, "file system of 4872 blocks leaves no swap",
                   "v6 refuses it: image: file system of 4872 blocks leaves no swap",
-                  "the file system's end, at byte 514 in block 1, is 4872, and at most 4000")
+                  "the file system's end, at byte 514 in block 1, is 4872, and at most 4000", BESIDE)
         self.done("repair", pack, self.path("good"))
         self.assertEqual(self.done("cat", self.path("good"), "/a"), "1" * 600)
 
@@ -173,6 +172,9 @@ class Damaged(Hurt):
             faults = survey.lines or survey.outside or survey.twice or "no root" in survey.report()
             checked, told = self.disk("check", bad)[:2]
             self.assertEqual((bool(faults), checked >= bool(faults)), (v6("check", bad)[0] != 0, True))
+            if survey.is_doubtful():
+                self.assertEqual(told, f"{bad}: {DOUBTFUL}; with --damaged, check tells all faults\n")
+                told = self.disk("check", "--damaged", bad)[1]
             if faults:
                 named = f"{bad}: v6 refuses it: {v6('check', bad)[1]}"
                 self.assertRegex(told.partition(named)[2], f"^{bad}: .* (at byte|from byte) ")
@@ -184,10 +186,27 @@ class Damaged(Hurt):
         """Bytes of which nothing tells that they are a disk: what is found is written, with a line that says so."""
         bad, good = self.put("bad", b"\xa5" * 512 + b"\0" * 512 + self.random.randbytes(4000)), self.path("good")
         status, out, error = self.disk("repair", bad, good)
-        self.assertEqual((status, error), (1, f"disk.py: {bad}: neither its super-block nor its root directory is whole: it may be no "
-                                              "disk of the Sixth Edition\n"))
+        self.assertEqual((status, error), (1, f"disk.py: {bad}: {DOUBTFUL}\n"))
         self.assertIn("files and directories", out)
         self.told(good)
+
+    def test_the_check_of_what_is_no_disk(self):
+        """One line, whatever the bytes are; of a compressed disk it has the command that gives the disk back. All faults are told where
+        that is asked for, and a disk is one whose root directory is whole, or its super-block."""
+        good = read(self.hurt())
+        zipped = b"\037\213" + self.random.randbytes(3000)
+        for data, more in ((self.random.randbytes(100000), "; with --damaged, check tells all faults"), (b"", "; with --damaged, check tells all faults"),
+                           (b"some text\n" * 400, "; with --damaged, check tells all faults"), (bytes(5000), "; with --damaged, check tells all faults"),
+                           (zipped, ": it is compressed, and gunzip makes the disk of it")):
+            bad = self.put("bad", data)
+            self.assertEqual(self.disk("check", bad), (1, f"{bad}: {DOUBTFUL}{more}\n", ""))
+            self.assertIn("v6 refuses it: image: bad super-block\n", self.disk("check", "--damaged", bad)[1])
+        for command in ("list", "wants"):
+            self.refused(f"{bad}: image: bad super-block: it is compressed, and gunzip makes the disk of it", command, bad)
+        self.refused(f"{bad}: image: bad super-block: it is compressed, and gunzip makes the disk of it", "mkdir", bad, "/a")
+        for at, value in ((512, 0), (1024, 0o100644)):
+            self.assertNotIn(DOUBTFUL, self.disk("check", self.hurt((at, value)))[1])
+        self.assertEqual(self.disk("check", self.put("boot", b"\037\213" + good[2:])), (0, "", ""))
 
 
 class Places(Hurt):
@@ -212,7 +231,7 @@ class Places(Hurt):
                    "the count of free blocks, at byte 516 in block 1, is 101, and at most 100",
                    "the count of free inodes, at byte 718 in block 1, is 300, and at most 100")
         self.where(self.hurt((514, 4001)), "file system of 4001 blocks leaves no swap",
-                   "the file system's end, at byte 514 in block 1, is 4001, and at most 4000")
+                   "the file system's end, at byte 514 in block 1, is 4001, and at most 4000", BESIDE)
 
     def test_free_list(self):
         """Ten blocks are free, 10 to 19; the lowest is the last number of the group, and comes first. Where block 15 is all of

@@ -6,7 +6,7 @@ from dataclasses import replace as replaced
 from unittest import mock
 
 from tests.common import DISK_BYTES, read, tool, v6, write
-from tests.disk.disks import Disks, disk_main
+from tests.disk.disks import BESIDE, TO_READ, Disks, disk_main
 
 from v6.disk.volume import DiskError, Volume
 from v6.host.files import replace
@@ -45,7 +45,7 @@ EMPTIES = """
 	sys	exit
 name:	</large\\0>
 """
-UNKEPT = "disk.py: {} devices, and modes, owners or times of {} files are not in the folder: --table FILE keeps them\n"
+UNKEPT = "disk.py: {} not in the folder: remove it and take it again with --table FILE, which keeps that\n"
 
 
 def generated(n, k):
@@ -200,7 +200,7 @@ class Folders(Disks):
         volume = Volume(read(image))
         self.assertEqual((volume.time, volume.inode(8).changed, len(read(image))), (65537, 65537, 200 * 512))
         self.assertEqual(self.disk("get", image, "/", self.path("folder")),
-                         (0, "", UNKEPT.format(2, 1).replace("1 files", "1 file")))
+                         (0, "", UNKEPT.format("2 devices, and modes, owners or times of 1 file are")))
         self.done("get", image, "/", self.path("back"), "--table", self.path("table2"))
         self.assertIn("/a\\040b 0644 0 0\n", read(self.path("table2")).decode())
 
@@ -233,9 +233,9 @@ class Refusals(Disks):
             bad = self.put("bad", data[:at] + struct.pack("<H", value) + data[at + 2 :])
             before = read(bad)
             if value != 4001:  # a pack without swap can be read, see below
-                self.refused(f"{bad}: image: {fault}", "list", bad)
-                self.refused(f"{bad}: image: {fault}", "get", bad, "/", out)
-            self.refused(f"{bad}: image: {fault}", "put", bad, image, "/x")
+                self.refused(f"{bad}: image: {fault}{TO_READ}", "list", bad)
+                self.refused(f"{bad}: image: {fault}{TO_READ}", "get", bad, "/", out)
+            self.refused(f"{bad}: image: {fault}" + f"; {BESIDE}" * (value == 4001), "put", bad, image, "/x")
             self.assertEqual((read(bad), os.path.exists(out)), (before, False))
 
     def test_what_no_disk_can_hold(self):
@@ -272,7 +272,7 @@ class Refusals(Disks):
         self.refused("/more: no inode is free: the disk has 16", "put", image, file, "/more")
         for blocks, inodes, needs in (("4001", "16", 4), ("3", "16", 4), ("100", "0", 4), ("100", "3200", 203)):
             self.refused(f"a disk of {blocks} blocks and {inodes} inodes can't be made: these inodes and a root need {needs} "
-                         "blocks, and there are at most 4000",
+                         "blocks, and there are at most 4000" + f"; {BESIDE}" * (blocks == "4001"),
                          "new", self.path("x"), self.path("from"), "--blocks", blocks, "--inodes", inodes)
         image = self.new({}, "--blocks", "4", "--inodes", "16")
         self.done("put", image, self.put("empty", b""), "/a")
@@ -378,7 +378,7 @@ class Finals(Disks):
    15  drwxrwxrwx   1   0   0        16  /d
    16  -rw-r--r--   2   0   0         2  /d/c
 """)
-        self.assertEqual(self.disk("get", final, "/", self.path("back")), (0, "", UNKEPT.format(0, 2)))
+        self.assertEqual(self.disk("get", final, "/", self.path("back")), (0, "", UNKEPT.format("modes, owners or times of 2 files are")))
         self.assertEqual(os.stat(self.path("back/b")).st_ino, os.stat(self.path("back/d/c")).st_ino)
         self.assertEqual(read(self.path("back/d/c")), b"hi")
         self.assertEqual(read(self.path("back/big")), read(program)[16:].ljust(512, b"\0") * 20)

@@ -6,7 +6,7 @@ import sys
 import time
 
 from tests.common import TOOLS, V6, read, v6, write
-from tests.disk.disks import Disks, disk_main
+from tests.disk.disks import BESIDE, TO_READ, Disks, disk_main
 
 from v6.disk.survey import Survey
 from v6.disk.volume import Volume
@@ -186,7 +186,7 @@ class Names(Disks):
         self.done("put", image, folder + "/-x", "/")
         self.done("mv", image, "--", "-x", "-y")
         self.assertEqual(self.done("cat", image, "--", "-y"), "1")
-        self.refused("/dev/zero: image: too long", "list", "/dev/zero")
+        self.refused(f"/dev/zero: image: too long{TO_READ}", "list", "/dev/zero")
         self.refused("/dev/zero: a socket, a pipe or a device, and only files and folders can be put on a disk", "put", image,
                      "/dev/zero", "/z")
         self.refused(f"{folder}: Is a directory", "list", folder)
@@ -289,7 +289,7 @@ class Names(Disks):
         for name, data in files.items():
             self.assertEqual(read(self.path("back/" + name)), data)
         self.refused("it has 3000 blocks and 400 inodes, and can't become smaller", "grow", image, "--blocks", "2999")
-        self.refused("at most 4000 blocks and 65535 inodes", "grow", image, "--blocks", "4001")
+        self.refused(f"at most 4000 blocks and 65535 inodes; {BESIDE}", "grow", image, "--blocks", "4001")
         self.refused("no room for 32000 inodes: 1824 blocks must move, and 998 are free", "grow", image, "--inodes", "32000")
 
 

@@ -2,7 +2,7 @@
 import os
 
 from tests.common import DISK_BYTES, TOP, V6, read, tool, v6, write
-from tests.disk.disks import Disks, disk_main
+from tests.disk.disks import BESIDE, Disks, disk_main
 from tests.pages import Runs, commands
 
 console_main = tool("console").main
@@ -56,7 +56,7 @@ class Packs(Disks):
         """A smaller one is a disk like others; it grows to a pack, and is repaired as one."""
         pack = self.pack("100")
         self.assertEqual((v6("check", pack)[0], self.of_pack("check", pack)), (0, (0, "", "")))
-        self.refused("at most 4000 blocks and 65535 inodes", "grow", pack, "--blocks", "4001")
+        self.refused(f"at most 4000 blocks and 65535 inodes; {BESIDE}", "grow", pack, "--blocks", "4001")
         self.assertEqual(self.of_pack("grow", pack, "--blocks", "4872", "--inodes", "2000"), (0, "", ""))
         self.no_swap(pack)
         for option, blocks in (("--pack", 4872), (None, 4000)):
@@ -68,7 +68,7 @@ class Packs(Disks):
     def test_what_is_refused(self):
         pack = self.pack()
         before = read(pack)
-        self.refused(f"{pack}: image: file system of 4872 blocks leaves no swap", "mkdir", pack, "/no")
+        self.refused(f"{pack}: image: file system of 4872 blocks leaves no swap; {BESIDE}", "mkdir", pack, "/no")
         for words, why in ((("new", self.path("more"), self.path("folder"), "--blocks", "4873"),
                             "a disk of 4873 blocks and 960 inodes can't be made: these inodes and a root need 63 blocks, and there are at most 4872"),
                            (("grow", pack, "--blocks", "4873"), "at most 4872 blocks and 65535 inodes")):

@@ -4,7 +4,7 @@ import re
 import shutil
 
 from tests.common import TOP, V6, read, tool, words, write
-from tests.disk.disks import Disks, disk_main
+from tests.disk.disks import TO_READ, Disks, disk_main
 from tests.pages import Runs, commands
 
 from v6.pdp11.assembler import Assembler
@@ -150,9 +150,9 @@ class Wants(Disks):
                  "/d  header  2, 0 and 57343 bytes of text, data and bss  -  -  ENOMEM",
                  "/e  header  2, 0 and 49153 bytes of text, data and bss  -  -  ENOMEM"]
         self.told(image, "7 programs and 0 devices; 4 with a line", *found)
-        others = ["/g  header  no program: magic 61545  -  -  ENOEXEC", "/h  header  no program: 15 bytes  -  -  ENOEXEC",
+        others = ["/g  header  no program: magic 061545  -  -  ENOEXEC", "/h  header  no program: 15 bytes  -  -  ENOEXEC",
                   "/j  header  no program: 0 bytes  -  -  ENOEXEC"]
-        self.told(image, "4 programs and 0 devices; 3 with a line", *others, paths=["g", "/h", "i", "/j"])
+        self.told(image, "1 program and 0 devices, and 3 other files; 3 with a line", *others, paths=["g", "/h", "i", "/j"])
 
     def test_which_files(self):
         """Those that can be executed, each once; or those that are named, and what is below a directory."""
@@ -181,7 +181,7 @@ class Wants(Disks):
         self.told(image, last, row)
         self.told(image, last, row, command=("--pack", "wants"))
         bad = self.put("bad", read(image)[: 512 + 4] + (101).to_bytes(2, "little") + read(image)[512 + 6 :])
-        self.refused(f"{bad}: image: bad super-block", "wants", bad)
+        self.refused(f"{bad}: image: bad super-block{TO_READ}", "wants", bad)
         self.told(bad, last, row, command=("wants", "--damaged"))
 
 

@@ -18,6 +18,7 @@ import unittest
 import unittest.mock
 
 from tests.common import DISK_BYTES, TOOLS, TOP, V6, Case, generated, read, tool, v6, write
+from tests.run.persons import Person, as_person
 
 from v6.disk.volume import CHARACTER, Volume
 from v6.run import dialogue
@@ -25,7 +26,7 @@ from v6.run.ends import Processes, programs_of
 from v6.run.screen import echo, without_echo
 
 console = tool("console")
-as_main = tool("as").main
+as_main, disk_main = tool("as").main, tool("disk").main
 SHELL = os.path.join(TOP, "examples", "shell")
 TYPED = """\
 ls
@@ -119,26 +120,6 @@ BOOT = "boot 1200 0\nsleep 0 -100 runout\ngo 1\n"
 
 
 COUNTS = 'printf "run " >>"$1"\nshift\nexec "$@"\n'
-
-
-class Person(io.BytesIO):
-    """A keyboard of a person: lines, and what interrupts them."""
-
-    def isatty(self):
-        return True
-
-    def read1(self, size=-1):
-        line = super().readline()
-        if line == b"INTERRUPT\n":
-            raise KeyboardInterrupt
-        return line
-
-
-def as_person(begin):
-    """How a keyboard begins that a person has."""
-    def begun(self, file):
-        begin(self, Person(file.read()))
-    return begun
 
 
 class Parts(unittest.TestCase):
@@ -268,6 +249,17 @@ class Sessions(Case):
         term = b"SUM 6\r\n% HELLO\r\nHELLO\r\n% "
         self.assertEqual(self.session("hello\n~^D\n", "--disk", disk, image=image), (0, term, OVER))
         self.assertEqual(v6("check", disk), (0, "ok 7 nodes 3933 free\n"))
+
+    def test_a_disk_on_which_nothing_can_run(self):
+        """The console says so once, with the way on, and ends; it has written no file, and one that was there stays."""
+        script, disk, image = self.path("script"), self.put("disk", b"old"), self.put("pack", read(os.path.join(TOP, "examples", "pack", "pack")))
+        way = "nothing can run on it. A disk that was mounted goes beside one that runs: --second, docs/tools/pack.md"
+        self.assertEqual(self.session("ls\nls\n", "--script", script, "--disk", disk, image=image),
+                         (1, b"", f"\nconsole: the disk has no /etc/init, so {way}\n"))
+        self.assertEqual((os.path.exists(script), read(disk)), (False, b"old"))
+        self.assertEqual(self.call(disk_main, "--v6", V6, "mkdir", image, "/etc"), (0, "", ""))
+        self.assertEqual(self.call(disk_main, "--v6", V6, "put", image, disk, "/etc/init"), (0, "", ""))
+        self.assertEqual(self.session("ls\n", image=image), (1, b"", "\nconsole: the disk's /etc/init can't be executed, so nothing can run on it\n"))
 
     def test_an_image_that_changes_meanwhile(self):
         """Each line is played on the disk that was read when the dialogue began, and a disk that another program has put in its

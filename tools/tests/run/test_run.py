@@ -7,6 +7,8 @@ from tests.common import DISK_BYTES, TOP, V6, Case, read, tool
 run_main, as_main = tool("run").main, tool("as").main
 HI = os.path.join(TOP, "examples", "hi")
 SHOWN = "HI\r\n"
+NO_INIT = ("the disk has no /etc/init, so nothing can run on it. A disk that was mounted goes beside one that runs: --second, "
+           "docs/tools/pack.md")
 
 
 class Run(Case):
@@ -133,11 +135,11 @@ class Run(Case):
                                     ((self.path("log"), script), 6, f"{self.path('log')}: bad super-block")):
             self.assertEqual(self.run_it(*words), (status, "", f"run.py: {said}\n"))
         script, disk = self.put("script", b"run 3000\n"), self.put("disk", read(os.path.join(TOP, "examples", "shell", "image")))
-        for path, said in (("/dev/tty8", "the disk has no /dev/tty8"), ("/etc/init", "the disk has no /etc/init")):
+        for path, said in (("/dev/tty8", "the disk has no /dev/tty8"), ("/etc/init", NO_INIT)):
             self.assertEqual(self.call(tool("disk").main, "--v6", V6, "rm", disk, path), (0, "", ""))
             self.assertEqual(self.run_it(disk, script), (0, "", f"run.py: {said}\n"))
         self.assertEqual(self.call(tool("disk").main, "--v6", V6, "put", disk, script, "/etc/init"), (0, "", ""))
-        self.assertEqual(self.run_it(disk, script), (0, "", "run.py: the disk's /etc/init can't be executed\n"))
+        self.assertEqual(self.run_it(disk, script), (0, "", "run.py: the disk's /etc/init can't be executed, so nothing can run on it\n"))
 
     def test_a_run_that_does_not_begin(self):
         term = self.put("term", b"before")

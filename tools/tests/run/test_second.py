@@ -4,13 +4,16 @@ import os
 import shutil
 import subprocess
 import sys
+import unittest.mock
 
 from tests.common import DISK_BYTES, TOOLS, TOP, V6, Case, read, tool, v6, write
+from tests.run.persons import as_person
 
 EXAMPLE = os.path.join(TOP, "examples", "pack")
 IMAGE, PACK = (os.path.join(EXAMPLE, name) for name in ("image", "pack"))
 MOUNT = "stty -lcase\n/etc/mount /dev/rk1 /usr\n"
-console_main, disk_main, run_main = tool("console").main, tool("disk").main, tool("run").main
+console, disk_main, run_main = tool("console"), tool("disk").main, tool("run").main
+console_main = console.main
 
 
 def digest(name):
@@ -144,6 +147,37 @@ class Console(Second):
                                              "/etc/mount /dev/rk1 /usr\n"))
         self.assertTrue(term.endswith(b"# ls /usr\r\na\r\nbin\r\ndmr\r\nken\r\nreadme\r\n# "))
         self.assertEqual([self.cat(second, path)[0] for path in ("/a", "/b", "/readme")], [1, 1, 0])
+
+    def test_changes_that_nothing_keeps(self):
+        """They are told, but where --second-disk or --script keeps them, and where no line that stands has made any."""
+        made = MOUNT + "echo new >/usr/new\n"
+        told = f"\nconsole: what was changed on {self.pack} isn't kept: --second-disk FILE keeps it, or --script FILE what was typed\n"
+        for typed, more, said in ((made, (), told), (MOUNT + "chmod 600 /usr/readme\n", (), told), (MOUNT + "rm /usr/readme\n", (), told),
+                                  (MOUNT + "cat /usr/readme\nls /usr/bin\n/etc/umount /dev/rk1\n", (), ""), ("echo a >/new\n", (), ""),
+                                  (made, ("--second-disk", self.path("second")), ""), (made, ("--script", self.path("script")), "")):
+            status, _, found = self.session(typed, "--second", self.pack, *more)
+            self.assertEqual((status, found), (0, said), typed)
+        self.assertEqual(self.session(made + "~u\n", "--second", self.pack)[2], "\nconsole: after line 2: /etc/mount /dev/rk1 /usr\n")
+        self.assertEqual(read(self.pack), read(PACK))
+
+    def asked(self, *answers):
+        """What a person is told who has changed the pack, and answers at the end."""
+        begin = console.Keyboard.__init__
+        with unittest.mock.patch.object(console.Keyboard, "__init__", as_person(begin)):
+            return self.session(MOUNT + "echo new >/usr/new\n~.\n" + "".join(f"{answer}\n" for answer in answers), "--second", self.pack)
+
+    def test_a_person_names_a_file_at_the_end(self):
+        """It isn't one that is there, unless it is the pack's own; a return keeps nothing."""
+        kept, there, ask = self.path("kept"), self.put("there", b"old"), b"a file to keep it in now, or a return for none: "
+        status, term, said = self.asked(there, self.path("no/file"), kept)
+        self.assertEqual((status, term.count(ask), self.cat(kept, "/new"), read(there)), (0, 3, (0, "new\n"), b"old"))
+        self.assertTrue(said.endswith(f" what was typed\n\nconsole: {there}: there already\n\nconsole: {self.path('no/file')}: No such file or directory\n"), said)
+        self.assertEqual(read(self.pack), read(PACK))
+        for answers in (("",), ()):
+            status, term, said = self.asked(*answers)
+            self.assertEqual((status, term.count(ask), said.count("isn't kept")), (0, 1, 1))
+        self.assertEqual(read(self.pack), read(PACK))
+        self.assertEqual((self.asked(self.pack)[0], self.cat(self.pack, "/new")), (0, (0, "new\n")))
 
     def test_a_script_goes_on(self):
         """At the same two disks alone."""

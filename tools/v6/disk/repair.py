@@ -140,10 +140,6 @@ class Repair:
             if item.below is not None:
                 self.fill(item, number, b"#" + name)
 
-    def is_doubtful(self):
-        """Whether nothing tells that these are the bytes of a disk at all."""
-        return self.survey.is_bad and (self.items.get(ROOT) is None or ROOT in self.survey.hurt)
-
     def image(self, most=SWAP):
         """The bytes of the good disk, which has so many blocks at most."""
         old = self.volume

@@ -9,6 +9,8 @@ from v6.disk.volume import BLOCK, GROUP, LARGE, PACK, ROOT, SWAP, USED, Volume, 
 
 FREE = 0  # stands for the free list where the owners of a block are told
 INODES = 16  # in a block
+# what the first bytes of a compressed file are, and the command that gives the file back
+COMPRESSED = {b"\037\213": "gunzip", b"\037\235": "uncompress", b"BZh": "bunzip2", b"\3757zXZ": "unxz", b"PK\3\4": "unzip"}
 
 
 def walk(volume, number, path):
@@ -22,6 +24,12 @@ def walk(volume, number, path):
             met.add(number)
             entries = [entry for entry in volume.entries(volume.inode(number)) if entry[1] not in (b".", b"..")]
             waiting += [(below, path.rstrip(b"/") + b"/" + name, name) for below, name in reversed(entries)]
+
+
+def unpacked_by(image):
+    """The command that makes a disk of a compressed file, by its first bytes, or None. They may be those of a boot program, so that this
+    is for an image with a fault."""
+    return next((command for begins, command in COMPRESSED.items() if image.startswith(begins)), None)
 
 
 def damaged(image):
@@ -114,6 +122,11 @@ class Survey:
                               f"blocks and {spares} of inodes")
         elif fsize > SWAP:
             self.lines.append(f"file system of {fsize} blocks leaves no swap")
+
+    def is_doubtful(self):
+        """Whether nothing tells that these are the bytes of a disk at all."""
+        is_root = self.volume.is_used(ROOT) and self.volume.inode(ROOT).is_directory() and ROOT not in self.hurt
+        return self.is_bad and not is_root
 
     def all_names(self):
         """The paths of each inode, from the root on; and what is below directories that have none."""

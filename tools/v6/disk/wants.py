@@ -52,7 +52,7 @@ def header(data):
         return [Want("header", f"no program: {len(data)} bytes", "ENOEXEC")], False
     magic, text, size, bss = struct.unpack("<4H", data[:8])
     if magic not in (MAGIC, SHARED, SEPARATE):
-        return [Want("header", f"no program: magic {magic:04o}", "ENOEXEC")], False
+        return [Want("header", f"no program: magic 0{magic:03o}", "ENOEXEC")], False
     if magic == SEPARATE:
         return [Want("header", "magic 0411, separate text and data", "ENOMEM")], False
     apart, together = (text, size + bss) if magic == SHARED else (0, text + size + bss)
@@ -87,8 +87,9 @@ class Wants:
 
     def __init__(self, volume, data):
         self.volume, self.found, self.asks = volume, {}, False
-        self.headers, is_program = header(data)
-        if is_program:
+        self.headers, is_read = header(data)
+        self.is_program = not any(want.here == "ENOEXEC" for want in self.headers)
+        if is_read:
             program = Program(data)
             reached = program.reached()
             for at in sorted(reached):
@@ -161,17 +162,18 @@ def below(volume, tops):
 
 
 def table(volume, tops, progress):
-    """The lines of the table, and how many programs and devices there were, and of how many there is a line."""
-    rows, counts = [], [0, 0, 0]
+    """The lines of the table, and how many programs, devices and other files there were, and of how many there is a line."""
+    rows, counts = [], [0, 0, 0, 0]
     for path, inode, data in below(volume, tops):
         progress.tell(shown(path))
-        counts[data is None] += 1
         if data is None:
             what, here = device(inode)
-            found = [Want("device", what, here)] if here else []
+            kind, found = 1, [Want("device", what, here)] if here else []
         else:
-            found = Wants(volume, data).lines()
-        counts[2] += bool(found)
+            wants = Wants(volume, data)
+            kind, found = 0 if wants.is_program else 2, wants.lines()
+        counts[kind] += 1
+        counts[3] += bool(found)
         rows += [want.cells(path) for want in found]
     rows = [list(HEAD)] * bool(rows) + rows
     widths = [max(len(row[n]) for row in rows) for n in range(len(HEAD))] if rows else []
