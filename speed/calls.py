@@ -12,7 +12,7 @@ than an early one, for each entry between them.
 Then two disks are run by `run2`: printed is what a read costs on the first and on the second, which is mounted, and what a name
 that crosses costs more than the same name before the mount.
 
-Before a program is measured it is run with a test behind each call, that C is clear and R0 as it should be, and must
+Before a program is measured it is run with a test after each call, that C is clear and R0 as it should be, and must
 show that it came through: by the v6 itself, and, where the environment variable ABSTRACT_UNIX names its folder, by the
 reference too (see judge/compare/file_calls.py).
 """

@@ -92,7 +92,7 @@ def main(words):
     parser.add_argument("sources", metavar="FILE", nargs="+", help="the source, in the order in which it is read")
     parser.add_argument("-o", dest="out", help="the program that is made (a.out)")
     parser.add_argument("--into", metavar="FOLDER", help="make a program of each FILE there, which has its name without .s")
-    parser.add_argument("--with", dest="behind", metavar="FILE", action="append", default=[], help="a source that stands behind each")
+    parser.add_argument("--with", dest="behind", metavar="FILE", action="append", default=[], help="a source that stands after each")
     parser.add_argument("-n", dest="shared", action="store_true", help="with a text that is shared: magic 0410")
     parser.add_argument("-l", dest="listing", action="store_true", help="print each line with its address and words")
     parser.add_argument("-s", dest="symbols", action="store_true", help="with a table of symbols, also in the listing")

@@ -92,7 +92,7 @@ def open_disk(options):
 
 
 def uncut(volume, name):
-    """A volume whose image doesn't end before what its files hold: v6 takes what is behind the end for zeros."""
+    """A volume whose image doesn't end before what its files hold: v6 takes what is past the end for zeros."""
     found = behind_end(volume, [n for n in range(1, 16 * volume.isize + 1) if volume.is_used(n)])
     if found or volume.length // BLOCK < volume.isize + 2:
         raise DiskError(f"{name}: it ends at byte {volume.length}, before what its files hold{TO_READ}")

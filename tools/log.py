@@ -25,7 +25,7 @@ from v6.run.ends import programs_of
 from v6.run.script import ScriptError, read_script, slots_of, ticks_of
 
 WIDEST = len("newproc (1826)")  # of the procedures that `show --book` names
-COMMON, MORE = 3, 5  # lines that are shown before the place where two logs part, or a line at fault, and behind it
+COMMON, MORE = 3, 5  # lines that are shown before the place where two logs part, or a line at fault, and after it
 FAULT = re.compile("log: line ([0-9]+) is (not lawful|no log line)")
 WIDTH = 100
 HELP = {"show": "tells a log in words", "draw": "makes a picture of it", "diff": "tells where two logs part",
@@ -113,7 +113,7 @@ def diff(options):
     if one.lines == other.lines:
         return 0
     same = parting(one, other)
-    common = range(max(same - COMMON, 1), same)  # indices of lines, behind `boot`
+    common = range(max(same - COMMON, 1), same)  # indices of lines, after `boot`
     for story, mark in ((one, "<"), (other, ">")):
         if same and one.lines[0] != other.lines[0]:
             tell(story, story.lines[:1], mark)
@@ -166,7 +166,7 @@ def audit(options):
 
 
 def is_lawful_behind(options, lines, line):
-    """Whether the program finds a line lawful behind others that are."""
+    """Whether the program finds a line lawful after others that are."""
     _, said = call(options.v6, "audit", "/dev/stdin", data="".join(one + "\n" for one in (*lines, line)).encode())
     found = FAULT.fullmatch(said)
     return said.startswith("lawful: ") or bool(found) and int(found[1]) > len(lines) + 1

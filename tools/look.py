@@ -37,7 +37,7 @@ def compare(run, name):
     if len(lines) > len(run.lines):
         raise LookError(f"{name}: it has {count} lines, and this run has {len(run.log)}")
     if len(lines) < len(run.lines) or not is_whole and not run.status:
-        print(f"look.py: {name}: it is cut behind line {len(lines)}; the run has {len(run.log)}", file=sys.stderr)
+        print(f"look.py: {name}: it is cut after line {len(lines)}; the run has {len(run.log)}", file=sys.stderr)
 
 
 def looker_of(options, folder):

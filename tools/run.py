@@ -56,7 +56,7 @@ def options_of(words):
 
 def outputs_of(options):
     """The files that are asked for, by what they get: those of the lines have the name of the console's, with the number of the
-    line behind it."""
+    line after it."""
     outputs = {name: getattr(options, name) for name in OUTPUTS if getattr(options, name)}
     if options.second_disk:
         outputs[SECOND] = options.second_disk

@@ -325,7 +325,7 @@ def stopped(run, error, options):
 
 
 def refuse_early(options):
-    """Refuses before the run what could not be written behind it."""
+    """Refuses before the run what could not be written after it."""
     if options.back is not None and os.path.lexists(options.back):
         raise TryError(f"{options.back}: there already, and a folder is to be made")
     for name in filter(None, (options.back, options.final)):

@@ -27,7 +27,7 @@ def main(words, kind, doc, compare, smallest):
 
 
 def asked(words, doc, given, *meant):
-    """A program and the numbers behind it: so many are always given, and the others are meant where they aren't."""
+    """A program and the numbers after it: so many are always given, and the others are meant where they aren't."""
     if not given < len(words) <= 1 + given + len(meant) or not all(word.isdecimal() for word in words[1:]):
         sys.exit(doc)
     needs_reference()

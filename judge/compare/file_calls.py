@@ -173,7 +173,7 @@ def disk_differences(folder, names, image, tree, end, want, final):
         return
     behind = slice(512 * tree.fsize, end)
     if final[behind] != image.ljust(DISK_BYTES, b"\0")[behind] or final[512:516] != image[512:516]:
-        yield "the final disk: its size, or what is behind the file system, has changed"
+        yield "the final disk: its size, or what is after the file system, has changed"
     got = json.loads(reference("standfor", *(f"{folder}/{name}" for name in names))[1])
     if got["block0"] != want["block0"]:
         yield "the boot block"
@@ -261,7 +261,7 @@ def results_of(case, want):
 
 
 def bytes_of(node):
-    """The bytes of a file of at most eight blocks; what is behind them isn't looked at."""
+    """The bytes of a file of at most eight blocks; what is after them isn't looked at."""
     size = min(node["size"], 4096)
     blocks = [bytes.fromhex(node["body"].get(str(n), "00" * 512)) for n in range((size + 511) // 512)]
     return b"".join(blocks)[:size]

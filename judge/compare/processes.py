@@ -187,7 +187,7 @@ def store_differences(case, want, final):
     from abstract_unix import disk
     behind, image = slice(512 * case.tree.fsize, SWAP_AT), case.image.ljust(DISK_BYTES, b"\0")
     if final[behind] != image[behind] or final[:516] != image[:516]:
-        yield "the final disk: its boot block, or what is behind the file system, has changed"
+        yield "the final disk: its boot block, or what is after the file system, has changed"
     got = json.loads(json.dumps(disk.store_of(final).dump()))
     for key in ("count", "room", "spare", "stamp"):
         if want[key] != got[key]:

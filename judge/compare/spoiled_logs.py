@@ -136,7 +136,7 @@ def other_word(rng, lines):
 
 @functools.lru_cache(maxsize=1)
 def choices_from_slot_0(lines):
-    """The choices that would be others, were they made from entry 0 on and not from the entry behind the last one: their lines,
+    """The choices that would be others, were they made from entry 0 on and not from the entry after the last one: their lines,
     and the entries."""
     from abstract_unix import audit, logtext
     auditor, found = audit.Auditor(), []

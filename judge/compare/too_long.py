@@ -170,7 +170,7 @@ def failing(limit):
 
 
 def sparse(limit):
-    """Lines, and how long the file is that they begin; it has zeros behind them."""
+    """Lines, and how long the file is that they begin; it has zeros after them."""
     for count, status in ((40, TOO_LONG), (85, BAD)):
         yield f"a sparse file, of which {count + 1} zeros are read", log(limit - count), 5 * limit, status
 

@@ -235,7 +235,7 @@ def store_differences(image, want, final, is_second=False):
         return
     fsize = int.from_bytes(whole[514:516], "little")
     if final[512 * fsize : end] != whole[512 * fsize : end] or final[:516] != whole[:516]:
-        yield "final: its boot block, or what is behind the file system, has changed"
+        yield "final: its boot block, or what is after the file system, has changed"
     got, want = (json.loads(json.dumps(store.dump())) for store in (disk.store_of(final), want))
     for key in ("count", "room", "spare", "stamp"):
         if want[key] != got[key]:

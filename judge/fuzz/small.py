@@ -133,7 +133,7 @@ class Small:
             start = end + 1
 
     def squeeze(self):
-        """Takes words out of the plain disk's program, so that those behind them come up."""
+        """Takes words out of the plain disk's program, so that those after them come up."""
         words = self.program_words()
         kept = without(words, lambda some: bool(some) and self.fails(self.case.with_(image=self.with_words(some))))
         if kept != words:
@@ -230,7 +230,7 @@ def program_places(image):
 
 
 def shorter(image, size):
-    """The plain disk whose program has this size, all of it text; what was behind that is zeros."""
+    """The plain disk whose program has this size, all of it text; what was after that is zeros."""
     old = int.from_bytes(image[INODE_7 + 6 : INODE_7 + 8], "little")
     image = put(image, INODE_7 + 6, struct.pack("<H", size))
     image = put(image, HEADER + 2, struct.pack("<2H", size - 16, 0))

@@ -98,7 +98,7 @@ class Changes:
         self.buffer, self.change = buffer, change
 
     def put(self, w):
-        w.put(0o013701, "count", 0o001400 | 3 + len(self.change))    # MOV @#count,R1; BEQ behind
+        w.put(0o013701, "count", 0o001400 | 3 + len(self.change))    # MOV @#count,R1; BEQ after
         w.put(0o012702, self.buffer)                                     # MOV #at,R2
         w.put(*self.change)
         w.put(0o077101 + len(self.change))                           # SOB R1

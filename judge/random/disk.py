@@ -119,7 +119,7 @@ class Tree:
                 self.add(parent, rng.choice(free), self.some_file())
 
     def some_file(self):
-        """A plain file: small, large, with holes, with bytes behind its end, or longer than what it holds."""
+        """A plain file: small, large, with holes, with bytes past its end, or longer than what it holds."""
         rng = self.rng
         inode = Inode(rng.choice(FILE_MODES))
         kind = rng.choice(("empty", "small", "small", "small", "eight", "large", "holes", "far"))
@@ -198,7 +198,7 @@ class Tree:
         return {ino for ino, kind in kinds.items() if kind == (CHARACTER, CONSOLE)}
 
     def fill(self, ino):
-        """Gives a directory its bytes: with an odd size, with a hole, with bytes behind its end, or longer than a
+        """Gives a directory its bytes: with an odd size, with a hole, with bytes past its end, or longer than a
         search looks."""
         rng, inode = self.rng, self.inodes[ino]
         data = b"".join(entry(number, name) for number, name in self.odd_rows(self.entries[ino]))

@@ -19,7 +19,7 @@ PROGRAMS = ("/b0", "/b1", "/u/b2", "/b3")
 MODES = (0o100755,) * 8 + (0o100111, 0o100001, 0o100644, 0o104755, 0o102755, 0o106711, 0o110755)
 MAGICS = (0o407,) * 24 + (0o410,) * 4 + (0o411, 0o412, 0, 0o406)
 TEXTS = (20, 64, 65, 128, 130, 500, 513, 2000, 5000, 8191, 8192, 8193, 16384, 20000, 30001)
-ROUTINE = 4  # where the routine of a text is, behind the jump
+ROUTINE = 4  # where the routine of a text is, after the jump
 STICKY_MODES = (0o101755, 0o101777, 0o100755, 0o100777, 0o100711, 0o101700)
 BYTES = (0, 0, 0, 0, 1, 63, 64, 65, 500, 2000, 5000, 10000, 20000, 40000, 57000, 58000, 65535)
 BREAKS = (0o177700, 0o177777, 0o177701, 0o160000, 0o160001, 0o140000, 0o140001, 0o20000, 0o20001, 0o10000)
@@ -84,7 +84,7 @@ class Pushes(Code):
 
 
 class Breaks(Code):
-    """A break to an address, or to so many bytes behind the program, and a look at the last word below that."""
+    """A break to an address, or to so many bytes after the program, and a look at the last word below that."""
 
     def __init__(self, at, behind, looks):
         self.to, self.behind, self.looks = at, behind, looks
@@ -195,7 +195,7 @@ def program_of(rng, chooser, first, is_init):
 
 
 def data_at(text):
-    """The address of the data behind a text of so many bytes."""
+    """The address of the data after a text of so many bytes."""
     return 8192 * ((text + 8191) // 8192)
 
 

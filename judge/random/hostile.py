@@ -32,7 +32,7 @@ class Hostile:
         self.names = rng.sample(NAMES, rng.randrange(2, 6))
 
     def end(self):
-        """The address behind the data, if the program takes all its room."""
+        """The address after the data, if the program takes all its room."""
         return (self.room + self.bss + 63) // 64 * 64
 
     def address(self):

@@ -15,13 +15,13 @@ HI = f"{TOP}/examples/hi/image"
 INODE_7, BLOCK = 1216, 66  # of /etc/init on the disk of examples/hi
 CAUGHT = (4, 5, 6, 7, 10, 11, 12)
 BREAK, GETPID, NICE = 17, 20, 34
-NOTE = 20  # which word of the data it is; behind it comes the sum
+NOTE = 20  # which word of the data it is; after it comes the sum
 CORES = (100, 110, 128, 150, 200, 3968)
 ALONE = (1, 2, 3, 4, 5, 6, 0o240, 0o257, 0o277, 0o207, 0o200, 0o6402, 0o104000, 0o170011, 0o7000)
 
 
 class Instructions:
-    """Puts together a program of at most so many bytes of words. With a shared text its data are words behind it."""
+    """Puts together a program of at most so many bytes of words. With a shared text its data are words after it."""
 
     def __init__(self, rng, room, is_shared):
         self.rng, self.room, self.w = rng, room, Words()

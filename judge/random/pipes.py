@@ -102,7 +102,7 @@ class PipeChooser(Chooser):
         return self.rng.choices(range(PIPES), (6, 2, 1))[0]
 
     def place(self):
-        """Where bytes come from or go to: behind the program, or the program itself, which is only read."""
+        """Where bytes come from or go to: after the program, or the program itself, which is only read."""
         return ("end", 2 * self.rng.randrange(600))
 
     def makes_pipe(self, _):
@@ -224,6 +224,6 @@ def random_program(rng, tree):
 
 
 def init_of(program):
-    """The file /etc/init, with room for bytes behind it."""
+    """The file /etc/init, with room for bytes after it."""
     body = assembled(program, words=ends_of_pipes())
     return struct.pack("<8H", 0o407, len(body), 0, BSS, 0, 0, 0, 0) + body

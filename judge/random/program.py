@@ -38,7 +38,7 @@ class Plan(collections.namedtuple("Plan", "calls fd in_file leave_open total roo
     hold; a last call that makes a signal; whether the program exits."""
 
     def clicks_end(self):
-        """The address behind the data."""
+        """The address after the data."""
         return (self.total + 63) // 64 * 64
 
     def all_calls(self):

@@ -164,7 +164,7 @@ def random_script(rng):
 
 
 def slowed(rng, lines, there, most=3000):
-    """Lines of a script up to so many slots, with a slow disk and a pace from near the start on, more lines of both behind it,
+    """Lines of a script up to so many slots, with a slow disk and a pace from near the start on, more lines of both after it,
     and hangups; and of the lines of a terminal that are there beside the console what is typed on one."""
     out, slots = [], 0
     for line in lines:

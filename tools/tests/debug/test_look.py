@@ -151,7 +151,7 @@ class Shown(unittest.TestCase):
 
     def test_arguments(self):
         """An argument of the bytes 0377 0377 is no end of the list of arguments. Where a program has written over the list, its texts
-        are behind the -1; where they aren't all text, there are none."""
+        are after the -1; where they aren't all text, there are none."""
         for top, wanted in (("000106 000106 177777 071554 000000", 'arguments  "ls"'),
                             ("000002 177760 177762 177777 000141 000142", 'arguments  "a" "b"'),
                             ("000002 177774 177776 177777 000141 000142", 'arguments  "a" "b"'),
@@ -192,7 +192,7 @@ class Shown(unittest.TestCase):
         self.assertIn("  000010 sub            010046                mov     r0,-(sp)", shown)
 
     def test_symbols(self):
-        """Data begin in a segment of their own behind a shared text, and names of either part have that part's addresses alone."""
+        """Data begin in a segment of their own after a shared text, and names of either part have that part's addresses alone."""
         table = b"".join(struct.pack("<8s2H", *one) for one in ((b"_main", 0o42, 2), (b"_buf", 3, 8194), (b"size", 1, 6)))
         shared = Program("/bin/it", struct.pack("<8H", 0o410, 6, 4, 2, len(table), 0, 0, 1) + bytes(10) + table)
         found = [shared.name_at(at) for at in (0, 2, 5, 6, 8191, 8192, 8194, 8197, 8198)]
@@ -217,7 +217,7 @@ class Shown(unittest.TestCase):
         self.assertEqual(looker.lines_of("swap")[:2], [" 4000 to  4001     2  text 0", " 4002 to  4006     5  process 1"])
 
     def test_priorities(self):
-        """Who runs has 100, and 107 after the next call behind a nice of 7; a child has 0 until its first; who is woken keeps his."""
+        """Who runs has 100, and 107 after the next call after a nice of 7; a child has 0 until its first; who is woken keeps his."""
         lines = (*START, (2, "fork 1 2 at 38"), (2, "trap 1"), (3, "nice 1 7"), (3, "go 2"), (4, "sleep 2 10 keys"), (4, "go 1"),
                  (5, "trap 1"), (6, "wake keys"), (7, "go 2"), (8, "trap 2"))
         looker = looker_of(ByHand(9, lines, lambda slots: placed((1, image((0,) * 8)), (38, image((0,) * 8)))))
@@ -291,7 +291,7 @@ class Moves(unittest.TestCase):
 
     def test_events(self):
         self.assertEqual([self.at("next go"), self.at("next trap"), self.at("next exit"), self.at("last go")], [1, 100, 9800000, 1])
-        with self.assertRaisesRegex(LookError, "signal: not found behind slot 1"):
+        with self.assertRaisesRegex(LookError, "signal: not found after slot 1"):
             self.looker.lines_of("next signal")
 
     def test_lines(self):
@@ -322,7 +322,7 @@ class Moves(unittest.TestCase):
         self.assertEqual(self.at("until state z of 2"), 9800000)
         self.assertEqual(self.at("since place swap of 2"), 9000000)
         self.assertEqual(self.at("since state rR of 2"), 100)
-        with self.assertRaisesRegex(LookError, "state R: not found behind slot 50"):  # it runs from slot 1 until its child does
+        with self.assertRaisesRegex(LookError, "state R: not found after slot 50"):  # it runs from slot 1 until its child does
             self.at("slot 50", "until state R of 1")
 
     def test_a_wakeup(self):
@@ -340,7 +340,7 @@ class Moves(unittest.TestCase):
         self.assertEqual([self.at("slot 1", "until call getpid"), self.at("until call"), self.at("since call fork")], [499, 699, 299])
         self.assertIn("call       fork() comes next", self.looker.lines_of("process 1"))
         self.assertEqual([self.at("until call 20"), self.at("since call 2")], [499, 299])  # getpid, fork
-        with self.assertRaisesRegex(LookError, "call open: not found behind slot 299"):
+        with self.assertRaisesRegex(LookError, "call open: not found after slot 299"):
             self.looker.lines_of("until call open")
 
     def test_watch(self):
@@ -546,7 +546,7 @@ class Commands(Case):
         self.assertEqual((status, out.splitlines()[1:], error), (1, [
             "      1  boot 1200 0             the system begins, with 1200 clicks of core, at 0 seconds",
             "      2  sleep 0 -100 runout     the swapper waits until somebody out of core can run, at priority -100",
-            "      3  go 1                    process 1 runs"], "look.py: fork: not found behind slot 0\n"))
+            "      3  go 1                    process 1 runs"], "look.py: fork: not found after slot 0\n"))
 
     def readers(self):
         """The disk and the script of the two readers of the page."""
@@ -585,7 +585,7 @@ class Commands(Case):
         self.assertEqual(self.hi("--log", log, "-c", "help")[::2], (0, ""))
         cut = self.put("cut", b"".join(lines[:5]))
         self.assertEqual(self.hi("--log", cut, "-c", "help")[::2],
-                         (0, f"look.py: {cut}: it is cut behind line 5; the run has {len(lines)}\n"))
+                         (0, f"look.py: {cut}: it is cut after line 5; the run has {len(lines)}\n"))
         spoiled = self.put("spoiled", b"".join(lines[:2]) + b"go 2\n")
         self.assertEqual(self.hi("--log", spoiled, "-c", "help"),
                          (1, "", f"look.py: {spoiled}: line 3 is of another run: it is 'go 2', and here 'go 1'\n"))

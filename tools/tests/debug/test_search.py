@@ -45,7 +45,7 @@ who:	0
 """
 
 
-# Loops that make calls: of six instructions, of two, and of three behind two that come first.
+# Loops that make calls: of six instructions, of two, and of three after two that come first.
 CALLS = b"""
 	mov	$200.,r1
 1:	sys	getpid
@@ -164,7 +164,7 @@ class Searches(BeginsProcesses):
         try:
             with unittest.mock.patch.object(os, "fork", forked), self.assertRaisesRegex(RuntimeError, "has ended"):
                 list(in_order(lambda number: number, 5, 2, lambda number: stop, MomentError))
-            with unittest.mock.patch.object(os, "fork", forked):  # these end behind their work, and nobody reads what they find
+            with unittest.mock.patch.object(os, "fork", forked):  # these end after their work, and nobody reads what they find
                 wide = contextlib.closing(in_order(lambda number: bytes(200_000), 50, 2, lambda number: lambda: None, MomentError))
                 with wide as found:
                     self.assertEqual(next(found), bytes(200_000))
@@ -173,7 +173,7 @@ class Searches(BeginsProcesses):
         self.none_left()
 
     def test_calls_among_many(self):
-        """The calls number k are getpid in slot 2k + 1 and, behind `time` in slot 403, getuid in slot 2k + 403, each for 200 numbers."""
+        """The calls number k are getpid in slot 2k + 1 and, after `time` in slot 403, getuid in slot 2k + 403, each for 200 numbers."""
         image, script = self.disk(self.put("calls.s", CALLS)), self.put("script", b"run 1000\n")
         commands = ("slot 1", "until call time", "slot 900", "since call time", "slot 900", "since call exec", "slot 100", "since call getpid", "slot 9",
                     "until call getuid", "slot 900", "since call", "slot 900", "since call getpid of 1")
@@ -186,7 +186,7 @@ class Searches(BeginsProcesses):
                     self.assertEqual((found[0], found[2]), (1, f"look.py: {call}: not found before slot 900\n"))
 
     def test_breaks_and_watches(self):
-        """`eighth` is at 040; PC comes there in slot 41 and each 43 later, and behind its first instruction in the next."""
+        """`eighth` is at 040; PC comes there in slot 41 and each 43 later, and after its first instruction in the next."""
         image, script = self.disk(self.put("counts.s", COUNTS)), self.put("script", b"run 2000\n")
         commands = ("break eighth", "slot 1", "break eighth+4", "until break", "until break", "until break", "since break",
                     "unbreak eighth+4", "slot 84", "since break", "unbreak", "watch seen", "until watch", "slot 1000", "since watch",
@@ -208,7 +208,7 @@ class Searches(BeginsProcesses):
 
     def test_what_stored_a_word(self):
         """The instruction is told with its name, also backwards, or a call that had begun before. `seen` is stored at 040, and `count`
-        at 04; process 1 waits in its read with PC behind it, at 030."""
+        at 04; process 1 waits in its read with PC after it, at 030."""
         image, script = self.disk(self.put("counts.s", COUNTS)), self.put("script", b"run 2000\n")
         lines, error = self.shown(image, script, "slot 1", "until word seen", "slot 1000", "since word seen", "slot 1", "watch count",
                                   "watch who", "until watch")
@@ -245,7 +245,7 @@ class Searches(BeginsProcesses):
     def test_what_is_not_found(self):
         image, script = self.disk(self.put("counts.s", COUNTS)), self.put("script", b"run 2000\n")
         words_ = "--v6", V6, image, "1200", script, "-c", "slot 1", "-c", "until word seen 60", "-c", "slot 300", "-c", "since word who"
-        self.assertEqual(self.call(look.main, *words_)[::2], (1, "look.py: word seen 60: not found behind slot 1\n"
+        self.assertEqual(self.call(look.main, *words_)[::2], (1, "look.py: word seen 60: not found after slot 1\n"
                                                                  "look.py: word who: not found before slot 300\n"))
 
     def test_two_processes(self):
@@ -326,7 +326,7 @@ class Searches(BeginsProcesses):
         self.assertLess(asked[1], 8)
 
     def test_a_known_answer_that_is_another(self):
-        """It is told where it is compared: the first time, or behind the last one that was taken."""
+        """It is told where it is compared: the first time, or after the last one that was taken."""
         for due in (walk_module.is_due, lambda count: False):
             with unittest.mock.patch.dict(answers.KNOWN, getuid=lambda one, process, call: (7, process.registers[1], 0)):
                 with self.assertRaisesRegex(MomentError, "followed from slot 2 on differs from what the program tells: process 1 has other registers"):

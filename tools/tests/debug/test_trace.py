@@ -196,7 +196,7 @@ class Traces(Case):
         image, script = self.pair()
         run = Run(V6, image, 1200, read(script), self.folder)
         write(image, read(os.path.join(HI, "image")))
-        self.assertEqual(run.count(70), 26)  # docs/lions/slp.md: up to the choice behind the read that waits in slot 69
+        self.assertEqual(run.count(70), 26)  # docs/lions/slp.md: up to the choice after the read that waits in slot 69
         write(run.disks[0], read(image))
         with self.assertRaisesRegex(MomentError, "the run isn't the same each time; has the disk changed?"):
             run.count(71)

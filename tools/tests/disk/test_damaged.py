@@ -61,8 +61,8 @@ class Damaged(Hurt):
         """/b holds the blocks 6 and 7, /c 8 and 9: the image ends within block 7. `v6` takes what is missing for zeros."""
         bad, good = self.put("cut", read(self.hurt())[: 7 * 512 + 100]), self.path("good")
         self.assertEqual(v6("check", bad)[0], 0)
-        self.told(bad, "the image ends at byte 3684, before what its files hold", "/b: block 7 behind that end",
-                  "/c: block 8, 9 behind that end")
+        self.told(bad, "the image ends at byte 3684, before what its files hold", "/b: block 7 past that end",
+                  "/c: block 8, 9 past that end")
         refused = f"{bad}: it ends at byte 3684, before what its files hold{TO_READ}"
         self.refused(refused, "cat", bad, "/a")
         self.refused(refused, "put", bad, bad, "/d")
@@ -213,7 +213,7 @@ class Places(Hurt):
     """Where the fault lies that `v6 check` names: by hand, from the layout of docs/manual/disk-image.md."""
 
     def where(self, bad, fault, *lines):
-        """The last lines that are told, behind the fault."""
+        """The last lines that are told, after the fault."""
         self.assertEqual(v6("check", bad)[1], f"image: {fault}\n")
         told = self.disk("check", bad)[1].partition("v6 refuses it: ")[2]
         self.assertEqual(told, f"image: {fault}\n" + "".join(f"{bad}: {line}\n" for line in lines))

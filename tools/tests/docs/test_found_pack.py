@@ -17,7 +17,7 @@ class FoundPack(Case):
         return done.stdout
 
     def typed(self, text, image=IMAGE, second=PACK):
-        """What is shown behind the first prompt in small letters, and the pack that is left."""
+        """What is shown after the first prompt in small letters, and the pack that is left."""
         after = self.path("after")
         status, term, said = self.ran(console_main, "--v6", V6, image, "--second", second, "--second-disk", after,
                                       typed=b"stty -lcase\n" + text.encode())

@@ -150,7 +150,7 @@ class Ahead(BeginsProcesses):
             os.close(source)
 
     def test_a_pipe_with_little_room(self):
-        """The numbers of the work fit into a page of the host; the work behind them is done here."""
+        """The numbers of the work fit into a page of the host; the work after them is done here."""
         self.assertLessEqual(parallel.MOST * parallel.NUMBER.size, 4096)
         with limited(), unittest.mock.patch.object(parallel, "MOST", 3):
             self.assertEqual(list(in_order(lambda number: number * number, 6, 2, lambda number: lambda: None, MomentError)), [0, 1, 4, 9, 16, 25])

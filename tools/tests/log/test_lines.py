@@ -40,7 +40,7 @@ class Lines(unittest.TestCase):
         self.assertEqual([first % SHEET for first in firsts], [0] * len(firsts))
 
     def test_procedures(self):
-        """Lines grow within each file, lie behind its first line, and before the next file."""
+        """Lines grow within each file, lie after its first line, and before the next file."""
         ends = dict(zip(FILES, [*list(FILES.values())[1:], 10000]))
         last = 0
         for name, file, line in PROCEDURES.values():

@@ -217,7 +217,7 @@ class Log(Case):
                           ("share 1 3", "text 3 isn't in use there"), ("boot 64 0", "`boot` is the first line, and no other is")):
             self.refused(f"boot 64 0\nsleep 0 -100 runout\n{line}\nend\n", f"line 3: {why}")
         self.refused("go 1\nend\n", "line 1: `boot` is the first line, and no other is")
-        self.refused("boot 64 0\nend\ngo 1\n", "line 3: a line behind the last: go 1")
+        self.refused("boot 64 0\nend\ngo 1\n", "line 3: a line after the last: go 1")
         self.refused(LOG, "line 8: text 3 isn't in use there")
 
     def test_the_last_user_of_a_text(self):
@@ -296,7 +296,7 @@ class Log(Case):
             self.assertEqual((status, said[-len(wanted):]), (1, wanted), text)
 
     def told_line(self, lines, begins="boot 1200 0\nsleep 0 -100 runout\ngo 1\n"):
-        """What `audit` says of the last line of a log, which is at fault, behind the rule."""
+        """What `audit` says of the last line of a log, which is at fault, after the rule."""
         text = begins + "".join(line + "\n" for line in lines)
         status, said = self.audited(text)
         self.assertEqual((status, said[0]), (1, f"log: line {text.count(chr(10))} is not lawful"), text)
@@ -397,7 +397,7 @@ class Log(Case):
                           "boot 3968 0\nsleep 0 -100 runout\ngo 1\n")
 
     def test_audit_tells_the_part_of_a_text(self):
-        """Entry 1 runs with text 0, of 20 clicks in block 4000, and an image of 30 behind it in core."""
+        """Entry 1 runs with text 0, of 20 clicks in block 4000, and an image of 30 after it in core."""
         self.assert_parts((
             ("bare 1", "Entry 1 has text 0"), ("exit 1 swap 4003", "Entry 1 has text 0"), ("share 1 0", "Entry 1 has a place"),
             ("drop 1 0 plain, bare 1, share 1 0", "Text 0 isn't in use"),
@@ -418,7 +418,7 @@ class Log(Case):
                            ("sleep 1 -100 runout", "Entry 0 alone sleeps for runout")))
 
     def test_audit_tells_that_no_slot_is_free(self):
-        """Entries 2 to 49 are of children with 17 clicks each, one behind the other; then entry 0 runs, which makes no call."""
+        """Entries 2 to 49 are of children with 17 clicks each, one after the other; then entry 0 runs, which makes no call."""
         forks = "".join(f"fork 1 {slot} at {1 + 17 * (slot - 1)}, " for slot in range(2, 50))
         self.assert_parts(((forks + "fork 1 2 at 834", "No entry is free"),))
         to_slot_0 = "size 1 1200 swap 4000, trap 1, go 0, "
@@ -516,7 +516,7 @@ class Log(Case):
             self.assertEqual((status, said), (1, ""))
             self.assertRegex(shown, f"^log: line ({at}|{at + 1}) is " if how == "cut" else f"^log: line {at} is no log line\n", how)
             said = self.call(look_main, "--v6", V6, "--eight", "--log", name, "-c", "quit", image, "3968", script)[2]
-            self.assertRegex(said, rf"^look\.py: .*: (line {at} is of another run|it is cut behind line {at - 1};)", how)
+            self.assertRegex(said, rf"^look\.py: .*: (line {at} is of another run|it is cut after line {at - 1};)", how)
 
     def test_audit_without_the_program(self):
         name = self.text("log", LAWFUL + "end\n")

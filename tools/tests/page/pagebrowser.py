@@ -51,7 +51,7 @@ class Browsed(Made):
         return self.value("page.line")
 
     def table(self):
-        """The table of processes, cell by cell; behind what ps(I) has comes the call."""
+        """The table of processes, cell by cell; after what ps(I) has comes the call."""
         return self.value("[...document.querySelectorAll('#ps tr')].slice(1).map((row) => [...row.cells].map((one) => one.textContent))")
 
     def calls(self):

@@ -77,7 +77,7 @@ class Lessons(Case):
             self.assertIn(f"tools/lessonpages.py -o lessons {lesson}`", text)
 
     def links(self, folder):
-        """The links of the pages in a folder: (page, file, what stands behind the #)."""
+        """The links of the pages in a folder: (page, file, what stands after the #)."""
         for name in sorted(os.listdir(folder)):
             if name.endswith(".html") and not name.endswith("-1.html"):
                 for file, place in LINK.findall(read(os.path.join(folder, name)).decode()):

@@ -83,7 +83,7 @@ class Opened(Browsed):
         self.browser.key("Enter")
         self.assertEqual((self.line(), self.text("raw")), (82, "out 1 4010"))
         self.browser.key("n")
-        self.assertEqual((self.line(), self.text("found")), (82, "not found behind this line"))
+        self.assertEqual((self.line(), self.text("found")), (82, "not found after this line"))
         own = self.value("[...Array(page.run.lines).keys()].map((one) => one + 1).filter((one) => page.run.moment(one).isExact)")
         self.assertGreater(len(own), 10)
         for line in (82, *self.random.sample(own, 4)):

@@ -206,7 +206,7 @@ class Words(Case):
             self.assertEqual((self.assemble(source)[0] or b"")[16:], words(wanted), source)
 
     def test_jumps(self):
-        """A jump is a branch as far as one reaches, on both sides, and no further: by hand, 127 words ahead and 128 behind."""
+        """A jump is a branch as far as one reaches, on both sides, and no further: by hand, 127 words ahead and 128 after."""
         for gap, wanted in ((127, "000577"), (128, "000167 000400")):
             self.assertEqual(self.assemble(f"jbr 1f; .=.+{2 * gap:o}; 1: 0")[0][16:16 + 2 * len(wanted.split())],
                              words(wanted))
@@ -273,7 +273,7 @@ class Command(Case):
         self.assertEqual((self.call(as_main, "-o", source, source), read(source)), ((1, "", wanted), b"\tnop\n"))
 
     def test_several_programs(self):
-        """Each has the name of its file, and what stands behind it; one that is wrong leaves the others."""
+        """Each has the name of its file, and what stands after it; one that is wrong leaves the others."""
         os.mkdir(self.path("bin"))
         one, two, bad = (self.put(f"{name}.s", text) for name, text in (("one", b"\tjsr\tpc,f\n"), ("two", b"\tbr\tf\n"), ("bad", b"\tmov\tr0\n")))
         behind = [word for name, text in (("f", b"f:\tmov\tx,r0\n"), ("x", b"x:\t5\n")) for word in ("--with", self.put(f"{name}.s", text))]

@@ -143,7 +143,7 @@ class Audit(Case):
             self.assertEqual(auditor.returncode, BAD)
 
     def test_the_first_of_some_faults(self):
-        """Of lines at fault the first is named, and how it is at fault; what comes behind it is no matter, nor that an end is
+        """Of lines at fault the first is named, and how it is at fault; what comes after it is no matter, nor that an end is
         missing."""
         faults = {b"idle\n": UNLAWFUL, b"boot 1200 0\n": UNLAWFUL, b"trap 2\n": UNLAWFUL, b"walk\n": BAD, b"\n": BAD,
                   b"trap 01\n": BAD, b"x" * 81 + b"\n": BAD}
@@ -231,7 +231,7 @@ class Audit(Case):
             self.assertEqual(self.told(data + b"idle\n"), (UNLAWFUL, f"log: line {4 + len(lines)} is not lawful\n"))
 
     def test_a_file_that_grows(self):
-        """What isn't there when the end is read is missing, whatever comes behind it then: the answer is that of a log which
+        """What isn't there when the end is read is missing, whatever comes after it then: the answer is that of a log which
         the file held meanwhile. It grows by half lines, of which the first is no line, to 200,000 bytes."""
         name = self.put("log", BEGINS)
         lines, grown, before = [b"wake keys\n"] * 20_000 + [b"exit 1 swap 4000\n", b"idle\n", b"end\n"], 0, 4

@@ -80,7 +80,7 @@ class Ports(Case):
         self.untouched(*OUTPUTS)
 
     def write_fault(self, command, place, path, **more):
-        """A file that can't be opened for writing: what is opened before it has been emptied, what comes behind it is as it
+        """A file that can't be opened for writing: what is opened before it has been emptied, what comes after it is as it
         was."""
         self.assertEqual(self.v6(self.named(command, place, path), **more), (WRITE_FAULT, f"write fault: {port_of(place)}\n"))
         for name in OUTPUTS:
@@ -289,7 +289,7 @@ class Ports(Case):
 
     def test_lines(self):
         """Each line of `run8` has a file beside that of the console. Where one can't be opened, those before it have been emptied, and
-        those behind it are as they were."""
+        those after it are as they were."""
         lines = [f"TERM.{line}" for line in range(1, 8)]
         for line in (None, *range(1, 8)):
             self.renew()

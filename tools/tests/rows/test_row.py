@@ -120,7 +120,7 @@ class Language(Case):
         self.assertEqual(row.command(), "run image 64 script term log final")
 
     def test_lines_and_a_second_disk(self):
-        """Each terminal has a section; what stands behind `second` tells of that disk, and not of the first."""
+        """Each terminal has a section; what stands after `second` tells of that disk, and not of the first."""
         text = 'made 3\nterm\n    "a"\nterm 7\n    "b"\n    2 times "c"\naudit lawful: 2 lines\ncheck ok\nleft\n    5  01\n'
         row = self.row(text + "second\nsize 40000\nfile 9 67\n    header 1 2 3 4 5 6 7 10\ndisk\n    1040  ff\nleft all\ncheck no\n")
         self.assertEqual((row.terms[0], row.terms[6], row.terms[7], row.lines["audit"]), (b"a", b"", b"bcc", b"lawful: 2 lines\n"))

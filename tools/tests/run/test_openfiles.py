@@ -105,7 +105,7 @@ class Reads(Case):
 
 
 class Files(unittest.TestCase):
-    """By hand: inode 2 and those behind it are the files, in their order; inode 1 is the root."""
+    """By hand: inode 2 and those after it are the files, in their order; inode 1 is the root."""
 
     def volume(self, *files):
         volume = Volume.empty(200, 32, 0)
@@ -241,7 +241,7 @@ class Files(unittest.TestCase):
         self.assertEqual(files.answer(1, 9), b"cdef")
 
     def test_a_file_that_is_read_and_written(self):
-        """A write moves its place, so what is read behind that doesn't follow on what was read before."""
+        """A write moves its place, so what is read after that doesn't follow on what was read before."""
         for target in ((0, b""), (3, b"")):
             files = self.read(self.volume(b"0123456789"), b"012")
             files.targets[1] = target
@@ -336,7 +336,7 @@ class Others(unittest.TestCase):
         self.assertEqual(count, free // 8)  # a byte may lie in two blocks, with three others that lead to each
 
     def test_how_far_a_place_is(self):
-        """Behind a seek from where the file stands, or to near the greatest size, it isn't known that there is room."""
+        """After a seek from where the file stands, or to near the greatest size, it isn't known that there is room."""
         disk = Volume.empty(200, 32, 0).image()
         for place, wanted in ((None, False), (FILE_BYTES, False), (FILE_BYTES - 1, True), (0, True)):
             room = Room(disk, [7])

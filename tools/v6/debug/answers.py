@@ -16,7 +16,7 @@ KEEP = {"read", "write", "seek", "close", "getpid", "getuid", "getgid", "time"} 
 ENOUGH = 4  # writes into a file that are asked for before its disk is
 BLOCKS_OF_ONE = 4  # that a block of a file may take: itself, three that lead to it
 
-Made = namedtuple("Made", "name words end")  # a call that begins, the words behind it, and PC behind these
+Made = namedtuple("Made", "name words end")  # a call that begins, the words after it, and PC after these
 Answer = namedtuple("Answer", "name words r0 r1 carry end data")  # the last are the bytes of a read
 
 
@@ -118,7 +118,7 @@ class Answers:
         return count, process.registers[1], 0
 
     def learn(self, before, after, then):
-        """What a call tells that was asked for, by the process before and after it, and the moment behind it."""
+        """What a call tells that was asked for, by the process before and after it, and the moment after it."""
         call, entry = made(before), entry_of(before)
         if call is None or call.name not in KEEP:
             self.forget()

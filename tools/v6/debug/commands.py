@@ -256,7 +256,7 @@ class Looker:
 
     def found(self, slots, text, forwards):
         if slots is None:
-            raise LookError(f"{text}: not found {'behind' if forwards else 'before'} slot {self.moment.slots}")
+            raise LookError(f"{text}: not found {'after' if forwards else 'before'} slot {self.moment.slots}")
         return self.go(slots)
 
     def event(self, word, forwards):

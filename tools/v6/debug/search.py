@@ -7,7 +7,7 @@ from v6.debug.calls import call_at
 from v6.debug.walk import Walk, calls, first, last
 from v6.run.moments import WORKERS, is_turn
 
-NEAREST, LEAST, LONGEST = 1024, 4096, 262_144  # slots of a part backwards: of the first, and of those behind it the least and the most
+NEAREST, LEAST, LONGEST = 1024, 4096, 262_144  # slots of a part backwards: of the first, and of those after it the least and the most
 AT_ONCE, MANY = 16, 64  # calls that are looked at together, and so many that all slots are gone through
 BLOCK = 4096  # lines of the log that are gone through together, backwards
 
@@ -116,7 +116,7 @@ class Search:
         return None
 
     def begun(self, slot, is_wanted):
-        """The same by the calls that are begun behind a slot, or before it."""
+        """The same by the calls that are begun after a slot, or before it."""
         if self.forwards:
             walk = Walk(self.history, slot, knows=True)
             found = next(filter(is_wanted, walk.calls(self.history.last)), None)

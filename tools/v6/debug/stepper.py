@@ -7,7 +7,7 @@ from v6.debug.answers import CARRY, Answers
 from v6.pdp11.stepcode import MASK, STORED, TOP, row_at, single
 
 ADDRESSES = 65536
-HOT = 100  # times that an instruction is done alone before a row is made of it and those behind it
+HOT = 100  # times that an instruction is done alone before a row is made of it and those after it
 SINGLES = {}  # functions by the first word of an instruction
 ROWS = {}  # by an address the rows that were made there, each with its words, for whichever process
 MOST_ROWS = 8  # that are kept for one address
@@ -68,7 +68,7 @@ class Stepper:
         self.is_asked = False
 
     def is_open(self, at, count):
-        """Whether so many bytes can be stored from an address on, none of them behind the last address."""
+        """Whether so many bytes can be stored from an address on, none of them after the last address."""
         return at + count <= ADDRESSES and not any(self.closed[at & MASK - 1 : at + count : 2])
 
     def filled(self, answer):
@@ -128,7 +128,7 @@ class Stepper:
         found = found[: found.index(None)] if None in found else found
         out = struct.pack(f"<{len(found)}H", *found)[at & 1 :][:most]
         if at + len(out) == ADDRESSES and len(out) < most:
-            out += self.bytes(0, most - len(out))  # behind the last address comes the first
+            out += self.bytes(0, most - len(out))  # after the last address comes the first
         return out
 
     def string(self, at, most=510):

@@ -13,7 +13,7 @@ from v6.run.moments import SEGMENT
 FITS = 4  # one part of so many of a program's bytes may differ from its file's, as words of its text that it changes
 NAMED = {number: part for part, number in TYPES.items() if part}
 COMPILERS = re.compile(r"L_?\d+~")  # a label of the compiler of C, as cc.py makes it
-OWN = re.compile(r"~\d*$")  # behind the name of a function that other files don't know
+OWN = re.compile(r"~\d*$")  # after the name of a function that other files don't know
 
 
 class Program:
@@ -33,7 +33,7 @@ class Program:
     def read_names(self, data):
         at = HEADER.size + self.text + self.data
         if not self.is_bare and len(data) >= at + self.text + self.data + self.table:
-            at += self.text + self.data  # behind the bits for relocation
+            at += self.text + self.data  # after the bits for relocation
         found = []
         for place in range(at, min(at + self.table, len(data)) - SYMBOL.size + 1, SYMBOL.size):
             name, kind, value = SYMBOL.unpack_from(data, place)

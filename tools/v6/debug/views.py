@@ -8,7 +8,7 @@ from v6.pdp11.names import ARGUMENTS
 from v6.run.moments import ADDRESSES, word
 
 BEFORE, AFTER = 16, 10  # bytes of code before PC, and words from it on
-LONGEST = 4  # bytes that an instruction has behind its first word
+LONGEST = 4  # bytes that an instruction has after its first word
 DEPTH, MOST_ARGUMENTS = 16, 256  # words of a stack that are shown, and words of a program's arguments
 TOP = 512  # bytes at the top of a stack in which ps(I) looks for arguments
 STATES = {"R": "runs", "r": "can run", "o": "could run, and is out of core", "z": "has ended, and its parent hasn't waited for it"}
@@ -21,12 +21,12 @@ NO_IMAGE = "it has no image at this moment"
 
 def arguments_of(process):
     """The arguments with which a program was executed, at the top of the stack: by their list, or, where a program has written over
-    that, the texts behind its end, as ps(I) finds them."""
+    that, the texts past its end, as ps(I) finds them."""
     return listed_arguments(process) or texts_of(process)
 
 
 def texts_of(process):
-    """What is behind the end of a list of arguments, -1, where it is text to the top of the stack."""
+    """What is past the end of a list of arguments, -1, where it is text to the top of the stack."""
     for end in range(ADDRESSES - 2, ADDRESSES - TOP, -2):
         if process.word(end) == 0o177777:
             found = process.bytes(end + 2, ADDRESSES - end - 2).rstrip(b"\0")
@@ -36,7 +36,7 @@ def texts_of(process):
 
 
 def listed_arguments(process):
-    """The arguments by their count, their addresses and the -1 behind these."""
+    """The arguments by their count, their addresses and the -1 after these."""
     for end in range(ADDRESSES - 2, ADDRESSES - TOP - 2 * MOST_ARGUMENTS, -2):
         if process.word(end) != 0o177777:
             continue
@@ -62,7 +62,7 @@ class Views:
         return f"{mark}{number + 1:>6}  {text:22}  {Teller(table, self.sizes).told(table.read(text))}"
 
     def log(self, moment):
-        """The lines that came with a moment. The one that is looked at, where others of the moment come behind it, is marked."""
+        """The lines that came with a moment. The one that is looked at, where others of the moment come after it, is marked."""
         return [self.line(moment, number) for number in range(moment.first, moment.lines)]
 
     def last(self, moment, count):
@@ -175,7 +175,7 @@ class Views:
         out = []
         source = None
         for where, line, found in disassembler.lines(words, start, program.exact if program else disassembler.unnamed):
-            if where >= end:  # what is behind belongs to the last instruction
+            if where >= end:  # what is after belongs to the last instruction
                 break
             mark, before = ">" if where == process.pc else " ", source
             source = program.line_at(where) if program else None
@@ -358,7 +358,7 @@ def start_of(process, pc):
 
 
 def leads(words, at):
-    """Whether these words are whole instructions, with the words that calls have behind them."""
+    """Whether these words are whole instructions, with the words that calls have after them."""
     while words:
         text, count = disassembler.instruction(words, at) or ("", len(words) + 1)
         count += ARGUMENTS.get(text[4:], 0) if text.startswith("sys\t") else 0
@@ -369,7 +369,7 @@ def leads(words, at):
 
 
 def returns(process, value, name=disassembler.unnamed):
-    """The call of a subroutine behind which an address stands, as text, or None."""
+    """The call of a subroutine after which an address stands, as text, or None."""
     for back in (4, 2):
         if value & 1 or value < back:
             continue

@@ -122,7 +122,7 @@ class Walk:
     # further
 
     def go(self, limit):
-        """To a later moment, `limit` at most: behind a turn in the kernel, what comes from outside, or what was looked for."""
+        """To a later moment, `limit` at most: after a turn in the kernel, what comes from outside, or what was looked for."""
         self.hit = None
         self.history.go_on()
         if self.sought and self.is_far():
@@ -200,7 +200,7 @@ class Walk:
         return self.history.slot_of_line(self.line) if is_wake else math.inf
 
     def wakes(self):
-        """What has come with the end of a slot by itself, and the choice behind it or behind a turn."""
+        """What has come with the end of a slot by itself, and the choice after it or after a turn."""
         while self.next() == "wake" and self.due() == self.at:
             self.take()
         self.choice()
@@ -255,7 +255,7 @@ class Walk:
             self.steppers.pop(slot, None)
 
     def asked(self, slot, old, was, kind, answer):
-        """Compares with what the program tells behind a call, and goes on from that, also from the answer where it is known. False where
+        """Compares with what the program tells after a call, and goes on from that, also from the answer where it is known. False where
         the process may have become another one."""
         process = self.process(slot)
         changed = old.changes(process)
@@ -293,7 +293,7 @@ class Walk:
         return None
 
     def is_answer(self, old, process, changed):
-        """Whether nothing has changed but what the call of a process may change; behind the last address comes the first."""
+        """Whether nothing has changed but what the call of a process may change; after the last address comes the first."""
         place, size = answer_of(call_at(old))
         return process.registers[2:7] == old.registers[2:7] and all(at - place + 1 & MASK <= size for at in changed)
 
@@ -388,7 +388,7 @@ def is_due(count):
 
 
 def first(history, sought, low, high):
-    """The first moment behind one, up to another, with which what is looked for becomes so, or None."""
+    """The first moment after one, up to another, with which what is looked for becomes so, or None."""
     walk = Walk(history, low, sought)
     hit = next(walk.hits(high), None)
     walk.check()
@@ -396,7 +396,7 @@ def first(history, sought, low, high):
 
 
 def calls(history, low, high):
-    """The calls that are begun behind one moment, up to another."""
+    """The calls that are begun after one moment, up to another."""
     walk = Walk(history, low, knows=True)
     found = list(walk.calls(high))
     walk.check()
@@ -404,8 +404,8 @@ def calls(history, low, high):
 
 
 def last(history, sought, low, high):
-    """The moments behind one, up to another, with which what is looked for becomes so: as many of them as are kept, the last ones, and
-    behind which moment these are all."""
+    """The moments after one, up to another, with which what is looked for becomes so: as many of them as are kept, the last ones, and
+    after which moment these are all."""
     walk = Walk(history, low, sought)
     hits = deque(walk.hits(high), MOST_HITS)
     walk.check()

@@ -24,7 +24,7 @@ class FaultPlace:
         self.survey, self.volume = survey, survey.volume
 
     def lines(self, fault):
-        """Lines that tell where a fault is, which is named as in the report of `v6 check` behind `image: `."""
+        """Lines that tell where a fault is, which is named as in the report of `v6 check` after `image: `."""
         for pattern, name in KINDS:
             found = re.fullmatch(pattern, fault)
             if found:

@@ -68,7 +68,7 @@ def guessed_isize(volume):
 
 
 def behind_end(volume, inodes):
-    """The blocks of each file that lie behind the end of the image, as far as the file has bytes there: by the file's inode."""
+    """The blocks of each file that lie past the end of the image, as far as the file has bytes there: by the file's inode."""
     found = {}
     if volume.length >= volume.fsize * BLOCK:
         return found
@@ -196,14 +196,14 @@ class Survey:
         return lines + self.cut() + self.links() + self.lost()
 
     def cut(self):
-        """What lies behind the image's end, and devices that can't be."""
+        """What lies after the image's end, and devices that can't be."""
         lines, first = [], self.volume.length // BLOCK
         if self.behind or first < self.volume.isize + 2:
             lines.append(f"the image ends at byte {self.volume.length}, before what its files hold")
         if first < self.volume.isize + 2:
-            lines.append(f"the inodes from {max((first - 2) * INODES, 0) + 1} on are behind that end")
+            lines.append(f"the inodes from {max((first - 2) * INODES, 0) + 1} on are past that end")
         for number, blocks in self.behind.items():
-            lines.append(f"{self.called(number)}: block {', '.join(map(str, blocks))} behind that end")
+            lines.append(f"{self.called(number)}: block {', '.join(map(str, blocks))} past that end")
         return lines + [f"{self.called(number)}: a device with {told_odd(self.volume.inode(number))}" for number in self.odd]
 
     def links(self):

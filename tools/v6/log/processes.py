@@ -141,7 +141,7 @@ class Table:
         number = self.number = self.lines + 1
         entry = entry_of(text, number)
         if self.over:
-            raise LogFault(number, f"a line behind the last: {text[:60]}")
+            raise LogFault(number, f"a line after the last: {text[:60]}")
         if (entry["word"] == "boot") != (number == 1):
             raise LogFault(number, "`boot` is the first line, and no other is")
         return entry

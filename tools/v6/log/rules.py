@@ -217,7 +217,7 @@ def right_line(table, entry, is_lawful):
     for line, why in Wanted(table, entry).lines():
         if is_lawful(line):
             return [f"The rules would make it `{line}`: {why}"]
-    if entry["word"] in CHOICES and table.entry["word"] != "idle" and is_lawful("end"):  # behind `idle` it fits beside a choice
+    if entry["word"] in CHOICES and table.entry["word"] != "idle" and is_lawful("end"):  # after `idle` it fits beside a choice
         return ["There is no choice there"]
     if not runs_as_wanted(table.running, entry):
         return ["Nobody runs there" if table.running is None else f"Entry {table.running} runs there"]
@@ -241,7 +241,7 @@ def bared(table):
 
 
 def begins(table, line):
-    """Why one of the first two lines isn't lawful, or a `boot` behind them."""
+    """Why one of the first two lines isn't lawful, or a `boot` after them."""
     if table.lines >= len(BEGINS):
         return [f"{BEGINS[0]}, and no other line is"]
     clicks = entry_of(line, table.lines + 1).get("C") if table.lines == 0 and line.startswith("boot ") else None

@@ -91,7 +91,7 @@ class Lesson:
         return ["<table>", *("<tr>" + "".join(f"<{kind}>{cell}</{kind}>" for cell in row) + "</tr>" for kind, row in cells), "</table>"]
 
     def block(self, lines):
-        """A block of commands and of what they print; behind it come links to the pages of its runs."""
+        """A block of commands and of what they print; after it come links to the pages of its runs."""
         out, made, is_log = [], [], False
         is_typed = lines[:1] and lines[0].startswith("$ ")
         for line in lines:

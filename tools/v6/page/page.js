@@ -514,7 +514,7 @@ class Page {
   search(by) {
     const word = $("word").value.trim();
     const found = word ? this.run.search(word, this.line, by) : 0;
-    $("found").textContent = !word ? "" : found ? `line ${found}` : by > 0 ? "not found behind this line" : "not found before this line";
+    $("found").textContent = !word ? "" : found ? `line ${found}` : by > 0 ? "not found after this line" : "not found before this line";
     if (found) this.go(found);
   }
 

@@ -8,7 +8,7 @@ from v6.pdp11.names import CALLS as NUMBERS
 FOLDER = os.path.join(TOP, "tools", "c")
 NAME = re.compile(r"[A-Za-z_.~][\w.~]*")
 
-# A call of section II: how many words of arguments go to registers, r0 first, how many stand in `indir.call` behind the call,
+# A call of section II: how many words of arguments go to registers, r0 first, how many stand in `indir.call` after the call,
 # and what is given back: the word in r0, 0, a long in r0 and r1, or what r0 has where nothing can be refused. `indir.call` is
 # one place for all, so that lib/signal.s can keep it while a function is called for a signal.
 CALLS = {"read": (1, 2, "word"), "write": (1, 2, "word"), "open": (0, 2, "word"), "close": (1, 0, "zero"),

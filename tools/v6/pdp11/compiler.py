@@ -136,7 +136,7 @@ class Program:
         self.compiler, self.sources, self.count = compiler, [], 0
 
     def compiled(self, source):
-        """The assembly of a file in C in which the names that no other file may know have a number behind them."""
+        """The assembly of a file in C in which the names that no other file may know have a number after them."""
         own = labels_of(source) - names_of(source)
         self.count += 1
         return NAME.sub(lambda name: f"{name[0]}~{self.count}" if name[0] in own else name[0], source)

@@ -10,7 +10,7 @@ from v6.pdp11.names import signed
 MASK, TOP = 0xFFFF, 0x8000
 N, Z, V, C = 8, 4, 2, 1
 CODE = re.compile(r"\b[nzvc]\b")  # the name of a condition code
-STORED = 12  # behind the registers and the codes: where an instruction stored, or -1
+STORED = 12  # after the registers and the codes: where an instruction stored, or -1
 BRANCHES = {
     0o1: "True", 0o2: "z", 0o3: "not z", 0o4: "not (n ^ v) & 32768", 0o5: "(n ^ v) & 32768", 0o6: "z and not (n ^ v) & 32768",
     0o7: "not z or (n ^ v) & 32768", 0o200: "not n & 32768", 0o201: "n & 32768", 0o202: "z and not c", 0o203: "not z or c",

@@ -262,7 +262,7 @@ class Row:
                 raise RowError(f"{self.name}: {name}: {errors[0]}")
 
     def program(self):
-        """The bytes of /etc/init behind its header, or None where the disk's own program stays."""
+        """The bytes of /etc/init after its header, or None where the disk's own program stays."""
         parts = [part for part in self.parts.values() if part is not None]
         return b"".join(parts).ljust(self.numbers["fill"], b"\0") if parts else None
 

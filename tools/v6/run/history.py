@@ -17,7 +17,7 @@ KEPT, FEW_KEPT = 48, 4  # moments whose memory is kept, also in one of several p
 class Moment:
     """What is there after so many slots, and after all of the script that comes before the next one.
 
-    `lines` of the log have come until then, those from `first` on with this moment's slot and behind it. The table is the one after
+    `lines` of the log have come until then, those from `first` on with this moment's slot and after it. The table is the one after
     `at` lines: after all of them, or after one within the moment. Memory is known of the whole moment alone."""
 
     def __init__(self, history, slots, lines, at=None):

@@ -236,7 +236,7 @@ class Run:
 
 
 class Then:
-    """The moment behind a call that was asked for, for those who learn from it."""
+    """The moment after a call that was asked for, for those who learn from it."""
 
     def __init__(self, run, slots):
         self.run, self.slots = run, slots

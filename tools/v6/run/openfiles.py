@@ -45,7 +45,7 @@ class File:
         return found if self.holes.isdisjoint(blocks) else None
 
     def places(self, tail, end, is_end):
-        """Behind which places bytes stand, where one is known behind that, and where the file ends behind them."""
+        """After which places bytes stand, where one is known after that, and where the file ends after them."""
         if is_end or end is not None:
             end = len(self.data) if end is None else end
             is_there = self.data[max(end - len(tail), 0) : end] == tail and (end == len(self.data) or not is_end)
@@ -58,7 +58,7 @@ class File:
 
 
 class Open:
-    """An open file: its last bytes that were read one after the other, the place behind them where that is known, and whether the file
+    """An open file: its last bytes that were read one after the other, the place after them where that is known, and whether the file
     ends there; which files it may be, where that was found, each with the place at which it stands; and how many reads were asked for."""
 
     def __init__(self):
@@ -130,7 +130,7 @@ class OpenFiles:
         return self.read[entry].answer(count) if entry in self.read else None
 
     def took(self, entry, count, data, is_pipe, then):
-        """What a read gave: one that wasn't asked for, or `then` is the moment behind it; and whether it may be one of a pipe."""
+        """What a read gave: one that wasn't asked for, or `then` is the moment after it; and whether it may be one of a pipe."""
         one = self.read.setdefault(entry, Open())
         one.reads += then is not None
         one.takes(data, count)
@@ -162,7 +162,7 @@ class OpenFiles:
             volume.is_used(number) and volume.read(volume.inode(number)).startswith(old) for number, old in written)
 
     def wrote(self, entry, then):
-        """A write has changed a file; `then` is the moment behind it where it was asked for. Only what is read from others stays known."""
+        """A write has changed a file; `then` is the moment after it where it was asked for. Only what is read from others stays known."""
         self.written[entry] += 1
         if then and self.read and entry not in self.targets and is_due(self.written[entry]):
             target = then.target()
