@@ -13,6 +13,7 @@ import tempfile
 sys.path.insert(0, os.path.dirname(os.path.abspath(__file__)))
 from v6.host.files import guarded
 from v6.host.program import V6, ProgramError, add_version
+from v6.host.progress import Progress, clear
 from v6.pdp11 import disassembler
 from v6.pdp11.names import ARGUMENTS
 from v6.rows.file import DATA, TEXT, Row, RowError, names
@@ -141,25 +142,33 @@ def run(options):
             except RowError as error:
                 failed += unread(error)
         return int(failed > 0)
-    with tempfile.TemporaryDirectory() as folder:
-        runner = Runner(options.v6, folder)
-        for name in chosen(options.names, options.data):
-            try:
-                row = Row(name, options.data)
-                row.check_sources()
-                image, came = runner.run(row)
-            except RowError as error:
-                failed += unread(error)
-                continue
-            found = differences(row, image, came)
-            failed += bool(found) or is_unsaid(row)
-            tell(row, found) if options.quiet else show(row, image, came, found)
-    return int(failed > 0)
+    with tempfile.TemporaryDirectory() as folder, Progress("row.py") as progress:
+        return int(run_rows(options, Runner(options.v6, folder), progress) > 0)
+
+
+def run_rows(options, runner, progress):
+    """How many rows didn't come out as they say. A terminal that is shown each of them needn't be told how far it is."""
+    failed, every = 0, chosen(options.names, options.data)
+    for number, name in enumerate(every, 1):
+        if not sys.stdout.isatty():
+            progress.tell(f"{number} of {len(every)}: {name}" + f"; {failed} failed" * bool(failed))
+        try:
+            row = Row(name, options.data)
+            row.check_sources()
+            image, came = runner.run(row)
+        except RowError as error:
+            failed += unread(error)
+            continue
+        found = differences(row, image, came)
+        failed += bool(found) or is_unsaid(row)
+        tell(row, found) if options.quiet else show(row, image, came, found)
+    return failed
 
 
 def unread(error):
     """Tells what is wrong with a row that can't be read, and counts it."""
     sys.stdout.flush()
+    clear()
     print(f"row.py: {error}", file=sys.stderr)
     return 1
 

@@ -12,6 +12,7 @@ import os
 import resource
 import signal
 import sys
+import tempfile
 import time
 import unittest
 from concurrent.futures import ProcessPoolExecutor, TimeoutError, wait
@@ -24,6 +25,7 @@ ENDING = signal.SIGINT, signal.SIGQUIT, signal.SIGTERM, signal.SIGHUP, signal.SI
 HERE = os.path.dirname(os.path.abspath(__file__))
 TOOLS = os.path.dirname(HERE)  # where the packages of the tests and of the tools are
 sys.path.insert(0, TOOLS)
+from v6.host.progress import Progress
 
 
 def classes(suite):
@@ -46,18 +48,37 @@ def handlers_now():
     return {number: signal.getsignal(number) for number in ENDING}
 
 
+@contextlib.contextmanager
+def held_back():
+    """Has what this process and those that it starts say on the standard error in a file: this error, as it was, and the file."""
+    error = os.dup(2)
+    with tempfile.TemporaryFile() as beside:
+        sys.stderr.flush()
+        os.dup2(beside.fileno(), 2)
+        try:
+            yield error, beside
+        finally:
+            sys.stderr.flush()
+            os.dup2(error, 2)
+            os.close(error)
+
+
 def run_all(names):
     return [run(name) for name in names]
 
 
 def run(name):
-    """How many tests a class has, how many failed, what is to be said of these, why others were skipped, and how long it took."""
+    """How many tests a class has, how many failed, what is to be said of these, why others were skipped, and how long it took. What tools
+    say on the standard error beside the tests stands with the failures."""
     out, before, handlers = io.StringIO(), worked(), handlers_now()
-    faulthandler.dump_traceback_later(LONGEST, exit=True)
-    done = unittest.TextTestRunner(out).run(unittest.defaultTestLoader.loadTestsFromName(name))
-    faulthandler.cancel_dump_traceback_later()
+    with held_back() as (error, beside):
+        faulthandler.dump_traceback_later(LONGEST, exit=True, file=error)
+        done = unittest.TextTestRunner(out).run(unittest.defaultTestLoader.loadTestsFromName(name))
+        faulthandler.cancel_dump_traceback_later()
+        beside.seek(0)
+        more = beside.read().decode("utf-8", "replace")
     failed = len(done.failures) + len(done.errors) + len(done.unexpectedSuccesses)
-    said = "" if done.wasSuccessful() else out.getvalue()
+    said = "" if done.wasSuccessful() else out.getvalue() + more
     if handlers != handlers_now():  # by which a later test would not be ended where it should
         failed, said = failed + 1, f"{said}{name} leaves a handler of a signal\n"
         for number, handler in handlers.items():
@@ -120,8 +141,9 @@ def results_of(groups, jobs):
     try:
         futures = [pool.submit(run_all, names) for names in groups]
         working = set(multiprocessing.active_children())
-        while wait(futures, MOMENT).not_done and working <= set(multiprocessing.active_children()):
-            pass
+        with Progress("tests/run.py") as progress:
+            while wait(futures, MOMENT).not_done and working <= set(multiprocessing.active_children()):
+                progress.tell(f"{sum(future.done() for future in futures)} of {len(futures)} classes of tests have ended")
         return [one for future in futures for one in future.result(0)]
     except (BrokenProcessPool, TimeoutError):
         sys.exit("a process of tests has ended, or its class took too long")

@@ -76,6 +76,13 @@ class Limits(Case):
             running.terminate()
             self.assertEqual((running.communicate(timeout=LIMIT)[0], running.returncode), (b"", 128 + signal.SIGTERM))
 
+    def test_what_is_said_beside_the_tests(self):
+        """By a tool that is called, or by a program: it stands with a failure, and nowhere else."""
+        body = "print('from', 'here', file=sys.stderr); os.system('echo from there >&2'); self.assertTrue({})"
+        for passes in (True, False):
+            status, said = self.all(body.format(passes), LIMIT)
+            self.assertEqual((status, *(said.count(text) for text in ("from here\n", "from there\n"))), (int(not passes), *[int(not passes)] * 2))
+
     def test_a_handler_that_is_left(self):
         status, said = self.all("import signal; signal.signal(signal.SIGTERM, lambda *_: None)", LIMIT)
         self.assertEqual((status, said.splitlines()[0]), (1, "test_it.Waits leaves a handler of a signal"))

@@ -11,7 +11,7 @@ import termios
 import time
 import unittest.mock
 
-from tests.common import TOOLS, TOP, V6, Case
+from tests.common import TESTS, TOOLS, TOP, V6, Case
 
 from v6.host import progress
 
@@ -92,3 +92,23 @@ class Tools(Watched):
         status, out = self.told("lessonpages.py", "main", "--moments", "5", "--v6", V6, "-o", self.path("lessons"))
         self.assertEqual(status, 0, out)
         self.assertIn("\r\033[Klessonpages.py: main: cat log\r\033[K", out)
+
+    def test_rows(self):
+        status, out = self.told("row.py", "-q", "buffers/*", "--v6", V6)
+        self.assertEqual(status, 0, out)
+        self.assertRegex(out, r"^\r\033\[Krow\.py: 1 of ([0-9]+): buffers/[a-z_0-9]+(\r\033\[Krow\.py: [0-9]+ of \1: buffers/[a-z_0-9]+)+\r\033\[K$")
+
+    def test_tests(self):
+        """The program that runs the tests tells how many classes have ended, and not what their tools say of themselves."""
+        for name in ("a", "b"):
+            self.put(f"test_{name}.py", f"import time, unittest\nclass {name.upper()}(unittest.TestCase):\n    def test(self):\n"
+                                        f"        time.sleep(1.5)\n".encode())
+        call = (f"import importlib.util, sys; sys.path.insert(0, {TOOLS!r}); from v6.host import progress; progress.AFTER = progress.APART = 0; "
+                f"spec = importlib.util.spec_from_file_location('all_tests', {os.path.join(TESTS, 'run.py')!r}); "
+                "it = sys.modules['all_tests'] = importlib.util.module_from_spec(spec); spec.loader.exec_module(it); "
+                f"it.HERE = it.TOOLS = {self.folder!r}; sys.exit(it.main(it.options_of(['--jobs', '1'])))")
+        status, out = self.shown(["-c", call], columns=80)
+        self.assertEqual(status, 0, out)
+        self.assertRegex(out, r"^(\r\033\[Ktests/run\.py: [012] of 2 classes of tests have ended)+\r\033\[KRan 2 tests in .*: 2 passed, 0 failed\n$")
+        done = subprocess.run([sys.executable, "-c", call], capture_output=True, text=True, env={**os.environ, "TERM": "vt100"})
+        self.assertRegex(done.stderr, r"^Ran 2 tests in .*: 2 passed, 0 failed\n$")

@@ -6,7 +6,7 @@ import shutil
 import subprocess
 import unittest
 
-from tests.common import TESTS, TOP, V6, Case, read, status_of, tool
+from tests.common import TESTS, TOP, V6, Case, read, tool
 from tests.page.pagereader import Read, table_of
 
 from v6.debug.commands import Looker
@@ -26,7 +26,7 @@ class Lines(Case):
         """The page of an example, and what its command says."""
         out = self.path("page.html")
         command = "--v6", V6, os.path.join(example, "image"), "3968", os.path.join(example, "script"), "-o", out, *words
-        self.assertEqual(status_of(page_main, command), 0)
+        self.assertEqual(self.call(page_main, *command)[0], 0)
         return Read(read(out))
 
     def looker(self, example, eight=False, second=None):
