@@ -12,7 +12,7 @@ class Tutorial(Runs):
         the page, which has no blanks at the ends of its lines."""
         found = commands(read(os.path.join(TOP, "docs", "tutorial.md")).decode())
         typed = " ".join(command for command, _ in found)
-        for word in ("--lines", "~1", "~2", "~h 0", "v6 audit", "disk.py get after.image", "/etc/mount", "disk.py get my.pack"):
+        for word in ("--lines", "~1", "~2", "~h 0", "v6 audit", "disk.py get after.image", "/etc/mount", "disk.py get my.pack", "log.py ask"):
             self.assertIn(word, typed)
         for command, shown in found:
             status, said = self.play(command)

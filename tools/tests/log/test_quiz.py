@@ -107,7 +107,8 @@ class Quiz(Case):
     def test_where_answers_end(self):
         for answers in (b"", b"q\n2\n"):
             self.assertEqual(self.asked(FORKED, answers)[1][-1], "no choice was asked for")
-        self.assertEqual(self.asked(FORKED, b"2\n", "--from", "11"), (0, ["no choice was asked for"], ""))
+        none = "no choice was asked for: from line 11 on two can run at no line, and no process waits to come into core"
+        self.assertEqual(self.asked(FORKED, b"2\n", "--from", "11"), (0, [none], ""))
         self.assertEqual(self.asked(FORKED, b"2\n", "--count", "0"), (0, ["no choice was asked for"], ""))
         cut = self.asked(FORKED.replace("end\n", ""), b"2\n")
         self.assertEqual((cut[0], cut[2].split(": ")[2][:11]), (1, "the log end"))

@@ -115,7 +115,8 @@ class Quiz:
             yield at, self.table.core
 
     def play(self, first, most):
-        """Asks at each choice from a line on, up to so many; whether the log was read to its end."""
+        """Asks at each choice from a line on, up to a number of them; whether the log was read to its end."""
+        none = ""
         try:
             for number, line in enumerate(self.story.lines, 1):
                 entry = self.table.read(line)
@@ -127,12 +128,13 @@ class Quiz:
                         return False
                     self.ask(number, line, why)
                 self.told.append(f"{number:6}  {line:24}  {self.story.take(line)[0]}")
+            none = f": from line {first} on two can run at no line, and no process waits to come into core"
         except Done:
             return False
         finally:
-            self.tell()
+            self.tell(none)
         return True
 
-    def tell(self):
-        print(f"{self.right} of {self.asked} right" if self.asked else "no choice was asked for")
+    def tell(self, none):
+        print(f"{self.right} of {self.asked} right" if self.asked else f"no choice was asked for{none}")
         sys.stdout.flush()
