@@ -20,13 +20,13 @@ use Rattle.unix_core.specs.declared.boot.Boot2Fault.TheVariants as two_fault
 use Rattle.unix_core.specs.Boots.{RefusesBoot, RefusesBoot2, blocks_on, second_fault_of}
 use Rattle.unix_core.specs.State.{KernelState}
 use Rattle.unix_core.proofs.BootLemmas.{ok_mapped}
+use Rattle.take_script.specs.Courses.{CanTake}
 use Rattle.v6_run.specs.declared.run.RunError.{RunError}
 use Rattle.v6_run.specs.declared.run.RunError.TheVariants as run_error
 use Rattle.v6_run.specs.declared.status.Status.TheVariants.{NoMemory}
 use Rattle.v6_run.specs.declared.words.Lines as lines
 use Rattle.v6_run.specs.declared.words.Lines.TheVariants.{One, Eight}
 use Rattle.v6_run.specs.Words.{RunWords, Run, second_files, line_count, lines_value}
-use Rattle.v6_run.specs.Courses.{CanTake}
 use Rattle.v6_run.specs.Errors.{run_status}
 use Rattle.v6_run.specs.Headline.{status_at}
 use Rattle.v6_run.specs.Outputs.{is_output, StopsBy}

@@ -18,6 +18,7 @@ use Rattle.abstract_unix.specs.declared.ends.Ends.{Ends}
 use Rattle.abstract_unix.specs.declared.ends.Ends.TheVariants as ends
 use Rattle.abstract_unix.specs.Runs.{Course, system_of, boots, started, course, run_of}
 use Rattle.unix_core.specs.State.{KernelState}
+use Rattle.take_script.specs.Events.{events_of}
 use Rattle.v6_run.specs.declared.status.Status.{Status}
 use Rattle.v6_run.specs.declared.status.Status.TheVariants.{Done, ReadFault, WriteFault, ScriptFault, Panic, NoMemory}
 use Rattle.v6_run.specs.declared.run.RunError.{RunError}
@@ -25,7 +26,6 @@ use Rattle.v6_run.specs.declared.run.RunError.TheVariants as run
 use Rattle.v6_run.specs.declared.demo.TheConstants.{DEMO_CORE}
 use Rattle.v6_run.specs.declared.demo.Summary.{Summary}
 use Rattle.v6_run.specs.Words.{Demo}
-use Rattle.v6_run.specs.Events.{events_of}
 use Rattle.v6_run.specs.Status.{fault_port, is_decided}
 use Rattle.v6_run.specs.Errors.{run_status, end_of}
 use Rattle.v6_run.specs.Opened.{AreGood, ports_passed}

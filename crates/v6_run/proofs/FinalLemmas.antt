@@ -23,6 +23,7 @@ use Rattle.core_mem.proofs.Parts.{part-right, over-over}
 use Rattle.image_keep.specs.Holds.{AreRangesApart, SwapHolds}
 use Rattle.abstract_unix.specs.Unix.{System}
 use Rattle.unix_core.specs.Memory.{kept_in}
+use Rattle.take_script.proofs.ListLemmas.{flat_split}
 use Rattle.v6_run.specs.Fronts.{HoldsFront}
 use Rattle.v6_run.specs.Final.{IsFinal, disk_text}
 
@@ -43,19 +44,6 @@ flat_byte f a (suc n) (suc i) k each h small =
     let next : a + 1 + i ≡ a + suc i = omega arith in
     get_or-append_right (f a) (flat_map f (range_with_len (a + 1) n)) 512 (512 * suc i + k) 0 (each a (omega arith)) (omega arith)
     ∙ ap (slice_index (flat_map f (range_with_len (a + 1) n))) there ∙ flat_byte f (a + 1) n i k (λ j low. each j (omega (arith, low))) (omega (arith, h)) small ∙ ap (λ j. slice_index (f j) k) next
-
--- a list made from numbers is made of that from the first n of them and that from the others
-pub flat_split : {X : Type 0} (f : ℕ → List X) (a n m : ℕ) → flat_map f (range_with_len a (n + m)) ≡ flat_map f (range_with_len a n) ++ flat_map f (range_with_len (a + n) m)
-flat_split f a zero m =
-    let none : zero + m ≡ m = omega arith in
-    let first : a ≡ a + zero = omega arith in
-    ap (λ k. flat_map f (range_with_len a k)) none ∙ ap (λ b. flat_map f (range_with_len b m)) first
-flat_split f a (suc n) m =
-    let next : suc n + m ≡ suc (n + m) = omega arith in
-    let from : a + 1 + n ≡ a + suc n = omega arith in
-    ap (λ k. flat_map f (range_with_len a k)) next ∙ ap (λ l. f a ++ l) (flat_split f (a + 1) n m)
-    ∙ sym (append_assoc (f a) (flat_map f (range_with_len (a + 1) n)) (flat_map f (range_with_len (a + 1 + n) m)))
-    ∙ ap (λ b. (f a ++ flat_map f (range_with_len (a + 1) n)) ++ flat_map f (range_with_len b m)) from
 
 -- Each block of a disk's text is the block.
 module _ (blocks : List (List ℕ)) (form : IsDisk blocks) where

@@ -2,14 +2,11 @@ pub mod LinePorts
 pub mod PortLemmas
 pub mod GoesLemmas
 pub mod OpeningLemmas
-pub mod SlotLemmas
 pub mod FileLemmas
 pub mod FrontLemmas
 pub mod FinalLemmas
 pub mod SecondLemmas
 pub mod LeaveLemmas
-pub mod ClockLemmas
-pub mod ScriptLemmas
 pub mod OutputLemmas
 pub mod ShownLemmas
 pub mod ResultLemmas
@@ -25,7 +22,6 @@ pub mod OneWay
 pub mod MakeLemmas
 pub mod MemoryLemmas
 pub mod DemoLemmas
-pub mod TickLemmas
 pub mod CanLemmas
 pub mod PartsOfLogs
 pub mod ReadLines

@@ -13,6 +13,7 @@ use Rattle.abstract_unix.specs.Unix.{System}
 use Rattle.abstract_unix.specs.Runs.{Course, system_of, is_second_bad, started, boots, course}
 use Rattle.unix_core.specs.declared.boot.SecondFault.{SecondFault}
 use Rattle.unix_core.specs.Boots.{second_fault_of}
+use Rattle.take_script.specs.Events.{events_of}
 use Rattle.v6_run.specs.declared.image.TheConstants.{IMAGE_LIMIT}
 use Rattle.v6_run.specs.declared.run.TheConstants.{SCRIPT_LIMIT}
 use Rattle.v6_run.specs.declared.status.Status.{Status}
@@ -35,7 +36,6 @@ use Rattle.script_text.specs.declared.script.Event as asked
 use Rattle.script_text.specs.declared.script.ScriptFault as text
 use Rattle.script_text.specs.declared.script.ScriptFault.TheVariants as fault
 use Rattle.script_text.specs.Script.{script_of, Refuses}
-use Rattle.v6_run.specs.Events.{events_of}
 use Rattle.v6_run.specs.Status.{is_decided, has_written}
 use Rattle.v6_run.specs.Errors.{read_status, image_status, second_status, script_status}
 use Rattle.v6_run.specs.Fronts.{HoldsSome, HoldsFrontOfSome}

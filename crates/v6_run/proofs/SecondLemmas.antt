@@ -17,10 +17,11 @@ use Rattle.fs_laws.proofs.ImageLemmas.{block_of_image}
 use Rattle.fs_laws.specs.Rest.{SameAround}
 use Rattle.fs_nodes.specs.Disks.{OfSecond, Between}
 use Rattle.fs_nodes.specs.FileSystem.{SecondStands}
+use Rattle.take_script.proofs.ListLemmas.{flat_split}
 use Rattle.v6_run.specs.Fronts.{HoldsFront}
 use Rattle.v6_run.specs.Final.{IsFinalSecond, whole_text, second_text}
 use Rattle.v6_run.specs.Outputs.{second_writes}
-use Rattle.v6_run.proofs.FinalLemmas.{flat_long, flat_byte, flat_split, so_far, so_far_more, bytes_more, no_blocks}
+use Rattle.v6_run.proofs.FinalLemmas.{flat_long, flat_byte, so_far, so_far_more, bytes_more, no_blocks}
 
 -- Each block of its text is the block.
 module _ (blocks : List (List ℕ)) (form : IsDisk blocks) where

@@ -13,10 +13,10 @@ use Rattle.abstract_unix.specs.Unix.{System}
 use Rattle.abstract_unix.specs.Runs.{Course, boots, started, course}
 use Rattle.unix_core.specs.Boots.{second_fault_of}
 use Rattle.unix_core.specs.State.{KernelState}
+use Rattle.take_script.specs.Events.{events_of}
 use Rattle.v6_run.specs.declared.run.RunError.{RunError}
 use Rattle.v6_run.specs.declared.run.RunError.TheVariants as run_error
 use Rattle.v6_run.specs.Words.{Outputs, RunWords, second_files, line_count}
-use Rattle.v6_run.specs.Events.{events_of}
 use Rattle.v6_run.specs.Outputs.{run_writes, EndsRun, StopsRun, StopsBy}
 
 -- the system is taken through a script

@@ -18,6 +18,7 @@ use Rattle.script_text.specs.Script.{script_of}
 use Rattle.make_image.specs.Image.{build_of}
 use Rattle.make_image.specs.Demo.{demo_text}
 use Rattle.abstract_unix.specs.Runs.{Course, run_of}
+use Rattle.take_script.specs.Events.{events_of}
 use Rattle.v6_run.specs.declared.image.TheConstants.{IMAGE_LIMIT}
 use Rattle.v6_run.specs.declared.run.TheConstants.{SCRIPT_LIMIT}
 use Rattle.v6_run.specs.declared.demo.TheConstants.{DEMO_CORE}
@@ -29,7 +30,6 @@ use Rattle.unix_core.specs.declared.boot.SecondFault.{SecondFault}
 use Rattle.unix_core.specs.Boots.{second_fault_of}
 use Rattle.v6_run.specs.Words.{RunWords, line_count, second_image, Command, Run, Check, Make, Demo, Audit}
 use Rattle.v6_run.specs.Logs.{lines_of, AuditEnds}
-use Rattle.v6_run.specs.Events.{events_of}
 use Rattle.v6_run.specs.Status.{has_written}
 use Rattle.v6_run.specs.Fronts.{HoldsSome, HoldsFrontOfSome, exactly}
 use Rattle.v6_run.specs.Outputs.{run_writes}

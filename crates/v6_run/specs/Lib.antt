@@ -7,9 +7,6 @@ pub mod Fronts
 pub mod Report
 pub mod Ports
 pub mod PortLaws
-pub mod Events
-pub mod Clocks
-pub mod Courses
 pub mod Final
 pub mod Opened
 pub mod Opening

@@ -6,7 +6,6 @@
 
 mod audit;
 mod check;
-mod clock;
 mod command;
 mod demo;
 mod error;
@@ -19,7 +18,6 @@ mod outputs;
 mod ports;
 mod report;
 mod run;
-mod slots;
 mod status;
 mod words;
 

@@ -7,8 +7,8 @@ ghost use Rattle.v6_run.specs.Opened.{line_port};
 ghost use Rattle.v6_run.specs.Ports.{is_silent, failed_port, one_more, counted, counted_on, HasCounted};
 
 use crate::files::{write_byte, write_text};
-use crate::slots::TellsCut;
 use log_text::{Line, put_line};
+use take_script::TellsCut;
 use v6_base::{Entry, LINES, Trace};
 use v6_port::{Failed, Host, OutPort};
 

@@ -2,14 +2,14 @@ use Rattle.std.proofs.Common.{◌≡◌, ◌∙◌, IfOk, sym, subst, None, Some
 use Rattle.fs_codec.specs.Faults.{image_fault}
 use Rattle.abstract_unix.specs.Runs.{boots, started, course}
 use Rattle.v6_port.specs.Outside.{Outside}
+use Rattle.take_script.specs.Courses.{CanTake}
+use Rattle.take_script.specs.Events.{events_of}
 use Rattle.v6_run.specs.declared.demo.TheConstants.{DEMO_CORE}
 use Rattle.v6_run.specs.declared.run.RunError.TheVariants as run_error
 use Rattle.v6_run.specs.Words.{Demo}
 use Rattle.v6_run.specs.Errors.{end_of, run_status}
-use Rattle.v6_run.specs.Events.{events_of}
 use Rattle.v6_run.specs.Answers.{Answers}
 use Rattle.v6_run.specs.Demo.{EndsCourse, StopsCourse}
-use Rattle.v6_run.specs.Courses.{CanTake}
 use Rattle.v6_run.proofs.BootedLemmas.{root_below, made_can}
 use Rattle.v6_run.proofs.DemoLemmas.{demo_answers, demo_tells}
 use Rattle.v6_run.proofs.demo.demo.Goals as goal

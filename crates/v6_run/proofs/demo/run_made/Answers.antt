@@ -1,7 +1,7 @@
 use Rattle.std.proofs.Common.{◌≡◌, Err, MatchResult, sym, subst}
 use Rattle.abstract_unix.specs.Runs.{started, course}
+use Rattle.take_script.specs.Events.{events_of}
 use Rattle.v6_run.specs.declared.run.RunError.TheVariants as run_error
-use Rattle.v6_run.specs.Events.{events_of}
 use Rattle.v6_run.specs.Demo.{EndsCourse, StopsCourse}
 use Rattle.v6_run.proofs.ResultLemmas.{value_where_ok}
 use Rattle.v6_run.proofs.demo.run_made.Goals as goal

@@ -4,7 +4,7 @@ use Rattle.v6_port.specs.Outside.{Out, same, Outside, OnlyAt}
 use Rattle.v6_port.specs.Causes.{Calm}
 use Rattle.abstract_unix.specs.Unix.{System}
 use Rattle.abstract_unix.specs.Runs.{started, course}
-use Rattle.v6_run.specs.Events.{events_of}
+use Rattle.take_script.specs.Events.{events_of}
 use Rattle.v6_run.specs.Ports.{final_of}
 use Rattle.v6_run.specs.Outputs.{memory_writes}
 use Rattle.v6_run.proofs.OutputLemmas.{fault_where_err, calm_where_ok, told_where_ok, told_where_err}

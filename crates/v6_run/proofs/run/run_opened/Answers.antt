@@ -1,6 +1,6 @@
 use Rattle.std.proofs.Common.{◌<◌, true, false, refl, sym, ◌∙◌, subst}
 use Rattle.abstract_unix.specs.Runs.{started, course, shown_by}
-use Rattle.v6_run.specs.Events.{events_of}
+use Rattle.take_script.specs.Events.{events_of}
 use Rattle.v6_run.specs.Words.{disk_files_value}
 use Rattle.v6_run.specs.Opened.{AreApart}
 use Rattle.v6_run.specs.Opening.{AreThere}

@@ -1,0 +1,5 @@
+pub mod ListLemmas
+pub mod SlotLemmas
+pub mod TickLemmas
+pub mod ClockLemmas
+pub mod CanLemmas
