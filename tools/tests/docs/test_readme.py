@@ -15,6 +15,12 @@ class Readme(Runs):
         for word in ("x86-64", "C library of GNU", "`rt` of the kit", "Python 3.9"):
             self.assertIn(word, " ".join(told.split()))
 
+    def test_where_to_begin(self):
+        """Who asks why a process waits, or has a disk, or a program, finds the tools for it in the table."""
+        table = read(os.path.join(TOP, "README.md")).decode().split("## Where to begin")[1].split("##")[0]
+        for name in ("look", "log", "trace", "try", "as", "disk", "pack", "page"):
+            self.assertIn(f"(docs/tools/{name}.md)", table)
+
     def test_length(self):
         """It can be read within a few minutes."""
         text = read(os.path.join(TOP, "README.md")).decode()

@@ -6,6 +6,7 @@ import sys
 from unittest import mock
 
 from tests.common import TOOLS, Case, read, tool, words
+from tests.pages import Runs
 
 from v6.pdp11 import disassembler
 from v6.pdp11.assembler import Assembler
@@ -343,3 +344,9 @@ class Command(Case):
         self.assertEqual(self.call(as_main, "-o", "", good), (1, "", "as.py: '': Is a directory\n"))
         wanted = f"as.py: {out}: no program of magic 0407 or 0410\n"
         self.assertEqual(self.call(as_main, "--disassemble", out), (1, "", wanted))
+
+
+class Page(Runs):
+    def test_page(self):
+        """The commands after a $ on the page: a program is assembled, put on a disk, and run."""
+        self.played("tools", "as.md")
