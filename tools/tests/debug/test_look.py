@@ -248,13 +248,16 @@ class Shown(unittest.TestCase):
             looker.lines_of("code of 0")
 
     def test_a_pending_call(self):
-        """A read of the console that has begun: its address and count are kept in the u area."""
-        held = placed((1, image((0,) * 8, more=((30, b"\1"), (32, struct.pack("<3H", 4, 0o100, 12))))))
-        looker = looker_of(ByHand(9, (*START, (2, "sleep 1 10 keys"), (2, "idle")), lambda slots: held))
-        looker.lines_of("slot 2")
-        shown = looker.lines_of("process 1")
-        self.assertIn("call       read(.., 0100, 12) has begun, and isn't done", shown)
-        self.assertIn("state      w: waits for keys, at priority 10", shown)
+        """A read of the console that has begun: its address and count are kept in the u area, with the entry of the open file, which is that
+        of the descriptor in R0; or R0 isn't it any more."""
+        for descriptor, r0, first in ((3, 3, "3"), (3, 2, ".."), (3, 15, ".."), (3, 65535, "..")):
+            files = bytes(descriptor) + b"\5"
+            held = placed((1, image((r0, *(0,) * 7), more=((30, b"\1"), (32, struct.pack("<3H", 4, 0o100, 12)), (104, files)))))
+            looker = looker_of(ByHand(9, (*START, (2, "sleep 1 10 keys"), (2, "idle")), lambda slots: held))
+            looker.lines_of("slot 2")
+            shown = looker.lines_of("process 1")
+            self.assertIn(f"call       read({first}, 0100, 12) has begun, and isn't done", shown)
+            self.assertIn("state      w: waits for keys, at priority 10", shown)
 
 
 class Moves(unittest.TestCase):

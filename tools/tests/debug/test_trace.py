@@ -233,8 +233,8 @@ class Traces(Case):
         self.assertEqual(self.trace(*some)[1].splitlines(), TOLD.splitlines()[5:7])
         with unittest.mock.patch.object(tracer, "SLOTS_A_TURN", 0):  # as in a long run with few calls
             self.assertEqual(self.trace("--v6", V6, image, "1200", script), (0, TOLD, ""))
-            # from the middle on, the descriptor of a call that waits already isn't known, and neither is when it began
-            told = [" 61 [1 /etc/init] read(.., 063, 100) = 4 \"one\\n\"", " 62 [2 /etc/init] read(.., 063, 100) waits for keys"]
+            # from the middle on, it isn't known when a call that waits already began
+            told = [" 61 [1 /etc/init] read(0, 063, 100) = 4 \"one\\n\"", " 62 [2 /etc/init] read(0, 063, 100) waits for keys"]
             self.assertEqual(self.trace(*some)[1].splitlines(), told)
         told = [line for line in TOLD.splitlines() if "[2 " in line]
         self.assertEqual(self.trace("--v6", V6, "--process", "2", image, "1200", script)[1].splitlines(), told)

@@ -194,7 +194,7 @@ class Runs(Made):
         self.assertEqual(found.slot(within), found.slot(within + 1))
         self.assertIn("entry 2 is the lowest in core that waits so that a signal wakes it", found.at(within)["rule"][0])
         last = found.at(found.head["lines"])
-        for slot, call in enumerate(("wait()", "read(.., 056, 100)", "sleep()"), 1):
+        for slot, call in enumerate(("wait()", "read(0, 056, 100)", "sleep()"), 1):
             self.assertIn(f"call       {call} has begun, and isn't done", last[f"process {slot}"])
 
     def test_random_rows(self):

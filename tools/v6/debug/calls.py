@@ -1,6 +1,7 @@
 """Calls of the kernel as they stand in a program, told with their arguments and their answers: docs/manual/calls.md."""
 from dataclasses import dataclass, field
 
+from v6.debug.answers import DESCRIPTORS, FILES
 from v6.pdp11.names import ARGUMENTS, CALLS, signed
 
 SYS, NUMBER, INDIRECT = 0o104400, 0o77, 0
@@ -106,10 +107,13 @@ def name_of(process):
 
 
 def kept(process):
-    """A call that has waited since before its beginning was seen, by what the u area keeps of it."""
+    """A call that has waited since before its beginning was seen, by what the u area keeps of it. That has the entry of its open file, so R0
+    is the descriptor where it leads there."""
     name = PENDING.get(process.pending, "call")
-    _, address, count, *_ = process.kept
-    return Call(name, ["..", octal(address), str(count)] if name in ("read", "write") else [], buffer=address)
+    entry, address, count, *_ = process.kept
+    r0 = process.registers[0]
+    first = str(r0) if r0 < DESCRIPTORS and process.u[FILES + r0] == entry + 1 else ".."
+    return Call(name, [first, octal(address), str(count)] if name in ("read", "write") else [], buffer=address)
 
 
 def answer(call, process):
