@@ -11,7 +11,7 @@ from v6.log.processes import FORMS
 LIONS = os.path.join(TOP, "docs", "lions")
 NUMBERED = re.compile(r"`([a-z0-9_]+)` \(([0-9]{4})\)")
 NAMED = re.compile(r"`([a-z0-9_]+)`")
-HEAD = re.compile(r"^Lions' book: .*?(?=\sHere:)", re.M | re.S)
+HEAD = re.compile(r"^Lions' book: .*?(?=\sIn\s+the\s+manual:)", re.M | re.S)
 SHEET = 50  # lines
 # From the text of the Commentary, which names these procedures with their lines.
 QUOTED = {"main": 1550, "newproc": 1826, "sched": 1940, "sleep": 2066, "wakeup": 2113, "swtch": 2178, "expand": 2268,
