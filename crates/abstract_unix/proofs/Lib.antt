@@ -34,9 +34,11 @@ pub mod PendingRows
 pub mod OtherRows
 pub mod OtherProcs
 pub mod OtherCalls
+pub mod Carried
 pub mod RootEvents
 pub mod RootNames
 pub mod RootRuns
+pub mod RootStops
 pub mod RootTurns
 pub mod RootWalks
 pub mod RootWorlds

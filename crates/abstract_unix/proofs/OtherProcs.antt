@@ -204,7 +204,7 @@ module _ {X : Type 0} (pick : Stores → X) (dev : ℕ)
         (placed_far v u program false here k) (alloc_far v u program (entry_of v.texts program.ino) here k)
 
     -- the old one goes, with its text
-    left_far : (v : World) (k : ℕ) (sticky : Bool) → On (text_of v.texts k).ino → IsFar v → IsFar (leaves_text v s k sticky)
+    pub left_far : (v : World) (k : ℕ) (sticky : Bool) → On (text_of v.texts k).ino → IsFar v → IsFar (leaves_text v s k sticky)
     left_far v k sticky here far = by (goes (text_of v.texts k) sticky)
       where
         left : World
@@ -232,6 +232,17 @@ module _ {X : Type 0} (pick : Stores → X) (dev : ℕ)
         by (Some entry) is =
             bare_far (leaves_text v s entry (is_sticky v entry)) program here (left_far v entry (is_sticky v entry) (text entry is) k)
 
+    -- where the text of the process stands then
+    pub tested_text : (mounts : MountTable) (name list : ℕ) → All On (exec_named mounts base s name)
+        → ((k : ℕ) → (process_of base s).text ≡ Some k → On (text_of base.texts k).ino) → (k : ℕ)
+        → (process_of (exec.tests mounts base s name list).world s).text ≡ Some k
+        → On (text_of (exec.tests mounts base s name list).world.texts k).ino
+    tested_text mounts name list named text k has =
+        let is : process_of (exec.tests mounts base s name list).world s ≡ process_of base s =
+        ap (λ ps. unwrap_or (get_or ps s None) no_process) (tests_processes mounts base s name list) in
+        subst (λ (texts : List (Option Text)). On (text_of texts k).ino) (sym (tests_far mounts name list named).texts)
+        (text k (ap (λ (p : Process). p.text) (sym is) ∙ has))
+
     pub exec_far : (mounts : MountTable) (name list : ℕ) → All On (exec_named mounts base s name)
         → ((k : ℕ) → (process_of base s).text ≡ Some k → On (text_of base.texts k).ino) → IsFar (exec.exec_file mounts base s name list).state
     unfolding exec.exec_file
@@ -243,16 +254,8 @@ module _ {X : Type 0} (pick : Stores → X) (dev : ℕ)
         tested : HasTested t
         tested = tests_far mounts name list named
 
-        is : process_of t.world s ≡ process_of base s
-        is = ap (λ ps. unwrap_or (get_or ps s None) no_process) (tests_processes mounts base s name list)
-
-        its : (k : ℕ) → (process_of t.world s).text ≡ Some k → On (text_of t.world.texts k).ino
-        its k has =
-            subst (λ (texts : List (Option Text)). On (text_of texts k).ino) (sym tested.texts)
-            (text k (ap (λ (p : Process). p.text) (sym is) ∙ has))
-
         by : (r : Result Program Errno) → ((p : Program) → r ≡ Ok p → On p.ino) → IsFar (exec.done_by t.world s r).state
-        by (Ok program) here = loads_far t.world program its (here program refl) tested.far
+        by (Ok program) here = loads_far t.world program (tested_text mounts name list named text) (here program refl) tested.far
         by (Err e) here = tested.far
 
     -- the end of a process

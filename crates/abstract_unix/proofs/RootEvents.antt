@@ -1,6 +1,8 @@
 -- While nothing is covered, each event by which a run goes on leaves the second disk's store, and all else on the root's disk.
-use Rattle.std.proofs.Common.{◌≡◌, ◌≤◌, ◌∙◌, ◌==◌, ◌++◌, ◌&&◌, ℕ, zero, suc, Bool, true, false, not, cond, List, map, Option, Some, None, refl, sym, ap, subst, inl, inr}
+use Rattle.std.proofs.Common.{◌≡◌, ◌≤◌, ◌∙◌, ◌==◌, ◌++◌, ℕ, zero, suc, Bool, true, false, not, cond, List, map, Option, Some, None, refl, sym, ap, subst, inl, inr}
 use Rattle.v6_base.specs.Trace.{Item, sent}
+use Rattle.v6_base.specs.declared.entry.Chan.{Chan}
+use Rattle.v6_base.specs.declared.entry.Chan.TheVariants.{Tout}
 use Rattle.fs_codec.specs.Store.{Store}
 use Rattle.fs_nodes.specs.Disks.{OfSecond}
 use Rattle.fs_nodes.specs.Keys.{Stores}
@@ -16,6 +18,7 @@ use Rattle.pick_rules.specs.Effects.{Effect, Show}
 use Rattle.pick_rules.specs.Lawful.{Seen}
 use Rattle.pick_rules.specs.Logged.{Stop, nothing_logged, left_by}
 use Rattle.log_laws.proofs.Seats.{RunnerAt, Paused, Holds}
+use Rattle.swap_sched.specs.Pass.{pass, stop_over}
 use Rattle.sig_core.specs.declared.numbers.TheConstants.{SIGHUP}
 use Rattle.sys_files.proofs.OtherWalks.{IsOn}
 use Rattle.sys_procs.specs.Process.{Process}
@@ -27,9 +30,10 @@ use Rattle.abstract_unix.specs.Endings.{is_early}
 use Rattle.abstract_unix.specs.Unix.{Unix, System, terminal_at, with_terminal, process_of, with_process}
 use Rattle.abstract_unix.specs.Steps.{Steps, returns}
 use Rattle.abstract_unix.specs.Turn.{Happened, happens, with_slot, counted, disk_lines, wakes_disks, is_sending, sends_lines, sends_after, after_slot, whole_slot, settled_after, ending_by, ending_of_pass, turn_of, pass_of, slot_of, turn}
-use Rattle.abstract_unix.specs.Outside.{is_as_trap, delivers_to, tick_delivery, tick_of, mode_of, timed, charged, ticked, with_key, typed_of, key_lines, wakes, calls, calls_show, hangup_of, hangs_up, turned_to, paced_of}
+use Rattle.abstract_unix.specs.Outside.{is_as_trap, delivers_to, tick_delivery, tick_of, mode_of, timed, charged, ticked, with_key, typed_of, key_lines, wakes, calls, calls_show, is_due, tick_effects, hangup_of, hangs_up, turned_to, paced_of}
 use Rattle.abstract_unix.specs.Runs.{Event, Slot, Tick, Byte, Switch, Disk, Pace, Hangup, event_of}
-use Rattle.abstract_unix.proofs.RunsLemmas.{settled_ending}
+use Rattle.abstract_unix.proofs.Carried.{AllCarry, append_carry, left_carried}
+use Rattle.abstract_unix.proofs.RunsLemmas.{settled_ending, after_ending}
 use Rattle.abstract_unix.proofs.Sitting.{seats_of}
 use Rattle.abstract_unix.proofs.Events.{system_at, runs_at, shown_stop, all_shown, followed_unix}
 use Rattle.abstract_unix.proofs.Outside.{shown_both, shown_items}
@@ -37,6 +41,7 @@ use Rattle.abstract_unix.proofs.Tidy.{IsTidy}
 use Rattle.abstract_unix.proofs.Passed.{settled_unix}
 use Rattle.abstract_unix.proofs.RootWorlds.{signalled_dirs}
 use Rattle.abstract_unix.proofs.RootTurns.{OnRoot, on_put, on_due, on_turn}
+use Rattle.abstract_unix.proofs.RootStops.{Rests, due_carry, turn_rests}
 
 -- a tick of a process's own time leaves its directory
 timed_on : (base : Stores) (mode : Mode) (p : Process) → IsOn 0 base p.u.dir → IsOn 0 base (timed mode p).u.dir
@@ -137,14 +142,16 @@ module _ (base : Stores) (one : 1 ≤ base.root.count) (clean : OfSecond (λ (x 
       by true = refl
       by false = refl
 
+  ticked_root : (m : System) → OnRoot base m.unix → OnRoot base (ticked m)
+  ticked_root m r =
+      let now = charged_root m.unix (mode_of m) m.board.table.running r in record { world = now.world; files = now.files }
+
   tick_root : (m : System) → m.unix.covered ≡ None → OnRoot base m.unix → OnRoot base (tick_delivery m).unix
   tick_root m none r =
-      let mode : Mode = mode_of m in
       let o : Option ℕ = m.board.table.running in
-      let now = charged_root m.unix mode o r in
-      let root : OnRoot base (ticked m) = record { world = now.world; files = now.files } in
+      let root : OnRoot base (ticked m) = ticked_root m r in
       either_root (is_as_trap m) (delivers_to (ticked m) o) (returns (ticked m))
-      (delivered_root (ticked m) o (charged_covered m.unix mode o ∙ none) root) root
+      (delivered_root (ticked m) o (charged_covered m.unix (mode_of m) o ∙ none) root) root
 
   -- a signal to those who have a line
   line_root : (l n : ℕ) (u : Unix) → OnRoot base u → OnRoot base (record u { processes = all_signalled (has_line l) n u.processes })
@@ -219,3 +226,75 @@ module _ (base : Stores) (one : 1 ≤ base.root.count) (clean : OfSecond (λ (x 
   start_root m r ends =
       let what : Happened = pass_of m in
       subst (OnRoot base) (sym (settled_unix what)) (went_on what.log.stop m.unix r (sym (settled_ending what) ∙ ends))
+
+  -- An event that ends in a panic leaves the Unix that stood just before it, and so the second store.
+  over_rests : (o : Option (Stop (Unit {0}))) (v : Unix) → Rests base v → Rests base (left_by (stop_over v o) v)
+  over_rests None v r = r
+  over_rests (Some stop) v r = r
+
+  slot_rests : (u : Unix) (seen : Seen) → Paused (seats_of u) seen → IsTidy u → u.covered ≡ None → OnRoot base u
+      → Rests base (slot_of (system_at u seen) seen.board.table.running).unix
+  slot_rests u seen p tidy none r = by seen.board.table.running p.runner
+    where
+      by : (o : Option ℕ) → RunnerAt (seats_of u) seen.board o → Rests base (slot_of (system_at u seen) o).unix
+      by None run = λ c. r.world.second
+      by (Some zero) run = over_rests (pass seen.board).stop u (λ c. r.world.second)
+      by (Some (suc s)) (inl z) = absurd (cc z)
+      by (Some (suc s)) (inr t) = turn_rests base one clean (suc s) (system_at u seen) none (runs_at u (suc s) seen.board tidy t) r
+
+  wakes_carry : (b : Bool) (chan : Chan) → AllCarry (Rests base) (wakes b chan)
+  wakes_carry true chan = (tt, tt)
+  wakes_carry false chan = tt
+
+  tick_carry : (m : System) → OnRoot base m.unix → AllCarry (Rests base) (tick_delivery m).effects
+  tick_carry m r = by (is_as_trap m)
+    where
+      to : (o : Option ℕ) → AllCarry (Rests base) (delivers_to (ticked m) o).effects
+      to None = tt
+      to (Some s) = due_carry base one clean s (ticked m) (λ none. ticked_root m r)
+
+      by : (b : Bool) → AllCarry (Rests base) (cond b (delivers_to (ticked m) m.board.table.running) (returns (ticked m))).effects
+      by true = to m.board.table.running
+      by false = tt
+
+  hung_ends : (b : Bool) (x y : Happened) → x.ending ≡ AtEnd → y.ending ≡ AtEnd → (cond b x y).ending ≡ AtEnd
+  hung_ends true x y p q = p
+  hung_ends false x y p q = q
+
+  pub event_rests : (e : Event) (u : Unix) (seen : Seen) → Holds (seats_of u) seen → IsTidy u → u.covered ≡ None → OnRoot base u
+      → Rests base (event_of e (system_at u seen)).next.unix
+  event_rests Slot u seen h tidy none r = by what.ending refl
+    where
+      m : System
+      m = system_at u seen
+
+      what : Happened
+      what = slot_of m m.board.table.running
+
+      by : (e : Ends) → what.ending ≡ e → Rests base (event_of Slot m).next.unix
+      by AtEnd is =
+          λ c. (event_root Slot u seen h tidy none r (settled_ending (after_slot what) ∙ after_ending what ∙ is) c).world.second
+      by (ends.Panic kind) is =
+          subst (Rests base) (sym (settled_unix (after_slot what)
+          ∙ ap (λ e. (cond (is_early e) what (sends_after (wakes_disks (counted what)))).unix) is)) (slot_rests u seen h.paused tidy none r)
+  event_rests Tick u seen h tidy none r =
+      let m : System = system_at u seen in
+      let s : Steps = tick_delivery m in
+      subst (Rests base) (sym (settled_unix (tick_of m)))
+      (left_carried (Rests base) m.board (tick_effects m ++ s.effects) s.unix
+      (append_carry (Rests base) (tick_effects m) s.effects (tt, wakes_carry (is_due m.unix.clock) Tout) (tick_carry m r))
+      (λ c. (tick_root m none r).world.second))
+  event_rests (Byte l byte) u seen h tidy none r =
+      λ c. (event_root (Byte l byte) u seen h tidy none r (settled_ending (typed_of (system_at u seen) l byte)) c).world.second
+  event_rests (Switch word) u seen h tidy none r = λ c. r.world.second
+  event_rests (Disk count) u seen h tidy none r = λ c. r.world.second
+  event_rests (Pace count) u seen h tidy none r =
+      λ c. (event_root (Pace count) u seen h tidy none r (settled_ending (paced_of (system_at u seen) count)) c).world.second
+  event_rests (Hangup l) u seen h tidy none r =
+      let m : System = system_at u seen in
+      let ends : (hangup_of m l).ending ≡ AtEnd =
+      hung_ends (terminal_at u l).is_open (hangs_up m l) (happens u (nothing_logged seen.board)) refl refl in
+      λ c. (event_root (Hangup l) u seen h tidy none r (settled_ending (hangup_of m l) ∙ ends) c).world.second
+
+  pub start_rests : (m : System) → OnRoot base m.unix → Rests base (settled_after (pass_of m)).next.unix
+  start_rests m r = subst (Rests base) (sym (settled_unix (pass_of m))) (over_rests (pass m.board).stop m.unix (λ c. r.world.second))

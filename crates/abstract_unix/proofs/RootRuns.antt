@@ -13,7 +13,7 @@ use Rattle.open_files.specs.declared.file.OpenFile.{OpenFile}
 use Rattle.abstract_unix.specs.declared.ends.Ends as run
 use Rattle.abstract_unix.specs.declared.ends.Ends.TheVariants as ends
 use Rattle.abstract_unix.specs.declared.ends.Ends.TheVariants.{AtEnd}
-use Rattle.abstract_unix.specs.Unix.{System, no_texts}
+use Rattle.abstract_unix.specs.Unix.{Unix, System, no_texts}
 use Rattle.abstract_unix.specs.Runs.{first_unix, stores_of, is_second_bad, system_of, Event, event_of, Course, unless_ended, after_event, course, started, finished, run_of, runs, boots}
 use Rattle.abstract_unix.specs.OtherDisk.{IsNeverMounted}
 use Rattle.abstract_unix.proofs.Events.{Stands}
@@ -23,7 +23,7 @@ use Rattle.abstract_unix.proofs.RootNames.{key_zero}
 use Rattle.abstract_unix.proofs.RootWalks.{FileOn, zero_on}
 use Rattle.abstract_unix.proofs.RootWorlds.{DirOn, TextOn}
 use Rattle.abstract_unix.proofs.RootTurns.{OnRoot}
-use Rattle.abstract_unix.proofs.RootEvents.{event_root, start_root}
+use Rattle.abstract_unix.proofs.RootEvents.{event_root, start_root, event_rests, start_rests}
 
 -- what is so of each of some is so of each of them
 get_same : {X : Type 0} (P : X → Type 0) (x : X) (n k : ℕ) → P x → P (get_or (replicate n x) k x)
@@ -60,9 +60,14 @@ module _ (base : Stores) (one : 1 ≤ base.root.count) (clean : OfSecond (λ (x 
       dirs (suc zero) = key_zero base 1 one
       dirs (suc (suc k)) = get_same (DirOn base) None 48 k (zero_on base)
 
-  -- A run as far as it has come, whose lines fit: where it goes on, all is on the root's disk.
+  -- The second store is that of others, and all is on the root's disk, unless the run has ended.
+  record Rooted (u : Unix) (ending : run.Ends) : Type 0 where
+    root : ending ≡ AtEnd → OnRoot base u
+    second : u.store.second ≡ base.second
+
+  -- a run as far as it has come
   abbrev RootCourse : Course → Type 0
-  RootCourse c = c.ending ≡ AtEnd → OnRoot base c.system.unix
+  RootCourse c = Rooted c.system.unix c.ending
 
   event_goes_root : (c : Course) (e : Event) → FineCourse c → c.system.unix.covered ≡ None → (after_event c e).system.unix.covered ≡ None
       → RootCourse c → RootCourse (after_event c e)
@@ -72,17 +77,20 @@ module _ (base : Stores) (one : 1 ≤ base.root.count) (clean : OfSecond (λ (x 
       now = seen_items nothing_seen c.items
 
       Goes : System → Type 0
-      Goes m = (event_of e m).ending ≡ AtEnd → (event_of e m).next.unix.covered ≡ None → OnRoot base (event_of e m).next.unix
+      Goes m = (event_of e m).next.unix.covered ≡ None → Rooted (event_of e m).next.unix (event_of e m).ending
 
       goes : c.ending ≡ AtEnd → Goes c.system
       goes n =
           let h : Stands c.system now = f.fine.stands n in
-          subst (λ b. Goes (record { unix = c.system.unix; board = b })) h.board
-          (event_root base one clean e c.system.unix now h.holds (f.tidy n) none (r n))
+          let u : Unix = c.system.unix in
+          subst (λ b. Goes (record { unix = u; board = b })) h.board (λ covered. record {
+            root = λ ends. event_root base one clean e u now h.holds (f.tidy n) none (r.root n) ends covered;
+            second = event_rests base one clean e u now h.holds (f.tidy n) none (r.root n) covered;
+          })
 
       by : (o : run.Ends) → c.ending ≡ o → (unless_ended o c e).system.unix.covered ≡ None → RootCourse (unless_ended o c e)
-      by AtEnd n after ends = goes n ends after
-      by (ends.Panic kind) n after ends = absurd (let other = sym n ∙ ends in cc other)
+      by AtEnd n after = goes n after
+      by (ends.Panic kind) n after = r
 
   course_root : (events : List Event) (c : Course) → FineCourse c
       → ((part rest : List Event) → part ++ rest ≡ events → (course c part).system.unix.covered ≡ None)
@@ -94,8 +102,7 @@ module _ (base : Stores) (one : 1 ≤ base.root.count) (clean : OfSecond (λ (x 
 
 pub runs_stay : (image : List ℕ) (second : Option (List ℕ)) (core lines : ℕ) (events : List Event) (c : Course)
     → AreBytes image → 64 ≤ core → core ≤ 3968 → lines ≤ 8 → runs image second core lines events ≡ Some c
-    → IsNeverMounted image second core lines events → c.ending ≡ AtEnd
-    → (finished c.system).unix.store.second ≡ (stores_of image second).second
+    → IsNeverMounted image second core lines events → (finished c.system).unix.store.second ≡ (stores_of image second).second
 runs_stay image second core lines events c are low high some e never = by (boots image second core lines) refl e
   where
     base : Stores
@@ -107,24 +114,26 @@ runs_stay image second core lines events c are low high some e never = by (boots
     clean : OfSecond (λ (x : Store). x.mark ≡ false) base.second
     clean = first_clean second
 
-    stays : image_fault image ≡ None → is_second_bad image second ≡ false → ended.ending ≡ AtEnd
-        → (finished ended.system).unix.store.second ≡ base.second
-    stays none fine ends =
+    stays : image_fault image ≡ None → is_second_bad image second ≡ false → (finished ended.system).unix.store.second ≡ base.second
+    stays none fine =
         let one : 1 ≤ base.root.count = some_nodes image none in
         let begun : Course = started (system_of image second core lines) in
         let first : FineCourse begun = started_fine base core lines low high (stamp_in_range image are) (few_keys image second none fine) some in
-        let root : OnRoot base ended.system.unix =
-        course_root base one clean events begun first never
-        (λ goes. start_root base one clean (system_of image second core lines) (first_root base one clean core lines) goes) ends in
+        let boot : System = system_of image second core lines in
+        let at : OnRoot base boot.unix = first_root base one clean core lines in
+        let same : ended.system.unix.store.second ≡ base.second =
+        (course_root base one clean events begun first never (record {
+          root = λ goes. start_root base one clean boot at goes;
+          second = start_rests base one clean boot at (never [] events refl);
+        })).second in
         let store : Stores = ended.system.unix.store in
-        let same : store.second ≡ base.second = root.world.second in
         second_kept store.root store.second ended.system.unix.clock.time
         (subst (OfSecond (λ (x : Store). x.mark ≡ false)) (sym same) clean) ∙ same
 
     by : (o : Option System) → boots image second core lines ≡ o → option_map (λ m. course (started m) events) o ≡ Some c
-        → c.ending ≡ AtEnd → (finished c.system).unix.store.second ≡ base.second
+        → (finished c.system).unix.store.second ≡ base.second
     by None f g = absurd (cc g)
     by (Some m) f g =
         let fine = fine_images image second core lines m f in
         let is : ended ≡ c = ap (λ n. course (started n) events) (boots_is image second core lines m f) ∙ cc g in
-        subst (λ (x : Course). x.ending ≡ AtEnd → (finished x.system).unix.store.second ≡ base.second) is (stays fine.0 fine.1)
+        subst (λ (x : Course). (finished x.system).unix.store.second ≡ base.second) is (stays fine.0 fine.1)

@@ -138,11 +138,16 @@ module _ (base : Stores) (one : 1 ≤ base.root.count) (clean : OfSecond (λ (x 
       let came = on_came u c (fork_based base s (world_of u) r.world) r in
       record { world = came.world; files = shares_on base u.files (process_of u s).u.files c.answer r.files }
 
+  -- its files are closed
+  pub closes_on : (u : Unix) → OnRoot base u → OnRoot base (with_handed u s (close_all (handed_of u (process_of u s))).state)
+  closes_on u r =
+      let h : Handed = handed_of u (process_of u s) in
+      on_handed u (close_all h).state (closed_rooted base one clean s h (its_stay u r)) r
+
   on_exits : (u : Unix) (status : ℕ) → OnRoot base u → OnRoot base (exits_with u s status).unix
   on_exits u status r =
-      let h : Handed = handed_of u (process_of u s) in
-      let now : Unix = with_handed u s (close_all h).state in
-      let n : OnRoot base now = on_handed u (close_all h).state (closed_rooted base one clean s h (its_stay u r)) r in
+      let now : Unix = with_handed u s (close_all (handed_of u (process_of u s))).state in
+      let n : OnRoot base now = closes_on u r in
       on_world now (end_proc (world_of now) s status).state (end_based base s (world_of now) status n.world) n
 
   -- growth
@@ -252,7 +257,7 @@ module _ (base : Stores) (one : 1 ≤ base.root.count) (clean : OfSecond (λ (x 
       first true = on_put u (awake (process_of u s)) (own_dir u r) r
       first false = by (is_on_files (process_of u s).u.pending) refl
 
-  on_begun : (m : System) → m.unix.covered ≡ None → Runs s m.unix → OnRoot base m.unix → OnRoot base (begins_turn m s).unix
+  pub on_begun : (m : System) → m.unix.covered ≡ None → Runs s m.unix → OnRoot base m.unix → OnRoot base (begins_turn m s).unix
   on_begun m none runs r = by (is_user (process_of m.unix s))
     where
       by : (b : Bool) → OnRoot base (cond b (instruction m.unix s) (resumed m.unix s)).unix
@@ -260,12 +265,17 @@ module _ (base : Stores) (one : 1 ≤ base.root.count) (clean : OfSecond (λ (x 
       by false = on_resumed m.unix none runs r
 
   -- A signal is delivered.
-  on_ends : (u : Unix) (sig : ℕ) → u.covered ≡ None → OnRoot base u → OnRoot base (ends_by u s sig).unix
-  on_ends u sig none r =
+  pub cores_on : (u : Unix) → u.covered ≡ None → OnRoot base u
+      → OnRoot base (with_handed u s (core_file (handed_of u (process_of u s)) u.clock.time).state)
+  cores_on u none r =
       let h : Handed = handed_of u (process_of u s) in
       let core : Did = core_file h u.clock.time in
-      let now : OnRoot base (with_handed u s core.state) =
-      on_handed u core.state (core_rooted base one clean s h u.clock.time none (its_stay u r)) r in
+      on_handed u core.state (core_rooted base one clean s h u.clock.time none (its_stay u r)) r
+
+  on_ends : (u : Unix) (sig : ℕ) → u.covered ≡ None → OnRoot base u → OnRoot base (ends_by u s sig).unix
+  on_ends u sig none r =
+      let core : Did = core_file (handed_of u (process_of u s)) u.clock.time in
+      let now : OnRoot base (with_handed u s core.state) = cores_on u none r in
       on_if (makes_core sig) (ends_after u s sig core) (exits_with u s (signal_status u s sig))
       (on_exits (with_handed u s core.state) (signal_status u s sig + cond (is_written core.answer) dumped 0) now)
       (on_exits u (signal_status u s sig) r)

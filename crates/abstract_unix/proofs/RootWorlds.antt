@@ -309,7 +309,7 @@ module _ (base : Stores) (s : ℕ) where
     held = held;
   }
 
-  its : (w : World) (key : ℕ) → Based w → IsOn 0 base key → IsOn 0 w.inodes.store key
+  pub its : (w : World) (key : ℕ) → Based w → IsOn 0 base key → IsOn 0 w.inodes.store key
   its w key b on = device_counted w.inodes.store base key b.counts ∙ on
 
   pub end_based : (w : World) (status : ℕ) → Based w → Based (end_proc w s status).state

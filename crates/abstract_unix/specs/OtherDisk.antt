@@ -26,7 +26,6 @@ use Rattle.abstract_unix.specs.declared.calls.FileCall.{FileCall}
 use Rattle.abstract_unix.specs.declared.calls.FileCall.TheVariants as file
 use Rattle.abstract_unix.specs.declared.calls.ProcessCall.{ProcessCall}
 use Rattle.abstract_unix.specs.Calls.{file_row, process_row, process_named}
-use Rattle.abstract_unix.specs.declared.ends.Ends.TheVariants.{AtEnd}
 use Rattle.abstract_unix.specs.Runs.{Event, Course, stores_of, finished, run_of, runs}
 
 -- A process goes on with a call on an open file of its own, an end of a pipe where the call is on a pipe.
@@ -67,8 +66,8 @@ IsNeverMounted image second core lines events =
 -- writes both disks, and pipe, which makes a node on the root's; of each call on processes where the program that it names and the
 -- text of the process are of one disk; and of both when they go on after a sleep. The file `core` is written without a call. A
 -- process that ends closes its files, and leaves its directory and its text. While nothing is covered, what a process names that
--- stands on the root's disk is on that disk, and so the second disk's store stays. Where nothing is ever mounted in a run on two disks
--- that comes to its script's end, the second disk's store is at the end, when all that has changed is on the disk, that of its image.
+-- stands on the root's disk is on that disk, and so the second disk's store stays. Where nothing is ever mounted in a run on two disks,
+-- also in one that a panic ends, the second disk's store is at the end, when all that has changed is on the disk, that of its image.
 pub record CallsLeaveOther : Type 0 where
   pub files : (call : FileCall) (h : Handed) (slot : ℕ) (args : List ℕ) (now : ℕ) → IsSound h → call ≢ file.Sync → call ≢ file.Pipe
       → LeavesOther h (file_row call h slot args now)
@@ -87,5 +86,4 @@ pub record CallsLeaveOther : Type 0 where
   pub core_stays : (h : Handed) (now : ℕ) → IsSound h → StandsOnRoot h → (core_file h now).state.inodes.store.second ≡ h.inodes.store.second
   pub runs_stay : (image : List ℕ) (second : Option (List ℕ)) (core lines : ℕ) (events : List Event) (c : Course)
       → AreBytes image → 64 ≤ core → core ≤ 3968 → lines ≤ 8 → runs image second core lines events ≡ Some c
-      → IsNeverMounted image second core lines events → c.ending ≡ AtEnd
-      → (finished c.system).unix.store.second ≡ (stores_of image second).second
+      → IsNeverMounted image second core lines events → (finished c.system).unix.store.second ≡ (stores_of image second).second
