@@ -289,20 +289,22 @@ impl Kernel {
         Kernel::boot_with(alloc, image, core, LINES)
     }
 
-    /// Makes the kernel for two disk images and so many clicks of core, before the start of its run. The second disk is mounted
-    /// nowhere, and there is one terminal line, the console.
+    /// Makes the kernel for two disk images, so many clicks of core and so many terminal lines, before the start of its run.
+    /// The second disk is mounted nowhere.
     ///
     /// It keeps disks of its own, and takes all the memory that it will ever use.
     #[inline(never)]
-    pub fn boot2(
+    pub fn boot2_with(
         alloc: Global,
         image: &[u8],
         second: &[u8],
         core: u16,
+        lines: u8,
     ) -> Result<Kernel, Boot2Fault>
         requires least { 64 ≤ core }
         requires most { core ≤ 3968 }
-        ensures system { IfOk result (λ kernel. boots image.now (Some second.now) core 1 ≡ Some kernel.system) }
+        requires lines { (lines ≡ 1) ⊎ (lines ≡ 8) }
+        ensures system { IfOk result (λ kernel. boots image.now (Some second.now) core lines ≡ Some kernel.system) }
         ensures blocks { IfOk result (λ kernel. kernel.blocks ≡ blocks_on image.now (Some second.now)) }
         ensures stored { IfOk result (λ kernel. kernel.stored ≡ blocks_on image.now (Some second.now)) }
         ensures swap { IfOk result (λ kernel. kernel.swap ≡ swap_on image.now) }
@@ -323,6 +325,29 @@ impl Kernel {
             return Err(Boot2Fault::NoMemory);
         };
         let mounts = two_mounts(image, second);
-        Kernel::new(rooms, nodes, mounts, core, 1)
+        Kernel::new(rooms, nodes, mounts, core, lines)
+    }
+
+    /// Makes the kernel for two disk images and so many clicks of core, before the start of its run. The second disk is mounted
+    /// nowhere, and there is one terminal line, the console.
+    ///
+    /// It keeps disks of its own, and takes all the memory that it will ever use.
+    pub fn boot2(
+        alloc: Global,
+        image: &[u8],
+        second: &[u8],
+        core: u16,
+    ) -> Result<Kernel, Boot2Fault>
+        requires least { 64 ≤ core }
+        requires most { core ≤ 3968 }
+        ensures system { IfOk result (λ kernel. boots image.now (Some second.now) core 1 ≡ Some kernel.system) }
+        ensures blocks { IfOk result (λ kernel. kernel.blocks ≡ blocks_on image.now (Some second.now)) }
+        ensures stored { IfOk result (λ kernel. kernel.stored ≡ blocks_on image.now (Some second.now)) }
+        ensures swap { IfOk result (λ kernel. kernel.swap ≡ swap_on image.now) }
+        ensures core { IfOk result (λ kernel. kernel.core ≡ core_on core) }
+        ensures phase { IfOk result (λ kernel. kernel.phase ≡ New) }
+        ensures refused { IfErr result (RefusesBoot2 image.now second.now) }
+    {
+        Kernel::boot2_with(alloc, image, second, core, 1)
     }
 }

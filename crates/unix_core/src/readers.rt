@@ -1,9 +1,10 @@
-//! What a kernel tells of its memory and its disk: the bytes of core and of the swap area, where images stand, and the blocks
-//! that a run leaves.
+//! What a kernel tells of its memory, its table and its disk: the bytes of core and of the swap area, where images stand, the
+//! rows by which it chooses who runs, and the blocks that a run leaves.
 ghost use Rattle.std.specs.Prelude.{◌≡◌, ◌<◌, ◌≤◌, ◌+◌, ◌*◌, ◌-◌, IsSome, IsSomeAnd, length, slice_index};
 ghost use Rattle.fs_codec.specs.declared.layout.TheConstants.{SWAP_START};
 ghost use Rattle.buf_cache.specs.Blocks.{block_at};
 ghost use Rattle.core_mem.specs.Bytes.{part};
+ghost use Rattle.pick_rules.specs.Table.{row_at};
 ghost use Rattle.image_keep.specs.declared.memory.TheConstants.{SWAP_BYTES};
 ghost use Rattle.image_keep.specs.Kept.{place_of};
 ghost use Rattle.image_keep.specs.Holds.{MemoryHolds};
@@ -11,6 +12,7 @@ ghost use Rattle.image_keep.specs.Holds.{MemoryHolds};
 use crate::files::see_procs;
 use crate::kernel::Kernel;
 use fs_codec::{DISK_BLOCKS, SWAP_START};
+use pick_rules::TableRow;
 use v6_base::{Place, Slot};
 
 /// Copies so many bytes from a place on.
@@ -89,6 +91,16 @@ impl Kernel {
     {
         see_procs(&self.machine.world.procs);
         self.machine.world.procs.images.place(s)
+    }
+
+    /// What the kernel knows of the process of a slot, by which it chooses who runs: its state and priority, what it sleeps
+    /// for, where its image stands, and its size in clicks of 64 bytes. A free slot has an empty row. `proc.h` in Lions'
+    /// Commentary.
+    pub fn row(&self, s: Slot) -> TableRow
+        requires { s < 50 }
+        ensures { result ≡ row_at self.now.system.board.table s }
+    {
+        self.machine.world.procs.table.rows[s as usize]
     }
 
     /// What the disk holds of block `n` at this moment: below block 4000 what has been written to it so far, from block 4000 on

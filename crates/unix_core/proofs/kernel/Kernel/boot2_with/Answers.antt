@@ -6,7 +6,7 @@ use Rattle.abstract_unix.proofs.FirstTidy.{few_keys}
 use Rattle.unix_core.specs.Boots.{RefusesBoot2, blocks_on, swap_on, core_on}
 use Rattle.unix_core.specs.Parts.{AreFirst}
 use Rattle.unix_core.proofs.BootLemmas.{boots_as, second_fine, second_good, ok_mapped, no_error}
-use Rattle.unix_core.proofs.kernel.Kernel.boot2.Goals as goal
+use Rattle.unix_core.proofs.kernel.Kernel.boot2_with.Goals as goal
 
 pub returns-in-Some-clause-refused : goal.returns-in-Some-clause-refused
 returns-in-Some-clause-refused c = (c.in_default.ensures, sym c.second_fault.ensures ∙ c.in-Some.is)
@@ -33,8 +33,8 @@ new-requires-clause-procs c =
 
 pub returns-clause-system : goal.returns-clause-system
 returns-clause-system c =
-    ok_mapped c.new.result _ (λ kernel. boots c.args.image.now (Some c.args.second.now) c.args.core 1 ≡ Some kernel.system)
-    (λ kernel is. boots_as c.args.image.now (Some c.args.second.now) c.args.core 1 c.in-Ok.nodes.store kernel.system c.in_default.ensures
+    ok_mapped c.new.result _ (λ kernel. boots c.args.image.now (Some c.args.second.now) c.args.core c.args.lines ≡ Some kernel.system)
+    (λ kernel is. boots_as c.args.image.now (Some c.args.second.now) c.args.core c.args.lines c.in-Ok.nodes.store kernel.system c.in_default.ensures
     (second_fine c.args.image.now c.args.second.now (sym c.second_fault.ensures ∙ c.in_default-second_fault.is))
     c.in-Ok.ensures.store is) c.new.ensures.system
 
