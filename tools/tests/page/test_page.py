@@ -14,6 +14,7 @@ from v6.log.picture import COLUMNS, LEFT
 from v6.page.pack import Panels, Texts, packed
 from v6.rows.file import HI, Row, names
 from v6.run.moments import Script
+from v6.run.script import ELSEWHERE, lines_of
 
 page, look, as_main, disk_main, log_main = tool("page"), tool("look"), tool("as").main, tool("disk").main, tool("log").main
 LIONS = os.path.join(TOP, "docs", "lions", "src")
@@ -117,12 +118,13 @@ class Made(Case):
         return image, "1200", self.put("script", b"run 400\n")
 
     def rows(self, count):
-        """So many rows, drawn at random, as runs: of those that are done within few slots, with some lines."""
+        """COUNT rows, drawn at random, as runs: of those that are done within few slots at line 0 alone, with some lines in their logs."""
         known, base, found = names(), read(HI), {}
         while len(found) < count:
             row = Row(self.random.choice(known))
             lines = (row.log or b"").count(b"\n")
-            if row.ends() and row.disk.numbers["made"] is None and lines in LINES and Script(row.script).slots <= SLOTS:
+            elsewhere = any(ELSEWHERE.fullmatch(line) for line in lines_of(row.script))
+            if row.ends() and not elsewhere and row.disk.numbers["made"] is None and lines in LINES and Script(row.script).slots <= SLOTS:
                 image, script = self.put(f"image.{len(found)}", row.image(base)), self.put(f"script.{len(found)}", row.script)
                 found.setdefault(row.name, (image, str(row.numbers["core"]), script))
         return found
