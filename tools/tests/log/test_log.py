@@ -82,7 +82,7 @@ TOLD = """line  012
   17  sWR  process 2 runs
   18  sWR  process 2 leaves text 0, which leaves core
   19  sWz  process 2 ends; block 4003 keeps what its parent may ask for
-  20  sWz  woken are those who wait for a child of process 1: nobody
+  20  sWz  woken are those that wait for a child of process 1: nobody
   21  sWz  nobody can run
   22  sWz  a tick while nobody ran
   23  soz  process 1 gets signal 2
@@ -114,15 +114,15 @@ TOLD_CHANNELS = """line  01
    3  sR  process 1 runs
    4  ss  process 1 waits for the disk, at priority -50
    5  ss  nobody can run
-   6  sr  woken are those who wait for the disk, as process 1 does: process 1
+   6  sr  woken are those that wait for the disk, as process 1 does: process 1
    7  sR  process 1 runs
    8  sw  process 1 waits for room to write on the terminal, at priority 20
    9  sw  nobody can run
-  10  sr  woken are those who wait for room to write on the terminal: process 1
+  10  sr  woken are those that wait for room to write on the terminal: process 1
   11  sR  process 1 runs
   12  sw  process 1 waits for keys of line 3, at priority 10
   13  sw  nobody can run
-  14  sr  woken are those who wait for keys of line 3: process 1
+  14  sr  woken are those that wait for keys of line 3: process 1
   15  sR  process 1 runs
   16  sw  process 1 waits for room to write on the terminal of line 7, at priority 20
   17  sw  the script has ended
@@ -311,7 +311,7 @@ class Log(Case):
     def test_audit_tells_the_line(self):
         """Each line is worked by hand: of first fit, of the table, and of who runs."""
         slot, text, fit = "the lowest free entry is 2, and ", "the lowest free text is 0, and ", "first fit for {} is `{}`".format
-        nobody, to_sleep = "nobody who is in core can run", "sleep 1 40 wait.1, "
+        nobody, to_sleep = "nobody in core can run", "sleep 1 40 wait.1, "
         self.assert_told((
             ("fork 1 2 at 1", "fork 1 2 at 18", slot + fit("17 clicks", "at 18")),
             ("fork 1 3 at 18", "fork 1 2 at 18", slot + fit("17 clicks", "at 18")),

@@ -216,7 +216,7 @@ class Runs(Made):
                             273: ("entry 4 has been out of core for longest, 3 seconds (1)", "no room for 37 clicks (2)",
                                   "entry 2 has been there for longest, 4 seconds (5)"),
                             274: ("there is room for 37 clicks at click 38 (2)",), 13: ("less than three seconds are too few",),
-                            2: ("nobody who can run is out of core",), 276: ("from the entry after the one that was chosen last",)}.items():
+                            2: ("no process that can run is out of core",), 276: ("from the entry after the one that was chosen last",)}.items():
             for one in words:
                 self.assertIn(one, found.at(line)["rule"][0], line)
         self.assertTrue(found.at(273)["book"][0].startswith("sched (1940) of slp.c; here swap_sched"))
@@ -314,7 +314,7 @@ class Logs(Made):
         found, _ = self.made("--log", log)
         self.assertEqual(found.head["lines"], 20007)
         self.assertLess(os.path.getsize(self.path("page.html")), 40 * 20007)
-        self.assertEqual(found.words(20006), "woken are those who wait for bytes in the pipe of inode 23: process 5")
+        self.assertEqual(found.words(20006), "woken are those that wait for bytes in the pipe of inode 23: process 5")
 
     def refused(self, *words, why, status=1):
         kept = read(self.path("page.html")) if os.path.exists(self.path("page.html")) else None

@@ -74,7 +74,7 @@ class Ruled(Table):
         parent, child = entry["S"], entry["T"]
         self.priority[child], self.use[child], self.nice[child] = 0, 0, self.nice[parent]
 
-    # the choice of who runs
+    # the choice of the process that runs
 
     def ready(self):
         """The entries that can run and are in core, from the one after that which was chosen last on."""
@@ -86,7 +86,7 @@ class Ruled(Table):
         """The line of the choice, and why."""
         ready = self.ready()
         if not ready:
-            return "idle", "nobody who is in core can run"
+            return "idle", "nobody in core can run"
         least = min(self.priority[slot] for slot in ready)
         best = [slot for slot in ready if self.priority[slot] == least]
         why = f"the least priority of those that can run is {least}, that of {several(sorted(best))}"
@@ -118,7 +118,7 @@ class Ruled(Table):
         """The swapper's next line, and why, with the numbers of the rules in docs/manual/swapper.md."""
         slot = self.longest(self.wanting())
         if slot is None:
-            return "sleep 0 -100 runout", "nobody who is out of core can run, so it sleeps (1)"
+            return "sleep 0 -100 runout", "nobody out of core can run, so it sleeps (1)"
         row = self.rows[slot]
         text = None if row.text is None else self.texts[row.text]
         size = row.size + (text.clicks if text and not text.loaded else 0)
@@ -130,7 +130,7 @@ class Ruled(Table):
         return line, f"{why}, and there is no room for {size} clicks (2); {more}"
 
     def makes_room(self, time):
-        """What it does where there is no room for who has been out for this time."""
+        """What it does where there is no room for a process that has been out for this time."""
         inside = {slot: row for slot, row in self.rows.items() if slot and row.place and row.place.where == "at"}
         easy = [slot for slot, row in inside.items() if row.state == "asleep" and row.priority >= 0]
         if easy:

@@ -72,7 +72,7 @@ class Teller:
         return f"{self.who(entry['S'])} waits {what}, at priority {entry['P']}"
 
     def tell_wake(self, entry):
-        return f"woken are those who wait {self.channel(entry['W'])}: {self.all(self.table.sleepers(entry['W']))}"
+        return f"woken are those that wait {self.channel(entry['W'])}: {self.all(self.table.sleepers(entry['W']))}"
 
     def tell_signal(self, entry):
         return f"{self.who(entry['S'])} gets signal {entry['X']}"

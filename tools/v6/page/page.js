@@ -225,7 +225,7 @@ class Page {
     const [, , width, height] = svg.getAttribute("viewBox").split(" ").map(Number);
     this.width = width;
     svg.setAttribute("role", "img");
-    svg.setAttribute("aria-label", "Lanes of the processes, and who holds core and the swap area");
+    svg.setAttribute("aria-label", "Lanes of the processes, and what holds core and the swap area");
     this.veil = make("rect", { y: 44, height: height - 44, fill: "#fff", visibility: "hidden" });
     const band = make("rect", { y: 44, height: height - 64, fill: "#0048c8", "fill-opacity": 0.35, stroke: "#0048c8" });
     const to = (event) => {
@@ -403,7 +403,7 @@ class Page {
 
   /** The processes that may be chosen to be shown whole. */
   offer(rows) {
-    const wanted = [["", "who runs, or process 1"], ...rows.map(([slot, found]) => [String(slot), `process ${found[NUMBER]}, in entry ${slot}`])];
+    const wanted = [["", "the running process, or process 1"], ...rows.map(([slot, found]) => [String(slot), `process ${found[NUMBER]}, in entry ${slot}`])];
     const was = $("chosen").value;
     const same = [...$("chosen").options].map((one) => one.value + one.textContent).join() === wanted.map((one) => one.join("")).join();
     if (same) return;
