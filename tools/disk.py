@@ -567,7 +567,7 @@ def check_disk(options):
 def wants(options):
     """Tells what the programs of a disk want that isn't there; the status is 1 where there is anything to tell."""
     volume = open_for_reading(options)
-    paths = [path_of(path) for path in options.paths or ["/"]]
+    paths = [path_of(path) for path in options.paths]
     tops = [(find(volume, path), path) for path in paths]
     with Progress("disk.py") as progress:
         lines, (programs, devices, others, told) = table(volume, tops, progress)
@@ -670,7 +670,8 @@ def options_of(words):
         one.add_argument("paths", nargs="+")
     add("check", check_disk, "tells all faults of a disk", damaged=(bool, "also of what seems to be no disk at all"))
     wanting = add("wants", wants, "tells what programs want that isn't there", **DAMAGED)
-    wanting.add_argument("paths", nargs="*", metavar="path", help="a program, or a directory with those below it (all of the disk)")
+    wanting.add_argument("paths", nargs="*", default=["/"], metavar="path",
+                         help="a program, or a directory with those below it (all of the disk)")
     add("repair", repair_disk, "makes a good disk of what is whole on a damaged one", "new", **REPLACE)
     return parser.parse_args(words)
 

@@ -16,6 +16,7 @@ from v6.debug.views import Views
 from v6.disk.volume import DiskError
 from v6.host.files import folder_of_runs, guarded, read_bytes
 from v6.host.program import CORE, V6, ProgramError, add_version
+from v6.host.progress import Progress
 from v6.log.processes import LogFault
 from v6.run.ends import programs_of_all
 from v6.run.history import History
@@ -59,9 +60,12 @@ def looker_of(options, folder):
 
 def do(looker, command):
     """Does a command; whether it was done. Where it isn't, a line says why, and the moment stays."""
+    history = looker.history
     try:
-        for line in looker.lines_of(command):
-            print(line)
+        with Progress("look.py") as progress:
+            history.tells = progress.person and (lambda slot: progress.tell(f"slot {slot} of {history.last}"))
+            lines = list(looker.lines_of(command))
+        print(*lines, sep="\n", end="\n" * bool(lines))
         return True
     except KNOWN as error:
         sys.stdout.flush()

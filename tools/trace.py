@@ -13,6 +13,7 @@ sys.path.insert(0, os.path.dirname(os.path.abspath(__file__)))
 from v6.debug.tracer import Tracer
 from v6.host.files import folder_of_runs, guarded
 from v6.host.program import CORE, V6, ProgramError, add_version
+from v6.host.progress import Progress
 from v6.log.processes import LogFault
 from v6.run.moments import MomentError, Run
 from v6.run.script import ScriptError, add_replay, check_script, read_script
@@ -27,9 +28,12 @@ def trace(options):
         check_script(options.script, image, options.core, replay=options.replay, ways=OTHER_WAYS)
         run = Run(options.v6, image, options.core, read_script(options.script), folder)
         shown = 0
-        for _, said in Tracer(run, options).follow():
-            shown += 1
-            print(said)
+        with Progress("trace.py") as progress:
+            is_told = progress.person and not sys.stdout.isatty()  # which would show the lines themselves
+            tells = is_told and (lambda slot: progress.tell(f"slot {slot} of {run.script.slots}"))
+            for _, said in Tracer(run, options, tells).follow():
+                shown += 1
+                print(said)
         if options.process is not None and not shown:
             raise MomentError(f"process {options.process} makes no call there")
         if run.status:

@@ -165,7 +165,8 @@ class Wants(Disks):
         self.told(image, "1 program and 1 device; 2 with a line", device, f"/c/a  {row}", paths=["c"])
         self.told(image, "1 program and 0 devices; 1 with a line", f"#2  {row}", paths=["#2"])
         self.refused("/no: no such file on the disk", "wants", image, "/a", "/no")
-        self.assertEqual(self.disk("wants")[0], 2)
+        status, _, said = self.disk("wants")
+        self.assertEqual((status, said.splitlines()[-1]), (2, "disk.py wants: error: the following arguments are required: disk"))
 
     def test_the_disk_stays(self):
         image = self.disk_with({"a": self.program("\t75000\n")})

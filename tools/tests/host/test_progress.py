@@ -93,6 +93,17 @@ class Tools(Watched):
         self.assertEqual(status, 0, out)
         self.assertIn("\r\033[Klessonpages.py: main: cat log\r\033[K", out)
 
+    def test_searches(self):
+        """look.py, where a run is gone through, and trace.py, where its lines go elsewhere; neither line is of a run that is at once."""
+        shell = os.path.join(TOP, "examples", "shell")
+        words = os.path.join(shell, "image"), "1200", self.put("script", b"run 10000\ntype ls\nrun 10000\n"), "--v6", V6
+        status, out = self.told("look.py", *words, "-c", "until word 0 1 of 1")
+        self.assertEqual(status, 1, out)
+        self.assertRegex(out, r"^\r\033\[Klook\.py: slot [0-9]+ of 20000\r.*\r\033\[Klook\.py: word 0 1: not found after slot 0\n$")
+        status, out = self.told("trace.py", *words)
+        self.assertEqual(status, 0, out)
+        self.assertRegex(out, r"^(\r\033\[Ktrace\.py: slot [0-9]+ of 20000)+\r\033\[K$")
+
     def test_rows(self):
         status, out = self.told("row.py", "-q", "buffers/*", "--v6", V6)
         self.assertEqual(status, 0, out)

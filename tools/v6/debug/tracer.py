@@ -64,8 +64,8 @@ def shared(turn):
 class Tracer:
     """Follows a run turn by turn. Turns that aren't wanted are looked at only where they tell the name of a program."""
 
-    def __init__(self, run, options):
-        self.run, self.options = run, options
+    def __init__(self, run, options, tells=None):
+        self.run, self.options, self.tells = run, options, tells
         self.table, self.taken = Table(), 0
         self.names, self.waiting = {}, {}  # by entries of the table: programs, and calls that have begun
         self.width = len(str(run.script.slots))
@@ -120,6 +120,7 @@ class Tracer:
     def walked(self):
         """The same, where all slots are gone through, up to the last line that is wanted."""
         walk, lines = Walk(History(self.run), 0), self.run.lines
+        walk.history.tells = self.tells
         last = walk.history.last
         while walk.at < last and walk.line < self.options.last:
             walk.met = None
@@ -136,6 +137,8 @@ class Tracer:
         fork = next(forks, None)
         turns = sum(map(is_turn, self.run.lines))
         for turn, (old, new) in self.walked() if self.run.script.slots <= SLOTS_A_TURN * (turns + 1) else self.halved():
+            if self.tells:
+                self.tells(turn.slot)
             while fork and fork[0] < turn.line:
                 self.names[fork[2]] = self.names.get(fork[1], "")
                 fork = next(forks, None)

@@ -124,7 +124,7 @@ class Walk:
     def go(self, limit):
         """To a later moment, `limit` at most: after a turn in the kernel, what comes from outside, or what was looked for."""
         self.hit = None
-        self.history.go_on()
+        self.history.go_on(self.at)
         if self.sought and self.is_far():
             return self.jump(limit)
         place = bisect.bisect_right(self.pauses, self.at)

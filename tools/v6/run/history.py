@@ -66,6 +66,7 @@ class History:
         self.memories, self.guard, self.outside, self.sent = OrderedDict(), threading.Lock(), None, None
         self.kept, self.spans = KEPT, {}  # and by what was looked for the parts that were gone through for it
         self.answered = Counter()  # how often the answers of calls were known, by their names, in all that was gone through
+        self.tells = None  # what is told how far one is, of a run that is gone through
         self.is_stepping = self.is_ended = False  # whether instructions are being done, and what is at work is to end
 
     def table(self, lines):
@@ -162,7 +163,7 @@ class History:
     def forked(self, number):
         """In a process of its own, whose files are its own; gives what ends its work."""
         self.run.forked(f"{number}.")
-        self.guard, self.kept = threading.Lock(), FEW_KEPT
+        self.guard, self.kept, self.tells = threading.Lock(), FEW_KEPT, None
         return self.end
 
     def end(self):
@@ -171,9 +172,12 @@ class History:
         if self.is_stepping:
             raise SystemExit
 
-    def go_on(self):
+    def go_on(self, slot):
+        """Goes on after so many slots, unless this was ended."""
         if self.is_ended:
             raise SystemExit
+        if self.tells:
+            self.tells(slot)
 
     def keep(self, sought, low, high, hits):
         """Keeps that between two moments what is looked for becomes so at these."""
