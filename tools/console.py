@@ -665,7 +665,10 @@ def keep_second(machine, lines, keyboard):
     if contents(left) == contents(read_bytes(image.copy)):
         return
     tell(f"what was changed on {image.named} isn't kept: --second-disk FILE keeps it, or --script FILE what was typed")
-    while keyboard and (name := keyboard.answer(b"a file to keep it in now, or a return for none: ")):
+    while keyboard:
+        name = keyboard.answer(b"a file to keep it in now, or a return for none: ")
+        if not name:
+            return
         try:
             if os.path.lexists(name) and not same_file(name, image.named):
                 raise FileExistsError(errno.EEXIST, "there already", name)
