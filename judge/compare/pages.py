@@ -29,6 +29,7 @@ from judge.compare.processes import kind_of
 from tests.page.pagereader import Read, process_of, shown, table_of
 from v6.debug.views import HEAD, ROW
 from v6.run.moments import Script
+from v6.run.script import ELSEWHERE, lines_of
 
 SLOTS = 60
 CALLS = None, "read", "write", "read", "write", "sleep", "wait", "a wait for the disk"  # that have begun, by the number of what is pending
@@ -71,11 +72,14 @@ def call_of(lines):
 
 
 def compare(command, runs, lines, first, slots, kind):
-    differ, compared, processes = 0, 0, 0
+    differ, compared, processes, played = 0, 0, 0, 0
     for seed in range(first, first + runs):
         case, rng = kind(seed), random.Random(f"pages {seed}")
         script = Script(case.script.bytes())
         script = Script(script.cut(min(script.slots, slots)))
+        if any(ELSEWHERE.fullmatch(line) for line in lines_of(script.data)):
+            continue  # page.py refuses it at one line of the terminal
+        played += 1
         with tempfile.TemporaryDirectory() as folder:
             page = page_of(command, case, script.data, folder)
         texts, columns = page.head["texts"], page.columns
@@ -90,7 +94,7 @@ def compare(command, runs, lines, first, slots, kind):
             compared, processes, differ = compared + 1, processes + count, differ + bool(found)
             for one in found[:4]:
                 print(f"seed {seed}, line {line}, slot {slot}: {one}", flush=True)
-    print(f"{runs} runs, {compared} lines, {processes} processes, {differ} lines differ")
+    print(f"{played} runs, {compared} lines, {processes} processes, {differ} lines differ")
     return bool(differ)
 
 
