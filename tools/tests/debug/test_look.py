@@ -1,6 +1,7 @@
 """look.py: what it shows of moments whose log and memory are given by hand, where its searches come to, and what is refused."""
 import io
 import os
+import re
 import struct
 import tempfile
 import unittest
@@ -281,6 +282,17 @@ class Moves(unittest.TestCase):
         for command in commands:
             self.looker.lines_of(command)
         return self.looker.moment.slots
+
+    def test_the_searches_of_pages(self):
+        """Each that stands on a page as an example can be made: it finds something, or says that there is nothing."""
+        text = "".join(read(os.path.join(TOP, "docs", *page)).decode() for page in (("tools", "look.md"), ("lions", "README.md")))
+        found = re.findall(r"`(?:-c ')?((?:until|since) (?:state|place|call) [^`']+)'?`", text)
+        self.assertLessEqual({"until state wW of 2", "since state w of 1", "until call exec"}, set(found))
+        for command in found:
+            try:
+                self.looker.lines_of(command)
+            except LookError as error:
+                self.assertIn(": not found ", str(error), command)
 
     def test_steps(self):
         self.assertEqual(self.looker.lines_of("slot 100"), [
