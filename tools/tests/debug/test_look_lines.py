@@ -50,14 +50,14 @@ class Lines(Case):
                       "image      89 clicks, in core from click 262 on\nprogram    (/bin/sh)\n", shown)
         self.assertIn("\n  351 to   388    38  process 17\n", shown)
         shown = self.eight("next exit", "ps")[1]
-        self.assertIn("\ns    5     5     2   - -50 at 351        1   41    - disk.5    (/bin/who)\n", shown)
-        self.assertIn("\nz    7     7     4   -   - swap 4000     0   47    - -\n", shown)
+        self.assertIn("\ns     5     5     2   - -50 at 351        1   41    - disk.5    (/bin/who)\n", shown)
+        self.assertIn("\nz     7     7     4   -   - swap 4000     0   47    - -\n", shown)
 
     def test_a_second_disk(self):
         """A program of the pack is named, and the machine has one line."""
         self.assertEqual(self.two("slot 9999", "term")[1].split("\n")[1:], ["# ", ""])
         shown = self.two("until state R of 9", "next image of 9", "ps")[1]
-        self.assertRegex(shown, r"\nR    2     9 .* or /bin/factor of the second disk\)\n")
+        self.assertRegex(shown, r"\nR     2     9 .* or /bin/factor of the second disk\)\n")
         self.assertEqual(self.two("slot 280000", "term 0 2")[1].split("\n")[-3:], ["mount: Block device required", "# ", ""])
 
     def test_what_core_would_tell(self):

@@ -94,7 +94,7 @@ class Quiz(Case):
             self.assertIn(f"{verdict} `go 2`, process 2 runs. {why}", " ".join(shown))
             self.assertEqual(shown[-1], f"{int(verdict == 'Right:')} of 1 right")
         self.assertIn("line 10 of 13, second 1; entry 1 was chosen last", shown)
-        self.assertIn("r    2     2   0    0   37    - at 38      -", shown)
+        self.assertIn("r     2     2   0    0   37    - at 38      -", shown)
         self.assertIn("free clicks of core: 75 to 100", shown)
         self.assertNotIn("process 2 runs", " ".join(shown[: shown.index("Who runs next? ")]))  # it was hidden
 

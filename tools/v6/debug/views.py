@@ -13,8 +13,8 @@ DEPTH, MOST_ARGUMENTS = 16, 256  # words of a stack that are shown, and words of
 TOP = 512  # bytes at the top of a stack in which ps(I) looks for arguments
 STATES = {"R": "runs", "r": "can run", "o": "could run, and is out of core", "z": "has ended, and its parent hasn't waited for it"}
 FILES, SIGNALS = 15, 20
-HEAD = "S ENTRY  PID  PPID UID PRI PLACE      TIME SIZE TEXT WAITS     COMMAND"
-ROW = "{} {:4} {:5} {:5} {:>3} {:>3} {:10} {:4} {:>4} {:>4} {:9} {}"
+HEAD = "S ENTRY   PID  PPID UID PRI PLACE      TIME SIZE TEXT WAITS     COMMAND"
+ROW = "{} {:5} {:5} {:5} {:>3} {:>3} {:10} {:4} {:>4} {:>4} {:9} {}"
 JSR, JSR_MASK, LONG = 0o004000, 0o177000, (0o27, 0o37, 0o60, 0o70)
 NO_IMAGE = "it has no image at this moment"
 

@@ -95,11 +95,11 @@ class Quiz:
             print(line)
         last = f"entry {self.table.chosen} was chosen last"
         print(f"line {number} of {len(self.story.lines)}, second {self.table.second()}; {last}")
-        print("S ENTRY  PID PRI TIME SIZE TEXT PLACE      WAITS")
+        print("S ENTRY   PID PRI TIME SIZE TEXT PLACE      WAITS")
         for slot, row in sorted(self.table.rows.items()):
             place = f"{row.place.where} {row.place.start}" if row.place else "-"
             text = "-" if row.text is None else row.text
-            print(f"{self.table.letter(slot)} {slot:4} {row.number:5} {self.table.priority[slot]:3} {row.time:4} "
+            print(f"{self.table.letter(slot)} {slot:5} {row.number:5} {self.table.priority[slot]:3} {row.time:4} "
                   f"{row.size if slot else '-':>4} {text:>4} {place:10} {row.channel or '-'}")
         free = ", ".join(f"{first} to {last}" for first, last in self.free()) or "none"
         print(f"free clicks of core: {free}")
