@@ -45,7 +45,7 @@ class Lines(Case):
         status, shown, _ = self.eight("next signal", "ps", "process 3", "process 17", "core")
         self.assertEqual(status, 0)
         self.assertIn("process 4 (/bin/sh) runs\n", shown)
-        self.assertIn("\nr    5    17     4   -  90 at 351        2   38    - -         (/bin/echo or /bin/sleep)\n", shown)
+        self.assertIn("\nr     5    17     4   -  90 at 351        2   38    - -         (/bin/echo or /bin/sleep)\n", shown)
         self.assertIn("\nprocess 3 in entry 3, a child of process 1\nstate      w: waits for keys of line 1, at priority 10\n"
                       "image      89 clicks, in core from click 262 on\nprogram    (/bin/sh)\n", shown)
         self.assertIn("\n  351 to   388    38  process 17\n", shown)
