@@ -1,0 +1,971 @@
+/*
+ * ed [-] [file]: the editor of text. The lines stand in a file of /tmp without a name, so nothing is left of it where ed is killed;
+ * the file that is edited changes by `w` alone.
+ */
+#include <signal.h>
+#include <string.h>
+#include <unix.h>
+#include "expressions.h"
+
+#define LINE 512		/* of a line with its end */
+#define LIST 256		/* of the commands of a g */
+#define NAME 64
+#define UNIT 4			/* a line begins in the temporary file at a multiple of so many bytes */
+#define MARK 0100000		/* of a line that g has still to come to */
+#define STEP 512		/* lines for which there is room at a time */
+
+static unsigned *lines;		/* where each line begins; from 1 on */
+static int room, dot, last, addr1, addr2, given;
+static unsigned names[26];	/* the lines that k has marked */
+static char line[LINE], out_line[LINE], saved[NAME], name[NAME], replacement[LINE], list[LIST];
+static char *global;		/* the rest of the commands of a g; or 0 */
+static int inside, peeked = -1, latest, failed, print_after, list_after, quiet, any_pattern, heeds;
+static volatile int interrupted;
+static int temporary, in_block = -1, out_block, out_count;
+static char in[512], out[512];
+
+static char shown[512];
+static int shown_count, column, listing;
+
+static void flush(void)
+{
+	if (shown_count)
+		write(1, shown, shown_count);
+	shown_count = 0;
+}
+
+static void put(int c)
+{
+	if (shown_count == sizeof shown)
+		flush();
+	shown[shown_count++] = c;
+}
+
+static void say(const char *text)
+{
+	while (*text)
+		put(*text++);
+	flush();
+}
+
+static void put_number(long number)
+{
+	if (number > 9)
+		put_number(number / 10);
+	put(number % 10 + '0');
+}
+
+/* What can't be done: the command has failed, and its caller comes back to the next one. */
+static int fail(void)
+{
+	failed = 1;
+	return 0;
+}
+
+static void at_interrupt(int number)
+{
+	signal(number, at_interrupt);
+	interrupted = 1;
+}
+
+/* The next character of the commands; -1 at their end. */
+static int next(void)
+{
+	char c;
+	int was = peeked;
+
+	peeked = -1;
+	if (was >= 0)
+		return was;
+	if (global)
+		return latest = *global ? *global++ & 0177 : -1;
+	flush();
+	do
+		if (interrupted || read(0, &c, 1) != 1)
+			return latest = -1;
+	while ((c & 0177) == 0);
+	return latest = c & 0177;
+}
+
+/* Reads the block of the temporary file in which the unit is; its place in the buffer. */
+static char *unit_at(unsigned unit)
+{
+	int block = (unit & ~MARK) / (512 / UNIT);
+	char *buffer = in;
+
+	if (block == out_block)
+		buffer = out;
+	else if (block != in_block) {
+		seek(temporary, block, 3);
+		read(temporary, in, 512);
+		in_block = block;
+	}
+	return buffer + (unit % (512 / UNIT)) * UNIT;
+}
+
+/* Line `at` of the text to `line`. */
+static char *get_line(int at)
+{
+	unsigned unit = lines[at] & ~MARK;
+	char *from, *to = line;
+	int count;
+
+	for (;; unit++) {
+		from = unit_at(unit);
+		for (count = UNIT; count > 0; count--)
+			if ((*to++ = *from++) == 0)
+				return line;
+	}
+}
+
+static void put_out(int c)
+{
+	out[out_count++] = c;
+	if (out_count < 512)
+		return;
+	seek(temporary, out_block, 3);
+	if (write(temporary, out, 512) != 512)
+		failed = 1;
+	out_block++;
+	out_count = 0;
+}
+
+/* Keeps a line in the temporary file, and gives where. */
+static unsigned keep_line(const char *text)
+{
+	unsigned unit = out_block * (512 / UNIT) + out_count / UNIT;
+
+	if (out_block >= 254) {
+		say("TMP\n");
+		return fail();
+	}
+	do
+		put_out(*text);
+	while (*text++);
+	while (out_count % UNIT)
+		put_out(0);
+	return unit;
+}
+
+/* Puts a line after line `at`; it is the current one then. */
+static void insert(int at, const char *text)
+{
+	unsigned unit = keep_line(text);
+
+	if (failed)
+		return;
+	if (last + 2 > room) {
+		if (sbrk(STEP * sizeof *lines) == (void *)-1) {
+			fail();
+			return;
+		}
+		room += STEP;
+	}
+	memmove(lines + at + 2, lines + at + 1, (last - at) * sizeof *lines);
+	lines[at + 1] = unit;
+	last++;
+	dot = at + 1;
+}
+
+static void delete(int from, int to)
+{
+	memmove(lines + from, lines + to + 1, (last - to) * sizeof *lines);
+	last -= to - from + 1;
+	dot = from > last ? last : from;
+}
+
+/* A line of text of the commands to `line`: 1, or 0 at the `.` or where they end. */
+static int text_line(void)
+{
+	int c, at = 0;
+
+	while ((c = next()) != '\n') {
+		if (c < 0) {
+			if (at == 0 || interrupted)
+				return 0;
+			break;
+		}
+		if (at >= LINE - 2)
+			return fail();
+		line[at++] = c;
+	}
+	line[at] = 0;
+	return !(at == 1 && *line == '.');
+}
+
+static void append(int at)
+{
+	dot = at;
+	while (text_line() && !failed)
+		insert(dot, line);
+}
+
+/* The pattern of the commands up to `end`; without one, the last. In a set `end` is a character like others. */
+static void take_pattern(int end)
+{
+	char text[LIST];
+	int c, at = 0, set = 0;
+
+	while ((c = next()) != end || set) {
+		if (c < 0 || c == '\n' || at >= LIST - 4) {
+			fail();
+			return;
+		}
+		text[at++] = c;
+		if (set == 0 && c == '\\' && (c = next()) >= 0)
+			text[at++] = c;
+		else if (set == 0 && c == '[') {
+			if ((c = next()) == '^')
+				text[at++] = c;
+			else
+				peeked = c;
+			set = at;
+		} else if (c == ']' && at > set + 1)
+			set = 0;
+	}
+	text[at] = 0;
+	if (at > 0)
+		any_pattern = read_pattern(text, 0) != 0;
+	if (!any_pattern)
+		fail();
+}
+
+/* The line with the pattern that comes first after the current one, or before it, and round. */
+static int search(int end)
+{
+	int at = dot;
+
+	take_pattern(end);
+	while (!failed) {
+		at += end == '/' ? 1 : -1;
+		if (at > last)
+			at = 0;
+		if (at < 0)
+			at = last;
+		if (at > 0 && found(get_line(at), 0))
+			return at;
+		if (at == dot || interrupted)
+			return fail();
+	}
+	return 0;
+}
+
+static int marked_line(void)
+{
+	int c = next(), at;
+
+	if (c < 'a' || c > 'z')
+		return fail();
+	for (at = 1; at <= last; at++)
+		if (names[c - 'a'] && names[c - 'a'] == (lines[at] & ~MARK) + 1)
+			return at;
+	return fail();
+}
+
+static int number(int c)
+{
+	int value = 0;
+
+	for (; c >= '0' && c <= '9'; c = next())
+		value = value > 3275 ? 32767 : value * 10 + c - '0';
+	peeked = c;
+	return value;
+}
+
+/* An address; -1 where there is none. */
+static int address(void)
+{
+	int at = dot, some = 0, sign = 0, c, value;
+
+	while (!failed) {
+		c = next();
+		if (c >= '0' && c <= '9') {
+			value = number(c);
+			if (!some)
+				at = 0;
+			at += sign < 0 ? -value : value;
+			sign = 0;
+		} else if (c == '+' || c == '-' || c == '^') {
+			at += sign;
+			sign = c == '+' ? 1 : -1;
+		} else if (c == '.' || c == '$' || c == '/' || c == '?' || c == '\'') {
+			if (some)
+				return fail();
+			at = c == '.' ? dot : c == '$' ? last : c == '\'' ? marked_line() : search(c);
+		} else if (c != ' ' && c != '\t') {
+			peeked = c;
+			at += sign;
+			return !some ? -1 : at < 0 || at > last ? fail() : at;
+		} else
+			continue;
+		some = 1;
+	}
+	return 0;
+}
+
+/* The addresses before a command; it gives the command. */
+static int addresses(void)
+{
+	int at, c;
+
+	for (given = 0; ; given++) {
+		at = address();
+		c = next();
+		if (failed || at < 0)
+			return c;
+		addr1 = given ? addr2 : at;
+		addr2 = at;
+		if (c == ';')
+			dot = at;
+		else if (c != ',') {
+			given++;
+			return c;
+		}
+	}
+}
+
+/* What a command takes where no address was given: lines `from` to `to`. */
+static void or_else(int from, int to)
+{
+	if (given == 0) {
+		addr1 = from;
+		addr2 = to;
+	}
+	if (addr1 > addr2)
+		fail();
+}
+
+/* As or_else, and the lines must be there. */
+static void some_lines(int from, int to)
+{
+	or_else(from, to);
+	if (addr1 < 1 || addr2 > last)
+		fail();
+}
+
+/* The end of a command, after which p or l may stand. */
+static void end_of_command(void)
+{
+	int c = next();
+
+	if (c == 'p' || c == 'l') {
+		print_after = 1;
+		list_after = c == 'l';
+		c = next();
+	}
+	if (c != '\n' && c >= 0)
+		fail();
+}
+
+static void list_put(int c)
+{
+	if (column >= 71) {
+		put('\\');
+		put('\n');
+		column = 0;
+	}
+	column++;
+	if (c == '\t' || c == '\b') {
+		put('-');
+		put('\b');
+		put(c == '\t' ? '>' : '<');
+	} else if (c < ' ' || c == 0177) {
+		put('\\');
+		if (c == 0177)
+			put('1');
+		put((c >> 3 & 7) + '0');
+		put((c & 7) + '0');
+		column += 2;
+	} else
+		put(c);
+}
+
+static void print_line(int at)
+{
+	char *text = get_line(at);
+
+	column = 0;
+	for (; *text; text++)
+		if (listing)
+			list_put(*text);
+		else
+			put(*text);
+	put('\n');
+}
+
+static void print(int as_list)
+{
+	int at;
+
+	some_lines(dot, dot);
+	listing = as_list;
+	for (at = addr1; !failed && at <= addr2 && !interrupted; at++) {
+		print_line(at);
+		dot = at;
+	}
+	listing = 0;
+	flush();
+}
+
+/* The file's name after a command; without one, that which was kept. */
+static void file_name(int keep)
+{
+	int c = next(), at = 0;
+
+	if (c == '\n' || c < 0) {
+		if (*saved == 0)
+			fail();
+		strcpy(name, saved);
+		return;
+	}
+	if (c != ' ') {
+		fail();
+		return;
+	}
+	while ((c = next()) == ' ')
+		;
+	for (; c != '\n' && c >= 0; c = next()) {
+		if (at == NAME - 1 || c == ' ') {
+			fail();
+			return;
+		}
+		name[at++] = c;
+	}
+	name[at] = 0;
+	if (at == 0)
+		fail();
+	else if (keep || *saved == 0)
+		strcpy(saved, name);
+}
+
+static void tell(long count)
+{
+	if (quiet)
+		return;
+	put_number(count);
+	say("\n");
+}
+
+/* The file's bytes as lines after line `at`. A NUL isn't taken, and a byte loses its high bit. */
+static void read_file(int at)
+{
+	char buffer[512];
+	int file = open(name, 0), count, from, c, size = 0;
+	long bytes = 0;
+
+	if (file < 0) {
+		fail();
+		return;
+	}
+	dot = at;
+	while (!failed && !interrupted && (count = read(file, buffer, 512)) > 0)
+		for (from = 0; from < count && !failed; from++) {
+			bytes++;
+			c = buffer[from] & 0177;
+			if (c == '\n') {
+				line[size] = 0;
+				insert(dot, line);
+				size = 0;
+			} else if (c != 0 && size >= LINE - 2)
+				fail();
+			else if (c != 0)
+				line[size++] = c;
+		}
+	if (size > 0 && !failed) {
+		line[size] = 0;
+		insert(dot, line);
+	}
+	close(file);
+	if (count < 0 && !interrupted)
+		fail();
+	if (!failed)
+		tell(bytes);
+}
+
+static void write_file(void)
+{
+	int file = creat(name, 0666), at;
+	char *text;
+	long bytes = 0;
+
+	if (file < 0) {
+		fail();
+		return;
+	}
+	flush();
+	for (at = addr1; at > 0 && at <= addr2 && !failed; at++) {
+		text = get_line(at);
+		do {
+			if (shown_count == sizeof shown) {
+				if (write(file, shown, sizeof shown) != sizeof shown)
+					fail();
+				shown_count = 0;
+			}
+			shown[shown_count++] = *text ? *text : '\n';
+			bytes++;
+		} while (*text++);
+	}
+	if (shown_count && write(file, shown, shown_count) != shown_count)
+		fail();
+	shown_count = 0;
+	if (close(file) < 0)
+		fail();
+	if (!failed)
+		tell(bytes);
+}
+
+/* The text that takes the place of what is found, up to `end`. */
+static void take_replacement(int end)
+{
+	int c, at = 0;
+
+	while ((c = next()) != end) {
+		if (c < 0 || c == '\n' || at >= LINE - 3) {
+			fail();
+			return;
+		}
+		replacement[at++] = c;
+		if (c == '\\' && (c = next()) >= 0)
+			replacement[at++] = c;
+	}
+	replacement[at] = 0;
+}
+
+/* Adds some bytes to the line that is made. */
+static int add(int size, const char *from, int count)
+{
+	if (size + count > LINE - 2)
+		return fail();
+	memcpy(out_line + size, from, count);
+	return size + count;
+}
+
+/* Adds the replacement of what was found. A new line in it is kept as one. */
+static int add_replacement(int size)
+{
+	char *at;
+	int part;
+
+	for (at = replacement; *at && !failed; at++)
+		if (*at == '&')
+			size = add(size, matched, after - matched);
+		else if (*at == '\\') {
+			at++;
+			part = *at - '1';
+			if (part >= 0 && part < PARTS) {
+				if (part >= parts)
+					return fail();
+				size = add(size, part_at[part], part_end[part] - part_at[part]);
+			} else
+				size = add(size, at, 1);
+		} else
+			size = add(size, at, 1);
+	return size;
+}
+
+/* Line `at` with its replacements, in out_line; whether there was one. */
+static int replaced(int at, int all)
+{
+	char *text = get_line(at), *ended = 0;
+	int size = 0, some = 0;
+
+	while (!failed && found(text, some)) {
+		some = 1;
+		size = add(size, text, matched - text);
+		if (after != matched || after != ended)
+			size = add_replacement(size);
+		text = ended = after;
+		if (after == matched) {
+			if (*text == 0)
+				break;
+			size = add(size, text++, 1);
+		}
+		if (!all)
+			break;
+	}
+	if (some && !failed) {
+		size = add(size, text, strlen(text));
+		out_line[size] = 0;
+	}
+	return some && !failed;
+}
+
+/* Puts out_line, which may be several lines, in the place of line `at`; it gives the last of them. */
+static int put_lines(int at)
+{
+	char *from = out_line, *end;
+	unsigned old = lines[at] & ~MARK, mark = lines[at] & MARK;
+	int mark_at;
+
+	end = strchr(from, '\n');
+	if (end)
+		*end = 0;
+	lines[at] = keep_line(from) | mark;
+	for (mark_at = 0; mark_at < 26; mark_at++)
+		if (names[mark_at] == old + 1)
+			names[mark_at] = (lines[at] & ~MARK) + 1;
+	while (end && !failed) {
+		from = end + 1;
+		end = strchr(from, '\n');
+		if (end)
+			*end = 0;
+		insert(at++, from);
+	}
+	return at;
+}
+
+static void substitute(void)
+{
+	int end = next(), c, all = 0, at, some = 0, put;
+
+	if (end <= ' ') {
+		fail();
+		return;
+	}
+	take_pattern(end);
+	if (!failed)
+		take_replacement(end);
+	c = failed ? '\n' : next();
+	if (c == 'g')
+		all = 1;
+	else
+		peeked = c;
+	if (!failed)
+		end_of_command();
+	for (at = addr1; at <= addr2 && !failed && !interrupted; at++)
+		if (replaced(at, all)) {
+			some = 1;
+			put = put_lines(at);
+			addr2 += put - at;
+			dot = at = put;
+		}
+	if (!some && !inside)
+		fail();
+}
+
+/* The lines of the addresses after the line of another address. */
+static void move(int copy)
+{
+	unsigned *moved, kept;
+	int to = address(), at, count = addr2 - addr1 + 1;
+
+	if (to < 0)
+		fail();
+	if (!failed)
+		end_of_command();
+	if (failed)
+		return;
+	if (copy) {
+		for (at = 0; at < count && !failed && !interrupted; at++)
+			insert(to + at, get_line(addr1 + at + (addr1 + at > to ? at : 0)));
+		return;
+	}
+	if (to >= addr1 && to < addr2) {
+		fail();
+		return;
+	}
+	/* each of them goes by itself past those between */
+	for (at = 0; at < count; at++)
+		if (to < addr1) {
+			moved = lines + addr1 + at;
+			kept = *moved;
+			memmove(lines + to + at + 2, lines + to + at + 1, (addr1 - to - 1) * sizeof kept);
+			lines[to + at + 1] = kept;
+		} else {
+			kept = lines[addr1];
+			memmove(lines + addr1, lines + addr1 + 1, (to - addr1) * sizeof kept);
+			lines[to] = kept;
+		}
+	dot = to < addr1 ? to + count : to;
+}
+
+static void mark(void)
+{
+	int c = next();
+
+	if (c < 'a' || c > 'z')
+		fail();
+	else {
+		end_of_command();
+		if (!failed)
+			names[c - 'a'] = (lines[addr2] & ~MARK) + 1;
+	}
+}
+
+/* A command for the shell, up to the end of the line. */
+static void shell(void)
+{
+	char text[LIST];
+	int c, at = 0, child, ended, status;
+	void (*was)(int);
+
+	while ((c = next()) != '\n' && c >= 0)
+		if (at < LIST - 1)
+			text[at++] = c;
+	text[at] = 0;
+	flush();
+	child = fork();
+	if (child < 0) {
+		fail();
+		return;
+	}
+	if (child == 0) {
+		if (heeds) {
+			signal(SIGINT, SIG_DFL);
+			signal(SIGQUIT, SIG_DFL);
+		}
+		execl("/bin/sh", "sh", "-c", text, (char *)0);
+		write(1, "no shell\n", 9);
+		exit(1);
+	}
+	was = signal(SIGINT, SIG_IGN);
+	do
+		ended = wait(&status);
+	while (ended != child && ended >= 0);
+	signal(SIGINT, was);
+	say("!\n");
+}
+
+static void commands(void);
+
+/* The commands of a g up to the end of the line; a backslash before that goes on with the next one. */
+static void take_list(void)
+{
+	int c, at = 0;
+
+	while ((c = next()) != '\n' && c >= 0) {
+		if (at >= LIST - 3) {
+			fail();
+			return;
+		}
+		if (c == '\\') {
+			c = next();
+			if (c != '\n')
+				list[at++] = '\\';
+		}
+		list[at++] = c;
+	}
+	if (at == 0)
+		list[at++] = 'p';
+	list[at++] = '\n';
+	list[at] = 0;
+}
+
+/* The commands of a list for each line with a pattern, or without it. */
+static void globally(int with)
+{
+	int end, at;
+
+	if (inside) {
+		fail();
+		return;
+	}
+	some_lines(1, last);
+	end = next();
+	if (failed || end <= ' ') {
+		fail();
+		return;
+	}
+	take_pattern(end);
+	if (!failed)
+		take_list();
+	for (at = 1; at <= last && !failed; at++)
+		if (at >= addr1 && at <= addr2 && (found(get_line(at), 0) != 0) == with)
+			lines[at] |= MARK;
+	inside = 1;
+	for (at = 1; at <= last && !failed && !interrupted; at++)
+		if (lines[at] & MARK) {
+			lines[at] &= ~MARK;
+			dot = at;
+			global = list;
+			commands();
+			at = 0;		/* lines may have come or gone */
+		}
+	inside = 0;
+	global = 0;
+	for (at = 1; at <= last; at++)
+		lines[at] &= ~MARK;
+}
+
+static void edit(void)
+{
+	file_name(1);
+	if (failed)
+		return;
+	last = dot = out_count = out_block = 0;
+	in_block = -1;
+	memset(names, 0, sizeof names);
+	read_file(0);
+}
+
+static void do_command(int c)
+{
+	int at;
+
+	switch (c) {
+	case 'a': or_else(dot, dot); end_of_command(); if (!failed) append(addr2); break;
+	case 'i': some_lines(dot, dot); end_of_command(); if (!failed) append(addr2 - 1); break;
+	case 'c':
+		some_lines(dot, dot);
+		end_of_command();
+		if (failed)
+			break;
+		delete(addr1, addr2);
+		append(addr1 - 1);
+		break;
+	case 'd': some_lines(dot, dot); end_of_command(); if (!failed) delete(addr1, addr2); break;
+	case 'e': if (given) fail(); else edit(); break;
+	case 'f':
+		c = given ? fail() : next();
+		if (failed)
+			break;
+		peeked = c;
+		if (c != '\n' && c >= 0)
+			file_name(1);
+		else
+			next();
+		if (!failed) {
+			say(saved);
+			say("\n");
+		}
+		break;
+	case 'g': globally(1); break;
+	case 'v': globally(0); break;
+	case 'k': some_lines(dot, dot); if (!failed) mark(); break;
+	case 'l': case 'p': end_of_command(); if (!failed) print(c == 'l'); break;
+	case 'm': case 't': some_lines(dot, dot); if (!failed) move(c == 't'); break;
+	case 'r': or_else(last, last); file_name(0); if (!failed) read_file(addr2); break;
+	case 's': some_lines(dot, dot); if (!failed) substitute(); break;
+	case 'w':
+		if (last > 0)
+			some_lines(1, last);
+		else
+			or_else(0, 0);
+		file_name(0);
+		if (!failed)
+			write_file();
+		break;
+	case '=':
+		or_else(last, last);
+		end_of_command();
+		if (!failed) {
+			at = print_after;
+			put_number(addr2);
+			say("\n");
+			print_after = at;
+		}
+		break;
+	case '!': shell(); break;
+	case '\n': case -1:
+		if (given == 0)
+			addr1 = addr2 = dot + 1, given = 1;
+		else
+			addr1 = addr2;
+		print(0);
+		break;
+	default:
+		fail();
+	}
+}
+
+/* What is left of a line in which a command failed isn't looked at. */
+static void recover(void)
+{
+	int c;
+
+	shown_count = 0;
+	if (interrupted)
+		say("\n");
+	else
+		for (c = latest; c != '\n' && c >= 0; )
+			c = next();
+	interrupted = 0;
+	failed = 0;
+	listing = 0;
+	peeked = -1;
+	say("?\n");
+}
+
+/* Commands up to their end; in a list of g the first that fails ends them. */
+static void commands(void)
+{
+	int c, was;
+
+	for (;;) {
+		print_after = list_after = 0;
+		c = addresses();
+		if (c < 0 && !failed && !interrupted && given == 0)
+			return;
+		if (!failed && !interrupted) {
+			if (c == 'q' && given == 0 && !inside) {
+				end_of_command();
+				if (!failed)
+					exit(0);
+			} else
+				do_command(c);
+		}
+		if (print_after && !failed && !interrupted) {
+			was = list_after;
+			given = 1;
+			addr1 = addr2 = dot;
+			print(was);
+		}
+		if (failed || interrupted) {
+			if (inside)
+				return;
+			recover();
+		}
+	}
+}
+
+static void begin(void)
+{
+	char temp[16];
+	int at, process = getpid();
+
+	strcpy(temp, "/tmp/e00000");
+	for (at = 10; at > 5; at--) {
+		temp[at] = process % 10 + '0';
+		process /= 10;
+	}
+	close(creat(temp, 0600));
+	temporary = open(temp, 2);
+	if (temporary < 0) {
+		say("no room in /tmp\n");
+		exit(1);
+	}
+	unlink(temp);
+	heeds = signal(SIGINT, SIG_IGN) != SIG_IGN;
+	if (heeds)
+		signal(SIGINT, at_interrupt);
+	signal(SIGQUIT, SIG_IGN);
+	lines = sbrk(0);
+	lines = (unsigned *)((char *)lines + ((size_t)lines & 1));
+	sbrk(STEP * sizeof *lines + 2);
+	room = STEP;
+}
+
+int main(int argc, char **argv)
+{
+	if (argc > 1 && strcmp(argv[1], "-") == 0) {
+		quiet = 1;
+		argc--;
+		argv++;
+	}
+	begin();
+	if (argc > 1) {
+		if (strlen(argv[1]) >= NAME)
+			failed = 1;
+		else {
+			strcpy(saved, argv[1]);
+			strcpy(name, saved);
+			read_file(0);
+		}
+		if (failed) {
+			failed = 0;
+			say("?\n");
+		}
+	}
+	commands();
+	return 0;
+}

@@ -1,0 +1,24 @@
+/* Lines of text, for the commands that read them. */
+#define MOST 512
+
+/* A line without its end; what has no room is left out. Whether there was one. */
+static int read_line(FILE *file, char *to)
+{
+	int c, size = 0;
+
+	while ((c = getc(file)) != EOF && c != '\n')
+		if (size < MOST - 1 && (c & 0177))
+			to[size++] = c & 0177;
+	to[size] = 0;
+	return c != EOF || size > 0;
+}
+
+/* The file by its name; without it, a line that says so. */
+static FILE *open_file(const char *command, const char *name)
+{
+	FILE *file = fopen(name, "r");
+
+	if (file == NULL)
+		fprintf(stderr, "%s: can't open %s\n", command, name);
+	return file;
+}
