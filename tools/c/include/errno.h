@@ -14,7 +14,10 @@ extern int errno;
 #define EAGAIN 11
 #define ENOMEM 12
 #define EACCES 13
+#define ENOTBLK 15
+#define EBUSY 16
 #define EEXIST 17
+#define EXDEV 18
 #define ENODEV 19
 #define ENOTDIR 20
 #define EISDIR 21

@@ -42,6 +42,8 @@ int gtty(int file, int *modes);
 void nice(int niceness);
 void sleep(int seconds);
 void sync(void);
+int mount(const char *special, const char *directory, int protected);
+int umount(const char *special);
 int csw(void);
 int dup(int file);
 int pipe(int *ends);		/* the first is for reading, the second for writing */

@@ -18,7 +18,7 @@ CALLS = {"read": (1, 2, "word"), "write": (1, 2, "word"), "open": (0, 2, "word")
          "getuid": (0, 0, "sure"), "stime": (2, 0, "zero"), "fstat": (1, 1, "zero"), "stty": (1, 1, "zero"),
          "gtty": (1, 1, "zero"), "nice": (1, 0, "sure"), "sleep": (1, 0, "sure"), "sync": (0, 0, "sure"),
          "csw": (0, 0, "sure"), "dup": (1, 0, "word"), "times": (0, 1, "zero"), "setgid": (1, 0, "zero"),
-         "getgid": (0, 0, "sure"), "kill": (1, 1, "zero")}
+         "getgid": (0, 0, "sure"), "kill": (1, 1, "zero"), "mount": (0, 3, "zero"), "umount": (0, 1, "zero")}
 SYS = 0o104400
 
 
