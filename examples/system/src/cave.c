@@ -14,9 +14,8 @@
 static struct {			/* all that a saved game keeps */
 	int here, turns, oil, wax, measures, falls, end;
 	unsigned char at[THINGS], seen[PLACES];
-	char lantern_lit, candle_lit, barrel_moved, cabin_open, crab_fed, pumped, grate_open, ferry_called, ferry_paid, salt_open, fitted,
-		poured, bell_hung;
-	int swimming;
+	char lantern_lit, candle_lit, barrel_moved, cabin_open, crab_fed, pumped, grate_open;
+	char ferry_called, ferry_paid, salt_open, fitted, poured, bell_hung;
 } now;
 
 static char line[82], made[82], *verb_word, *noun_word;
@@ -119,7 +118,8 @@ static void show_tide(void)
 {
 	int left = TIDE - now.turns % TIDE;
 
-	printf("The water is %s, and will be for %d turn%s.\n", low_tide() ? "low" : "high", left, left == 1 ? "" : "s");
+	printf("The water is %s, and will be for %d "
+	    "turn%s.\n", low_tide() ? "low" : "high", left, left == 1 ? "" : "s");
 }
 
 /* What has changed in a place. */
@@ -127,7 +127,8 @@ static void show_state(void)
 {
 	switch (now.here) {
 	case CELLAR:
-		say(now.barrel_moved ? "Where the barrel stood steps lead down." : "A barrel stands against the far wall, and the air comes from there.");
+		say(now.barrel_moved ? "Where the barrel stood steps lead down." : "A barrel stands against the "
+		    "far wall, and the air comes from there.");
 		break;
 	case LAMPROOM:
 		if (now.fitted)
@@ -144,8 +145,10 @@ static void show_state(void)
 			: "A crab as large as a table sits in the northern passage, and opens and shuts its claws.");
 		break;
 	case TRAM1: say(now.cabin_open ? "The door is open." : "The door is shut."); break;
-	case ENGINE: say(now.pumped ? "The shaft is dry." : "Black water stands in the shaft, up to the third rung."); break;
-	case SHAFTHEAD: say(now.grate_open ? "The grate is open." : "The grate is shut; rust has welded it, but not well."); break;
+	case ENGINE: say(now.pumped ? "The shaft is dry." : "Black water stands in the shaft, up to the third "
+	    "rung."); break;
+	case SHAFTHEAD: say(now.grate_open ? "The grate is open." : "The grate is shut; rust has welded it, but "
+	    "not well."); break;
 	case CLIFF: if (now.grate_open) say("It is the grate of a mine, and it is open."); break;
 	case QUAY:
 		if (now.bell_hung)
@@ -317,7 +320,8 @@ static void drop(void)
 		say("You don't have that.");
 	else {
 		now.at[noun] = now.here;
-		say(now.here == KITCHEN && noun >= PEARL ? "You lay it on the table. The keeper would have liked that." : "Dropped.");
+		say(now.here == KITCHEN && noun >= PEARL ? "You lay it on the table. The keeper would have "
+		    "liked that." : "Dropped.");
 	}
 }
 
@@ -339,8 +343,10 @@ static void list(void)
 static void win(void)
 {
 	now.end = 1;
-	say("The spark falls, the flame stands up, and the eye takes it and throws it out over the sea. The wheel begins to turn. You count: one, two, "
-	    "three, dark. Far out a ship's light stops, hangs, and slowly begins to move to the left, away from the rocks. When the sun comes up "
+	say("The spark falls, the flame stands up, and the eye takes it and throws it out over the sea. The "
+	    "wheel begins to turn. You count: one, two, "
+	    "three, dark. Far out a ship's light stops, hangs, and slowly begins to move to the left, away from "
+	    "the rocks. When the sun comes up "
 	    "she lies in the harbour.");
 }
 
@@ -372,7 +378,8 @@ static void light(void)
 		if (!now.poured)
 			say("There is no oil in the great lamp.");
 		else if (!now.fitted)
-			say("It burns, a small yellow flame behind nothing. Nobody out there will see that. You put it out again.");
+			say("It burns, a small yellow flame behind nothing. Nobody out there will see that. You "
+			    "put it out again.");
 		else
 			win();
 	} else
@@ -490,7 +497,8 @@ static void pump(void)
 	else {
 		now.pumped = 1;
 		now.turns += 10;
-		say("You put the bar into the hole and lean on it. A groan; a cough; and far away water begins to fall. When your arms give up, the shaft is "
+		say("You put the bar into the hole and lean on it. A groan; a cough; and far away water begins "
+		    "to fall. When your arms give up, the shaft is "
 		    "dry.");
 	}
 }
@@ -505,7 +513,8 @@ static void ring(void)
 		say("The ferryman turns his face to you. He is here.");
 	else {
 		now.ferry_called = 1;
-		say("The sound goes out over the lake. After a while a boat comes out of the dark, without haste. The ferryman has no eyes, but he holds "
+		say("The sound goes out over the lake. After a while a boat comes out of the dark, without "
+		    "haste. The ferryman has no eyes, but he holds "
 		    "out a hand.");
 	}
 }
@@ -518,7 +527,8 @@ static void give(void)
 		if (noun == FISH) {
 			now.crab_fed = 1;
 			now.at[FISH] = NOWHERE;
-			say("The crab takes the fish with one claw, tries it, and carries it into a corner. The passage north is free.");
+			say("The crab takes the fish with one claw, tries it, and carries it into a corner. The "
+			    "passage north is free.");
 		} else
 			say("The crab isn't interested.");
 	} else if (now.here == QUAY && now.ferry_called && !now.ferry_paid) {
@@ -610,8 +620,10 @@ static void restore(void)
 
 static void help(void)
 {
-	say("Say what you do in one or two words: GO by north, east, south, west, up, down or their first letters; look, take, drop, list, read, light, "
-	    "open, push, fill, pour, give, put, ring, say and others. The keeper's table, in the kitchen, is the place for what is worth keeping. "
+	say("Say what you do in one or two words: GO by north, east, south, west, up, down or their first "
+	    "letters; look, take, drop, list, read, light, "
+	    "open, push, fill, pour, give, put, ring, say and others. The keeper's table, in the kitchen, is "
+	    "the place for what is worth keeping. "
 	    "The ship comes at dawn. SAVE and RESTORE keep a game; QUIT ends it.");
 }
 
@@ -740,7 +752,8 @@ static void pass_turn(void)
 	if (light_here())
 		now.falls = 0;
 	if ((rooms[now.here].kind & TIDAL) && !low_tide()) {
-		say("The sea comes in, all at once. It takes you by the neck, turns you over twice, and lays you down on the beach.");
+		say("The sea comes in, all at once. It takes you by the neck, turns you over twice, and lays "
+		    "you down on the beach.");
 		now.here = BEACH;
 		if (has(LANTERN))
 			now.lantern_lit = 0;
@@ -749,9 +762,11 @@ static void pass_turn(void)
 		look(0);
 	}
 	if (now.turns >= DAWN)
-		finish("A grey line in the east: dawn. Far away, and yet much too near, wood breaks on rock. The lamp was dark.");
+		finish("A grey line in the east: dawn. Far away, and yet much too near, wood breaks on rock. "
+		    "The lamp was dark.");
 	else if (now.turns == 200 || now.turns == 350)
-		say(rooms[now.here].kind & OPEN_AIR ? "Far out on the sea there is the light of a ship." : "Faintly, through all the rock, you hear a ship's horn.");
+		say(rooms[now.here].kind & OPEN_AIR ? "Far out on the sea there is the light of a "
+		    "ship." : "Faintly, through all the rock, you hear a ship's horn.");
 }
 
 static void begin(void)
@@ -763,7 +778,8 @@ static void begin(void)
 	now.wax = 60;
 	for (thing = 0; thing < THINGS; thing++)
 		now.at[thing] = things[thing].at;
-	say("The lighthouse on Salt Head has been dark for three nights. You have come to see why. (HELP tells how to play.)");
+	say("The lighthouse on Salt Head has been dark for three nights. You have come to see why. (HELP tells "
+	    "how to play.)");
 	look(1);
 }
 

@@ -1,6 +1,6 @@
 /*
- * ed [-] [file]: the editor of text. The lines stand in a file of /tmp without a name, so nothing is left of it where ed is killed;
- * the file that is edited changes by `w` alone.
+ * ed [-] [file]: the editor of text. The lines stand in a file of /tmp without a name, so nothing is left of it where ed is
+ * killed; the file that is edited changes by `w` alone.
  */
 #include <signal.h>
 #include <string.h>

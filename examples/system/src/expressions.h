@@ -1,6 +1,6 @@
 /*
- * The patterns of ed(I), for ed and grep: ^ $ . * [abc] [^a-z] \( \) \x. A pattern becomes a row of codes; what it fits is found by
- * trying the longest repetition first.
+ * The patterns of ed(I), for ed and grep: ^ $ . * [abc] [^a-z] \( \) \x. A pattern becomes a row of codes; what it fits is
+ * found by trying the longest repetition first.
  */
 #define CODES 256
 #define PARTS 9

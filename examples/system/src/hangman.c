@@ -7,13 +7,20 @@
 #define WRONG 7
 
 static const char *const words[] = {
-	"address", "anchor", "archive", "backspace", "barometer", "bicycle", "blanket", "bridge", "buffer", "calendar", "candle",
-	"capital", "carriage", "chimney", "circuit", "clock", "compass", "console", "copper", "core", "cylinder", "delta", "device",
-	"diamond", "directory", "drawing", "dungeon", "editor", "elephant", "engine", "entry", "factory", "feather", "ferry",
-	"fiddle", "flint", "garden", "ghost", "glacier", "hammer", "harbour", "hedgehog", "horizon", "inode", "island", "jacket",
-	"journey", "kernel", "kettle", "keyboard", "ladder", "lantern", "library", "lighthouse", "machine", "magnet", "manual",
-	"marble", "memory", "mirror", "monkey", "mountain", "needle", "nephew", "octopus", "orbit", "orchard", "paper", "parent",
-	"pebble", "pencil", "pipe", "pocket", "process", "puzzle", "quarter", "quilt", "railway", "rhythm", "river", "rocket",
+	"address", "anchor", "archive", "backspace", "barometer", "bicycle", "blanket", "bridge", "buffer",
+	"calendar", "candle",
+	"capital", "carriage", "chimney", "circuit", "clock", "compass", "console", "copper", "core", "cylinder",
+	"delta", "device",
+	"diamond", "directory", "drawing", "dungeon", "editor", "elephant", "engine", "entry", "factory", "feather",
+	"ferry",
+	"fiddle", "flint", "garden", "ghost", "glacier", "hammer", "harbour", "hedgehog", "horizon", "inode",
+	"island", "jacket",
+	"journey", "kernel", "kettle", "keyboard", "ladder", "lantern", "library", "lighthouse", "machine", "magnet",
+	"manual",
+	"marble", "memory", "mirror", "monkey", "mountain", "needle", "nephew", "octopus", "orbit", "orchard",
+	"paper", "parent",
+	"pebble", "pencil", "pipe", "pocket", "process", "puzzle", "quarter", "quilt", "railway", "rhythm", "river",
+	"rocket",
 	"saddle", "sailor", "scissors", "shadow", "shell", "signal", "sleep", "spider", "stamp", "storm", "swap", "table",
 	"teacher", "telegram", "terminal", "thunder", "ticket", "timber", "tunnel", "umbrella", "user", "valley", "violin",
 	"volcano", "wagon", "weather", "whistle", "window", "wizard", "yacht", "zebra"

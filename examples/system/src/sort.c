@@ -1,6 +1,6 @@
 /*
- * sort [-bdfmnrtx] [+pos1 [-pos2]] .. [-o output] [file ..]: the lines in order, by all of them or by keys. All of them must have
- * room in memory.
+ * sort [-bdfmnrtx] [+pos1 [-pos2]] .. [-o output] [file ..]: the lines in order, by all of them or by keys. All of them must
+ * have room in memory.
  */
 #include <ctype.h>
 #include <stdio.h>
