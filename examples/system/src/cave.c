@@ -4,11 +4,11 @@
 #include <string.h>
 #include <unix.h>
 #include "cave.h"
+#include "words.h"
 
 #define MOST_CARRIED 7
 #define DAWN 450
 #define TIDE 25			/* turns of a low tide, and of a high one */
-#define WIDTH 72
 #define SAVED "cave.save"
 
 static struct {			/* all that a saved game keeps */
@@ -22,30 +22,6 @@ static char line[82], made[82], *verb_word, *noun_word;
 static int verb, noun;
 
 static const char *const ways[WAYS] = { "north", "east", "south", "west", "up", "down" };
-
-/* Shows a text in lines of at most WIDTH characters. */
-static void say(const char *text)
-{
-	int column = 0, size;
-
-	while (*text) {
-		for (size = 0; text[size] && text[size] != ' '; size++)
-			;
-		if (column && column + 1 + size > WIDTH) {
-			putchar('\n');
-			column = 0;
-		}
-		if (column) {
-			putchar(' ');
-			column++;
-		}
-		for (; size > 0; size--, column++)
-			putchar(*text++);
-		while (*text == ' ')
-			text++;
-	}
-	putchar('\n');
-}
 
 static int low_tide(void)
 {
@@ -64,7 +40,8 @@ static int has(int thing)
 
 static int light_here(void)
 {
-	return (rooms[now.here].kind & OPEN_AIR) || (now.lantern_lit && is_here(LANTERN)) || (now.candle_lit && is_here(CANDLE));
+	return (rooms[now.here].kind & OPEN_AIR) || (now.lantern_lit && is_here(LANTERN))
+		|| (now.candle_lit && is_here(CANDLE));
 }
 
 static int in_warren(int place)
@@ -204,6 +181,13 @@ static void finish(const char *text)
 		now.end = 2;
 }
 
+/* How many rings the stones in the pan have together. */
+static int weight(void)
+{
+	return (now.at[RED] == SCALE) + 2 * (now.at[BLACK] == SCALE) + 3 * (now.at[WHITE] == SCALE)
+		+ 5 * (now.at[GREY] == SCALE);
+}
+
 /* Whether the way is open; if it isn't, why is told. */
 static int may_go(int to)
 {
@@ -228,8 +212,7 @@ static int may_go(int to)
 		why = now.ferry_called ? "The ferryman keeps his hand where it is." : "There is only the lake.";
 	else if (from == SALTDOOR && to == CHAPEL && !now.salt_open)
 		why = "The slab of salt doesn't move.";
-	else if (from == SCALE && to == TREASURY
-		&& ((now.at[RED] == SCALE) + 2 * (now.at[BLACK] == SCALE) + 3 * (now.at[WHITE] == SCALE) + 5 * (now.at[GREY] == SCALE)) != 7)
+	else if (from == SCALE && to == TREASURY && weight() != 7)
 		why = "The gate is held by a rod that comes from the scale.";
 	if (why)
 		say(why);
@@ -331,9 +314,9 @@ static void list(void)
 
 	for (thing = 0; thing < THINGS; thing++)
 		if (has(thing)) {
-			printf("%s%s", some ? "" : "You carry:\n", "  ");
-			printf("%s%s\n", things[thing].name, (thing == LANTERN && now.lantern_lit) || (thing == CANDLE && now.candle_lit) ?
-				", burning" : thing == CAN && now.measures ? ", with oil" : "");
+			printf("%s  %s%s\n", some ? "" : "You carry:\n", things[thing].name,
+				(thing == LANTERN && now.lantern_lit) || (thing == CANDLE && now.candle_lit) ? ", burning"
+				: thing == CAN && now.measures ? ", with oil" : "");
 			some = 1;
 		}
 	if (!some)
@@ -680,23 +663,6 @@ static void act(void)
 	}
 }
 
-/* The next word of the text, in small letters; NULL at its end. */
-static char *next_word(char **text)
-{
-	char *at = *text, *start;
-
-	while (*at == ' ' || *at == '\t')
-		at++;
-	if (*at == 0)
-		return NULL;
-	for (start = at; *at && *at != ' ' && *at != '\t'; at++)
-		*at = tolower(*at);
-	if (*at)
-		*at++ = 0;
-	*text = at;
-	return start;
-}
-
 static int thing_of(const char *word)
 {
 	int thing;
@@ -725,7 +691,7 @@ static int understand(char *text)
 		if (strcmp(word->word, verb_word) == 0)
 			verb = word->verb;
 	while (noun < 0 && (other = next_word(&text)) != NULL)
-		if (strcmp(other, "the") && strcmp(other, "a") && strcmp(other, "up") && strcmp(other, "in") && strcmp(other, "into")) {
+		if (strcmp(other, "the") && strcmp(other, "a") && strcmp(other, "up") && strcmp(other, "in")) {
 			noun_word = other;
 			noun = thing_of(other);
 		}

@@ -783,6 +783,8 @@ static void globally(int with)
 		}
 	inside = 0;
 	global = 0;
+	latest = '\n';
+	peeked = -1;
 	for (at = 1; at <= last; at++)
 		lines[at] &= ~MARK;
 }
