@@ -128,8 +128,9 @@ int main(int argc, char **argv)
 {
 	static char path[300] = "/usr/bin/";
 
+	argv[argc] = NULL;
 	next = argv + 1;
-	if (argc < 2 || !any() || *next == NULL)
+	if (!any() || *next == NULL)
 		return 1;
 	execv(*next, next);
 	if (strlen(*next) < 280) {

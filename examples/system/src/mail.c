@@ -152,6 +152,7 @@ int main(int argc, char **argv)
 {
 	int what = 0;
 
+	argv[argc] = NULL;
 	for (argv++; *argv && **argv == '-'; argv++) {
 		if (argv[0][1] != 'y' && argv[0][1] != 'n' || argv[0][2])
 			return complain("usage", "mail [-y] [-n] [person ...]");

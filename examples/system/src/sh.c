@@ -48,9 +48,11 @@ static int read_char(void)
 	char c;
 
 	if (text) {
-		if (*text == 0)
-			exit(status);
-		return *text++ & 0177;
+		if (*text)
+			return *text++ & 0177;
+		text = NULL;
+		one_line = 2;
+		return '\n';
 	}
 	if (one_line == 2 || read(0, &c, 1) != 1)
 		exit(status);
@@ -174,19 +176,29 @@ static void await(int process)
 	}
 }
 
+/* Whether a word is this one, quoted or not. */
+static int is(const char *word, const char *name)
+{
+	while (*name && (*word & 0177) == *name) {
+		word++;
+		name++;
+	}
+	return *word == *name;
+}
+
 /* What the shell does itself; whether this is such a command. */
 static int is_own(char **words)
 {
 	char *name = words[0];
 
-	if (strcmp(name, ":") == 0)
+	if (is(name, ":"))
 		return 1;
-	if (strcmp(name, "chdir") == 0) {
+	if (is(name, "chdir")) {
 		if (words[1] == NULL || words[2])
 			error("chdir: arg count");
 		else if (chdir(plain(words[1])) < 0)
 			error("chdir: bad directory");
-	} else if (strcmp(name, "shift") == 0) {
+	} else if (is(name, "shift")) {
 		if (argument_count < 2)
 			error("shift: no args");
 		else {
@@ -194,9 +206,9 @@ static int is_own(char **words)
 			arguments++;
 			argument_count--;
 		}
-	} else if (strcmp(name, "wait") == 0)
+	} else if (is(name, "wait"))
 		await(-1);
-	else if (strcmp(name, "login") == 0) {
+	else if (is(name, "login")) {
 		if (prompt) {
 			all_plain(words);
 			execv("/bin/login", words);

@@ -34,6 +34,7 @@ class Rows:
     slots: int = SLOTS
     single: bool = True
     count: int = 0
+    core: int = CORE
 
     def show(self, number, text):
         self.shown.setdefault(self.line, []).append((number, text))
@@ -60,11 +61,13 @@ class Rows:
 
     def direct(self, words):
         """A line that begins with @."""
-        known = {"line": 1, "slots": 1, "run": 1, "hangup": 1, "login": 0, "script": None}
+        known = {"line": 1, "slots": 1, "run": 1, "hangup": 1, "core": 1, "login": 0, "script": None}
         if not words or words[0] not in known or known[words[0]] not in (None, len(words) - 1):
             raise RowError("no such word after @")
         if words[0] == "login":
             self.single = False
+        elif words[0] == "core":
+            self.core = int(words[1])
         elif words[0] == "slots":
             self.slots = int(words[1])
         elif words[0] == "run":
@@ -139,9 +142,9 @@ def begins(shown):
     return rest if found else shown
 
 
-def play(rows, image, folder, v6=V6, core=CORE):
+def play(rows, image, folder, v6=V6):
     """Plays rows at a disk; gives the difference on a terminal, or None."""
-    machine = Machine(v6, image, core, folder, eight=True)
+    machine = Machine(v6, image, rows.core, folder, eight=True)
     script = [CLOCK] + ([SINGLE, b"run 200000", b"type " + FIRST.encode()] if rows.single else []) + [b"run 300000"]
     played = machine.play(script + rows.script)
     if played.status:
