@@ -14,15 +14,15 @@ static int made(const char *name)
 
 	if (!may_enter(above) || stat(name, &status) == 0)
 		return 0;
-	if (!join(entry, name, "..", 14) || mknod(name, DIRECTORY | 0777, 0) < 0)
+	if (!join(entry, name, ".", 14) || mknod(name, DIRECTORY | 0777, 0) < 0)
 		return 0;
-	if (link(above, entry) == 0) {
-		join(entry, name, ".", 14);
-		if (link(name, entry) == 0) {
+	if (link(name, entry) == 0) {
+		join(entry, name, "..", 14);
+		if (link(above, entry) == 0) {
 			chown(name, (getuid() & 0377) | getgid() << 8);
 			return 1;
 		}
-		join(entry, name, "..", 14);
+		join(entry, name, ".", 14);
 		unlink(entry);
 	}
 	unlink(name);

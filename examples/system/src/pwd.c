@@ -6,7 +6,7 @@
 
 static struct stat here, above, found;
 static struct entry next;
-static char text[MOST], mounted[32];
+static char text[MOST], mounted[32], name[PATH];
 static char *at = text + MOST - 1;
 
 static int fail(const char *why)
@@ -34,7 +34,6 @@ static int put(const char *name, int most)
 /* The entry of .. that leads to a directory; 0 where there is none. The parent's files tell their disk and inode by stat(II). */
 static int find_name(void)
 {
-	char name[18];
 	int file = open("..", 0);
 
 	if (file < 0)
