@@ -221,19 +221,25 @@ static int as_int(const struct value *of)
 	return of->sign < 0 ? -number : number;
 }
 
+/* The power, by squares: the bits of the exponent from the highest on. */
 static struct value *power(const struct value *one, const struct value *exponent)
 {
 	struct value *made = small(1), *next;
-	int count = as_int(exponent);
+	int count = as_int(exponent), bit;
 
 	if (count < 0 || count == 32767) {
 		complain("bad exponent");
 		return made;
 	}
-	for (; count > 0; count--) {
-		next = product(made, one);
+	for (bit = 1 << 14; bit > 0; bit >>= 1) {
+		next = product(made, made);
 		free(made);
 		made = next;
+		if (count & bit) {
+			next = product(made, one);
+			free(made);
+			made = next;
+		}
 	}
 	return made;
 }

@@ -310,8 +310,10 @@ static int addresses(void)
 
 	for (given = 0; ; given++) {
 		at = address();
+		if (failed)
+			return 0;
 		c = next();
-		if (failed || at < 0)
+		if (at < 0)
 			return c;
 		addr1 = given ? addr2 : at;
 		addr2 = at;

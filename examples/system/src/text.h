@@ -6,6 +6,9 @@ static int read_line(FILE *file, char *to)
 {
 	int c, size = 0;
 
+	to[0] = 0;
+	if (feof(file))
+		return 0;
 	while ((c = getc(file)) != EOF && c != '\n')
 		if (size < MOST - 1 && (c & 0177))
 			to[size++] = c & 0177;
