@@ -740,7 +740,7 @@ static void begin(void)
 	int thing;
 
 	now.here = CLIFF;
-	now.oil = 100;
+	now.oil = 150;
 	now.wax = 60;
 	for (thing = 0; thing < THINGS; thing++)
 		now.at[thing] = things[thing].at;
