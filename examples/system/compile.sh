@@ -8,7 +8,9 @@ out=${V6_BIN:-$here/bin}
 [ $# -gt 0 ] || set -- $(cd $here/src && ls ./*.c ./*.s | sed 's,^\./,,; s,\..$,,')
 for name; do
     if [ -f "$here/src/$name.c" ]; then
-        tools/cc.py -I $here/src -o "$out/$name" "$here/src/$name.c"
+        shared=
+        [ "$name" != sh ] || shared=-n # eight users have one text of it
+        tools/cc.py $shared -I $here/src -o "$out/$name" "$here/src/$name.c"
     else
         tools/as.py -o "$out/$name" "$here/src/$name.s"
     fi

@@ -48,7 +48,7 @@ class Rows:
         for word in words:
             key, _, times = word.partition("*")
             self.script += [b"byte %03o" % int(key, 8)] * int(times or 1)
-            shown += (chr(int(key, 8)) if int(key, 8) in SHOWN_KEYS else "") * int(times or 1)
+            shown += key_shown(int(key, 8)) * int(times or 1)
         self.run(self.slots)
         return shown
 
@@ -99,6 +99,11 @@ class Rows:
             self.show(number, ended(text))
         else:
             self.show(number, ended(line))
+
+
+def key_shown(key):
+    """What a terminal shows of a key."""
+    return "\n" if key in (0o12, 0o15) else chr(key) if key in SHOWN_KEYS else ""
 
 
 def ended(line):
@@ -152,9 +157,9 @@ def play(rows, image, folder, v6=V6):
     for line, term in enumerate(played.terms()):
         shown = term.decode("latin-1").replace("\r\n", "\n")
         shown = begins(shown) if line == 0 and rows.single else shown
-        if line not in rows.shown and not rows.single:
-            continue  # getty alone
-        found = difference(rows.shown.get(line, []), shown)
+        if line not in rows.shown:
+            continue  # nothing, or getty alone
+        found = difference(rows.shown[line], shown)
         if found:
             return found if line == 0 else f"terminal {line}: {found}"
     return None
