@@ -19,7 +19,7 @@ static int room, dot, last, addr1, addr2, given;
 static unsigned names[26];	/* the lines that k has marked */
 static char line[LINE], out_line[LINE], saved[NAME], name[NAME], replacement[LINE], list[LIST];
 static char *global;		/* the rest of the commands of a g; or 0 */
-static int inside, peeked = -1, latest, failed, print_after, list_after, quiet, any_pattern, heeds;
+static int inside, peeked = -1, latest, failed, print_after, list_after, quiet, any_pattern, heeds, ended;
 static volatile int interrupted;
 static int temporary, in_block = -1, out_block, out_count;
 static char in[512], out[512];
@@ -80,10 +80,14 @@ static int next(void)
 	if (global)
 		return latest = *global ? *global++ & 0177 : -1;
 	flush();
-	do
-		if (interrupted || read(0, &c, 1) != 1)
+	do {
+		if (interrupted || ended)
 			return latest = -1;
-	while ((c & 0177) == 0);
+		if (read(0, &c, 1) != 1) {
+			ended = !interrupted;
+			return latest = -1;
+		}
+	} while ((c & 0177) == 0);
 	return latest = c & 0177;
 }
 
