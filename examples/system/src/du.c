@@ -63,7 +63,6 @@ static void tell(const char *name)
 	add(size);
 	if (sum)
 		printf("%ld\t%s\n", blocks, path);
-	fflush(stdout);
 }
 
 int main(int argc, char **argv)

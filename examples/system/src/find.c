@@ -194,7 +194,6 @@ static int asked(struct node *node)
 	char c, first = 0;
 	int at;
 
-	fflush(stdout);
 	say("< ");
 	say(node->words[0]);
 	say(" ... ");

@@ -138,7 +138,6 @@ static void show(void)
 
 static int unreadable(const char *name)
 {
-	fflush(stdout);
 	say(name);
 	say(" unreadable\n");
 	return 1;

@@ -1,9 +1,13 @@
-/* What a command says on the diagnostic output. */
+/* What a command says on the diagnostic output. What it has written by then on the standard output is shown first. */
 #include <string.h>
 #include <unix.h>
 
+extern void (*_flush)(void);	/* writes what putc(III) keeps, where the program has that */
+
 static void say(const char *text)
 {
+	if (_flush)
+		_flush();
 	write(2, text, strlen(text));
 }
 

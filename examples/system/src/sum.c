@@ -17,7 +17,6 @@ static int show_sum(const char *name, int file)
 	if (size < 0)
 		return complain(name, "read error");
 	printf("%06o %u\n", sum, blocks);
-	fflush(stdout);
 	return 0;
 }
 
