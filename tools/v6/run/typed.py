@@ -84,8 +84,8 @@ class Rows:
     def add(self, number, line):
         """A line of the file."""
         mark, text = line[:2], line[2:]
-        if line in ("<", "!"):
-            mark = line + " "  # return alone
+        if line == "<":
+            mark = "< "  # return alone
         if line.startswith(";"):
             return
         if mark in PROMPTS or mark == "< ":
