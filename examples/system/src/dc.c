@@ -562,6 +562,19 @@ static void command(void)
 	printf("!\n");
 }
 
+/* After a `!`: a test that is turned, or a command. */
+static void turned_or_command(void)
+{
+	int c = next();
+
+	if (c == '<' || c == '>' || c == '=') {
+		compared(c, 1);
+		return;
+	}
+	back(c);
+	command();
+}
+
 static void base(int *which, int most)
 {
 	struct value *value = pop_number();
@@ -625,21 +638,8 @@ static void do_command(int c)
 	case '<': case '>': case '=': compared(c, 0); break;
 	case '?': question(); break;
 	case 'q': leave(2); break;
-	case 'Q':
-		value = pop_number();
-		if (!failed)
-			leave(as_int(value));
-		free(value);
-		break;
-	case '!':
-		c = next();
-		if (c == '<' || c == '>' || c == '=')
-			compared(c, 1);
-		else {
-			back(c);
-			command();
-		}
-		break;
+	case 'Q': value = pop_number(); if (!failed) leave(as_int(value)); free(value); break;
+	case '!': turned_or_command(); break;
 	default:
 		printf("%o is unimplemented\n", c & 0177);
 	}

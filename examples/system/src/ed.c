@@ -5,62 +5,20 @@
 #include <signal.h>
 #include <string.h>
 #include <unix.h>
+#include "copy.h"
 #include "expressions.h"
+#include "replace.h"
 
-#define LINE 512		/* of a line with its end */
 #define LIST 256		/* of the commands of a g */
 #define NAME 64
-#define UNIT 4			/* a line begins in the temporary file at a multiple of so many bytes */
-#define MARK 0100000		/* of a line that g has still to come to */
-#define STEP 512		/* lines for which there is room at a time */
 
-static unsigned *lines;		/* where each line begins; from 1 on */
-static int room, dot, last, addr1, addr2, given;
+static int addr1, addr2, given;	/* the addresses of a command, and how many were given */
 static unsigned names[26];	/* the lines that k has marked */
-static char line[LINE], out_line[LINE], saved[NAME], name[NAME], replacement[LINE], list[LIST];
+static char saved[NAME], name[NAME], list[LIST];
 static char *global;		/* the rest of the commands of a g; or 0 */
-static int inside, peeked = -1, latest, failed, print_after, list_after, quiet, any_pattern, heeds, ended;
+static int inside, peeked = -1, latest, print_after, list_after, quiet, any_pattern, heeds, ended;
 static volatile int interrupted;
-static int temporary, in_block = -1, out_block, out_count;
-static char in[512], out[512];
-
-static char shown[512];
-static int shown_count, column, listing;
-
-static void flush(void)
-{
-	if (shown_count)
-		write(1, shown, shown_count);
-	shown_count = 0;
-}
-
-static void put(int c)
-{
-	if (shown_count == sizeof shown)
-		flush();
-	shown[shown_count++] = c;
-}
-
-static void say(const char *text)
-{
-	while (*text)
-		put(*text++);
-	flush();
-}
-
-static void put_number(long number)
-{
-	if (number > 9)
-		put_number(number / 10);
-	put(number % 10 + '0');
-}
-
-/* What can't be done: the command has failed, and its caller comes back to the next one. */
-static int fail(void)
-{
-	failed = 1;
-	return 0;
-}
+static int column, listing;
 
 static void at_interrupt(int number)
 {
@@ -89,93 +47,6 @@ static int next(void)
 		}
 	} while ((c & 0177) == 0);
 	return latest = c & 0177;
-}
-
-/* Reads the block of the temporary file in which the unit is; its place in the buffer. */
-static char *unit_at(unsigned unit)
-{
-	int block = (unit & ~MARK) / (512 / UNIT);
-	char *buffer = in;
-
-	if (block == out_block)
-		buffer = out;
-	else if (block != in_block) {
-		seek(temporary, block, 3);
-		read(temporary, in, 512);
-		in_block = block;
-	}
-	return buffer + (unit % (512 / UNIT)) * UNIT;
-}
-
-/* Line `at` of the text to `line`. */
-static char *get_line(int at)
-{
-	unsigned unit = lines[at] & ~MARK;
-	char *from, *to = line;
-	int count;
-
-	for (;; unit++) {
-		from = unit_at(unit);
-		for (count = UNIT; count > 0; count--)
-			if ((*to++ = *from++) == 0)
-				return line;
-	}
-}
-
-static void put_out(int c)
-{
-	out[out_count++] = c;
-	if (out_count < 512)
-		return;
-	seek(temporary, out_block, 3);
-	if (write(temporary, out, 512) != 512)
-		failed = 1;
-	out_block++;
-	out_count = 0;
-}
-
-/* Keeps a line in the temporary file, and gives where. */
-static unsigned keep_line(const char *text)
-{
-	unsigned unit = out_block * (512 / UNIT) + out_count / UNIT;
-
-	if (out_block >= 254) {
-		say("TMP\n");
-		return fail();
-	}
-	do
-		put_out(*text);
-	while (*text++);
-	while (out_count % UNIT)
-		put_out(0);
-	return unit;
-}
-
-/* Puts a line after line `at`; it is the current one then. */
-static void insert(int at, const char *text)
-{
-	unsigned unit = keep_line(text);
-
-	if (failed)
-		return;
-	if (last + 2 > room) {
-		if (sbrk(STEP * sizeof *lines) == (void *)-1) {
-			fail();
-			return;
-		}
-		room += STEP;
-	}
-	memmove(lines + at + 2, lines + at + 1, (last - at) * sizeof *lines);
-	lines[at + 1] = unit;
-	last++;
-	dot = at + 1;
-}
-
-static void delete(int from, int to)
-{
-	memmove(lines + from, lines + to + 1, (last - to) * sizeof *lines);
-	last -= to - from + 1;
-	dot = from > last ? last : from;
 }
 
 /* A line of text of the commands to `line`: 1, or 0 at the `.` or where they end. */
@@ -537,65 +408,6 @@ static void take_replacement(int end)
 	replacement[at] = 0;
 }
 
-/* Adds some bytes to the line that is made. */
-static int add(int size, const char *from, int count)
-{
-	if (size + count > LINE - 2)
-		return fail();
-	memcpy(out_line + size, from, count);
-	return size + count;
-}
-
-/* Adds the replacement of what was found. A new line in it is kept as one. */
-static int add_replacement(int size)
-{
-	char *at;
-	int part;
-
-	for (at = replacement; *at && !failed; at++)
-		if (*at == '&')
-			size = add(size, matched, after - matched);
-		else if (*at == '\\') {
-			at++;
-			part = *at - '1';
-			if (part >= 0 && part < PARTS) {
-				if (part >= parts)
-					return fail();
-				size = add(size, part_at[part], part_end[part] - part_at[part]);
-			} else
-				size = add(size, at, 1);
-		} else
-			size = add(size, at, 1);
-	return size;
-}
-
-/* Line `at` with its replacements, in out_line; whether there was one. */
-static int replaced(int at, int all)
-{
-	char *text = get_line(at), *ended = 0;
-	int size = 0, some = 0;
-
-	while (!failed && found(text, some)) {
-		some = 1;
-		size = add(size, text, matched - text);
-		if (after != matched || after != ended)
-			size = add_replacement(size);
-		text = ended = after;
-		if (after == matched) {
-			if (*text == 0)
-				break;
-			size = add(size, text++, 1);
-		}
-		if (!all)
-			break;
-	}
-	if (some && !failed) {
-		size = add(size, text, strlen(text));
-		out_line[size] = 0;
-	}
-	return some && !failed;
-}
-
 /* Puts out_line, which may be several lines, in the place of line `at`; it gives the last of them. */
 static int put_lines(int at)
 {
@@ -806,37 +618,70 @@ static void edit(void)
 	read_file(0);
 }
 
+/* The commands on text: some lines, the end of the command, and what it does. */
+static void edit_lines(int c)
+{
+	if (c == 'a')
+		or_else(dot, dot);
+	else
+		some_lines(dot, dot);
+	end_of_command();
+	if (failed)
+		return;
+	if (c == 'c' || c == 'd')
+		delete(addr1, addr2);
+	if (c != 'd')
+		append(c == 'a' ? addr2 : c == 'i' ? addr2 - 1 : addr1 - 1);
+}
+
+static void tell_name(void)
+{
+	peeked = next();
+	if (peeked != '\n' && peeked >= 0)
+		file_name(1);
+	else
+		next();
+	if (failed)
+		return;
+	say(saved);
+	say("\n");
+}
+
+static void write_lines(void)
+{
+	if (last > 0)
+		some_lines(1, last);
+	else
+		or_else(0, 0);
+	file_name(0);
+	if (!failed)
+		write_file();
+}
+
+static void tell_number(void)
+{
+	or_else(last, last);
+	end_of_command();
+	if (failed)
+		return;
+	put_number(addr2);
+	say("\n");
+}
+
+/* An empty line: the next line, or the last of those that were given. */
+static void show_next(void)
+{
+	addr1 = addr2 = given ? addr2 : dot + 1;
+	given = 1;
+	print(0);
+}
+
 static void do_command(int c)
 {
-	int at;
-
 	switch (c) {
-	case 'a': or_else(dot, dot); end_of_command(); if (!failed) append(addr2); break;
-	case 'i': some_lines(dot, dot); end_of_command(); if (!failed) append(addr2 - 1); break;
-	case 'c':
-		some_lines(dot, dot);
-		end_of_command();
-		if (failed)
-			break;
-		delete(addr1, addr2);
-		append(addr1 - 1);
-		break;
-	case 'd': some_lines(dot, dot); end_of_command(); if (!failed) delete(addr1, addr2); break;
+	case 'a': case 'c': case 'd': case 'i': edit_lines(c); break;
 	case 'e': if (given) fail(); else edit(); break;
-	case 'f':
-		c = given ? fail() : next();
-		if (failed)
-			break;
-		peeked = c;
-		if (c != '\n' && c >= 0)
-			file_name(1);
-		else
-			next();
-		if (!failed) {
-			say(saved);
-			say("\n");
-		}
-		break;
+	case 'f': if (given) fail(); else tell_name(); break;
 	case 'g': globally(1); break;
 	case 'v': globally(0); break;
 	case 'k': some_lines(dot, dot); if (!failed) mark(); break;
@@ -844,35 +689,11 @@ static void do_command(int c)
 	case 'm': case 't': some_lines(dot, dot); if (!failed) move(c == 't'); break;
 	case 'r': or_else(last, last); file_name(0); if (!failed) read_file(addr2); break;
 	case 's': some_lines(dot, dot); if (!failed) substitute(); break;
-	case 'w':
-		if (last > 0)
-			some_lines(1, last);
-		else
-			or_else(0, 0);
-		file_name(0);
-		if (!failed)
-			write_file();
-		break;
-	case '=':
-		or_else(last, last);
-		end_of_command();
-		if (!failed) {
-			at = print_after;
-			put_number(addr2);
-			say("\n");
-			print_after = at;
-		}
-		break;
-	case '!': shell(); break;
-	case '\n': case -1:
-		if (given == 0)
-			addr1 = addr2 = dot + 1, given = 1;
-		else
-			addr1 = addr2;
-		print(0);
-		break;
-	default:
-		fail();
+	case 'w': write_lines(); break;
+	case '=': tell_number(); break;
+	case '!': if (given) fail(); else shell(); break;
+	case '\n': case -1: show_next(); break;
+	default: fail();
 	}
 }
 

@@ -56,55 +56,50 @@ static const char *place(const char *text, int fields, int chars, int blanks)
 	return text;
 }
 
-/* The order of two numbers with a sign and a point, of any length. */
-static int by_number(const char *one, const char *one_end, const char *other, const char *other_end)
+/* A number of a key: its sign, its digits before the point without zeros in front, and those after it. */
+struct number {
+	int sign, size, more;
+	const char *digits, *rest;
+};
+
+static void find_number(struct number *to, const char *at, const char *end)
 {
-	int one_sign = 1, other_sign = 1, digits, more, order = 0;
-	const char *a, *b;
-
-	while (one < one_end && (*one == ' ' || *one == '\t'))
-		one++;
-	while (other < other_end && (*other == ' ' || *other == '\t'))
-		other++;
-	if (one < one_end && *one == '-') {
-		one_sign = -1;
-		one++;
+	to->sign = 1;
+	while (at < end && (*at == ' ' || *at == '\t'))
+		at++;
+	if (at < end && *at == '-') {
+		to->sign = -1;
+		at++;
 	}
-	if (other < other_end && *other == '-') {
-		other_sign = -1;
-		other++;
-	}
-	while (one < one_end && *one == '0')
-		one++;
-	while (other < other_end && *other == '0')
-		other++;
-	for (a = one; a < one_end && isdigit(*a); a++)
+	while (at < end && *at == '0')
+		at++;
+	for (to->digits = at; at < end && isdigit(*at); at++)
 		;
-	for (b = other; b < other_end && isdigit(*b); b++)
-		;
-	digits = a - one;
-	more = b - other;
-	if (digits != more)
-		order = digits < more ? -1 : 1;
-	while (order == 0 && one < a) {
-		order = *one - *other;
-		one++;
-		other++;
-	}
-	one = a < one_end && *a == '.' ? a + 1 : one_end;
-	other = b < other_end && *b == '.' ? b + 1 : other_end;
-	while (order == 0) {
-		int x = one < one_end && isdigit(*one) ? *one++ : 0, y = other < other_end && isdigit(*other) ? *other++ : 0;
+	to->size = at - to->digits;
+	to->more = 0;
+	if (at < end && *at == '.')
+		for (to->rest = ++at; at < end && isdigit(*at); at++)
+			to->more++;
+	while (to->more > 0 && to->rest[to->more - 1] == '0')
+		to->more--;
+	if (to->size == 0 && to->more == 0)
+		to->sign = 0;
+}
 
-		if (x == 0 && y == 0)
-			break;
-		order = (x ? x : '0') - (y ? y : '0');
-	}
-	if (digits == 0 && more == 0 && order == 0)
-		return 0;
-	if (one_sign != other_sign)
-		return one_sign;
-	return order * one_sign;
+/* The order of two numbers, of any length. */
+static int by_number(const struct number *one, const struct number *other)
+{
+	int at, order = 0;
+
+	if (one->sign != other->sign)
+		return one->sign - other->sign;
+	if (one->size != other->size)
+		order = one->size < other->size ? -1 : 1;
+	for (at = 0; order == 0 && at < one->size; at++)
+		order = one->digits[at] - other->digits[at];
+	for (at = 0; order == 0 && (at < one->more || at < other->more); at++)
+		order = (at < one->more ? one->rest[at] : 0) - (at < other->more ? other->rest[at] : 0);
+	return order * one->sign;
 }
 
 static int counts(int c)
@@ -115,6 +110,7 @@ static int counts(int c)
 static int by_key(const struct key *key, const char *one, const char *other)
 {
 	const char *one_end = one + strlen(one), *other_end = other + strlen(other), *end;
+	struct number left, right;
 	int x, y;
 
 	if (key->to_field >= 0) {
@@ -125,8 +121,11 @@ static int by_key(const struct key *key, const char *one, const char *other)
 	}
 	one = place(one, key->from_field, key->from_char, key->blanks);
 	other = place(other, key->from_field, key->from_char, key->blanks);
-	if (key->numbers)
-		return by_number(one, one_end, other, other_end);
+	if (key->numbers) {
+		find_number(&left, one, one_end);
+		find_number(&right, other, other_end);
+		return by_number(&left, &right);
+	}
 	for (;;) {
 		while (key->letters && one < one_end && !counts(*one))
 			one++;
