@@ -1,6 +1,7 @@
 /* cal [month] year: a calendar. September 1752 has the days that it had in Britain. */
 #include <stdio.h>
 #include <string.h>
+#include "written.h"
 
 static const char *const names[] = {
 	"January", "February", "March", "April", "May", "June", "July", "August", "September", "October", "November", "December"
@@ -112,7 +113,7 @@ int main(int argc, char **argv)
 	if (argc == 3) {
 		write_month(year, month - 1, 0, 1);
 		show_page();
-		return 0;
+		return written("cal", stdout, 0, 1);
 	}
 	printf("\n\n\n%34d\n\n", year);
 	for (month = 0; month < 12; month += 3) {
@@ -121,5 +122,5 @@ int main(int argc, char **argv)
 			write_month(year, month + at, at * 23, 0);
 		show_page();
 	}
-	return 0;
+	return written("cal", stdout, 0, 1);
 }

@@ -3,6 +3,7 @@
 #include <string.h>
 #include "expressions.h"
 #include "text.h"
+#include "written.h"
 
 static int inverted, numbered, counted, blocks;
 static char line[MOST];
@@ -86,5 +87,5 @@ int main(int argc, char **argv)
 		some |= search(file, several ? argv[at] : NULL);
 		fclose(file);
 	}
-	return status ? status : !some;
+	return written("grep", stdout, status ? status : !some, 2);
 }

@@ -2,6 +2,7 @@
 #include <stdio.h>
 #include <string.h>
 #include <unix.h>
+#include "written.h"
 
 static char name[64];
 
@@ -44,5 +45,5 @@ int main(int argc, char **argv)
 			status = 1;
 		}
 	}
-	return status;
+	return written("man", stdout, status, 1);
 }

@@ -4,6 +4,7 @@
 #include <string.h>
 #include <unix.h>
 #include "text.h"
+#include "written.h"
 
 #define FILES 10
 
@@ -198,7 +199,7 @@ int main(int argc, char **argv)
 		when = time();
 		if (columns > 0)
 			pages("", when);
-		return failed;
+		return written("pr", stdout, failed, 1);
 	}
 	if (at == argc) {
 		files[0] = stdin;
@@ -214,5 +215,5 @@ int main(int argc, char **argv)
 		if (files[0] != stdin)
 			fclose(files[0]);
 	}
-	return failed;
+	return written("pr", stdout, failed, 1);
 }

@@ -7,6 +7,7 @@
 #include <stdlib.h>
 #include <string.h>
 #include "text.h"
+#include "written.h"
 
 #define LINES 3000
 #define KEYS 10
@@ -284,5 +285,5 @@ int main(int argc, char **argv)
 			fputs(lines[at], file);
 			putc('\n', file);
 		}
-	return 0;
+	return written("sort", file, 0, 1);
 }

@@ -2,6 +2,7 @@
 #include <stdio.h>
 #include <stdlib.h>
 #include <string.h>
+#include "written.h"
 
 static FILE *in;
 static int lines = 1000;
@@ -61,12 +62,12 @@ int main(int argc, char **argv)
 			return 1;
 		putc(c, out);
 		if (c == '\n' && ++count == lines) {
+			if (written("split", out, 0, 1))
+				return 1;
 			fclose(out);
 			out = NULL;
 			count = 0;
 		}
 	}
-	if (out)
-		fclose(out);
-	return 0;
+	return out ? written("split", out, 0, 1) : 0;
 }

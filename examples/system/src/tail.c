@@ -2,6 +2,7 @@
 #include <ctype.h>
 #include <stdio.h>
 #include <stdlib.h>
+#include "written.h"
 
 #define KEPT 4096
 
@@ -73,5 +74,5 @@ int main(int argc, char **argv)
 		from_start(file, count, unit);
 	else
 		from_end(file, count, unit);
-	return 0;
+	return written("tail", stdout, 0, 1);
 }

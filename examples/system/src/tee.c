@@ -33,7 +33,7 @@ static int opened(const char *name, int more)
 
 int main(int argc, char **argv)
 {
-	int files[FILES], count = 1, at, size, status = 0, more = 0;
+	int files[FILES], count = 1, at, size, status = 0, more = 0, failed = 0;
 
 	files[0] = 1;
 	for (at = 1; at < argc && argv[at][0] == '-' && argv[at][1]; at++)
@@ -51,6 +51,8 @@ int main(int argc, char **argv)
 	while ((size = read(0, buffer, sizeof buffer)) > 0)
 		for (at = 0; at < count; at++)
 			if (write(files[at], buffer, size) != size)
-				status = 1;
-	return status;
+				failed = 1;
+	if (failed)
+		write(2, "tee: write error\n", 17);
+	return status | failed;
 }

@@ -1,5 +1,6 @@
 /* tr [-cds] [string1 [string2]]: copies its input, with other characters in the place of those of string1. */
 #include <stdio.h>
+#include "written.h"
 
 static int others, deleted, squeezed;
 static unsigned char first[256], second[256];	/* the characters of the strings */
@@ -120,5 +121,5 @@ int main(int argc, char **argv)
 		putchar(c);
 		last = c;
 	}
-	return 0;
+	return written("tr", stdout, 0, 1);
 }

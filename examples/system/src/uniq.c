@@ -4,6 +4,7 @@
 #include <stdlib.h>
 #include <string.h>
 #include "text.h"
+#include "written.h"
 
 static int alone, repeated, counted, fields, letters;
 static char lines[2][MOST];
@@ -83,5 +84,5 @@ int main(int argc, char **argv)
 			count = 1;
 		}
 	show(out, lines[now], count);
-	return 0;
+	return written("uniq", out, 0, 1);
 }

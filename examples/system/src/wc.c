@@ -1,6 +1,7 @@
 /* wc [-lwc] [file ..]: how many lines, words and characters; without a file, of the standard input. */
 #include <stdio.h>
 #include <string.h>
+#include "written.h"
 
 static long counts[3], all[3];
 static const char *wanted = "lwc";
@@ -62,5 +63,5 @@ int main(int argc, char **argv)
 	}
 	if (several)
 		show(all, "total");
-	return status;
+	return written("wc", stdout, status, 1);
 }
