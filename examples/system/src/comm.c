@@ -1,5 +1,5 @@
-/* comm [-123] file1 file2: of two sorted files the lines of the first alone, of the second alone, and of both, in three columns.
- * The columns of the option aren't shown. */
+/* comm [-123] file1 file2: of two sorted files the lines of the first alone, of the second alone, and of both, in three
+ * columns. The columns of the option aren't shown. */
 #include <stdio.h>
 #include "say.h"
 

@@ -1,4 +1,5 @@
-/* diff [-] name1 name2: which lines of the first file become others, so that it is as the second; with - as commands for ed(I). */
+/* diff [-] name1 name2: which lines of the first file become others, so that it is as the second; with - as commands for
+ * ed(I). */
 #include <stdio.h>
 #include <stdlib.h>
 #include "say.h"

@@ -1,4 +1,5 @@
-/* The patterns of sh(I): * is any text, ? any character, [..] one of these, with - between two for all from the one to the other. */
+/* The patterns of sh(I): * is any text, ? any character, [..] one of these, with - between two for all from the one to the
+ * other. */
 static int matches(const char *pattern, const char *text)
 {
 	int found, c;

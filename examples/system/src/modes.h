@@ -27,8 +27,8 @@ static const char *directory_of(char *to, const char *path)
 	return to;
 }
 
-/* Whether the real user may search the way to a directory, and make entries there: a child of that user looks. For commands that
- * have the set-uid bit. */
+/* Whether the real user may search the way to a directory, and make entries there: a child of that user looks. For commands
+ * that have the set-uid bit. */
 static int may_enter(const char *directory)
 {
 	struct stat there;

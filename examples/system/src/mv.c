@@ -1,5 +1,5 @@
-/* mv old new: a file has another name, or is in the directory `new`; a directory is renamed among its fellows. The command has the
- * set-uid bit, for directories; for all else it is the user's. */
+/* mv old new: a file has another name, or is in the directory `new`; a directory is renamed among its fellows. The command has
+ * the set-uid bit, for directories; for all else it is the user's. */
 #include "say.h"
 #include "paths.h"
 #include "modes.h"

@@ -31,7 +31,7 @@ static int put(const char *name, int most)
 	return 1;
 }
 
-/* The entry of .. that leads to a directory; 0 where there is none. The parent's files tell their disk and inode by stat(II). */
+/* The entry of .. that leads to this directory; 0 where there is none. stat(II) tells the disk and the inode of each file. */
 static int find_name(void)
 {
 	int file = open("..", 0);
