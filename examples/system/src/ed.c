@@ -682,8 +682,7 @@ static void do_command(int c)
 	case 'a': case 'c': case 'd': case 'i': edit_lines(c); break;
 	case 'e': if (given) fail(); else edit(); break;
 	case 'f': if (given) fail(); else tell_name(); break;
-	case 'g': globally(1); break;
-	case 'v': globally(0); break;
+	case 'g': case 'v': globally(c == 'g'); break;
 	case 'k': some_lines(dot, dot); if (!failed) mark(); break;
 	case 'l': case 'p': end_of_command(); if (!failed) print(c == 'l'); break;
 	case 'm': case 't': some_lines(dot, dot); if (!failed) move(c == 't'); break;
