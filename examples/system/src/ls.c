@@ -22,19 +22,23 @@ static char flags[128], known[9], path[PATH], date[25];
 static int known_owner = -1, many, status;
 static long now;
 static struct item *files;
-static int count, room;
+static int count;
 static struct stat found;
+
+/* Room for so many files. */
+static void make_room(unsigned most)
+{
+	free(files);
+	count = 0;
+	files = most > 65535U / sizeof *files ? NULL : malloc(most * sizeof *files);
+	if (files == NULL) {
+		say("ls: out of memory\n");
+		exit(1);
+	}
+}
 
 static struct item *add(void)
 {
-	if (count == room) {
-		room += 32;
-		files = realloc(files, room * sizeof *files);
-		if (files == NULL) {
-			say("ls: out of memory\n");
-			exit(1);
-		}
-	}
 	memset(&files[count], 0, sizeof *files);
 	return &files[count++];
 }
@@ -147,11 +151,14 @@ static int read_directory(const char *name)
 {
 	struct entry next;
 	struct item *file;
-	int from = open(name, 0);
+	int from = open(name, 0), most;
 
 	if (from < 0)
 		return unreadable(name);
-	while (read(from, &next, sizeof next) == sizeof next) {
+	fstat(from, &found);
+	most = bytes_of(&found) / sizeof next;
+	make_room(most);
+	while (count < most && read(from, &next, sizeof next) == sizeof next) {
 		if (next.inode == 0 || next.name[0] == '.' && !flags['a'])
 			continue;
 		file = add();
@@ -169,7 +176,6 @@ static int show_directory(const char *name)
 	struct item *file;
 	int total = 0;
 
-	count = 0;
 	if (read_directory(name))
 		return 1;
 	if (many)
@@ -192,6 +198,7 @@ static int show_names(char **names, int size)
 	int at, listed = 0, failed = 0;
 	struct item *file;
 
+	make_room(size);
 	for (at = 0; at < size; at++) {
 		if (stat(names[at], &found) < 0) {
 			say(names[at]);
