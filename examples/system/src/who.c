@@ -16,6 +16,17 @@ static void show(struct login *entry)
 	write(1, text, 26);
 }
 
+/* Whether a user and a terminal stand there; a file of another kind has bytes that aren't printed. */
+static int is_login(struct login *entry)
+{
+	int at, c;
+
+	for (at = 0; at < sizeof entry->name && (c = entry->name[at]); at++)
+		if (c <= ' ' || c == 0177)
+			return 0;
+	return at > 0 && entry->line > ' ';
+}
+
 int main(int argc, char **argv)
 {
 	const char *name = "/etc/utmp";
@@ -33,7 +44,7 @@ int main(int argc, char **argv)
 	if (file < 0)
 		return complain("who", "cannot open utmp");
 	while (read(file, &entry, 16) == 16)
-		if (*entry.name && (line == 0 || entry.line == line))
+		if (is_login(&entry) && (line == 0 || entry.line == line))
 			show(&entry);
 	return 0;
 }
