@@ -27,6 +27,6 @@ int main(int argc, char **argv)
 		return 1;
 	while (read_line(file, line) && wanted-- > 0)
 		;
-	puts(line);
+	put_line(stdout, line);
 	return 0;
 }

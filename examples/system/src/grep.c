@@ -32,7 +32,7 @@ static int search(FILE *file, const char *name)
 			printf("%ld:", at / 512);
 		if (numbered)
 			printf("%d:", number);
-		puts(line);
+		put_line(stdout, line);
 	}
 	if (counted) {
 		name_it(name);

@@ -2,25 +2,26 @@
 #include <stdio.h>
 #include <string.h>
 #include <unix.h>
-#include "written.h"
 
 static char name[64];
+static int failed;
 
 /* Copies the page to the standard output; whether it is there. */
 static int show(const char *title, int section)
 {
-	FILE *file;
-	int c;
+	static char buffer[512];
+	int file, size;
 
 	if (strlen(title) > 40)
 		return 0;
 	sprintf(name, "/usr/man/%s.%c", title, section);
-	file = fopen(name, "r");
-	if (file == NULL)
+	file = open(name, 0);
+	if (file < 0)
 		return 0;
-	while ((c = getc(file)) != EOF)
-		putchar(c);
-	fclose(file);
+	while ((size = read(file, buffer, sizeof buffer)) > 0)
+		if (write(1, buffer, size) != size)
+			failed = 1;
+	close(file);
 	return 1;
 }
 
@@ -40,10 +41,11 @@ int main(int argc, char **argv)
 			if (section == 0 || any == section)
 				found |= show(argv[at], any);
 		if (!found) {
-			fflush(stdout);
 			fprintf(stderr, "man: %s not found\n", argv[at]);
 			status = 1;
 		}
 	}
-	return written("man", stdout, status, 1);
+	if (failed)
+		fprintf(stderr, "man: write error\n");
+	return status | failed;
 }

@@ -281,9 +281,7 @@ int main(int argc, char **argv)
 	if (file == NULL)
 		stop("can't create ", output);
 	for (at = 0; at < count; at++)
-		if (!once || at == 0 || compare(&lines[at - 1], &lines[at])) {
-			fputs(lines[at], file);
-			putc('\n', file);
-		}
+		if (!once || at == 0 || compare(&lines[at - 1], &lines[at]))
+			put_line(file, lines[at]);
 	return written("sort", file, 0, 1);
 }

@@ -2,12 +2,13 @@
 #include <ctype.h>
 #include <stdio.h>
 #include <stdlib.h>
+#include "fast.h"
 #include "written.h"
 
 #define KEPT 4096
 
 static char kept[KEPT];		/* the last bytes that were read, round and round */
-static long total;
+static int end;			/* where the next one goes */
 
 static void from_start(FILE *file, long count, int unit)
 {
@@ -15,33 +16,37 @@ static void from_start(FILE *file, long count, int unit)
 
 	if (unit == 'b')
 		count = count > 0 ? (count - 1) * 512 + 1 : 0;
-	while (count > 1 && (c = getc(file)) != EOF)
+	while (count > 1 && (c = fast_getc(file)) != EOF)
 		if (unit != 'l' || c == '\n')
 			count--;
-	while ((c = getc(file)) != EOF)
-		putchar(c);
+	while ((c = fast_getc(file)) != EOF)
+		fast_putc(c, stdout);
 }
 
 /* The last of what is kept: so many lines or bytes. */
 static void from_end(FILE *file, long count, int unit)
 {
-	long at, first, lines = 0;
-	int c;
+	int c, full = 0, size, at;
+	long lines = 0;
 
-	while ((c = getc(file)) != EOF)
-		kept[total++ % KEPT] = c;
-	first = total > KEPT ? total - KEPT : 0;
+	while ((c = fast_getc(file)) != EOF) {
+		kept[end++] = c;
+		if (end == KEPT) {
+			full = 1;
+			end = 0;
+		}
+	}
+	size = full ? KEPT : end;
 	if (unit == 'b')
 		count *= 512;
-	at = total;
 	if (unit != 'l')
-		at = total - first > count ? total - count : first;
-	else if (count > 0)
-		for (; at > first; at--)
-			if (at < total && kept[(at - 1) % KEPT] == '\n' && ++lines == count)
+		at = size > count ? (int)count : size;
+	else
+		for (at = 0; count > 0 && at < size; at++)
+			if (at > 0 && kept[(end - at - 1) & (KEPT - 1)] == '\n' && ++lines == count)
 				break;
-	for (; at < total; at++)
-		putchar(kept[at % KEPT]);
+	for (; at > 0; at--)
+		fast_putc(kept[(end - at) & (KEPT - 1)], stdout);
 }
 
 int main(int argc, char **argv)

@@ -1,4 +1,6 @@
 /* Lines of text, for the commands that read them. */
+#include "fast.h"
+
 #define MOST 512
 
 /* A line without its end; what has no room is left out. Whether there was one. */
@@ -9,11 +11,19 @@ static int read_line(FILE *file, char *to)
 	to[0] = 0;
 	if (feof(file))
 		return 0;
-	while ((c = getc(file)) != EOF && c != '\n')
+	while ((c = fast_getc(file)) != EOF && c != '\n')
 		if (size < MOST - 1 && (c & 0177))
 			to[size++] = c & 0177;
 	to[size] = 0;
 	return c != EOF || size > 0;
+}
+
+/* Writes a line and its end. */
+static void put_line(FILE *file, const char *text)
+{
+	for (; *text; text++)
+		fast_putc(*text, file);
+	putc('\n', file);
 }
 
 /* The file by its name; without it, a line that says so. */

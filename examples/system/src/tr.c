@@ -1,5 +1,6 @@
 /* tr [-cds] [string1 [string2]]: copies its input, with other characters in the place of those of string1. */
 #include <stdio.h>
+#include "fast.h"
 #include "written.h"
 
 static int others, deleted, squeezed;
@@ -114,11 +115,11 @@ int main(int argc, char **argv)
 	if (squeezed)
 		for (c = 0; c < second_size; c++)
 			once[second[c]] = 1;
-	while ((c = getchar()) != EOF) {
+	while ((c = fast_getc(stdin)) != EOF) {
 		c = c ? to[c & 0377] : -1;
 		if (c < 0 || (c == last && once[c]))
 			continue;
-		putchar(c);
+		fast_putc(c, stdout);
 		last = c;
 	}
 	return written("tr", stdout, 0, 1);

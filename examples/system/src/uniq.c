@@ -31,7 +31,7 @@ static void show(FILE *out, const char *text, int count)
 		fprintf(out, "%4d ", count);
 	else if (count == 1 ? !alone : !repeated)
 		return;
-	fprintf(out, "%s\n", text);
+	put_line(out, text);
 }
 
 static FILE *opened(const char *name, const char *mode)

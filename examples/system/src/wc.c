@@ -1,6 +1,7 @@
 /* wc [-lwc] [file ..]: how many lines, words and characters; without a file, of the standard input. */
 #include <stdio.h>
 #include <string.h>
+#include "fast.h"
 #include "written.h"
 
 static long counts[3], all[3];
@@ -20,7 +21,7 @@ static void count(FILE *file, const char *name)
 	int c, inside = 0;
 
 	counts[0] = counts[1] = counts[2] = 0;
-	while ((c = getc(file)) != EOF) {
+	while ((c = fast_getc(file)) != EOF) {
 		counts[2]++;
 		if (c == '\n')
 			counts[0]++;
