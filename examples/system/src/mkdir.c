@@ -38,7 +38,7 @@ int main(int argc, char **argv)
 		return 1;
 	}
 	while (--argc > 0)
-		if (!made(*++argv))
+		if (!made(trimmed(*++argv)))
 			failed = complain(*argv, "cannot make directory");
 	return failed;
 }

@@ -12,6 +12,16 @@ static int may(struct stat *status, int bit)
 	return (status->mode & bit) != 0;
 }
 
+/* A name without slashes at its end. */
+static char *trimmed(char *name)
+{
+	int size = strlen(name);
+
+	while (size > 1 && name[size - 1] == '/')
+		name[--size] = 0;
+	return name;
+}
+
 /* The directory of a name: its part before the last one. */
 static const char *directory_of(char *to, const char *path)
 {

@@ -22,6 +22,8 @@ static int rename_directory(const char *old, const char *new)
 
 	if (stat(new, &to) == 0)
 		return fail("Directory exists");
+	if (from.inode == 1)
+		return fail("Cannot rename a root");
 	if (strcmp(last, ".") == 0 || strcmp(last, "..") == 0)
 		return fail("Cannot rename . or ..");
 	above = directory_of(parent, old);
@@ -92,9 +94,9 @@ int main(int argc, char **argv)
 
 	if (argc != 3)
 		return fail("Usage: mv name1 name2");
-	if (stat(argv[1], &from) < 0)
+	if (stat(trimmed(argv[1]), &from) < 0)
 		return fail("Source file non-existent");
-	name = argv[2];
+	name = trimmed(argv[2]);
 	if (stat(name, &to) == 0 && is_directory(&to)) {
 		if (!join(path, name, last_part(argv[1]), 14))
 			return fail("Name too long");

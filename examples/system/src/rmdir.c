@@ -39,7 +39,7 @@ static int remove_directory(const char *name)
 		return complain(name, "non existent");
 	if (!is_directory(&status))
 		return complain(name, "not a directory");
-	if (strcmp(last, ".") == 0 || strcmp(last, "..") == 0)
+	if (strcmp(last, ".") == 0 || strcmp(last, "..") == 0 || status.inode == 1)	/* a root, which may cover a directory */
 		return complain(name, "cannot remove");
 	if (!is_empty(name))
 		return complain(name, "not empty");
@@ -57,6 +57,6 @@ int main(int argc, char **argv)
 		return 1;
 	}
 	while (--argc > 0)
-		failed |= remove_directory(*++argv);
+		failed |= remove_directory(trimmed(*++argv));
 	return failed;
 }
