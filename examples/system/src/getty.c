@@ -1,4 +1,4 @@
-/* getty: asks for a name on the line that is its standard input, learns from it what terminal stands there, and becomes login. */
+/* getty: asks for a name on the line that is its standard input, learns from it what terminal is there, and becomes login. */
 #include <string.h>
 #include <unix.h>
 

@@ -18,7 +18,8 @@ def names(folder):
 
 class System(Case):
     def built(self, name):
-        done = subprocess.run([os.path.join(SYSTEM, "build.sh"), self.path(name)], env={**os.environ, "V6": V6}, capture_output=True)
+        words = [os.path.join(SYSTEM, "build.sh"), self.path(name)]
+        done = subprocess.run(words, env={**os.environ, "V6": V6}, capture_output=True)
         self.assertEqual((done.returncode, done.stderr), (0, b""))
         return self.path(name)
 
@@ -50,7 +51,8 @@ class System(Case):
     @unittest.skipUnless(HERE, f"no compiler of C in {cc.HOME}: tools/c/build.sh makes it")
     def test_programs(self):
         """They are what the compiler makes of the sources."""
-        done = subprocess.run([os.path.join(SYSTEM, "compile.sh")], env={**os.environ, "V6_BIN": self.folder}, capture_output=True)
+        words = [os.path.join(SYSTEM, "compile.sh")]
+        done = subprocess.run(words, env={**os.environ, "V6_BIN": self.folder}, capture_output=True)
         self.assertEqual((done.returncode, done.stderr), (0, b""))
         for name in names("bin"):
             self.assertEqual(read(self.path(name)), read(os.path.join(SYSTEM, "bin", name)), name)

@@ -25,8 +25,8 @@ class RowError(Exception):
 
 @dataclass
 class Rows:
-    """What a file of rows types, as lines of a script, and what each terminal has to show: pieces of text with the number of the line
-    of the file at which each stands."""
+    """What a file of rows types, as lines of a script, and what each terminal has to show: pieces of text with the number of the
+    line of the file at which each stands."""
 
     script: list = field(default_factory=list)
     shown: dict = field(default_factory=dict)
@@ -131,7 +131,7 @@ def pattern(text):
 
 
 def difference(pieces, shown):
-    """Where a terminal shows something else than these pieces, as a text, or None. After the last of them a prompt may stand."""
+    """Where a terminal shows something else than these pieces, as a text, or None. A prompt may stand after the last."""
     at = 0
     for number, text in pieces:
         found = pattern(text).match(shown, at)
