@@ -602,6 +602,9 @@ def run(options, folder):
     core = options.core if options.core is not None else int(head[2]) if head else CORE
     eight = options.lines or bool(head and head[3] and not options.second)
     machine = Machine(options.v6, options.image, core, folder, eight, options.second)
+    for disk in machine.images:
+        if disk.cut:
+            raise ConsoleError(disk.cut)
     start = [b"clock %d" % options.clock] if options.clock else []
     console = Console(Dialogue(machine, options.slots, start), keyboard, options.side)
 

@@ -141,6 +141,19 @@ class Run(Case):
         self.assertEqual(self.call(tool("disk").main, "--v6", V6, "put", disk, script, "/etc/init"), (0, "", ""))
         self.assertEqual(self.run_it(disk, script), (0, "", "run.py: the disk's /etc/init can't be executed, so nothing can run on it\n"))
 
+    def test_an_image_that_is_cut(self):
+        """It isn't played, since what is missing would be zeros, but where that is said to be meant; zeros alone may be left out."""
+        shell = read(os.path.join(TOP, "examples", "shell", "image"))
+        cut, script, disk = self.put("cut", shell[:20000]), self.put("script", b"run 100\n"), self.path("disk")
+        said = f"run.py: {cut}: it ends at byte 20000, before what its files hold: tools/disk.py check {cut} tells all faults"
+        said += "; --damaged plays it with zeros there\n"
+        self.assertEqual(self.run_it(cut, script, "--disk", disk), (3, "", said))
+        self.assertFalse(os.path.exists(disk))
+        self.assertEqual(self.run_it(cut, script, "--disk", disk, "--damaged")[0], 0)
+        self.assertEqual(len(read(disk)), DISK_BYTES)
+        short = self.put("short", shell.rstrip(b"\0"))
+        self.assertEqual(self.run_it(short, script)[::2], (0, ""))
+
     def test_a_run_that_does_not_begin(self):
         term = self.put("term", b"before")
         bad = self.put("bad", b"walk\n")
