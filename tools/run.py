@@ -12,7 +12,7 @@ import sys
 import tempfile
 
 sys.path.insert(0, os.path.dirname(os.path.abspath(__file__)))
-from v6.disk.refusal import told_cut
+from v6.disk.refusal import hint, told_cut
 from v6.disk.silent import why_silent
 from v6.disk.volume import DiskError
 from v6.host.files import STREAMS, guarded, place_of, put_out, read_bytes, same_file
@@ -101,7 +101,7 @@ def run(options):
         if status:
             script = read_bytes(options.script) if os.path.isfile(options.script) else b""
             files = {"image": options.image, "second": options.second, "script": options.script}
-            said = named(with_line(said, script), files, core)
+            said = named(with_line(said, script), files, core) + hint(said, files)
             print(f"run.py: {said}", file=sys.stderr)
         elif os.path.isfile(options.image) and not any(os.path.getsize(made[name]) for name in outputs if name in SHOWN):
             why = why_silent(read_bytes(options.image), read_bytes(made["log"]))

@@ -552,7 +552,10 @@ class Sessions(Case):
 
     def test_faults(self):
         bad = self.put("bad", bytes(2000))
-        self.assertEqual(self.session("", image=bad), (1, b"", f"\nconsole: {bad}: bad super-block\n"))
+        self.assertEqual(self.session("", image=bad), (1, b"", f"\nconsole: {bad}: bad super-block: tools/disk.py check {bad} tells all faults\n"))
+        packed = self.put("his.gz", b"\037\213" + bytes(600))
+        said = f"\nconsole: {packed}: bad super-block: it is compressed, and gunzip makes the disk of it\n"
+        self.assertEqual(self.session("", image=packed), (1, b"", said))
         script = self.put("script", b"walk\n")
         self.assertEqual(self.session("", "--script", script), (1, b"", f"\nconsole: {script}: line 1: 'walk': no line of a script\n"))
         self.assertEqual(read(script), b"walk\n")

@@ -132,7 +132,10 @@ class Run(Case):
                                      f"{self.path('long')}: line 1: 'type {55 * 'a'}..': more than 300 bytes"),
                                     ((image, self.put("log", b"boot 64 0\nend\n")), 5,
                                      f"{self.path('log')}: line 1: 'boot 64 0': a log begins so, and no script"),
-                                    ((self.path("log"), script), 6, f"{self.path('log')}: bad super-block")):
+                                    ((self.path("log"), script), 6,
+                                     f"{self.path('log')}: bad super-block: tools/disk.py check {self.path('log')} tells all faults"),
+                                    ((self.put("his.gz", b"\037\213" + bytes(600)), script), 6,
+                                     f"{self.path('his.gz')}: bad super-block: it is compressed, and gunzip makes the disk of it")):
             self.assertEqual(self.run_it(*words), (status, "", f"run.py: {said}\n"))
         script, disk = self.put("script", b"run 3000\n"), self.put("disk", read(os.path.join(TOP, "examples", "shell", "image")))
         for path, said in (("/dev/tty8", "the disk has no /dev/tty8"), ("/etc/init", NO_INIT)):

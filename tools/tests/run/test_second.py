@@ -83,6 +83,7 @@ class Run(Second):
         for second, status, said in ((none, 2, f"{none}: No such file or directory"), (self.folder, 2, f"{self.folder}: Is a directory"),
                                      (bad, 12, f"{bad}: bad super-block"), (long, 12, f"{long}: too long"),
                                      (many, 12, f"{many}: file system of 4873 blocks is too long")):
+            said += f": tools/disk.py --pack check {second} tells all faults" * (status == 12)
             found = self.run_it(self.image, script, "--second", second, "--second-disk", self.path("new"), "--disk", disk)
             self.assertEqual(found, (status, "", f"run.py: {said}\n"))
         self.assertEqual([os.path.exists(self.path(name)) for name in ("disk", "new")], [False, False])
@@ -262,7 +263,8 @@ class Console(Second):
         self.assertEqual((read(self.image), read(pack), os.path.exists(script)), (read(IMAGE), read(PACK), False))
         none, absent = self.path("none"), self.path("no/disk")
         for words, said in ((("--second", none), f"{none}: No such file or directory"),
-                            (("--second", self.put("bad", bytes(2000))), f"{self.path('bad')}: bad super-block"),
+                            (("--second", self.put("bad", bytes(2000))), f"{self.path('bad')}: bad super-block: "
+                             f"tools/disk.py --pack check {self.path('bad')} tells all faults"),
                             (("--second", pack, "--second-disk", "/dev/full"), "/dev/full: not a file, and only a file is replaced"),
                             (("--second", pack, "--second-disk", absent), f"{absent}: No such file or directory")):
             self.assertEqual(self.session("ls\n", *words), (1, b"", f"\nconsole: {said}\n"))

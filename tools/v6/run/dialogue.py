@@ -4,7 +4,7 @@ import os
 import re
 from dataclasses import dataclass
 
-from v6.disk.refusal import told_cut
+from v6.disk.refusal import hint, told_cut
 from v6.host.files import read_bytes, short
 from v6.host.program import call, named
 from v6.run.ends import BUSY, OVER, RUNS, SLEEPS, WAITS, Processes
@@ -319,4 +319,5 @@ class Refused(DialogueError):
 def reason(machine, played, lines):
     """Why a run isn't done, with the line of the script that the program names."""
     files = dict(zip(("image", "second"), (disk.named for disk in machine.images)))
-    return named(with_line(played.said, b"".join(line + b"\n" for line in lines)), files, machine.core)
+    told = named(with_line(played.said, b"".join(line + b"\n" for line in lines)), files, machine.core)
+    return told + hint(played.said, files)
