@@ -286,7 +286,7 @@ class Moves(unittest.TestCase):
     def test_the_searches_of_pages(self):
         """Each that stands on a page as an example can be made: it finds something, or says that there is nothing."""
         text = "".join(read(os.path.join(TOP, "docs", *page)).decode() for page in (("tools", "look.md"), ("lions", "README.md")))
-        found = re.findall(r"`(?:-c ')?((?:until|since) (?:state|place|call) [^`']+)'?`", text)
+        found = re.findall(r"(?:`|-c ')((?:until|since) (?:state|place|call) [^`']+)['`]", text)
         self.assertLessEqual({"until state wW of 2", "since state w of 1", "until call exec"}, set(found))
         for command in found:
             try:
