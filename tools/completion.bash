@@ -26,7 +26,7 @@ _v6() {
     v6-as | as.py) case $word in -*) words='--disassemble --help --into --version --with -g -l -n -o -s' ;; esac ;;
     v6-cc | cc.py) case $word in -*) words='--compiler --gcc --help --version -D -I -S -g -n -o -s' ;; esac ;;
     v6-lessonpages | lessonpages.py) case $word in -*) words='--help --moments --output --v6 --version -o' ;; esac ;;
-    v6-run | run.py) case $word in -*) words='--core --disk --eight --help --log --replay --second --second-disk --term --v6 --version' ;; esac ;;
+    v6-run | run.py) case $word in -*) words='--core --damaged --disk --eight --help --log --replay --second --second-disk --term --v6 --version' ;; esac ;;
     v6-trace | trace.py) case $word in -*) words='--from --help --process --replay --to --v6 --version' ;; esac ;;
     v6-try | try.py) case $word in -*) words='--back --binary --core --disk --file --final --folder --help --slots --v6 --version --with -t' ;; esac ;;
     row.py)

@@ -22,7 +22,7 @@ from v6.host.files import place_of, read_bytes, replace, same_file, told, uninte
 from v6.host.program import CORE, TOP, V6, ProgramError, add_version
 from v6.run.columns import frame
 from v6.run.dialogue import (END_OF_FILE, HIDDEN, INTERRUPT, LINES, MANY, OVER, PROBE, QUIT, RETURN, RUNS, SLEEPS, WAITS, Dialogue,
-                             DialogueError, Machine, Refused, keys, line_of, shown)
+                             DialogueError, Machine, Refused, clock, keys, line_of, shown)
 from v6.run.ends import Processes, programs_of_all
 from v6.run.screen import without_echo
 from v6.run.script import ELSEWHERE, HEADER, ScriptError, check_lines, head_of
@@ -48,6 +48,7 @@ ENDS = signal.SIGTERM, signal.SIGHUP
 FULL = errno.ENOSPC, errno.EDQUOT  # why a host has no room
 WELCOME = "~? tells what the console does itself, and ~. ends it"
 OVER_SSH = "; over ssh type ~~. for it, since ~. ends ssh"
+NO_CLOCK = ". No clock runs, so that no signal reaches a program that makes no call: ~:clock 1000 lets it, or ~u takes the line back"
 REPLAYED = "--replay plays this one"
 LINE = re.compile(r"^(script: (?:too many slots at )?line )([0-9]+)")  # of a script that has a head, which a file needn't have
 CONTROL = re.compile(rb"\^([?-~])")  # a control character, as it is typed in ~k
@@ -390,7 +391,7 @@ class Console:
         everybody = self.processes()
         busy = "; ".join([line for line in everybody if line.endswith(" runs")] or everybody)
         tell(f"the machine runs on after {self.dialogue.limit} slots ({busy}); ~:run N gives it more, and what you type "
-             "waits for it")
+             "waits for it" + NO_CLOCK * (not clock(self.dialogue.lines())))
 
 
 ORDERS = {"?": Console.help, "l": Console.list, "u": Console.back, "g": Console.go, "w": Console.who, "h": Console.hang_up, "a": Console.all,
@@ -602,6 +603,9 @@ def run(options, folder):
     core = options.core if options.core is not None else int(head[2]) if head else CORE
     eight = options.lines or bool(head and head[3] and not options.second)
     machine = Machine(options.v6, options.image, core, folder, eight, options.second)
+    for disk in machine.images:
+        if disk.cut:
+            raise ConsoleError(disk.cut)
     start = [b"clock %d" % options.clock] if options.clock else []
     console = Console(Dialogue(machine, options.slots, start), keyboard, options.side)
 

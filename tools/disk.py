@@ -16,8 +16,9 @@ import tempfile
 sys.path.insert(0, os.path.dirname(os.path.abspath(__file__)))
 from v6.disk.archives import FORMS, Member
 from v6.disk.faultplace import FaultPlace
+from v6.disk.refusal import cut, unpacking
 from v6.disk.repair import DOUBTFUL, Repair, grow
-from v6.disk.survey import Survey, behind_end, damaged, unpacked_by, walk
+from v6.disk.survey import Survey, damaged, walk
 from v6.disk.tree import KINDS, MOST_TIME, PERMISSIONS, Item, above, apply_table, number, own, place_all, plain_name, row, scan
 from v6.disk.volume import BLOCK, BLOCKS, DIRECTORY, PACK, PLAIN, ROOT, SWAP, DiskError, Volume, check_name, components, plural, shown
 from v6.disk.wants import table
@@ -61,8 +62,7 @@ def way_on(options, said, image):
     """What to do about a fault of a disk that may be none, where that is told by its kind or by its first bytes."""
     if is_whole_pack(options, said):
         return f"; {BESIDE}"
-    command = unpacked_by(image)
-    return f": it is compressed, and {command} makes the disk of it" if command else ""
+    return unpacking(image)
 
 
 def is_whole_pack(options, said):
@@ -93,9 +93,9 @@ def open_disk(options):
 
 def uncut(volume, name):
     """A volume whose image doesn't end before what its files hold: v6 takes what is past the end for zeros."""
-    found = behind_end(volume, [n for n in range(1, 16 * volume.isize + 1) if volume.is_used(n)])
-    if found or volume.length // BLOCK < volume.isize + 2:
-        raise DiskError(f"{name}: it ends at byte {volume.length}, before what its files hold{TO_READ}")
+    said = cut(volume)
+    if said:
+        raise DiskError(f"{name}: {said}{TO_READ}")
     return volume
 
 

@@ -7,6 +7,7 @@ if __name__ == "__main__":
 
 import argparse
 import os
+import shlex
 import sys
 import tempfile
 
@@ -132,7 +133,8 @@ def run(options):
         path, is_new = new_row(options.names[1], options.source, options.page, options.slots, options.data)
         if is_new:
             print(f"{options.names[1].partition('/')[0]}: a new family")
-        print(f"{path}: say there what it must come to, by hand; then row.py {options.names[1]}")
+        data = f" --data {shlex.quote(options.data)}" if options.data != DATA else ""
+        print(f"{path}: say there what it must come to, by hand; then row.py{data} {options.names[1]}")
         return 0
     failed = 0
     if not options.names:

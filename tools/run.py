@@ -12,7 +12,9 @@ import sys
 import tempfile
 
 sys.path.insert(0, os.path.dirname(os.path.abspath(__file__)))
+from v6.disk.refusal import hint, told_cut
 from v6.disk.silent import why_silent
+from v6.disk.volume import DiskError
 from v6.host.files import STREAMS, guarded, place_of, put_out, read_bytes, same_file
 from v6.host.program import CORE, V6, ProgramError, add_version, call, named
 from v6.run.script import ScriptError, add_replay, check_script, head_of, with_line
@@ -38,6 +40,7 @@ def options_of(words):
     parser.add_argument("--second-disk", metavar="FILE", help="where the second disk goes that the run leaves; it may be IMAGE2")
     parser.add_argument("--core", type=int, help=f"the size of core, in clicks ({CORE}, or that of a script of the console)")
     add_replay(parser)
+    parser.add_argument("--damaged", action="store_true", help="play it also where an image ends before what its files hold")
     parser.add_argument("--v6", metavar="COMMAND", default=V6, help="the program (bin/v6)")
     add_version(parser)
     options = parser.parse_args(words)
@@ -65,6 +68,14 @@ def outputs_of(options):
     return outputs
 
 
+def refuse_cut(files):
+    """Refuses an image that ends before what its files hold: what is missing would be zeros."""
+    for port, name in files.items():
+        said = told_cut(name, read_bytes(name), port) if name and os.path.isfile(name) else ""
+        if said:
+            raise DiskError(f"{said}; --damaged plays it with zeros there")
+
+
 def run(options):
     """The status of the program. What it writes goes to files of its own first. The disk takes its place where the run is
     done; what was shown and logged up to there is kept in any case, but not of a run that never began."""
@@ -74,6 +85,8 @@ def run(options):
         head = head_of(options.script)
         core = int(head[2]) if head else CORE
     check_script(options.script, options.image, core, options.eight, options.second, options.replay)
+    if not options.damaged:
+        refuse_cut({"image": options.image, "second": options.second})
     for name in outputs.values():
         if name not in STREAMS:
             place_of(name)
@@ -88,7 +101,7 @@ def run(options):
         if status:
             script = read_bytes(options.script) if os.path.isfile(options.script) else b""
             files = {"image": options.image, "second": options.second, "script": options.script}
-            said = named(with_line(said, script), files, core)
+            said = named(with_line(said, script), files, core) + hint(said, files)
             print(f"run.py: {said}", file=sys.stderr)
         elif os.path.isfile(options.image) and not any(os.path.getsize(made[name]) for name in outputs if name in SHOWN):
             why = why_silent(read_bytes(options.image), read_bytes(made["log"]))
@@ -99,7 +112,7 @@ def run(options):
 
 def main(words):
     options = options_of(words)
-    return guarded("run.py", lambda: run(options), ProgramError, ScriptError, failed=3)
+    return guarded("run.py", lambda: run(options), DiskError, ProgramError, ScriptError, failed=3)
 
 
 if __name__ == "__main__":

@@ -152,6 +152,16 @@ def results_of(groups, jobs):
         clear()
 
 
+@contextlib.contextmanager
+def compiled_once():
+    """Has Python compile each module of the tools once for all programs that the tests start, into a folder that goes at the end, and
+    so not beside the sources."""
+    with tempfile.TemporaryDirectory() as folder:
+        os.environ.pop("PYTHONDONTWRITEBYTECODE", None)
+        os.environ["PYTHONPYCACHEPREFIX"] = folder
+        yield
+
+
 def wanted(places):
     """The names of modules in which tests are wanted, and of folders of them."""
     for place in places:
@@ -171,7 +181,8 @@ def main(options):
         sys.exit("\n".join(unittest.defaultTestLoader.errors))
     adopt()
     signal.signal(signal.SIGTERM, lambda *_: sys.exit(128 + signal.SIGTERM))  # so that nothing is left either
-    results = results_of(groups, options.jobs)
+    with compiled_once():
+        results = results_of(groups, options.jobs)
     print("".join(text for _, _, text, _, _ in results), end="", file=sys.stderr)
     if options.times:
         for took, name in sorted(((result[4], name) for name, result in zip(names, results)), reverse=True):

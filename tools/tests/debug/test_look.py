@@ -286,7 +286,7 @@ class Moves(unittest.TestCase):
     def test_the_searches_of_pages(self):
         """Each that stands on a page as an example can be made: it finds something, or says that there is nothing."""
         text = "".join(read(os.path.join(TOP, "docs", *page)).decode() for page in (("tools", "look.md"), ("lions", "README.md")))
-        found = re.findall(r"`(?:-c ')?((?:until|since) (?:state|place|call) [^`']+)'?`", text)
+        found = re.findall(r"(?:`|-c ')((?:until|since) (?:state|place|call) [^`']+)['`]", text)
         self.assertLessEqual({"until state wW of 2", "since state w of 1", "until call exec"}, set(found))
         for command in found:
             try:
@@ -383,6 +383,8 @@ class Moves(unittest.TestCase):
 
     def test_what_is_refused(self):
         """A line says why, and the moment stays."""
+        with self.assertRaisesRegex(LookError, "state w: not found before slot 0, where nothing comes before: `slot N` first"):
+            self.looker.lines_of("since state w of 1")
         self.at("slot 200")
         for command, why in (
                 ("slot 10000001", "slot 10000001: the run has 10000000, and 0 is before the first"), ("slot x", "x: no number"),
@@ -392,7 +394,9 @@ class Moves(unittest.TestCase):
                 ("words 1", "1: 000001 is odd"), ("words 0200000", "0200000: an address is 65535 at most"), ("words 08", "08: no number"),
                 ("words 0 9999", "9999: words is 4096 at most"), ("process 3", "process 3 isn't there in slot 200, and never in this run"),
                 ("until state x", "x: a state is one of the letters RrowWsSz"), ("until place top", "top: a place is in core or swap"),
-                ("until what", "what: it's state, place, call, pc, word, break or watch"), ("until pc 010 06", "06: it is before 010"),
+                ("until what", "what: `until` and `since` take state, place, call, pc, word, break or watch$"),
+                ("until line exit", "line: .* or watch; for a line of the log: `next KIND` and `last KIND`"),
+                ("registers", "registers: no such command; help names them; `process` shows registers"), ("until pc 010 06", "06: it is before 010"),
                 ("code nosuch", "nosuch: /etc/init has no such name"), ("until call wirte", "wirte: no name of a call"),
                 ("until call 64", "64: a call is 63 at most"), ("words r5-x", "r5-x: /etc/init has no such name"),
                 ("words 8(r5)", "8.r5.: /etc/init has no such name")):

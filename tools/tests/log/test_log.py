@@ -82,7 +82,7 @@ TOLD = """line  012
   17  sWR  process 2 runs
   18  sWR  process 2 leaves text 0, which leaves core
   19  sWz  process 2 ends; block 4003 keeps what its parent may ask for
-  20  sWz  woken are those that wait for a child of process 1: nobody
+  20  sWz  wakes those that wait for a child of process 1: nobody waits
   21  sWz  nobody can run
   22  sWz  a tick while nobody ran
   23  soz  process 1 gets signal 2
@@ -114,15 +114,15 @@ TOLD_CHANNELS = """line  01
    3  sR  process 1 runs
    4  ss  process 1 waits for the disk, at priority -50
    5  ss  nobody can run
-   6  sr  woken are those that wait for the disk, as process 1 does: process 1
+   6  sr  wakes those that wait for the disk, as process 1 does: process 1
    7  sR  process 1 runs
    8  sw  process 1 waits for room to write on the terminal, at priority 20
    9  sw  nobody can run
-  10  sr  woken are those that wait for room to write on the terminal: process 1
+  10  sr  wakes those that wait for room to write on the terminal: process 1
   11  sR  process 1 runs
   12  sw  process 1 waits for keys of line 3, at priority 10
   13  sw  nobody can run
-  14  sr  woken are those that wait for keys of line 3: process 1
+  14  sr  wakes those that wait for keys of line 3: process 1
   15  sR  process 1 runs
   16  sw  process 1 waits for room to write on the terminal of line 7, at priority 20
   17  sw  the script has ended

@@ -105,8 +105,9 @@ class Quiz(Case):
             self.assertEqual(sum(line.startswith("an answer is an entry's number, or `nobody`; ") for line in shown), 1)
 
     def test_where_answers_end(self):
-        for answers in (b"", b"q\n2\n"):
-            self.assertEqual(self.asked(FORKED, answers)[1][-1], "no choice was asked for")
+        ended = ": the input ended before an answer; an empty line shows it"
+        for answers, told in ((b"", ended), (b"q\n2\n", "")):
+            self.assertEqual(self.asked(FORKED, answers)[1][-1], "no choice was asked for" + told)
         none = "no choice was asked for: from line 11 on two can run at no line, and no process waits to come into core"
         self.assertEqual(self.asked(FORKED, b"2\n", "--from", "11"), (0, [none], ""))
         self.assertEqual(self.asked(FORKED, b"2\n", "--count", "0"), (0, ["no choice was asked for"], ""))

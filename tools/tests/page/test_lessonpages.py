@@ -90,7 +90,7 @@ class Lessons(Case):
         self.assertEqual(sorted(os.listdir(out)), ["answers.html", "index.html", "pictures", "slp-1.html", "slp.html"])
         index, lesson = (read(os.path.join(out, name)).decode() for name in ("index.html", "slp.html"))
         self.assertIn('<a href="slp.html">swtch, sleep and wakeup</a>: <a href="slp-1.html">run 1</a>', index)
-        self.assertIn('\n  <a href="slp-1.html#line=18">18</a>  srr  woken are those that wait for keys: process 1, process 2\n', lesson)
+        self.assertIn('\n  <a href="slp-1.html#line=18">18</a>  srr  wakes those that wait for keys: process 1, process 2\n', lesson)
         self.assertIn('<li>Lines <a href="slp-1.html#line=19">19</a> and <a href="slp-1.html#line=20">20</a>: <code>swtch</code> begins',
                       lesson)
         self.assertIn("line:\t.=.+100.</pre>", lesson)
@@ -99,6 +99,6 @@ class Lessons(Case):
             target = read(os.path.join(out, file)).decode()
             self.assertTrue(not place or place.startswith("line=") or f' id="{place}"' in target, (name, file, place))
         found = Read(read(os.path.join(out, "slp-1.html")))
-        self.assertEqual((found.head["lines"], found.words(18)), (39, "woken are those that wait for keys: process 1 (/etc/init), process 2 (/etc/init)"))
+        self.assertEqual((found.head["lines"], found.words(18)), (39, "wakes those that wait for keys: process 1 (/etc/init), process 2 (/etc/init)"))
         status, _, said = self.call(lesson_pages.main, "-o", out, "none")
         self.assertEqual((status, said.startswith("lessonpages.py: none: no such lesson; there are buf, ")), (1, True))

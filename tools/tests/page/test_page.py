@@ -314,7 +314,7 @@ class Logs(Made):
         found, _ = self.made("--log", log)
         self.assertEqual(found.head["lines"], 20007)
         self.assertLess(os.path.getsize(self.path("page.html")), 40 * 20007)
-        self.assertEqual(found.words(20006), "woken are those that wait for bytes in the pipe of inode 23: process 5")
+        self.assertEqual(found.words(20006), "wakes those that wait for bytes in the pipe of inode 23: process 5")
 
     def refused(self, *words, why, status=1):
         kept = read(self.path("page.html")) if os.path.exists(self.path("page.html")) else None

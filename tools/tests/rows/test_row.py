@@ -182,7 +182,7 @@ class Command(Case):
         source = self.put("it.s", b"start:\tmov\t$name,r0\t/ a name\n\tsys\tdup; sys exit\n\n\t.data\nname:\t</a\\0>\n\t.even\n\t5\n")
         words = ("--data", self.folder, "new", "some/row_of_mine", "--from", source, "--page", "names.md", "--slots", "7")
         path = self.path("rows/some/row_of_mine")
-        to_say = "{}: say there what it must come to, by hand; then row.py {}\n".format
+        to_say = ("{}: say there what it must come to, by hand; then row.py --data " + self.folder + " {}\n").format
         self.assertEqual(self.call(row_main, *words), (0, "some: a new family\n" + to_say(path, "some/row_of_mine"), ""))
         text = read(path).decode()
         self.assertEqual(text.split("\n")[:2], ["# row of mine", "# docs/manual/names.md"])

@@ -481,9 +481,11 @@ class Sessions(Case):
         image = self.disk_with("\tbr\t.\n")
         script = self.path("script")
         more = ("\nconsole: the machine runs on after 500 slots (process 1 runs); ~:run N gives it more, and what you type "
-                "waits for it\n")
-        self.assertEqual(self.session("x\n", "--slots", "500", "--script", script, image=image), (0, b"", more + more))
+                "waits for it")
+        still = ". No clock runs, so that no signal reaches a program that makes no call: ~:clock 1000 lets it, or ~u takes the line back\n"
+        self.assertEqual(self.session("x\n", "--slots", "500", "--script", script, image=image), (0, b"", 2 * (more + still)))
         self.assertEqual(read(script), self.script("run 500\ntype x\nrun 500\n", image))
+        self.assertEqual(self.session("", "--slots", "500", "--clock", "100", image=image), (0, b"", more + "\n"))
 
     def test_the_slots_of_a_script(self):
         """At most 200,000,000: what a line is given is what is left of them, and without any it isn't the line's fault."""
@@ -552,7 +554,10 @@ class Sessions(Case):
 
     def test_faults(self):
         bad = self.put("bad", bytes(2000))
-        self.assertEqual(self.session("", image=bad), (1, b"", f"\nconsole: {bad}: bad super-block\n"))
+        self.assertEqual(self.session("", image=bad), (1, b"", f"\nconsole: {bad}: bad super-block: tools/disk.py check {bad} tells all faults\n"))
+        packed = self.put("his.gz", b"\037\213" + bytes(600))
+        said = f"\nconsole: {packed}: bad super-block: it is compressed, and gunzip makes the disk of it\n"
+        self.assertEqual(self.session("", image=packed), (1, b"", said))
         script = self.put("script", b"walk\n")
         self.assertEqual(self.session("", "--script", script), (1, b"", f"\nconsole: {script}: line 1: 'walk': no line of a script\n"))
         self.assertEqual(read(script), b"walk\n")

@@ -132,7 +132,10 @@ class Run(Case):
                                      f"{self.path('long')}: line 1: 'type {55 * 'a'}..': more than 300 bytes"),
                                     ((image, self.put("log", b"boot 64 0\nend\n")), 5,
                                      f"{self.path('log')}: line 1: 'boot 64 0': a log begins so, and no script"),
-                                    ((self.path("log"), script), 6, f"{self.path('log')}: bad super-block")):
+                                    ((self.path("log"), script), 6,
+                                     f"{self.path('log')}: bad super-block: tools/disk.py check {self.path('log')} tells all faults"),
+                                    ((self.put("his.gz", b"\037\213" + bytes(600)), script), 6,
+                                     f"{self.path('his.gz')}: bad super-block: it is compressed, and gunzip makes the disk of it")):
             self.assertEqual(self.run_it(*words), (status, "", f"run.py: {said}\n"))
         script, disk = self.put("script", b"run 3000\n"), self.put("disk", read(os.path.join(TOP, "examples", "shell", "image")))
         for path, said in (("/dev/tty8", "the disk has no /dev/tty8"), ("/etc/init", NO_INIT)):
@@ -140,6 +143,19 @@ class Run(Case):
             self.assertEqual(self.run_it(disk, script), (0, "", f"run.py: {said}\n"))
         self.assertEqual(self.call(tool("disk").main, "--v6", V6, "put", disk, script, "/etc/init"), (0, "", ""))
         self.assertEqual(self.run_it(disk, script), (0, "", "run.py: the disk's /etc/init can't be executed, so nothing can run on it\n"))
+
+    def test_an_image_that_is_cut(self):
+        """It isn't played, since what is missing would be zeros, but where that is said to be meant; zeros alone may be left out."""
+        shell = read(os.path.join(TOP, "examples", "shell", "image"))
+        cut, script, disk = self.put("cut", shell[:20000]), self.put("script", b"run 100\n"), self.path("disk")
+        said = f"run.py: {cut}: it ends at byte 20000, before what its files hold: tools/disk.py check {cut} tells all faults"
+        said += "; --damaged plays it with zeros there\n"
+        self.assertEqual(self.run_it(cut, script, "--disk", disk), (3, "", said))
+        self.assertFalse(os.path.exists(disk))
+        self.assertEqual(self.run_it(cut, script, "--disk", disk, "--damaged")[0], 0)
+        self.assertEqual(len(read(disk)), DISK_BYTES)
+        short = self.put("short", shell.rstrip(b"\0"))
+        self.assertEqual(self.run_it(short, script)[::2], (0, ""))
 
     def test_a_run_that_does_not_begin(self):
         term = self.put("term", b"before")

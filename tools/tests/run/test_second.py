@@ -83,9 +83,18 @@ class Run(Second):
         for second, status, said in ((none, 2, f"{none}: No such file or directory"), (self.folder, 2, f"{self.folder}: Is a directory"),
                                      (bad, 12, f"{bad}: bad super-block"), (long, 12, f"{long}: too long"),
                                      (many, 12, f"{many}: file system of 4873 blocks is too long")):
+            said += f": tools/disk.py --pack check {second} tells all faults" * (status == 12)
             found = self.run_it(self.image, script, "--second", second, "--second-disk", self.path("new"), "--disk", disk)
             self.assertEqual(found, (status, "", f"run.py: {said}\n"))
         self.assertEqual([os.path.exists(self.path(name)) for name in ("disk", "new")], [False, False])
+
+    def test_a_second_disk_that_is_cut(self):
+        script, cut, disk = self.script(), self.put("cut", read(PACK)[:3000]), self.path("disk")
+        said = f"run.py: {cut}: it ends at byte 3000, before what its files hold: tools/disk.py --pack check {cut} tells all faults"
+        words = (self.image, script, "--second", cut, "--second-disk", disk)
+        self.assertEqual(self.run_it(*words), (3, "", f"{said}; --damaged plays it with zeros there\n"))
+        self.assertFalse(os.path.exists(disk))
+        self.assertEqual((self.run_it(*words, "--damaged")[0], len(read(disk))), (0, DISK_BYTES))
 
     def test_a_run_that_is_not_done(self):
         """A panic: the terminal is kept, and no disk takes the place of its image."""
@@ -147,6 +156,17 @@ class Console(Second):
                                              "/etc/mount /dev/rk1 /usr\n"))
         self.assertTrue(term.endswith(b"# ls /usr\r\na\r\nbin\r\ndmr\r\nken\r\nreadme\r\n# "))
         self.assertEqual([self.cat(second, path)[0] for path in ("/a", "/b", "/readme")], [1, 1, 0])
+
+    def test_an_image_that_is_cut(self):
+        """Neither disk may be: what is missing would be zeros, and the disk that is left would look whole."""
+        kept = self.path("kept")
+        cut, root = self.put("cut", read(PACK)[:3000]), self.put("root", read(IMAGE)[:20000])
+        said = "it ends at byte {}, before what its files hold: tools/disk.py {}check {} tells all faults\n"
+        self.assertEqual(self.session(MOUNT, "--second", cut, "--second-disk", kept),
+                         (1, b"", f"\nconsole: {cut}: {said.format(3000, '--pack ', cut)}"))
+        self.image = root
+        self.assertEqual(self.session("ls\n", "--disk", kept), (1, b"", f"\nconsole: {root}: {said.format(20000, '', root)}"))
+        self.assertFalse(os.path.exists(kept))
 
     def test_changes_that_nothing_keeps(self):
         """They are told, but where --second-disk or --script keeps them, and where no line that stands has made any."""
@@ -243,7 +263,8 @@ class Console(Second):
         self.assertEqual((read(self.image), read(pack), os.path.exists(script)), (read(IMAGE), read(PACK), False))
         none, absent = self.path("none"), self.path("no/disk")
         for words, said in ((("--second", none), f"{none}: No such file or directory"),
-                            (("--second", self.put("bad", bytes(2000))), f"{self.path('bad')}: bad super-block"),
+                            (("--second", self.put("bad", bytes(2000))), f"{self.path('bad')}: bad super-block: "
+                             f"tools/disk.py --pack check {self.path('bad')} tells all faults"),
                             (("--second", pack, "--second-disk", "/dev/full"), "/dev/full: not a file, and only a file is replaced"),
                             (("--second", pack, "--second-disk", absent), f"{absent}: No such file or directory")):
             self.assertEqual(self.session("ls\n", *words), (1, b"", f"\nconsole: {said}\n"))

@@ -62,7 +62,8 @@ class Looker:
             return []
         does = getattr(self, "do_" + words[0], None)
         if does is None:
-            raise LookError(f"{words[0]}: no such command; help names them")
+            more = "; `process` shows registers" if words[0] in ("registers", "register", "regs") else ""
+            raise LookError(f"{words[0]}: no such command; help names them{more}")
         self.number = None
         if len(words) > 2 and words[-2] == "of":
             self.number = self.number_of(words[-1], "a process")
@@ -256,7 +257,8 @@ class Looker:
 
     def found(self, slots, text, forwards):
         if slots is None:
-            raise LookError(f"{text}: not found {'after' if forwards else 'before'} slot {self.moment.slots}")
+            first = "" if forwards or self.moment.slots else ", where nothing comes before: `slot N` first"
+            raise LookError(f"{text}: not found {'after' if forwards else 'before'} slot {self.moment.slots}{first}")
         return self.go(slots)
 
     def event(self, word, forwards):
@@ -280,7 +282,8 @@ class Looker:
     def where(self, kind, words, forwards):
         does = getattr(self, "where_" + kind, None)
         if does is None:
-            raise LookError(f"{kind}: it's state, place, call, pc, word, break or watch that becomes so")
+            more = "; for a line of the log: `next KIND` and `last KIND`" if kind == "line" else ""
+            raise LookError(f"{kind}: `until` and `since` take state, place, call, pc, word, break or watch{more}")
         if kind in BY_MEMORY and not self.history.run.has_memory:
             raise LookError(NO_MEMORY)
         text, here = " ".join([kind, *words]), self.moment

@@ -17,6 +17,10 @@ class Done(Exception):
     """Nobody answers any more."""
 
 
+class Ended(Done):
+    """The input has ended, where an answer was asked for."""
+
+
 def answers(file):
     """Answers that are typed, or the lines of a file, which are shown as if they were."""
     if file.isatty():
@@ -71,7 +75,7 @@ class Quiz:
             try:
                 text = self.answers.send(question).strip()
             except StopIteration:
-                raise Done from None
+                raise Ended from None
             if text == "q":
                 raise Done
             found = meant(text, question) if text else ""
@@ -129,7 +133,8 @@ class Quiz:
                     self.ask(number, line, why)
                 self.told.append(f"{number:6}  {line:24}  {self.story.take(line)[0]}")
             none = f": from line {first} on two can run at no line, and no process waits to come into core"
-        except Done:
+        except Done as error:
+            none = ": the input ended before an answer; an empty line shows it" * isinstance(error, Ended)
             return False
         finally:
             self.tell(none)

@@ -26,10 +26,10 @@ class Teller:
         names = self.programs.get(row.program, [])
         return f"process {row.number}" + (f" ({names[0]})" if len(names) == 1 else "")
 
-    def all(self, slots):
+    def all(self, slots, none="nobody"):
         named = [self.who(slot) for slot in slots[:FEW]]
         more = [f"{len(slots) - FEW} more"] if len(slots) > FEW else []
-        return ", ".join(named + more) or "nobody"
+        return ", ".join(named + more) or none
 
     def channel(self, name):
         kind, _, number = name.partition(".")
@@ -72,7 +72,7 @@ class Teller:
         return f"{self.who(entry['S'])} waits {what}, at priority {entry['P']}"
 
     def tell_wake(self, entry):
-        return f"woken are those that wait {self.channel(entry['W'])}: {self.all(self.table.sleepers(entry['W']))}"
+        return f"wakes those that wait {self.channel(entry['W'])}: {self.all(self.table.sleepers(entry['W']), 'nobody waits')}"
 
     def tell_signal(self, entry):
         return f"{self.who(entry['S'])} gets signal {entry['X']}"

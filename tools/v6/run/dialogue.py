@@ -4,6 +4,7 @@ import os
 import re
 from dataclasses import dataclass
 
+from v6.disk.refusal import hint, told_cut
 from v6.host.files import read_bytes, short
 from v6.host.program import call, named
 from v6.run.ends import BUSY, OVER, RUNS, SLEEPS, WAITS, Processes
@@ -44,9 +45,10 @@ class Disk:
     """A disk of a machine. Its image is read once, and the program gets a copy, so that each run of a dialogue has the same disk
     whatever becomes of the file meanwhile."""
 
-    def __init__(self, named, copy):
+    def __init__(self, named, copy, port):
         self.named, self.copy = named, copy
         data = read_bytes(named)
+        self.cut = told_cut(named, data, port)  # why it isn't run, where its end is missing
         self.digest = hashlib.sha256(data).hexdigest().encode()
         with open(copy, "wb") as file:
             file.write(short(data))
@@ -64,7 +66,8 @@ class Machine:
 
     def __init__(self, v6, image, core, folder, eight=False, second=None):
         self.v6, self.core, self.folder, self.eight = v6, str(core), folder, eight
-        self.images = [Disk(name, self.path(f"image{number}")) for number, name in enumerate([image, *[second] * bool(second)])]
+        names = {"image": image, "second": second}
+        self.images = [Disk(name, self.path(port), port) for port, name in names.items() if name]
         self.header = b"; console: image sha256 %s core %d" % (self.images[0].digest, core) + b" lines" * eight
         self.header += b"".join(b" second sha256 %s" % disk.digest for disk in self.images[1:])
 
@@ -316,4 +319,5 @@ class Refused(DialogueError):
 def reason(machine, played, lines):
     """Why a run isn't done, with the line of the script that the program names."""
     files = dict(zip(("image", "second"), (disk.named for disk in machine.images)))
-    return named(with_line(played.said, b"".join(line + b"\n" for line in lines)), files, machine.core)
+    told = named(with_line(played.said, b"".join(line + b"\n" for line in lines)), files, machine.core)
+    return told + hint(played.said, files)
